@@ -1,5 +1,5 @@
 -- The calls of a crew, where a unit begins or answers, or a fault comes in its place.
-use Rattle.std.proofs.Common.{◌≡◌, ◌∙◌, ◌⊎◌, ◌∷◌, inl, inr, Bool, true, List, ℕ, Option, Some, None, Result, Ok, Err, IsTrue, refl, sym, ap, subst, is_some, slice_get}
+use Rattle.std.proofs.Common.{◌≡◌, ◌≢◌, ◌∙◌, ◌⊎◌, ◌∷◌, inl, inr, Bool, true, List, ℕ, Option, Some, None, Contains, Result, Ok, Err, IsTrue, refl, sym, ap, subst, is_some, slice_get, slice_set}
 use Rattle.std.proofs.lemmas.Bool.{false≢true}
 use Rattle.std.specs.Prelude.{IfOk, IfSome, IsOk}
 use Rattle.pb_answer.specs.declared.bad_unit.BadUnit.{BadUnit}
@@ -9,13 +9,18 @@ use Rattle.pb_command.specs.Command.{command_of}
 use Rattle.pb_command.specs.Judge.{ended_by, replied_files}
 use Rattle.pb_directive.specs.declared.directive.Directive.{Directive}
 use Rattle.pb_flight.specs.declared.flight.Answer.{Answer}
-use Rattle.pb_flight.specs.Events.{Event, Began, Gave, MayBegin}
+use Rattle.pb_flight.specs.declared.flight.State.TheVariants.{Begun}
+use Rattle.pb_flight.specs.Events.{Event, Began, Gave, IsLawful, MayBegin}
+use Rattle.pb_flight.specs.Laws.{HasBegun}
+use Rattle.pb_flight.specs.Table.{is_good_at}
+use Rattle.pb_flight.proofs.Ready.{good_at}
 use Rattle.pb_place.specs.CallsInTurn.{MakesSome, past_calls}
 use Rattle.pb_place.specs.Children.{LandsAs, child_at, child_spawned, inside_out, landing}
 use Rattle.pb_place.specs.declared.call.Call.{Call}
 use Rattle.pb_place.specs.Counts.{Counts}
 use Rattle.pb_place.specs.Paths.{is_at_or_below}
 use Rattle.pb_place.specs.World.{World, Answers, ChangesOnly, seen_by}
+use Rattle.pb_place.specs.declared.child_in_flight.ChildInFlight.{ChildInFlight}
 use Rattle.pb_place.specs.declared.command.Command.{Command}
 use Rattle.pb_place.specs.declared.command.Ended.{Ended}
 use Rattle.pb_place.specs.declared.place.StartFault.{StartFault}
@@ -24,30 +29,34 @@ use Rattle.pb_project.specs.Targets.{unit_at}
 use Rattle.pb_record.specs.Parts.{IsReading}
 use Rattle.pb_run.specs.Causes.{StopsAt}
 use Rattle.pb_run.specs.Halves.{Footing, Basis, basis, IsInFlight, WaitsBy, child_in, child_of, command_in, view_in}
-use Rattle.pb_run.specs.Landing.{CallsBehind, EndsBy, answered_called}
+use Rattle.pb_run.specs.Landing.{CallsBehind, EndsBy, GivesRecord, answered_called}
 use Rattle.pb_run.specs.Launching.{HasLooked, LaunchEnds, Launches}
-use Rattle.pb_run.specs.Running.{StopsToBegin}
+use Rattle.pb_run.specs.Running.{StopsToBegin, past_look}
 use Rattle.pb_run.specs.Standing.{IsInOrder, records_folder}
 use Rattle.pb_run.specs.declared.begun.Awaited.{Awaited}
 use Rattle.pb_run.specs.declared.begun.Awaited.TheVariants as awaited
 use Rattle.pb_run.specs.declared.begun.Begun.{Begun as unit_begun}
 use Rattle.pb_run.specs.declared.begun.Launched.{Launched}
 use Rattle.pb_run.specs.declared.ran.Ran.{Ran}
-use Rattle.pb_run.proofs.Answering.{begun_as, command_out, its_landing, landed_files}
+use Rattle.pb_run.proofs.Answering.{begun_as, command_out, landed_files}
 use Rattle.pb_run.proofs.Calling.{ended_badly, ended_well}
 use Rattle.pb_run.proofs.Halving.{is_command}
 use Rattle.pb_soundness.specs.Apart.{is_of}
-use Rattle.pb_soundness.specs.Records.{Reading, place_of}
+use Rattle.pb_soundness.specs.Records.{Reading, place_of, record_at}
 use Rattle.pb_store.specs.Looking.{looked_at}
-use Rattle.pb_turns.specs.Calling.{AnswersCalling, CallsCut, CallsOver, CallsToBegin, CountsNow, RepliesFromNothing, reply_from_nothing}
+use Rattle.pb_turns.specs.Again.{FliesAgain}
+use Rattle.pb_turns.specs.Anew.{FliesAnew}
+use Rattle.pb_turns.specs.Calling.{AnswersCalling, BeginsCalling, CallsCut, CallsCutAny, CallsOver, CallsOverAny, CallsToBegin, EndsAsReplied, Told, reply_told, told_in, told_on_any}
 use Rattle.pb_turns.specs.Crew.{needs_of}
 use Rattle.pb_turns.specs.Moments.{Moment}
 use Rattle.pb_turns.specs.Rows.{is_started}
-use Rattle.pb_turns.specs.Story.{states_in, FliesSo, FromFirst, Story}
+use Rattle.pb_turns.specs.Story.{states_in, FliesIn, FliesSo, FromFirst, Story}
 use Rattle.pb_turns.specs.declared.crew.Aloft.{Aloft}
 use Rattle.pb_turns.specs.declared.crew.UnitCrew.{UnitCrew}
+use Rattle.pb_turns.proofs.Again.{command_stays}
+use Rattle.pb_turns.proofs.AnyCalling.{WaitsTold, asks_now, calls_same, waits_on_any, writes_to_folder}
 use Rattle.pb_turns.proofs.Lists.{all_get}
-use Rattle.pb_turns.proofs.Reaching.{can_begin}
+use Rattle.pb_turns.proofs.Reaching.{all_reach, can_begin}
 use Rattle.pb_unit.specs.declared.plan.Planned.{Planned}
 
 -- a child was launched behind its look
@@ -60,11 +69,31 @@ launched_behind {P} world counts tells child c names before old new o launches l
 
 -- A unit begins.
 
+module _ (told : Told) (unit : ℕ) (u : Planned) (there : unit_at told.project unit ≡ Some u) (before after : World) (old new : Counts) where
+  -- by its command, whatever that is told by
+  begins_calling : (begun : unit_begun) → begun.command ≡ told.command unit u → ChangesOnly (is_of (records_folder told.project) u.key) before after → (child_of begun ≡ None → after ≡ before)
+      → (child_of begun ≡ None → new ≡ past_look told.read told.project u begun.command before old)
+      → ((launched : Launched) → child_of begun ≡ Some launched → Launches told.child begun.command launched.ticket (past_look told.read told.project u begun.command before old) new)
+      → BeginsCalling told unit (is_some (child_of begun)) before old after new
+  begins_calling begun asks only same looks launches = record {
+    unit = u;
+    there = there;
+    only = only;
+    calls = subst (λ (c : Command). CallsToBegin told.read told.child told.project u c (is_some (child_of begun)) before old after new) asks (by_child (child_of begun) refl);
+  }
+    where
+      by_child : (o : Option Launched) → child_of begun ≡ o → CallsToBegin told.read told.child told.project u begun.command (is_some o) before old after new
+      by_child None is = (same is, looks is)
+      by_child (Some launched) is = (launched.ticket, launches launched is)
+
 module _ (tells : Bool) (child : Answers) (first old : UnitCrew) (at now new : Moment) (still : ℕ → Type 0) (es : List (Event BadUnit)) (given unit : ℕ) (u : Planned)
     (order : IsInOrder old.project) (there : unit_at old.project unit ≡ Some u) (story : Story tells child first at old now still es given) (may : MayBegin (needs_of old.project) (states_in old.project es) unit)
     (done : List (Option (List Directive))) (same_done : done ≡ old.done.items) where
   abbrev Of : Footing → Reading → World → Basis
   Of footing read sources = basis footing read child old.setup old.project sources
+
+  abbrev OnAny : Reading → Told
+  OnAny read = told_on_any read child old.setup old.project old.done.items
 
   abbrev ByCommand : Command → Type 0
   ByCommand c = IsTrue tells → FromFirst child first at old (λ b. c ≡ command_in b unit u)
@@ -76,50 +105,56 @@ module _ (tells : Bool) (child : Answers) (first old : UnitCrew) (at now new : M
       (can_begin (Of f r s) order (states_in old.project es) old.done.items old.store.next now.world h.keeps unit u there may) c (is ∙ ap (command_of old.setup old.project u) same_done)
 
   -- it has begun
-  pub calls_begun : (begun : unit_begun) → begun.command ≡ command_of old.setup old.project u done → (IsTrue tells → ChangesOnly (is_of (records_folder old.project) u.key) now.world new.world) → (IsTrue tells → child_of begun ≡ None → new.world ≡ now.world)
-      → ((read : Reading) → IsReading read → IsTrue tells → child_of begun ≡ None → new.counts ≡ past_calls (looked_at read (records_folder old.project) u.key begun.command now.world) now.counts)
-      → ((launched : Launched) → child_of begun ≡ Some launched → (read : Reading) → IsReading read → IsTrue tells → Launches child begun.command launched.ticket (past_calls (looked_at read (records_folder old.project) u.key begun.command now.world) now.counts) new.counts)
-      → IsTrue tells → FromFirst child first at old (λ b. CallsOver b (Began unit (is_some (child_of begun)) ∷ es) at.world at.counts new.world new.counts)
-  calls_begun begun asks only same looks launches t f r s reading k = (
-    now.world,
-    now.counts,
-    story.calls t f r s reading k,
-    record {
-      unit = u;
-      there = there;
-      only = only t;
-      calls = subst (λ c. CallsToBegin (Of f r s) u c (is_some (child_of begun)) now.world now.counts new.world new.counts) (commanded begun.command asks t f r s reading k) (by_child (child_of begun) refl);
-    },
-  )
-    where
-      by_child : (o : Option Launched) → child_of begun ≡ o → CallsToBegin (Of f r s) u begun.command (is_some o) now.world now.counts new.world new.counts
-      by_child None is = (same t is, looks r reading t is)
-      by_child (Some launched) is = (launched.ticket, launches launched is r reading t)
+  module _ (begun : unit_begun) (asks : begun.command ≡ command_of old.setup old.project u done) (only : IsTrue tells → ChangesOnly (is_of (records_folder old.project) u.key) now.world new.world) (same : IsTrue tells → child_of begun ≡ None → new.world ≡ now.world)
+      (looks : (read : Reading) → IsReading read → IsTrue tells → child_of begun ≡ None → new.counts ≡ past_look read old.project u begun.command now.world now.counts)
+      (launches : (launched : Launched) → child_of begun ≡ Some launched → (read : Reading) → IsReading read → IsTrue tells → Launches child begun.command launched.ticket (past_look read old.project u begun.command now.world now.counts) new.counts) where
+    pub calls_begun : IsTrue tells → FromFirst child first at old (λ b. CallsOver (told_in b) (Began unit (is_some (child_of begun)) ∷ es) at.world at.counts new.world new.counts)
+    calls_begun t f r s reading k = (
+      now.world,
+      now.counts,
+      story.calls t f r s reading k,
+      begins_calling (told_in (Of f r s)) unit u there now.world new.world now.counts new.counts begun (commanded begun.command asks t f r s reading k) (only t) (same t) (looks r reading t) (λ launched is. launches launched is r reading t),
+    )
+
+    pub calls_begun_on_any : (IsTrue tells → CallsOverAny child old.setup old.project old.done.items es at.world at.counts now.world now.counts)
+        → IsTrue tells → CallsOverAny child old.setup old.project old.done.items (Began unit (is_some (child_of begun)) ∷ es) at.world at.counts new.world new.counts
+    calls_begun_on_any calls t read reading = (
+      now.world,
+      now.counts,
+      calls t read reading,
+      begins_calling (OnAny read) unit u there now.world new.world now.counts new.counts begun (asks ∙ ap (command_of old.setup old.project u) same_done) (only t) (same t) (looks read reading t) (λ launched is. launches launched is read reading t),
+    )
 
   -- it could not
-  pub calls_unbegun : (spawned : Bool) (fault : BuildFault)
-      → (IsTrue tells → ((read : Reading) → IsReading read → StopsAt fault (looked_at read (records_folder old.project) u.key (command_of old.setup old.project u done) now.world) now.counts new.counts)
-      ⊎ ((looked : Counts) × ((read : Reading) → IsReading read → looked ≡ past_calls (looked_at read (records_folder old.project) u.key (command_of old.setup old.project u done) now.world) now.counts)
-      × LaunchEnds (place_of (records_folder old.project) u.key) u.out fault looked new.counts))
-      → IsTrue tells → FromFirst child first at old (λ b. CallsCut b fault None (Began unit spawned ∷ es) es at.world at.counts new.counts)
-  calls_unbegun spawned fault stops t f r s reading k = (
-    now.world,
-    now.counts,
-    story.calls t f r s reading k,
-    inr (
-      unit,
-      spawned,
-      refl,
-      record {
-        unit = u;
-        there = there;
-        stops = subst (λ c. StopsToBegin r old.project u c fault now.world now.counts new.counts) (commanded (command_of old.setup old.project u done) refl t f r s reading k) (elim (stops t) [
-          | inl look ↦ inl (look r reading)
-          | inr (looked, past, ends) ↦ inr (subst (λ (c : Counts). LaunchEnds (place_of (records_folder old.project) u.key) u.out fault c new.counts) (past r reading) ends)
-        ]);
-      },
-    ),
-  )
+  module _ (spawned : Bool) (fault : BuildFault)
+      (stops : IsTrue tells → ((read : Reading) → IsReading read → StopsAt fault (looked_at read (records_folder old.project) u.key (command_of old.setup old.project u done) now.world) now.counts new.counts)
+      ⊎ ((looked : Counts) × ((read : Reading) → IsReading read → looked ≡ past_look read old.project u (command_of old.setup old.project u done) now.world now.counts)
+      × LaunchEnds (place_of (records_folder old.project) u.key) u.out fault looked new.counts)) where
+    stops_to_begin : IsTrue tells → (read : Reading) → IsReading read → StopsToBegin read old.project u (command_of old.setup old.project u done) fault now.world now.counts new.counts
+    stops_to_begin t read reading = elim (stops t) [
+      | inl look ↦ inl (look read reading)
+      | inr (looked, past, ends) ↦ inr (subst (λ (c : Counts). LaunchEnds (place_of (records_folder old.project) u.key) u.out fault c new.counts) (past read reading) ends)
+    ]
+
+    stops_beginning : (read : Reading) (c : Command) → command_of old.setup old.project u done ≡ c → IsReading read → IsTrue tells → StopsToBegin read old.project u c fault now.world now.counts new.counts
+    stops_beginning read c is reading t = subst (λ (d : Command). StopsToBegin read old.project u d fault now.world now.counts new.counts) is (stops_to_begin t read reading)
+
+    pub calls_unbegun : IsTrue tells → FromFirst child first at old (λ b. CallsCut (told_in b) fault None (Began unit spawned ∷ es) es at.world at.counts new.counts)
+    calls_unbegun t f r s reading k = (
+      now.world,
+      now.counts,
+      story.calls t f r s reading k,
+      inr (unit, spawned, refl, record { unit = u; there = there; stops = stops_beginning r (command_in (Of f r s) unit u) (commanded (command_of old.setup old.project u done) refl t f r s reading k) reading t }),
+    )
+
+    pub calls_unbegun_on_any : (IsTrue tells → CallsOverAny child old.setup old.project old.done.items es at.world at.counts now.world now.counts)
+        → IsTrue tells → CallsCutAny child old.setup old.project old.done.items fault None (Began unit spawned ∷ es) es at.world at.counts new.counts
+    calls_unbegun_on_any calls t read reading = (
+      now.world,
+      now.counts,
+      calls t read reading,
+      inr (unit, spawned, refl, record { unit = u; there = there; stops = stops_beginning read (command_of old.setup old.project u old.done.items) (ap (command_of old.setup old.project u) same_done) reading t }),
+    )
 
 -- A unit answers.
 
@@ -139,44 +174,65 @@ behind_untold names (Err e) ran old new is = is
 
 -- What came of a unit in flight, by what it waits for.
 
-module _ (b : Basis) (u : Planned) (c : Command) (view : World) (next : Option ℕ) (before : World) (old : Counts) (still : ℕ → Type 0) where
+module _ (told : Told) (place : ℕ) (u : Planned) (there : unit_at told.project place ≡ Some u) (c : Command) (asks : c ≡ told.command place u) (writes : c.out ≡ Some u.out) (before left : World) (old : Counts) (still : ℕ → Type 0) where
   -- its record counts now, where it has no child
-  counts_now : (by : Awaited) → WaitsBy b u c view by next before old.starts.flying still → CountsNow b u before by
+  counts_now : (by : Awaited) → WaitsTold told place u c before left old.starts.flying still by → GivesRecord (record_at told.read (records_folder told.project) before.files u.key) by
   counts_now (awaited.Child launched) waits = tt
-  counts_now (awaited.Record again) waits = waits.1
+  counts_now (awaited.Record again) waits = waits
 
   -- what its child sees stood still
-  stood_still : (by : Awaited) (answer : Result Ended StartFault) (well well' : Type 0) (after : World) (new : Counts) → WaitsBy b u c view by next before old.starts.flying still → (well' → well) → EndsBy by answer well still before after old new
-      → EndsBy by answer well' (λ ticket. Unit {0}) before after old new
-  stood_still (awaited.Child launched) answer well well' after new waits so ends =
-      let flight = waits.0 in
-      record { counted = ends.counted; answered = λ w. ends.answered (so w); only = ends.only; lands = λ stood. ends.lands flight.stands }
-  stood_still (awaited.Record again) answer well well' after new waits so ends = ends
+  stood_still : (by : Awaited) (answer : Result Ended StartFault) (well well' : Type 0) (mid : Counts) → WaitsTold told place u c before left old.starts.flying still by → (well' → well) → EndsBy by answer well still before left old mid
+      → EndsBy by answer well' (λ ticket. Unit {0}) before left old mid
+  stood_still (awaited.Child launched) answer well well' mid flight so ends = record { counted = ends.counted; answered = λ w. ends.answered (so w); only = ends.only; lands = λ stood. ends.lands flight.stands }
+  stood_still (awaited.Record again) answer well well' mid waits so ends = ends
 
--- and so a child gave its reply from nothing
-module _ (b : Basis) (order : IsInOrder b.project) (place : ℕ) (u : Planned) (there : unit_at b.project place ≡ Some u) (c : Command) (asks : c ≡ command_in b place u)
-    (next : Option ℕ) (before after : World) (old new : Counts) (still : ℕ → Type 0) where
-  replied_landing : (launched : Launched) (ended : Ended) → IsInFlight b.child c (view_in b place u) launched.ticket old.starts.flying still
-      → (still launched.ticket → IfSome (child_at launched.ticket old.starts.flying) (λ spawned. LandsAs spawned before ended after)) → RepliesFromNothing b place u ended after
+  -- and so a child gave its reply
+  replied_landing : (launched : Launched) (ended : Ended) → IsInFlight told.child c (told.sees place u left) launched.ticket old.starts.flying still
+      → (still launched.ticket → IfSome (child_at launched.ticket old.starts.flying) (λ spawned. LandsAs spawned before ended left)) → EndsAsReplied (reply_told told place u left) u ended left
   replied_landing launched ended flight lands =
-      let landed : LandsAs (child_spawned (b.child c) c flight.spawned launched.ticket) before ended after =
-      its_landing b order place u there u.key c launched next old.starts.flying still before after ended flight.spawned flight.flies (lands flight.stands) in
-      let replies : b.child c (seen_by c flight.spawned) ≡ reply_from_nothing b place u = ap (b.child c) flight.sees ∙ ap (λ (d : Command). b.child d (view_in b place u)) asks in
-      let out : c.out ≡ Some u.out = ap (λ (d : Command). d.out) asks ∙ command_out b order place u there in
+      let landed : LandsAs (child_spawned (told.child c) c flight.spawned launched.ticket) before ended left =
+      subst (λ (o : Option ChildInFlight). IfSome o (λ spawned. LandsAs spawned before ended left)) flight.flies (lands flight.stands) in
+      let replies : told.child c (seen_by c flight.spawned) ≡ reply_told told place u left = ap (told.child c) flight.sees ∙ ap (λ (d : Command). told.child d (told.sees place u left)) asks in
       record {
         answer = landed.answer ∙ ap ended_by replies;
-        files = landed_files u.out (b.child c (seen_by c flight.spawned)).files (inside_out c.out flight.spawned.files) before after flight.emptied
-            (landed.world ∙ ap (λ (o : Option (List ℕ)). landing o (b.child c (seen_by c flight.spawned)).files (inside_out c.out flight.spawned.files) before) out)
+        files = landed_files u.out (told.child c (seen_by c flight.spawned)).files (inside_out c.out flight.spawned.files) before left flight.emptied
+            (landed.world ∙ ap (λ (o : Option (List ℕ)). landing o (told.child c (seen_by c flight.spawned)).files (inside_out c.out flight.spawned.files) before) writes)
             ∙ ap (replied_files u.out) replies;
       }
 
-  replies_so : (by : Awaited) (answer : Result Ended StartFault) (well : Type 0) → WaitsBy b u c (view_in b place u) by next before old.starts.flying still → EndsBy by answer well still before after old new
-      → is_some (child_in by) ≡ true → IfOk answer (λ ended. RepliesFromNothing b place u ended after)
-  replies_so (awaited.Child launched) (Ok ended) well waits ends is = replied_landing launched ended waits.0 ends.lands
-  replies_so (awaited.Child launched) (Err fault) well waits ends is = tt
-  replies_so (awaited.Record again) answer well waits ends is = absurd (false≢true is)
+  replies_so : (by : Awaited) (answer : Result Ended StartFault) (well : Type 0) (mid : Counts) → WaitsTold told place u c before left old.starts.flying still by → EndsBy by answer well still before left old mid
+      → is_some (child_in by) ≡ true → IfOk answer (λ ended. EndsAsReplied (reply_told told place u left) u ended left)
+  replies_so (awaited.Child launched) (Ok ended) well mid flight ends is = replied_landing launched ended flight ends.lands
+  replies_so (awaited.Child launched) (Err fault) well mid flight ends is = tt
+  replies_so (awaited.Record again) answer well mid waits ends is = absurd (false≢true is)
 
--- It has answered, or a fault came in its place.
+  -- it has answered, or a fault came in its place
+  answers_calling : (by : Awaited) (spawned : Bool) → spawned ≡ is_some (child_in by) → WaitsTold told place u c before left old.starts.flying still by
+      → (answer : Result Ended StartFault) (result : Result (Unit {0}) BuildFault) (well : Type 0) → (IsOk result → well) → (mid : Counts) → EndsBy by answer well still before left old mid
+      → (after : World) (new : Counts) → ChangesOnly (is_at_or_below (place_of (records_folder told.project) u.key)) left after → CallsBehind (answered_called told.read told.project u c left by) answer result mid new
+      → AnswersCalling told place spawned result before old after new
+  answers_calling by spawned is_child waits answer result well so mid ends after new only behind = record {
+    unit = u;
+    there = there;
+    by = by;
+    is_child = is_child;
+    counts_now = counts_now by waits;
+    left = left;
+    mid = mid;
+    answer = answer;
+    ends = stood_still by answer well (IsOk result) mid waits so ends;
+    replied = λ started. replies_so by answer well mid waits ends (sym is_child ∙ started);
+    only = only;
+    calls = subst (λ (d : Command). CallsBehind (answered_called told.read told.project u d left by) answer result mid new) asks behind;
+  }
+
+-- over a basis it waits so
+waits_in : (b : Basis) (place : ℕ) (u : Planned) (c : Command) (next : Option ℕ) (before left : World) (flying : List ChildInFlight) (still : ℕ → Type 0) (by : Awaited) → WaitsBy b u c (view_in b place u) by next before flying still
+    → WaitsTold (told_in b) place u c before left flying still by
+waits_in b place u c next before left flying still (awaited.Child launched) waits = waits.0
+waits_in b place u c next before left flying still (awaited.Record again) waits = waits.1
+
+-- In the story of a crew.
 
 module _ {P : Type 0} (world : P → World) (counts : P → Counts) (tells : Bool) (child : Answers) (first old : UnitCrew) (at now new : Moment) (still : ℕ → Type 0) (es : List (Event BadUnit)) (given : ℕ) (story : Story tells child first at old now still es given) (order : IsInOrder old.project)
     (index : ℕ) (a : Aloft) (at_index : slice_get old.aloft.items index ≡ Some a) (u : Planned) (there : unit_at old.project a.unit ≡ Some u) where
@@ -185,49 +241,96 @@ module _ {P : Type 0} (world : P → World) (counts : P → Counts) (tells : Boo
 
   -- what a call says that takes its answer
   abbrev pub Lands : Result Ran BuildFault → Type 0
-  Lands told = IsTrue tells → (left : P) × (answer : Result Ended StartFault) × EndsBy a.begun.awaited answer (IsOk told) still now.world (world left) now.counts (counts left)
+  Lands said = IsTrue tells → (left : P) × (answer : Result Ended StartFault) × EndsBy a.begun.awaited answer (IsOk said) still now.world (world left) now.counts (counts left)
       × ChangesOnly (is_at_or_below (place_of (records_folder old.project) u.key)) (world left) new.world
-      × ((read : Reading) → IsReading read → CallsBehind (answered_called read old.project u a.begun.command (world left) a.begun.awaited) answer told (counts left) new.counts)
+      × ((read : Reading) → IsReading read → CallsBehind (answered_called read old.project u a.begun.command (world left) a.begun.awaited) answer said (counts left) new.counts)
 
-  answers : (result : Result (Unit {0}) BuildFault) (told : Result Ran BuildFault) → (IsOk result → IsOk told)
-      → ((names : Ended → List Call) (answer : Result Ended StartFault) (k k' : Counts) → CallsBehind names answer told k k' → CallsBehind names answer result k k')
-      → Lands told → IsTrue tells → FromFirst child first at old (λ b. AnswersCalling b a.unit (is_started es a.unit) result now.world now.counts new.world new.counts)
-  answers result told so same_calls lands t f r s reading k =
+  -- what is called behind, whatever is told of it
+  abbrev Behind : Result (Unit {0}) BuildFault → Result Ran BuildFault → Type 0
+  Behind result said = (names : Ended → List Call) (answer : Result Ended StartFault) (k k' : Counts) → CallsBehind names answer said k k' → CallsBehind names answer result k k'
+
+  answers : (result : Result (Unit {0}) BuildFault) (said : Result Ran BuildFault) → (IsOk result → IsOk said) → Behind result said → Lands said
+      → IsTrue tells → FromFirst child first at old (λ b. AnswersCalling (told_in b) a.unit (is_started es a.unit) result now.world now.counts new.world new.counts)
+  answers result said so same_calls lands t f r s reading k =
       let h = story.happened t f r s reading k in
       let so_begun = all_get (FliesSo (On f r s) es old.store.next now.world now.counts.starts.flying still) old.aloft.items index a h.begun at_index in
       let (asks, waits) = begun_as (On f r s) order a.unit u there a.begun old.store.next now.world now.counts.starts.flying still so_begun.begun_so in
       let (left, answer, ends, only, behind) = lands t in
-      let by = a.begun.awaited in
-      record {
-        unit = u;
-        there = there;
-        by = by;
-        is_child = so_begun.started;
-        counts_now = counts_now (On f r s) u a.begun.command (view_in (On f r s) a.unit u) old.store.next now.world now.counts still by waits;
-        left = world left;
-        mid = counts left;
-        answer = answer;
-        ends = stood_still (On f r s) u a.begun.command (view_in (On f r s) a.unit u) old.store.next now.world now.counts still by answer (IsOk told) (IsOk result) (world left) (counts left) waits so ends;
-        replied = λ spawned. replies_so (On f r s) order a.unit u there a.begun.command asks old.store.next now.world (world left) now.counts (counts left) still by answer (IsOk told) waits ends (sym so_begun.started ∙ spawned);
-        only = only;
-        calls = subst (λ c. CallsBehind (answered_called r old.project u c (world left) by) answer result (counts left) new.counts) asks
-            (same_calls (answered_called r old.project u a.begun.command (world left) by) answer (counts left) new.counts (behind r reading));
-      }
+      answers_calling (told_in (On f r s)) a.unit u there a.begun.command asks (ap (λ (d : Command). d.out) asks ∙ command_out (On f r s) order a.unit u there) now.world (world left) now.counts still a.begun.awaited (is_started es a.unit) so_begun.started
+      (waits_in (On f r s) a.unit u a.begun.command old.store.next now.world (world left) now.counts.starts.flying still a.begun.awaited waits)
+      answer result (IsOk said) so (counts left) ends new.world new.counts only (same_calls (answered_called r old.project u a.begun.command (world left) a.begun.awaited) answer (counts left) new.counts (behind r reading))
 
   -- it has answered
-  pub calls_answered : (answer : Answer BadUnit) (ran : Ran) → Lands (ended_well ran) → IsTrue tells → FromFirst child first at old (λ b. CallsOver b (Gave a.unit answer ∷ es) at.world at.counts new.world new.counts)
+  pub calls_answered : (answer : Answer BadUnit) (ran : Ran) → Lands (ended_well ran) → IsTrue tells → FromFirst child first at old (λ b. CallsOver (told_in b) (Gave a.unit answer ∷ es) at.world at.counts new.world new.counts)
   calls_answered answer ran lands t f r s reading k =
       (now.world, now.counts, story.calls t f r s reading k, answers (Ok tt) (ended_well ran) (λ ok. ok) (λ names said old new. behind_well names said ran old new) lands t f r s reading k)
 
   -- a fault came in its place
-  cut : (fault : BuildFault) (unit : ℕ) → unit ≡ a.unit → IsTrue tells → FromFirst child first at old (λ b. AnswersCalling b a.unit (is_started es a.unit) (Err fault) now.world now.counts new.world new.counts)
-      → FromFirst child first at old (λ b. CallsCut b fault (Some unit) es es at.world at.counts new.counts)
+  cut : (fault : BuildFault) (unit : ℕ) → unit ≡ a.unit → IsTrue tells → FromFirst child first at old (λ b. AnswersCalling (told_in b) a.unit (is_started es a.unit) (Err fault) now.world now.counts new.world new.counts)
+      → FromFirst child first at old (λ b. CallsCut (told_in b) fault (Some unit) es es at.world at.counts new.counts)
   cut fault unit its t so f r s reading k =
-      (now.world, now.counts, story.calls t f r s reading k, (new.world, subst (λ n. AnswersCalling (On f r s) n (is_started es n) (Err fault) now.world now.counts new.world new.counts) (sym its) (so f r s reading k)))
+      (now.world, now.counts, story.calls t f r s reading k, (new.world, subst (λ n. AnswersCalling (told_in (On f r s)) n (is_started es n) (Err fault) now.world now.counts new.world new.counts) (sym its) (so f r s reading k)))
 
-  pub calls_unanswered : (fault : BuildFault) (unit : ℕ) → unit ≡ a.unit → Lands (ended_badly fault) → IsTrue tells → FromFirst child first at old (λ b. CallsCut b fault (Some unit) es es at.world at.counts new.counts)
+  pub calls_unanswered : (fault : BuildFault) (unit : ℕ) → unit ≡ a.unit → Lands (ended_badly fault) → IsTrue tells → FromFirst child first at old (λ b. CallsCut (told_in b) fault (Some unit) es es at.world at.counts new.counts)
   calls_unanswered fault unit its lands t = cut fault unit its t (answers (Err fault) (ended_badly fault) (λ ok. ok) (λ names said old new. behind_badly names said fault old new) lands t)
 
   -- memory is refused for its lines
-  pub calls_untold : (ran : Ran) (unit : ℕ) → unit ≡ a.unit → Lands (ended_well ran) → IsTrue tells → FromFirst child first at old (λ b. CallsCut b OutOfMemory (Some unit) es es at.world at.counts new.counts)
+  pub calls_untold : (ran : Ran) (unit : ℕ) → unit ≡ a.unit → Lands (ended_well ran) → IsTrue tells → FromFirst child first at old (λ b. CallsCut (told_in b) OutOfMemory (Some unit) es es at.world at.counts new.counts)
   calls_untold ran unit its lands t = cut OutOfMemory unit its t (answers (Err OutOfMemory) (ended_well ran) (λ none. refl) (λ names said old new. behind_untold names said ran old new) lands t)
+
+  -- The same over any records.
+
+  module _ (lawful : IsLawful (needs_of old.project) es) (calls : IsTrue tells → CallsOverAny child old.setup old.project old.done.items es at.world at.counts now.world now.counts)
+      (anew : IsTrue tells → FliesAnew child old.setup old.project old.done.items now.world now.counts.starts.flying still a) where
+    so_flies : IsTrue tells → FliesIn old.project es now.world now.counts.starts.flying a
+    so_flies t = all_get (FliesIn old.project es now.world now.counts.starts.flying) old.aloft.items index a (story.changes t).flies at_index
+
+    -- it reaches none that is in flight
+    far : slice_get (states_in old.project es) a.unit ≡ Some Begun → (p : ℕ) → Contains u.reaches p → p ≢ a.unit
+    far begun p among same =
+        false≢true (ap is_good_at (sym begun ∙ ap (slice_get (states_in old.project es)) (sym same))
+        ∙ good_at (states_in old.project es) u.reaches p (all_reach old.project order es lawful a.unit u (Begun, begun, refl) there) among)
+
+    answers_on_any : (done' : List (Option (List Directive))) → command_of old.setup old.project u old.done.items ≡ command_of old.setup old.project u done' → (result : Result (Unit {0}) BuildFault) (said : Result Ran BuildFault) → (IsOk result → IsOk said) → Behind result said → Lands said
+        → IsTrue tells → (read : Reading) → IsReading read → AnswersCalling (told_on_any read child old.setup old.project done') a.unit (is_started es a.unit) result now.world now.counts new.world new.counts
+    answers_on_any done' same result said so same_calls lands t read reading =
+        let flies = so_flies t in
+        let carries = all_get (λ (x : Aloft). FliesAgain read old.setup old.project old.done.items at.world now.world x) old.aloft.items index a ((story.again t).waits read reading) at_index u there in
+        let (left, answer, ends, only, behind) = lands t in
+        let asks = asks_now read child old.setup old.project order a.unit u there old.done.items at.world now.world now.counts still a.begun.command a.begun.awaited carries (anew t u there) in
+        answers_calling (told_on_any read child old.setup old.project done') a.unit u there a.begun.command (asks ∙ same)
+        (writes_to_folder read child old.setup old.project order a.unit u there old.done.items at.world now.world now.counts still a.begun.command asks) now.world (world left) now.counts still a.begun.awaited (is_started es a.unit) flies.started
+        (waits_on_any read child old.setup old.project order a.unit u there old.done.items at.world now.world now.counts still a.begun.command asks (world left) (far flies.state) done' same a.begun.awaited answer (IsOk said) (counts left) carries (anew t u there) ends)
+        answer result (IsOk said) so (counts left) ends new.world new.counts only (same_calls (answered_called read old.project u a.begun.command (world left) a.begun.awaited) answer (counts left) new.counts (behind read reading))
+
+    -- it has answered; what is noted of it changes no command of those that have begun
+    pub calls_answered_on_any : (done' : List (Option (List Directive))) (d : Option (List Directive)) → done' ≡ slice_set old.done.items a.unit d → (answer : Answer BadUnit) (ran : Ran) → Lands (ended_well ran)
+        → IsTrue tells → CallsOverAny child old.setup old.project done' (Gave a.unit answer ∷ es) at.world at.counts new.world new.counts
+    calls_answered_on_any done' d set answer ran lands t read reading =
+        let flies = so_flies t in
+        let same : (place : ℕ) → HasBegun (states_in old.project es) place → (v : Planned) → unit_at old.project place ≡ Some v → command_of old.setup old.project v old.done.items ≡ command_of old.setup old.project v done' =
+        λ place has v at_v. command_stays old.setup old.project order es lawful a.unit flies.state old.done.items done' d set place v has at_v in (
+          now.world,
+          now.counts,
+          calls_same read child old.setup old.project old.done.items done' es lawful same at.world at.counts now.world now.counts (calls t read reading),
+          answers_on_any done' (same a.unit (Begun, flies.state, refl) u there) (Ok tt) (ended_well ran) (λ ok. ok) (λ names said old new. behind_well names said ran old new) lands t read reading,
+        )
+
+    -- a fault came in its place
+    cut_on_any : (fault : BuildFault) (unit : ℕ) → unit ≡ a.unit → IsTrue tells → ((read : Reading) → IsReading read → AnswersCalling (told_on_any read child old.setup old.project old.done.items) a.unit (is_started es a.unit) (Err fault) now.world now.counts new.world new.counts)
+        → CallsCutAny child old.setup old.project old.done.items fault (Some unit) es es at.world at.counts new.counts
+    cut_on_any fault unit its t so read reading = (
+      now.world,
+      now.counts,
+      calls t read reading,
+      (new.world, subst (λ n. AnswersCalling (told_on_any read child old.setup old.project old.done.items) n (is_started es n) (Err fault) now.world now.counts new.world new.counts) (sym its) (so read reading)),
+    )
+
+    pub calls_unanswered_on_any : (fault : BuildFault) (unit : ℕ) → unit ≡ a.unit → Lands (ended_badly fault) → IsTrue tells → CallsCutAny child old.setup old.project old.done.items fault (Some unit) es es at.world at.counts new.counts
+    calls_unanswered_on_any fault unit its lands t =
+        cut_on_any fault unit its t (answers_on_any old.done.items refl (Err fault) (ended_badly fault) (λ ok. ok) (λ names said old new. behind_badly names said fault old new) lands t)
+
+    -- memory is refused for its lines
+    pub calls_untold_on_any : (ran : Ran) (unit : ℕ) → unit ≡ a.unit → Lands (ended_well ran) → IsTrue tells → CallsCutAny child old.setup old.project old.done.items OutOfMemory (Some unit) es es at.world at.counts new.counts
+    calls_untold_on_any ran unit its lands t =
+        cut_on_any OutOfMemory unit its t (answers_on_any old.done.items refl (Err OutOfMemory) (ended_well ran) (λ none. refl) (λ names said old new. behind_untold names said ran old new) lands t)

@@ -35,17 +35,18 @@ use Rattle.pb_run.specs.Telling.{unit_lines}
 use Rattle.pb_run.proofs.Shown.{each_of}
 use Rattle.pb_soundness.specs.Records.{Reading, record_at}
 use Rattle.pb_store.specs.Held.{HoldsNumbers}
-use Rattle.pb_turns.specs.Calling.{CallsCut, CallsOver}
+use Rattle.pb_turns.specs.Calling.{CallsCut, CallsCutAny, CallsOver, CallsOverAny, told_in}
 use Rattle.pb_turns.specs.Crew.{needs_of, launched_of, ticket_of_child}
 use Rattle.pb_turns.specs.Ends.{rows_in, nothing_said, Stands, StandsWhole, StandsCut, EndsWhole, EndsCut, Grounding, Dropped, Drained}
 use Rattle.pb_turns.specs.Laws.{SaysFirstRows}
 use Rattle.pb_turns.specs.Moments.{Moment, Heard}
 use Rattle.pb_turns.specs.Rows.{summary_of, started_keys, is_started, messages_in, bad_of, directives_told, Reasons, key_told, said_told, bad_told, differences_of, kept_of, is_success, noted_of, count_told, noted_told}
-use Rattle.pb_turns.specs.Story.{states_in, untouched, AllAnswerAgain, Stops, Changes, Happened, AllBegan, AllBeganFor, AllBeganOnAny, CameAfter, HadDiffered, LacksNoNumber, NamesUnit, NumbersGiven, Spends, StartedOnAny, HasNoRecord, KeepsNoneOfBad, KeepsNoneInFlight, HasGiven, Story, StoryEnds, OnlyOf, NotesStarted}
+use Rattle.pb_turns.specs.Story.{states_in, untouched, AllAnswerAgain, Stops, Changes, Happened, AllBegan, AllBeganFor, AllBeganOnAny, CameAfter, HadDiffered, LacksNoNumber, NamesUnit, NumbersGiven, Spends, StartedOnAny, HasNoRecord, KeepsNoneOfBad, KeepsNoneInFlight, HasGiven, Story, StoryEnds, OnlyOf, NotesStarted, AllAnswerAnew}
 use Rattle.pb_turns.specs.Summing.{summary_by, keys_at, differences_at}
 use Rattle.pb_turns.specs.declared.crew.Aloft.{Aloft}
 use Rattle.pb_turns.specs.declared.crew.UnitCrew.{UnitCrew}
 use Rattle.pb_turns.proofs.Again.{replays_first}
+use Rattle.pb_turns.proofs.Anew.{replies_first}
 use Rattle.pb_turns.proofs.Changing.{changes_first}
 use Rattle.pb_turns.proofs.Counting.{appends_none, stops_refused}
 use Rattle.pb_turns.proofs.Differing.{began_from_nothing, started_from_nothing}
@@ -114,10 +115,12 @@ story_first tells child c at still aloft started holds = record {
   };
   unrecorded = λ t. none_in_flight c.project at.world;
   again = λ t. replays_first c.setup c.project c.done.items c.aloft.items at.world aloft;
+  anew = λ t. replies_first child c.setup c.project c.done.items c.aloft.items at.world at.counts.starts.flying still aloft;
   began = λ t read reading place has. absurd (none_begun c.project place has);
   quiet = λ t read reading none numbered. refl;
   held = holds;
   calls = λ t f r s reading keeps. (refl, refl);
+  calls_on_any = λ t read reading. (refl, refl);
   unnoted = λ place at. refl;
   noted = λ place s at ne. absurd (ne (untouched_at (needs_of c.project) place s at));
 }
@@ -214,6 +217,8 @@ module _ {S : Type 0} (tells : Bool) (child : Answers) (Turns : S → List ℕ �
     → Changes c.project fw c.aloft.items events mid.world mid.counts.starts.flying → AllBegan c.project read sources command before reasons fw mid.world → AllBegan c.project read sources command before reasons fw new.world)
     (started : (read : Reading) (sources : World) (command : ℕ → Planned → Command) (fault : BuildFault) (events before : List (Event BadUnit)) (fw : World) → IsTrue tells
     → Changes c.project fw c.aloft.items events mid.world mid.counts.starts.flying → HadDiffered c.project read sources command fault before events fw mid.world → HadDiffered c.project read sources command fault before events fw new.world)
+    (anew : (setup : Setup) (noted : List (Option (List Directive))) (events : List (Event BadUnit)) (fw : World) → IsTrue tells → IsLawful (needs_of c.project) events → Changes c.project fw c.aloft.items events mid.world mid.counts.starts.flying
+    → AllAnswerAnew child setup c.project events noted mid.world → AllAnswerAnew child setup c.project events noted new.world)
     (order : IsInOrder first.project) where
   -- what a basis keeps at first
   abbrev Since : (Basis → Type 0) → Setup → Project → Type 0
@@ -274,6 +279,7 @@ module _ {S : Type 0} (tells : Bool) (child : Answers) (Turns : S → List ℕ �
     began = λ t. on_first (λ s p. AllBeganOnAny s p c.done.items ends.before c.reasons.items at.world new.world) ends.setup ends.project (began_new fault ends.before c.reasons.items refl (lawful ends.project flies) ends.came ends.changes ends.began t);
     started = λ t. on_first (λ s p. StartedOnAny s p c.done.items fault ends.before es at.world new.world) ends.setup ends.project (started_new fault ends.before ends.changes ends.started t);
     again = λ t. on_first (λ s p. AllAnswerAgain s p es c.done.items at.world) ends.setup ends.project (ends.again t);
+    anew = λ t. on_first (λ s p. AllAnswerAnew child s p es c.done.items new.world) ends.setup ends.project (anew c.setup c.done.items es at.world t (lawful ends.project flies) (ends.changes t) (ends.anew t));
     told = since_first (λ b. StandsCut b fault es ends.before at.world new.world) ends.setup ends.project (λ t f r sources reading keeps.
         let h = ends.happened t f r sources reading keeps in
         record {
@@ -283,7 +289,8 @@ module _ {S : Type 0} (tells : Bool) (child : Answers) (Turns : S → List ℕ �
               (began_new fault ends.before c.reasons.items refl (lawful ends.project flies) ends.came ends.changes ends.began t r reading);
           started = started_from_nothing (basis f r child c.setup c.project sources) (ordered ends.project) es c.done.items c.store.next mid.world h.keeps at.world keeps.sources_stay fault ends.before new.world (started_new fault ends.before ends.changes ends.started t r reading);
         });
-    calls = since_first (λ b. CallsCut b fault asked es ends.before at.world at.counts mid.counts) ends.setup ends.project ends.calls;
+    calls = since_first (λ b. CallsCut (told_in b) fault asked es ends.before at.world at.counts mid.counts) ends.setup ends.project ends.calls;
+    calls_on_any = λ t. on_first (λ s p. CallsCutAny child s p c.done.items fault asked es ends.before at.world at.counts mid.counts) ends.setup ends.project (ends.calls_on_any t);
   }
 
   -- memory is refused for the summary
@@ -300,11 +307,13 @@ module _ {S : Type 0} (tells : Bool) (child : Answers) (Turns : S → List ℕ �
     changes = s.changes;
     unrecorded = s.unrecorded;
     again = λ t. (s.again t).gave;
+    anew = λ t. (s.anew t).gave;
     began = s.began;
     started = λ t read reading. none_began c.project read _ _ OutOfMemory es at.world mid.world;
     happened = s.happened;
     caused = λ t read reading. tt;
     calls = λ t f r sources reading keeps. (mid.world, mid.counts, s.calls t f r sources reading keeps, inl refl);
+    calls_on_any = λ t read reading. (mid.world, mid.counts, s.calls_on_any t read reading, inl refl);
   }
 
   module _ (table : Table BadUnit) (flying : List ℕ) (flown : IsFlown Turns (needs_of first.project) from es last table flying) (story : Story tells child first at c mid still es table.given) (finished : is_finished table.states ≡ true)
@@ -374,12 +383,14 @@ module _ {S : Type 0} (tells : Bool) (child : Answers) (Turns : S → List ℕ �
       dropped = λ t. subst (λ (p : Project). KeepsNoneInFlight p es None new.world) story.project (λ place u there state apart started. unrecorded at.world es place u t (story.changes t) there (story.unrecorded t place u there state apart started));
       began = λ t. on_first (λ s p. AllBeganOnAny s p c.done.items es d.reasons.items at.world new.world) story.setup story.project (began_whole t);
       again = λ t. on_first (λ s p. AllAnswerAgain s p es c.done.items at.world) story.setup story.project (story.again t).gave;
+      anew = λ t. on_first (λ s p. AllAnswerAnew child s p es c.done.items new.world) story.setup story.project (anew c.setup c.done.items es at.world t (lawful story.project flown.flies) (story.changes t) (story.anew t).gave);
       told = since_first (λ b. StandsWhole b es d.reasons.items summary at.world new.world) story.setup story.project (λ t f r sources reading keeps.
           let h = story.happened t f r sources reading keeps in
           stands_whole (basis f r child c.setup c.project sources) d.done.items d.aloft.items d.store.next es new.world new.counts.starts.flying still' (happened (basis f r child c.setup c.project sources) es t refl h)
           (ap is_finished (sym states_are) ∙ finished) (length_states (needs_of c.project) es ∙ length-map c.project.plan.planned (λ (u : Planned). u.needs)) d.reasons.items at.world
           (began_from_nothing (basis f r child c.setup c.project sources) (ordered story.project) es c.done.items c.store.next mid.world h.keeps at.world keeps.sources_stay es d.reasons.items new.world (lawful story.project flown.flies) (inl refl) (began_whole t r reading)) d.started.items started_is summary now_is);
-      calls = since_first (λ b. (w : World) × CallsOver b es at.world at.counts w mid.counts) story.setup story.project (λ t f r sources reading keeps. (mid.world, story.calls t f r sources reading keeps));
+      calls = since_first (λ b. (w : World) × CallsOver (told_in b) es at.world at.counts w mid.counts) story.setup story.project (λ t f r sources reading keeps. (mid.world, story.calls t f r sources reading keeps));
+      calls_on_any = λ t. (mid.world, on_first (λ s p. CallsOverAny child s p c.done.items es at.world at.counts mid.world mid.counts) story.setup story.project (story.calls_on_any t));
     }
 
 -- memory is refused before a unit begins
@@ -410,6 +421,7 @@ ends_before tells child Turns setup project next from at none = record {
   began = λ t read reading place has. absurd (none_begun project place has);
   started = λ t read reading. none_began project read _ _ OutOfMemory [] at.world at.world;
   again = λ t. (replays_first setup project [] [] at.world refl).gave;
+  anew = λ t. (replies_first child setup project [] [] at.world [] (λ n. Unit {0}) refl).gave;
   told = λ t f r sources reading keeps. record {
     stands = stands (basis f r child setup project sources) (nothing_said project) [] next [] at.world [] (λ n. Unit {0}) record {
       keeps = keeps;
@@ -421,6 +433,7 @@ ends_before tells child Turns setup project next from at none = record {
     started = none_began project r _ _ OutOfMemory [] at.world at.world;
   };
   calls = λ t f r sources reading keeps. (at.world, at.counts, (refl, refl), inl refl);
+  calls_on_any = λ t read reading. (at.world, at.counts, (refl, refl), inl refl);
 }
 
 pub states_long : {S : Type 0} (Turns : S → List ℕ → List ℕ → Step → S → Type 0) (first c d : UnitCrew) (from last : S) (es : List (Event BadUnit)) (table : Table BadUnit) (flying : List ℕ) → IsFlown Turns (needs_of first.project) from es last table flying

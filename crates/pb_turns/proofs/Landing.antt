@@ -6,11 +6,12 @@ use Rattle.std.specs.Prelude.{IfSome}
 use Rattle.pb_directive.specs.declared.directive.Directive.{Directive}
 use Rattle.pb_flight.specs.declared.flight.State.{State}
 use Rattle.pb_flight.specs.Events.{Event, IsLawful}
+use Rattle.pb_flight.specs.Table.{is_good_at}
 use Rattle.pb_flight.proofs.Lists.{injective}
 use Rattle.pb_place.specs.Children.{child_at}
 use Rattle.pb_place.specs.Counts.{Counts, counted_finish, landed}
 use Rattle.pb_place.specs.Paths.{is_at_or_below}
-use Rattle.pb_place.specs.World.{World, ChangesOnly}
+use Rattle.pb_place.specs.World.{World, Answers, ChangesOnly}
 use Rattle.pb_place.specs.declared.child_in_flight.ChildInFlight.{ChildInFlight}
 use Rattle.pb_place.specs.declared.command.Command.{Command}
 use Rattle.pb_place.specs.declared.command.Ended.{Ended}
@@ -20,6 +21,7 @@ use Rattle.pb_project.specs.Targets.{unit_at}
 use Rattle.pb_answer.specs.declared.bad_unit.BadUnit.{BadUnit}
 use Rattle.pb_answer.specs.declared.fault.BuildFault.{BuildFault}
 use Rattle.pb_project.specs.declared.project.Project.{Project}
+use Rattle.pb_project.specs.declared.project.Setup.{Setup}
 use Rattle.pb_run.specs.Causes.{Drops, LandsBy}
 use Rattle.pb_run.specs.Halves.{Basis, Keeps, IsBegun, CanAnswer, BeginsApart, WritesTo, child_of}
 use Rattle.pb_run.specs.Standing.{IsInOrder, records_folder}
@@ -30,14 +32,15 @@ use Rattle.pb_soundness.specs.Apart.{is_of}
 use Rattle.pb_soundness.specs.Records.{Reading, out_of}
 use Rattle.pb_turns.specs.Crew.{needs_of, IsManned, IsOfPlan}
 use Rattle.pb_turns.specs.Rows.{Reasons}
-use Rattle.pb_turns.specs.Story.{states_in, AllBegan, Changes, FliesIn, Happened, HasNoRecord, CameAfter, HadDiffered}
+use Rattle.pb_turns.specs.Story.{states_in, AllAnswerAnew, AllBegan, Changes, FliesIn, Happened, HasNoRecord, CameAfter, HadDiffered}
 use Rattle.pb_turns.specs.declared.crew.Aloft.{Aloft}
 use Rattle.pb_turns.specs.declared.crew.UnitCrew.{UnitCrew}
+use Rattle.pb_turns.proofs.Anew.{gave_on}
 use Rattle.pb_turns.proofs.Answered as answered
 use Rattle.pb_turns.proofs.Changing.{its_writes, changes_less}
 use Rattle.pb_turns.proofs.Lists.{all_get}
 use Rattle.pb_turns.proofs.Manning.{flying_of}
-use Rattle.pb_turns.proofs.Staying.{dropped_beside, none_dropped, start_beside}
+use Rattle.pb_turns.proofs.Staying.{begun_apart, dropped_beside, none_dropped, start_beside}
 use Rattle.pb_turns.proofs.Unkept.{none_still}
 use Rattle.pb_unit.specs.declared.plan.Planned.{Planned}
 use Rattle.std.proofs.Common.{Result, Ok, Err}
@@ -125,3 +128,12 @@ started_dropped c counts manned read sources command fault es before first w w' 
     let of_plan : IsOfPlan c.project a = all_get (IsOfPlan c.project) c.aloft.items index a manned.units at in
     let so : FliesIn c.project es w counts.starts.flying a = all_get (FliesIn c.project es w counts.starts.flying) c.aloft.items index a old.flies at in
     start_beside c.project read sources command manned.order fault before es first w w' a.unit of_plan.unit of_plan.there so.state (only_its c counts manned es w w' a of_plan.unit of_plan.there so only) started
+
+-- and so does what those with a child have answered
+pub anew_dropped : (c : UnitCrew) (counts : Counts) (manned : IsManned c counts) (child : Answers) (setup : Setup) (done : List (Option (List Directive))) (es : List (Event BadUnit)) (first w w' : World)
+    (index : ℕ) (a : Aloft) (at : slice_get c.aloft.items index ≡ Some a) (lawful : IsLawful (needs_of c.project) es) (old : Changes c.project first c.aloft.items es w counts.starts.flying)
+    → ((out : List ℕ) → WritesTo out (child_of a.begun) counts.starts.flying → ChangesOnly (is_at_or_below out) w w') → AllAnswerAnew child setup c.project es done w → AllAnswerAnew child setup c.project es done w'
+anew_dropped c counts manned child setup done es first w w' index a at lawful old only gave =
+    let of_plan : IsOfPlan c.project a = all_get (IsOfPlan c.project) c.aloft.items index a manned.units at in
+    let so : FliesIn c.project es w counts.starts.flying a = all_get (FliesIn c.project es w counts.starts.flying) c.aloft.items index a old.flies at in
+    gave_on c.project manned.order es lawful a.unit of_plan.unit of_plan.there (ap is_good_at so.state) setup child w w' (only_its c counts manned es w w' a of_plan.unit of_plan.there so only) (λ b is. begun_apart b (sym so.state ∙ is)) done gave

@@ -10,9 +10,11 @@ pub mod Unkept
 pub mod Changing
 pub mod Again
 pub mod Waiting
+pub mod Anew
 pub mod Differing
 pub mod Alone
 pub mod Counting
+pub mod AnyCalling
 pub mod Calling
 pub mod Beginning
 pub mod Answering

@@ -40,7 +40,7 @@ use Rattle.pb_store.specs.Migrating.{TakesNumber, lacks_number}
 use Rattle.pb_store.specs.declared.difference.Difference.{Difference}
 use Rattle.pb_turns.specs.Again.{AnswersAgain, FliesAgain}
 use Rattle.pb_turns.specs.Anew.{AnswersAnew, FliesAnew}
-use Rattle.pb_turns.specs.Calling.{CallsCut, CallsOver}
+use Rattle.pb_turns.specs.Calling.{CallsCut, CallsCutAny, CallsOver, CallsOverAny, told_in}
 use Rattle.pb_turns.specs.Crew.{needs_of, launched_of}
 use Rattle.pb_turns.specs.Moments.{Moment}
 use Rattle.pb_turns.specs.Rows.{Reasons, fault_in, messages_in, is_started}
@@ -291,12 +291,14 @@ pub record Story (tells : Bool) (child : Answers) (first : UnitCrew) (at : Momen
   pub changes : IsTrue tells → Changes c.project at.world c.aloft.items es now.world now.counts.starts.flying
   pub unrecorded : IsTrue tells → KeepsNoneInFlight c.project es None now.world
   pub again : IsTrue tells → Replays c.setup c.project c.done.items c.aloft.items es at.world now.world
+  pub anew : IsTrue tells → Replies child c.setup c.project c.done.items c.aloft.items es now.world now.counts.starts.flying still
   pub began : IsTrue tells → AllBeganOnAny c.setup c.project c.done.items es c.reasons.items at.world now.world
   pub quiet : IsTrue tells → (read : Reading) → IsReading read → IsQuiet c.project read es at.world now.world
   pub held : IsTrue tells → (read : Reading) → IsReading read → HoldsNumbers (record_at read (records_folder c.project) now.world.files) c.store.numbers
   pub happened : IsTrue tells → FromFirst child first at c (λ b. Happened b c.done.items c.aloft.items c.store.next es now.world now.counts.starts.flying still)
   pub taken : IsTrue tells → (read : Reading) → IsReading read → NumbersGiven (LacksNoNumber c.project read at.world) es first.store.next c.store.next
-  pub calls : IsTrue tells → FromFirst child first at c (λ b. CallsOver b es at.world at.counts now.world now.counts)
+  pub calls : IsTrue tells → FromFirst child first at c (λ b. CallsOver (told_in b) es at.world at.counts now.world now.counts)
+  pub calls_on_any : IsTrue tells → CallsOverAny child c.setup c.project c.done.items es at.world at.counts now.world now.counts
   pub unnoted : NotesBegun c.project es first.reasons.items c.reasons.items
   pub noted : NotesStarted c.project es c.reasons.items
 
@@ -332,8 +334,10 @@ pub record StoryEnds (tells : Bool) (child : Answers) (fault : BuildFault) (aske
   pub changes : IsTrue tells → Changes c.project at.world c.aloft.items es now.world now.counts.starts.flying
   pub unrecorded : IsTrue tells → KeepsNoneInFlight c.project before asked now.world
   pub again : IsTrue tells → AllAnswerAgain c.setup c.project es c.done.items at.world
+  pub anew : IsTrue tells → AllAnswerAnew child c.setup c.project es c.done.items now.world
   pub began : IsTrue tells → AllBeganOnAny c.setup c.project c.done.items before c.reasons.items at.world now.world
   pub started : IsTrue tells → StartedOnAny c.setup c.project c.done.items fault before es at.world now.world
   pub happened : IsTrue tells → FromFirst child first at c (λ b. Happened b c.done.items c.aloft.items c.store.next es now.world now.counts.starts.flying still)
   pub caused : IsTrue tells → (read : Reading) → IsReading read → Spends (LacksNoNumber c.project read at.world) fault first.store.next es
-  pub calls : IsTrue tells → FromFirst child first at c (λ b. CallsCut b fault asked es before at.world at.counts now.counts)
+  pub calls : IsTrue tells → FromFirst child first at c (λ b. CallsCut (told_in b) fault asked es before at.world at.counts now.counts)
+  pub calls_on_any : IsTrue tells → CallsCutAny child c.setup c.project c.done.items fault asked es before at.world at.counts now.counts

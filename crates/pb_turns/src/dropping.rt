@@ -1,6 +1,7 @@
 //! Children in flight at the end of a build: each is asked for its end, and its answer is dropped.
 
-ghost use Rattle.std.specs.Prelude.{◌≡◌, ◌<◌, [], ℕ, List, Some, length, IsTrue};
+ghost use Rattle.std.specs.Prelude.{◌≡◌, ◌<◌, [], ℕ, List, Option, Some, length, IsTrue};
+ghost use Rattle.pb_directive.specs.declared.directive.Directive.{Directive};
 ghost use Rattle.pb_flight.specs.Events.{Event, IsLawful};
 ghost use Rattle.pb_place.specs.Counts.{Counts};
 ghost use Rattle.pb_place.specs.World.{World};
@@ -12,8 +13,9 @@ ghost use Rattle.pb_soundness.specs.Records.{Reading};
 ghost use Rattle.pb_turns.specs.Crew.{needs_of, tickets_of, IsManned};
 ghost use Rattle.pb_turns.specs.Ends.{Dropped, Drained};
 ghost use Rattle.pb_turns.specs.Rows.{Reasons};
-ghost use Rattle.pb_turns.specs.Story.{AllBegan, CameAfter, Changes, HadDiffered, Happened, HasNoRecord};
+ghost use Rattle.pb_turns.specs.Story.{AllAnswerAnew, AllBegan, CameAfter, Changes, HadDiffered, Happened, HasNoRecord};
 ghost use Rattle.pb_project.specs.Targets.{unit_at};
+ghost use Rattle.pb_project.specs.declared.project.Setup.{Setup};
 ghost use Rattle.pb_unit.specs.declared.plan.Planned.{Planned};
 
 use crate::crew::UnitCrew;
@@ -43,6 +45,9 @@ fn drop_first<P: Place>(alloc: Global, crew: &mut UnitCrew, place: &mut P)
     ensures started { (read : Reading) (sources : World) (command : ℕ → Planned → Command) (fault : BuildFault) (es before : List (Event BadUnit)) (first : World) → IsTrue P.tells
         → Changes crew.old.project first crew.old.aloft.items es (P.world place.old) (P.counts place.old).starts.flying
         → HadDiffered crew.old.project read sources command fault before es first (P.world place.old) → HadDiffered crew.old.project read sources command fault before es first (P.world place.new) }
+    ensures anew { (setup : Setup) (done : List (Option (List Directive))) (es : List (Event BadUnit)) (first : World) → IsTrue P.tells → IsLawful (needs_of crew.old.project) es
+        → Changes crew.old.project first crew.old.aloft.items es (P.world place.old) (P.counts place.old).starts.flying
+        → AllAnswerAnew P.child setup crew.old.project es done (P.world place.old) → AllAnswerAnew P.child setup crew.old.project es done (P.world place.new) }
 {
     let aloft = crew.aloft.remove(0);
     drop_unit(alloc, place, &aloft.begun);
@@ -68,6 +73,9 @@ pub(crate) fn drain<P: Place>(alloc: Global, crew: &mut UnitCrew, place: &mut P)
     ensures started { (read : Reading) (sources : World) (command : ℕ → Planned → Command) (fault : BuildFault) (es before : List (Event BadUnit)) (first : World) → IsTrue P.tells
         → Changes crew.old.project first crew.old.aloft.items es (P.world place.old) (P.counts place.old).starts.flying
         → HadDiffered crew.old.project read sources command fault before es first (P.world place.old) → HadDiffered crew.old.project read sources command fault before es first (P.world place.new) }
+    ensures anew { (setup : Setup) (done : List (Option (List Directive))) (es : List (Event BadUnit)) (first : World) → IsTrue P.tells → IsLawful (needs_of crew.old.project) es
+        → Changes crew.old.project first crew.old.aloft.items es (P.world place.old) (P.counts place.old).starts.flying
+        → AllAnswerAnew P.child setup crew.old.project es done (P.world place.old) → AllAnswerAnew P.child setup crew.old.project es done (P.world place.new) }
 {
     while !crew.aloft.is_empty() {
         drop_first(alloc, crew, place);

@@ -15,15 +15,17 @@ use Rattle.pb_run.specs.Telling.{unit_lines}
 use Rattle.pb_run.proofs.Reusing.{child_numbered}
 use Rattle.pb_run.proofs.Spawning.{launched_gone}
 use Rattle.pb_soundness.specs.Apart.{is_of}
+use Rattle.pb_turns.specs.Anew.{FliesAnew}
 use Rattle.pb_turns.specs.Crew.{IsOfPlan, place_of_unit, places_of, needs_of}
 use Rattle.pb_turns.specs.Moments.{moment}
 use Rattle.pb_turns.specs.Rows.{is_started}
 use Rattle.pb_turns.specs.Story.{IsUntold, KeepsNoneInFlight, LacksNoNumber, NamesUnit, NoneWritesTo, Story, states_in}
 use Rattle.pb_turns.proofs.Again.{answered_again}
+use Rattle.pb_turns.proofs.Anew.{answered_anew, unanswered_anew}
 use Rattle.pb_turns.proofs.Alone.{apart_removed, none_writes}
 use Rattle.pb_turns.proofs.Answering.{failed_happened, untold_happened, answered_happened}
 use Rattle.pb_turns.proofs.Beginning.{goes_lists}
-use Rattle.pb_turns.proofs.Calling.{calls_answered, calls_unanswered, calls_untold}
+use Rattle.pb_turns.proofs.Calling.{calls_answered, calls_answered_on_any, calls_unanswered, calls_unanswered_on_any, calls_untold, calls_untold_on_any}
 use Rattle.pb_turns.proofs.Changing.{its_writes, changes_less, changes_after}
 use Rattle.pb_turns.proofs.Counting.{came_answering, names_answering, goes_answered, stops_answered, stops_untold}
 use Rattle.pb_turns.proofs.Differing.{answered_began, unanswered_began}
@@ -130,6 +132,7 @@ returns-in-Err-clause-story g c = λ first at taken faults es given unit s flyin
       unrecorded = λ t. subst (λ n. KeepsNoneInFlight c.args.crew.now.project es (Some n) new.world) (sym its)
           (flight_asked c.args.crew.now.project c.requires.manned.order es now.world new.world c.remove-unit.result.unit c.index-units-unit.result there (only t) (s.unrecorded t));
       again = λ t. (s.again t).gave;
+      anew = unanswered_anew g.P.Place.tells g.P.Place.child first c.args.crew.now at now new (g.P.Place.still c.args.place.now) es given s c.requires.manned.order lawful c.args.index c.remove-unit.result c.index-units-unit.result there at_index only;
       began = unanswered_began g.P.Place.tells g.P.Place.child first c.args.crew.now at now new (g.P.Place.still c.args.place.now) es given s c.requires.manned.order lawful c.args.index c.remove-unit.result c.index-units-unit.result there at_index only c.answer_unit.ensures.same
           (λ t none. let (left, ended, ends, behind, calls) = c.in-Err.ensures.lands t in folder_answered c.args.crew.now.project c.requires.manned.order c.remove-unit.result.unit c.index-units-unit.result there c.remove-unit.result.begun.awaited none ended _ _ now.world (g.P.Place.world left) new.world now.counts (g.P.Place.counts left) ends behind);
       started = λ t read reading. none_began c.args.crew.now.project read _ _ c.in-Err.fault es at.world new.world;
@@ -139,6 +142,9 @@ returns-in-Err-clause-story g c = λ first at taken faults es given unit s flyin
       caused = λ t read reading.
           spends_answered (LacksNoNumber c.args.crew.now.project read at.world) es first.store.next c.args.crew.now.store.next c.index-units-unit.result.key (child_of c.remove-unit.result.begun) c.in-Err.fault now.counts.starts new.counts.starts c.in-Err.ensures.takes.0 (s.taken t read reading);
       calls = calls_unanswered g.P.Place.world g.P.Place.counts g.P.Place.tells g.P.Place.child first c.args.crew.now at now new (g.P.Place.still c.args.place.now) es given s c.requires.manned.order c.args.index c.remove-unit.result at_index c.index-units-unit.result there c.in-Err.fault unit its c.in-Err.ensures.lands;
+      calls_on_any = calls_unanswered_on_any g.P.Place.world g.P.Place.counts g.P.Place.tells g.P.Place.child first c.args.crew.now at now new (g.P.Place.still c.args.place.now) es given s c.requires.manned.order c.args.index c.remove-unit.result at_index c.index-units-unit.result there lawful s.calls_on_any
+          (λ t. all_get (FliesAnew g.P.Place.child c.args.crew.now.setup c.args.crew.now.project c.args.crew.now.done.items now.world now.counts.starts.flying (g.P.Place.still c.args.place.now)) c.args.crew.now.aloft.items c.args.index c.remove-unit.result (s.anew t).waits at_index)
+          c.in-Err.fault unit its c.in-Err.ensures.lands;
     }
 
 pub returns-in-Err-lines_of_unit-clause-story : goal.returns-in-Err-lines_of_unit-clause-story
@@ -169,6 +175,7 @@ returns-in-Err-lines_of_unit-clause-story g c = λ first at taken faults es give
       unrecorded = λ t. subst (λ n. KeepsNoneInFlight c.args.crew.now.project es (Some n) new.world) (sym its)
           (flight_asked c.args.crew.now.project c.requires.manned.order es now.world new.world c.remove-unit.result.unit c.index-units-unit.result there (only t) (s.unrecorded t));
       again = λ t. (s.again t).gave;
+      anew = unanswered_anew g.P.Place.tells g.P.Place.child first c.args.crew.now at now new (g.P.Place.still c.args.place.now) es given s c.requires.manned.order lawful c.args.index c.remove-unit.result c.index-units-unit.result there at_index only;
       began = unanswered_began g.P.Place.tells g.P.Place.child first c.args.crew.now at now new (g.P.Place.still c.args.place.now) es given s c.requires.manned.order lawful c.args.index c.remove-unit.result c.index-units-unit.result there at_index only c.answer_unit.ensures.same
           (λ t none. let (left, ended, ends, behind, calls) = c.in-Ok.ensures.lands t in folder_answered c.args.crew.now.project c.requires.manned.order c.remove-unit.result.unit c.index-units-unit.result there c.remove-unit.result.begun.awaited none ended _ _ now.world (g.P.Place.world left) new.world now.counts (g.P.Place.counts left) ends behind);
       started = λ t read reading. none_began c.args.crew.now.project read _ _ OutOfMemory es at.world new.world;
@@ -177,6 +184,9 @@ returns-in-Err-lines_of_unit-clause-story g c = λ first at taken faults es give
           c.in-Ok.ran c.in-Ok.ensures.outcome (λ footing read setup sources states done reading t. c.in-Ok.ensures.keeps footing read setup sources states done reading t (s.held t read reading)) c.in-Ok.ensures.directives c.remove-unit.new.self.items c.remove-unit.ensures.items;
       caused = λ t read reading. tt;
       calls = calls_untold g.P.Place.world g.P.Place.counts g.P.Place.tells g.P.Place.child first c.args.crew.now at now new (g.P.Place.still c.args.place.now) es given s c.requires.manned.order c.args.index c.remove-unit.result at_index c.index-units-unit.result there c.in-Ok.ran unit its c.in-Ok.ensures.lands;
+      calls_on_any = calls_untold_on_any g.P.Place.world g.P.Place.counts g.P.Place.tells g.P.Place.child first c.args.crew.now at now new (g.P.Place.still c.args.place.now) es given s c.requires.manned.order c.args.index c.remove-unit.result at_index c.index-units-unit.result there lawful s.calls_on_any
+          (λ t. all_get (FliesAnew g.P.Place.child c.args.crew.now.setup c.args.crew.now.project c.args.crew.now.done.items now.world now.counts.starts.flying (g.P.Place.still c.args.place.now)) c.args.crew.now.aloft.items c.args.index c.remove-unit.result (s.anew t).waits at_index)
+          c.in-Ok.ran unit its c.in-Ok.ensures.lands;
     }
 
 pub returns-clause-story : goal.returns-clause-story
@@ -218,6 +228,10 @@ returns-clause-story g c = λ first at taken faults es given unit s flying lawfu
       again = answered_again g.P.Place.tells g.P.Place.child first c.args.crew.now at now new (g.P.Place.still c.args.place.now) es given s c.requires.manned.order g.P.Place.world g.P.Place.counts _ lawful c.args.index c.remove-unit.result c.index-units-unit.result c.requires.manned at_index there only
           c.in-Ok.ran c.in-Ok-lines_of_unit.lines (c.in-Ok-lines_of_unit.ensures ∙ ap (λ p. unit_lines p c.index-units-unit.result c.in-Ok.ran.started c.as_slice.result.now) c.get.ensures ∙ ap (λ ms. unit_lines c.args.crew.now.project c.index-units-unit.result c.in-Ok.ran.started ms) c.as_slice.ensures)
           c.in-Ok.ensures.judged c.remove-unit.new.self.items c.note_answer.new.done.items c.remove-unit.ensures.items c.note_answer.ensures.done;
+      anew = answered_anew g.P.Place.tells g.P.Place.child first c.args.crew.now at now new (g.P.Place.still c.args.place.now) es given s c.requires.manned.order lawful c.args.index c.remove-unit.result c.index-units-unit.result there at_index only g.P.Place.world g.P.Place.counts c.requires.manned (g.P.Place.still c.answer_unit.new.place) c.answer_unit.ensures.stay (λ t. c.answer_unit.ensures.still t (writes t))
+          c.in-Ok.ran c.in-Ok-lines_of_unit.lines (c.in-Ok-lines_of_unit.ensures ∙ ap (λ p. unit_lines p c.index-units-unit.result c.in-Ok.ran.started c.as_slice.result.now) c.get.ensures ∙ ap (λ ms. unit_lines c.args.crew.now.project c.index-units-unit.result c.in-Ok.ran.started ms) c.as_slice.ensures)
+          c.in-Ok.ensures.started c.in-Ok.ensures.judged (λ t. let (left, answer, ends, changed, behind) = c.in-Ok.ensures.lands t in (left, answer, ends, changed))
+          c.remove-unit.new.self.items c.note_answer.new.done.items c.remove-unit.ensures.items c.note_answer.ensures.done;
       began = answered_began g.P.Place.tells g.P.Place.child first c.args.crew.now at now new (g.P.Place.still c.args.place.now) es given s c.requires.manned.order lawful c.args.index c.remove-unit.result c.index-units-unit.result there at_index only c.answer_unit.ensures.same
           (λ t none. let (left, ended, ends, behind, calls) = c.in-Ok.ensures.lands t in folder_answered c.args.crew.now.project c.requires.manned.order c.remove-unit.result.unit c.index-units-unit.result there c.remove-unit.result.begun.awaited none ended _ _ now.world (g.P.Place.world left) new.world now.counts (g.P.Place.counts left) ends behind)
           c.note_answer.new.done.items c.in-Ok.ran.directives answer c.note_answer.ensures.done;
@@ -228,6 +242,9 @@ returns-clause-story g c = λ first at taken faults es given unit s flying lawfu
           c.in-Ok.ensures.started (c.in-Ok-lines_of_unit.ensures ∙ ap (λ p. unit_lines p c.index-units-unit.result c.in-Ok.ran.started c.as_slice.result.now) c.get.ensures ∙ ap (λ ms. unit_lines c.args.crew.now.project c.index-units-unit.result c.in-Ok.ran.started ms) c.as_slice.ensures);
       quiet = answered_quiet g.P.Place.tells g.P.Place.child first c.args.crew.now at now new (g.P.Place.still c.args.place.now) es given s c.args.index c.remove-unit.result c.index-units-unit.result there at_index answer c.answer_unit.ensures.same;
       calls = calls_answered g.P.Place.world g.P.Place.counts g.P.Place.tells g.P.Place.child first c.args.crew.now at now new (g.P.Place.still c.args.place.now) es given s c.requires.manned.order c.args.index c.remove-unit.result at_index c.index-units-unit.result there answer c.in-Ok.ran c.in-Ok.ensures.lands;
+      calls_on_any = calls_answered_on_any g.P.Place.world g.P.Place.counts g.P.Place.tells g.P.Place.child first c.args.crew.now at now new (g.P.Place.still c.args.place.now) es given s c.requires.manned.order c.args.index c.remove-unit.result at_index c.index-units-unit.result there lawful s.calls_on_any
+          (λ t. all_get (FliesAnew g.P.Place.child c.args.crew.now.setup c.args.crew.now.project c.args.crew.now.done.items now.world now.counts.starts.flying (g.P.Place.still c.args.place.now)) c.args.crew.now.aloft.items c.args.index c.remove-unit.result (s.anew t).waits at_index)
+          c.note_answer.new.done.items c.in-Ok.ran.directives c.note_answer.ensures.done answer c.in-Ok.ran c.in-Ok.ensures.lands;
       unnoted = notes_answered c.args.crew.now.project es first.reasons.items c.args.crew.now.reasons.items c.remove-unit.result.unit answer begun s.unnoted;
       noted = started_answered c.args.crew.now.project es c.args.crew.now.reasons.items c.remove-unit.result.unit answer begun s.noted;
     })

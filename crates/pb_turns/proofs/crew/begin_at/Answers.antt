@@ -11,9 +11,10 @@ use Rattle.pb_turns.specs.Crew.{ticket_of_child}
 use Rattle.pb_turns.specs.Moments.{moment}
 use Rattle.pb_turns.specs.Story.{LacksNoNumber, Story, IsUntold, NoneWritesTo}
 use Rattle.pb_turns.proofs.Again.{begun_again, gave_begun}
+use Rattle.pb_turns.proofs.Anew.{begun_anew, unbegun_anew}
 use Rattle.pb_turns.proofs.Alone.{none_writes}
 use Rattle.pb_turns.proofs.Beginning.{goes_lists, refused_happened, failed_happened, begun_happened, by_number}
-use Rattle.pb_turns.proofs.Calling.{calls_begun, calls_unbegun, launched_behind}
+use Rattle.pb_turns.proofs.Calling.{calls_begun, calls_begun_on_any, calls_unbegun, calls_unbegun_on_any, launched_behind}
 use Rattle.pb_turns.proofs.Changing.{changes_begun, changes_more}
 use Rattle.pb_turns.proofs.Counting.{goes_begun, stops_begun, stops_refused_begun, children_are}
 use Rattle.pb_turns.proofs.Differing.{differed_tried, begun_began, unbegun_began, unbegun_started}
@@ -63,11 +64,13 @@ returns-in-Err-clause-story g c = λ first at taken faults es given s flying law
             c.args.unit u there may.untouched (only_same _ now.world) (λ ticket its is. is) false c.make_room.new.aloft.items c.make_room.ensures.aloft;
         unrecorded = s.unrecorded;
         again = λ t. gave_begun c.args.crew.now.setup c.args.crew.now.project c.args.crew.now.done.items es at.world c.args.unit false may.untouched (s.again t).gave;
+        anew = unbegun_anew g.P.Place.tells g.P.Place.child first c.args.crew.now at now now (g.P.Place.still c.args.place.now) es given s c.requires.manned.order lawful c.args.unit u there may (λ t. only_same _ now.world) false;
         began = s.began;
         started = λ t read reading. none_tried c.args.crew.now.project read _ _ OutOfMemory es at.world now.world c.args.unit refl;
         happened = refused_happened g.P.Place.tells g.P.Place.child first c.args.crew.now at now now (g.P.Place.still c.args.place.now) (g.P.Place.still c.args.place.now) es given c.args.unit u c.requires.manned.order there s may c.make_room.new.aloft.items c.make_room.ensures.aloft;
         caused = λ t read reading. tt;
         calls = λ t f r sources reading keeps. (now.world, now.counts, s.calls t f r sources reading keeps, inl refl);
+        calls_on_any = λ t read reading. (now.world, now.counts, s.calls_on_any t read reading, inl refl);
       },
     )
 
@@ -102,6 +105,7 @@ returns-in-Err-begin_unit-clause-story g c = λ first at taken faults es given s
             c.args.unit c.index-units-unit.result there may.untouched (c.begin_unit.ensures.only t) c.begin_unit.ensures.stay spawned c.make_room.new.aloft.items c.make_room.ensures.aloft;
         unrecorded = λ t. flight_unbegun c.args.crew.now.project c.requires.manned.order es (g.P.Place.world c.args.place.now) (g.P.Place.world c.begin_unit.new.place) c.args.unit c.index-units-unit.result there (c.begin_unit.ensures.only t) (s.unrecorded t) may.untouched;
         again = λ t. gave_begun c.args.crew.now.setup c.args.crew.now.project c.args.crew.now.done.items es at.world c.args.unit spawned may.untouched (s.again t).gave;
+        anew = unbegun_anew g.P.Place.tells g.P.Place.child first c.args.crew.now at now new (g.P.Place.still c.args.place.now) es given s c.requires.manned.order lawful c.args.unit c.index-units-unit.result there may (λ t. c.begin_unit.ensures.only t) spawned;
         began = unbegun_began g.P.Place.tells g.P.Place.child first c.args.crew.now at now new (g.P.Place.still c.args.place.now) es given s c.requires.manned.order lawful flying c.args.unit c.index-units-unit.result there may (λ t. c.begin_unit.ensures.only t) c.as_slice.result.now c.as_slice.ensures.value;
         started = unbegun_started g.P.Place.tells g.P.Place.child first c.args.crew.now at now new (g.P.Place.still c.args.place.now) es given s c.requires.manned.order lawful flying c.args.unit c.index-units-unit.result there may (λ t. c.begin_unit.ensures.only t) c.as_slice.result.now c.as_slice.ensures.value
             spawned c.in-Err-begin_unit.fault (within_reasons c.args.crew.now c.args.unit c.requires.manned.reasoned c.requires.unit)
@@ -118,6 +122,13 @@ returns-in-Err-begin_unit-clause-story g c = λ first at taken faults es given s
               | inl look ↦ inl look
               | inr (looked, has, ends) ↦ inr (g.P.Place.counts looked, λ read reading. has.looks read reading t, ends)
             ]);
+        calls_on_any = calls_unbegun_on_any g.P.Place.tells g.P.Place.child first c.args.crew.now at now
+            new (g.P.Place.still c.args.place.now)
+            es given c.args.unit c.index-units-unit.result c.requires.manned.order there s may c.as_slice.result.now c.as_slice.ensures.value spawned c.in-Err-begin_unit.fault
+            (λ t. elim (c.in-Err-begin_unit.ensures.stops t) [
+              | inl look ↦ inl look
+              | inr (looked, has, ends) ↦ inr (g.P.Place.counts looked, λ read reading. has.looks read reading t, ends)
+            ]) s.calls_on_any;
       },
     )
 
@@ -146,6 +157,8 @@ returns-clause-story g c = λ first at taken faults es given s flying lawful is_
       again = begun_again g.P.Place.tells g.P.Place.child first c.args.crew.now at now new (g.P.Place.still c.args.place.now) es given s c.requires.manned.order c.args.unit c.index-units-unit.result there may.untouched (λ t. c.begin_unit.ensures.only t)
           c.as_slice.result.now c.as_slice.ensures.value c.in-Ok-begin_unit.made.begun c.in-Ok-begin_unit.ensures.asks c.in-Ok-begin_unit.made.difference c.note_begun.new.aloft.items more (λ read reading t. c.in-Ok-begin_unit.ensures.differs read reading t (s.held t read reading)) c.in-Ok-begin_unit.ensures.spawned
           c.in-Ok-begin_unit.ensures.carries c.in-Ok-begin_unit.ensures.same;
+      anew = begun_anew g.P.Place.tells g.P.Place.child first c.args.crew.now at now new (g.P.Place.still c.args.place.now) es given s c.requires.manned.order lawful c.args.unit c.index-units-unit.result there may (λ t. c.begin_unit.ensures.only t) (g.P.Place.still c.begin_unit.new.place) c.begin_unit.ensures.stay c.begin_unit.ensures.still
+          c.as_slice.result.now c.as_slice.ensures.value c.in-Ok-begin_unit.made.begun c.in-Ok-begin_unit.ensures.asks c.in-Ok-begin_unit.ensures.launched c.note_begun.new.aloft.items more;
       began = begun_began g.P.Place.tells g.P.Place.child first c.args.crew.now at now new (g.P.Place.still c.args.place.now) es given s c.requires.manned.order lawful flying c.args.unit c.index-units-unit.result there may (λ t. c.begin_unit.ensures.only t) c.as_slice.result.now c.as_slice.ensures.value
           c.in-Ok-begin_unit.made.begun c.in-Ok-begin_unit.ensures.asks c.in-Ok-begin_unit.made.difference c.note_begun.new.reasons.items (λ read reading t. c.in-Ok-begin_unit.ensures.differs read reading t (s.held t read reading)) c.in-Ok-begin_unit.ensures.spawned
           (within_reasons c.args.crew.now c.args.unit c.requires.manned.reasoned c.requires.unit) c.in-Ok-begin_unit.ensures.same c.note_begun.ensures.reasons;
@@ -159,6 +172,10 @@ returns-clause-story g c = λ first at taken faults es given s flying lawful is_
           c.in-Ok-begin_unit.made.begun c.in-Ok-begin_unit.ensures.asks c.begin_unit.ensures.only c.in-Ok-begin_unit.ensures.same c.in-Ok-begin_unit.ensures.looks
           (launched_behind g.P.Place.world g.P.Place.counts g.P.Place.tells g.P.Place.child c.in-Ok-begin_unit.made.begun.command (λ read. looked_at read (records_folder c.args.crew.now.project) c.index-units-unit.result.key c.in-Ok-begin_unit.made.begun.command now.world)
           now.world now.counts new.counts (child_of c.in-Ok-begin_unit.made.begun) c.in-Ok-begin_unit.ensures.launches);
+      calls_on_any = calls_begun_on_any g.P.Place.tells g.P.Place.child first c.args.crew.now at now new (g.P.Place.still c.args.place.now) es given c.args.unit c.index-units-unit.result c.requires.manned.order there s may c.as_slice.result.now c.as_slice.ensures.value
+          c.in-Ok-begin_unit.made.begun c.in-Ok-begin_unit.ensures.asks c.begin_unit.ensures.only c.in-Ok-begin_unit.ensures.same c.in-Ok-begin_unit.ensures.looks
+          (launched_behind g.P.Place.world g.P.Place.counts g.P.Place.tells g.P.Place.child c.in-Ok-begin_unit.made.begun.command (λ read. looked_at read (records_folder c.args.crew.now.project) c.index-units-unit.result.key c.in-Ok-begin_unit.made.begun.command now.world)
+          now.world now.counts new.counts (child_of c.in-Ok-begin_unit.made.begun) c.in-Ok-begin_unit.ensures.launches) s.calls_on_any;
       unnoted = notes_begun c.args.crew.now.project es first.reasons.items c.args.crew.now.reasons.items c.note_begun.new.reasons.items c.args.unit (is_some (child_of c.in-Ok-begin_unit.made.begun)) (Some c.in-Ok-begin_unit.made.difference) may.untouched
           c.note_begun.ensures.reasons s.unnoted;
       noted = started_begun c.args.crew.now.project es c.args.crew.now.reasons.items c.note_begun.new.reasons.items c.args.unit (is_some (child_of c.in-Ok-begin_unit.made.begun)) c.in-Ok-begin_unit.made.difference

@@ -1,4 +1,5 @@
-use Rattle.std.proofs.Common.{◌≡◌, ℕ, List, Some, IsTrue, length}
+use Rattle.std.proofs.Common.{◌≡◌, ℕ, List, Option, Some, IsTrue, length}
+use Rattle.pb_directive.specs.declared.directive.Directive.{Directive}
 use Rattle.pb_flight.specs.Events.{Event, IsLawful}
 use Rattle.pb_place.specs.Counts.{Counts}
 use Rattle.pb_place.specs.World.{World}
@@ -11,7 +12,8 @@ use Rattle.pb_turns.specs.Crew.{needs_of, tickets_of, IsManned}
 use Rattle.pb_turns.specs.Ends.{Dropped}
 use Rattle.pb_turns.specs.Rows.{Reasons}
 use Rattle.pb_project.specs.Targets.{unit_at}
-use Rattle.pb_turns.specs.Story.{AllBegan, Changes, HadDiffered, Happened, HasNoRecord, CameAfter}
+use Rattle.pb_project.specs.declared.project.Setup.{Setup}
+use Rattle.pb_turns.specs.Story.{AllAnswerAnew, AllBegan, Changes, HadDiffered, Happened, HasNoRecord, CameAfter}
 use Rattle.pb_unit.specs.declared.plan.Planned.{Planned}
 use Rattle.pb_turns.proofs.dropping.drain.Given as goal
 
@@ -34,6 +36,9 @@ invariant-loop-alloc g l = record {
   started : (read : Reading) (sources : World) (command : ℕ → Planned → Command) (fault : BuildFault) (es before : List (Event BadUnit)) (first : World) → IsTrue g.P.Place.tells
       → Changes l.fn.crew.project first l.fn.crew.aloft.items es (g.P.Place.world l.fn.place) (g.P.Place.counts l.fn.place).starts.flying
       → HadDiffered l.fn.crew.project read sources command fault before es first (g.P.Place.world l.fn.place) → HadDiffered l.fn.crew.project read sources command fault before es first (g.P.Place.world l.place);
+  anew : (setup : Setup) (done : List (Option (List Directive))) (es : List (Event BadUnit)) (first : World) → IsTrue g.P.Place.tells → IsLawful (needs_of l.fn.crew.project) es
+      → Changes l.fn.crew.project first l.fn.crew.aloft.items es (g.P.Place.world l.fn.place) (g.P.Place.counts l.fn.place).starts.flying
+      → AllAnswerAnew g.P.Place.child setup l.fn.crew.project es done (g.P.Place.world l.fn.place) → AllAnswerAnew g.P.Place.child setup l.fn.crew.project es done (g.P.Place.world l.place);
 }
 
 abbrev pub decreases-loop-alloc : goal.decreases-loop-alloc

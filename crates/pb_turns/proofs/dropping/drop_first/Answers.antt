@@ -1,7 +1,7 @@
 use Rattle.std.proofs.Common.{refl, inl, length}
 use Rattle.pb_run.specs.Halves.{child_of}
 use Rattle.std.proofs.lemmas.Option.{slice_get_read}
-use Rattle.pb_turns.proofs.Landing.{unrecorded_dropped, drops_land, began_dropped, happened_dropped, changes_dropped, started_dropped}
+use Rattle.pb_turns.proofs.Landing.{anew_dropped, unrecorded_dropped, drops_land, began_dropped, happened_dropped, changes_dropped, started_dropped}
 use Rattle.pb_turns.proofs.Manning.{flying_of, manned_answered}
 use Rattle.pb_turns.proofs.dropping.drop_first.Goals as goal
 
@@ -47,3 +47,9 @@ returns-clause-started g c = λ read sources command fault es before first tells
     let at = slice_get_read c.args.crew.now.aloft.items (length c.args.crew.now.aloft.items) 0 c.remove-aloft.result refl c.requires.some c.remove-aloft.ensures.value in
     started_dropped c.args.crew.now (g.P.Place.counts c.args.place.now) c.requires.manned read sources command fault es before first (g.P.Place.world c.args.place.now) (g.P.Place.world c.drop_unit.new.place)
     0 c.remove-aloft.result at old (λ out. c.drop_unit.ensures.only out tells) started
+
+pub returns-clause-anew : goal.returns-clause-anew
+returns-clause-anew g c = λ setup done es first tells lawful old gave.
+    let at = slice_get_read c.args.crew.now.aloft.items (length c.args.crew.now.aloft.items) 0 c.remove-aloft.result refl c.requires.some c.remove-aloft.ensures.value in
+    anew_dropped c.args.crew.now (g.P.Place.counts c.args.place.now) c.requires.manned g.P.Place.child setup done es first (g.P.Place.world c.args.place.now) (g.P.Place.world c.drop_unit.new.place)
+    0 c.remove-aloft.result at lawful old (λ out. c.drop_unit.ensures.only out tells) gave

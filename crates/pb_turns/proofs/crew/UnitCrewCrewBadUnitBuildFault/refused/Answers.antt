@@ -17,9 +17,11 @@ returns g c = λ first first_place last_place first_out last_out es given s. rec
   changes = s.changes;
   unrecorded = s.unrecorded;
   again = λ t. (s.again t).gave;
+  anew = λ t. (s.anew t).gave;
   began = s.began;
   started = λ t read reading. none_began _ read _ _ OutOfMemory es _ _;
   happened = s.happened;
   caused = λ t read reading. tt;
   calls = λ t f r sources reading keeps. (g.P.Place.world last_place, g.P.Place.counts last_place, s.calls t f r sources reading keeps, inl refl);
+  calls_on_any = λ t read reading. (g.P.Place.world last_place, g.P.Place.counts last_place, s.calls_on_any t read reading, inl refl);
 }

@@ -15,11 +15,13 @@ returns-then-write_all-clause-story g c = λ first first_place first_out es give
   changes = s.changes;
   unrecorded = s.unrecorded;
   again = s.again;
+  anew = s.anew;
   began = s.began;
   held = s.held;
   happened = s.happened;
   quiet = s.quiet;
   calls = s.calls;
+  calls_on_any = s.calls_on_any;
   unnoted = s.unnoted;
   noted = s.noted;
 }
@@ -39,9 +41,11 @@ returns-else-write_all-clause-story g c = λ first first_place first_out es give
       changes = s.changes;
       unrecorded = s.unrecorded;
       again = λ t. (s.again t).gave;
+      anew = λ t. (s.anew t).gave;
       began = s.began;
       started = λ t read reading. none_began _ read _ _ Sink es _ _;
       happened = s.happened;
       caused = λ t read reading. tt;
       calls = λ t f r sources reading keeps. (g.P.Place.world c.args.place.now, g.P.Place.counts c.args.place.now, s.calls t f r sources reading keeps, inl refl);
+      calls_on_any = λ t read reading. (g.P.Place.world c.args.place.now, g.P.Place.counts c.args.place.now, s.calls_on_any t read reading, inl refl);
     }
