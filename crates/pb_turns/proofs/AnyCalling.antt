@@ -35,7 +35,7 @@ use Rattle.pb_soundness.proofs.Places.{record_same}
 use Rattle.pb_store.specs.Replaying.{IsReplayed, replayed}
 use Rattle.pb_turns.specs.Again.{CarriesAgain}
 use Rattle.pb_turns.specs.Anew.{CarriesAnew}
-use Rattle.pb_turns.specs.Calling.{AnswersCalling, BeginsCalling, CallsOver, CallsToBegin, EndsAsReplied, Told, told_on_any}
+use Rattle.pb_turns.specs.Calling.{AnswersCalling, BeginsCalling, CallsOver, CallsToBegin, EndsAsReplied, CallBasis, call_basis_on_any}
 use Rattle.pb_turns.specs.Crew.{needs_of}
 use Rattle.pb_turns.specs.Story.{states_in}
 use Rattle.pb_turns.proofs.States.{begun_more, begun_now}
@@ -50,7 +50,7 @@ module _ (read : Reading) (child : Answers) (setup : Setup) (project : Project) 
   SameCommand place = (u : Planned) → unit_at project place ≡ Some u → command_of setup project u done ≡ command_of setup project u done'
 
   begins_same : (place : ℕ) (spawned : Bool) (before : World) (old : Counts) (after : World) (new : Counts) → SameCommand place
-      → BeginsCalling (told_on_any read child setup project done) place spawned before old after new → BeginsCalling (told_on_any read child setup project done') place spawned before old after new
+      → BeginsCalling (call_basis_on_any read child setup project done) place spawned before old after new → BeginsCalling (call_basis_on_any read child setup project done') place spawned before old after new
   begins_same place spawned before old after new same f = record {
     unit = f.unit;
     there = f.there;
@@ -59,7 +59,7 @@ module _ (read : Reading) (child : Answers) (setup : Setup) (project : Project) 
   }
 
   answers_same : (place : ℕ) (spawned : Bool) (result : Result (Unit {0}) BuildFault) (before : World) (old : Counts) (after : World) (new : Counts) → SameCommand place
-      → AnswersCalling (told_on_any read child setup project done) place spawned result before old after new → AnswersCalling (told_on_any read child setup project done') place spawned result before old after new
+      → AnswersCalling (call_basis_on_any read child setup project done) place spawned result before old after new → AnswersCalling (call_basis_on_any read child setup project done') place spawned result before old after new
   answers_same place spawned result before old after new same f = record {
     unit = f.unit;
     there = f.there;
@@ -76,7 +76,7 @@ module _ (read : Reading) (child : Answers) (setup : Setup) (project : Project) 
   }
 
   pub calls_same : (es : List (Event BadUnit)) → IsLawful (needs_of project) es → ((place : ℕ) → HasBegun (states_in project es) place → SameCommand place) → (first : World) (at : Counts) (last : World) (now : Counts)
-      → CallsOver (told_on_any read child setup project done) es first at last now → CallsOver (told_on_any read child setup project done') es first at last now
+      → CallsOver (call_basis_on_any read child setup project done) es first at last now → CallsOver (call_basis_on_any read child setup project done') es first at last now
   calls_same [] lawful same first at last now calls = calls
   calls_same (Began place spawned ∷ es) lawful same first at last now (before, old, calls, begins) =
       let (earlier, may) = began_lawful (needs_of project) _ es place spawned lawful in (
@@ -94,7 +94,7 @@ module _ (read : Reading) (child : Answers) (setup : Setup) (project : Project) 
       )
 
 -- What a unit in flight waits for: the end of its child, which saw what it is told to see of the world that it left; or the answer that its record gives again, which counts before.
-abbrev pub WaitsTold : Told → ℕ → Planned → Command → World → World → List ChildInFlight → (ℕ → Type 0) → Awaited → Type 0
+abbrev pub WaitsTold : CallBasis → ℕ → Planned → Command → World → World → List ChildInFlight → (ℕ → Type 0) → Awaited → Type 0
 WaitsTold told place u c before left flying still (awaited.Child launched) = IsInFlight told.child c (told.sees place u left) launched.ticket flying still
 WaitsTold told place u c before left flying still (awaited.Record again) = IsReplayed (record_at told.read (records_folder told.project) before.files u.key) again
 
@@ -122,7 +122,7 @@ module _ (read : Reading) (child : Answers) (setup : Setup) (project : Project) 
           u c is_for_unit far
 
       pub waits_on_any : (by : Awaited) (answer : Result Ended StartFault) (well : Type 0) (mid : Counts) → CarriesAgain read setup project done first before u c by → CarriesAnew child setup project done before old.starts.flying still u c by
-          → EndsBy by answer well still before left old mid → WaitsTold (told_on_any read child setup project done') place u c before left old.starts.flying still by
+          → EndsBy by answer well still before left old mid → WaitsTold (call_basis_on_any read child setup project done') place u c before left old.starts.flying still by
       waits_on_any (awaited.Child launched) answer well mid again anew ends =
           let flight = anew.1 in
           let inside : ChangesOnlyInSome c.out before left =

@@ -46,7 +46,7 @@ use Rattle.pb_soundness.specs.Records.{Reading, place_of, record_at}
 use Rattle.pb_store.specs.Looking.{looked_at}
 use Rattle.pb_turns.specs.Again.{FliesAgain}
 use Rattle.pb_turns.specs.Anew.{FliesAnew}
-use Rattle.pb_turns.specs.Calling.{AnswersCalling, BeginsCalling, CallsCut, CallsCutAny, CallsOver, CallsOverAny, CallsToBegin, EndsAsReplied, Told, reply_told, told_in, told_on_any}
+use Rattle.pb_turns.specs.Calling.{AnswersCalling, BeginsCalling, CallsCut, CallsCutOnAny, CallsOver, CallsOnAny, CallsToBegin, EndsAsReplied, CallBasis, reply_in, call_basis, call_basis_on_any}
 use Rattle.pb_turns.specs.Crew.{needs_of}
 use Rattle.pb_turns.specs.Moments.{Moment}
 use Rattle.pb_turns.specs.Rows.{is_started}
@@ -69,7 +69,7 @@ launched_behind {P} world counts tells child c names before old new o launches l
 
 -- A unit begins.
 
-module _ (told : Told) (unit : ℕ) (u : Planned) (there : unit_at told.project unit ≡ Some u) (before after : World) (old new : Counts) where
+module _ (told : CallBasis) (unit : ℕ) (u : Planned) (there : unit_at told.project unit ≡ Some u) (before after : World) (old new : Counts) where
   -- by its command, whatever that is told by
   begins_calling : (begun : unit_begun) → begun.command ≡ told.command unit u → ChangesOnly (is_of (records_folder told.project) u.key) before after → (child_of begun ≡ None → after ≡ before)
       → (child_of begun ≡ None → new ≡ past_look told.read told.project u begun.command before old)
@@ -92,8 +92,8 @@ module _ (tells : Bool) (child : Answers) (first old : UnitCrew) (at now new : M
   abbrev Of : Footing → Reading → World → Basis
   Of footing read sources = basis footing read child old.setup old.project sources
 
-  abbrev OnAny : Reading → Told
-  OnAny read = told_on_any read child old.setup old.project old.done.items
+  abbrev OnAny : Reading → CallBasis
+  OnAny read = call_basis_on_any read child old.setup old.project old.done.items
 
   abbrev ByCommand : Command → Type 0
   ByCommand c = IsTrue tells → FromFirst child first at old (λ b. c ≡ command_in b unit u)
@@ -108,16 +108,16 @@ module _ (tells : Bool) (child : Answers) (first old : UnitCrew) (at now new : M
   module _ (begun : unit_begun) (asks : begun.command ≡ command_of old.setup old.project u done) (only : IsTrue tells → ChangesOnly (is_of (records_folder old.project) u.key) now.world new.world) (same : IsTrue tells → child_of begun ≡ None → new.world ≡ now.world)
       (looks : (read : Reading) → IsReading read → IsTrue tells → child_of begun ≡ None → new.counts ≡ past_look read old.project u begun.command now.world now.counts)
       (launches : (launched : Launched) → child_of begun ≡ Some launched → (read : Reading) → IsReading read → IsTrue tells → Launches child begun.command launched.ticket (past_look read old.project u begun.command now.world now.counts) new.counts) where
-    pub calls_begun : IsTrue tells → FromFirst child first at old (λ b. CallsOver (told_in b) (Began unit (is_some (child_of begun)) ∷ es) at.world at.counts new.world new.counts)
+    pub calls_begun : IsTrue tells → FromFirst child first at old (λ b. CallsOver (call_basis b) (Began unit (is_some (child_of begun)) ∷ es) at.world at.counts new.world new.counts)
     calls_begun t f r s reading k = (
       now.world,
       now.counts,
       story.calls t f r s reading k,
-      begins_calling (told_in (Of f r s)) unit u there now.world new.world now.counts new.counts begun (commanded begun.command asks t f r s reading k) (only t) (same t) (looks r reading t) (λ launched is. launches launched is r reading t),
+      begins_calling (call_basis (Of f r s)) unit u there now.world new.world now.counts new.counts begun (commanded begun.command asks t f r s reading k) (only t) (same t) (looks r reading t) (λ launched is. launches launched is r reading t),
     )
 
-    pub calls_begun_on_any : (IsTrue tells → CallsOverAny child old.setup old.project old.done.items es at.world at.counts now.world now.counts)
-        → IsTrue tells → CallsOverAny child old.setup old.project old.done.items (Began unit (is_some (child_of begun)) ∷ es) at.world at.counts new.world new.counts
+    pub calls_begun_on_any : (IsTrue tells → CallsOnAny child old.setup old.project old.done.items es at.world at.counts now.world now.counts)
+        → IsTrue tells → CallsOnAny child old.setup old.project old.done.items (Began unit (is_some (child_of begun)) ∷ es) at.world at.counts new.world new.counts
     calls_begun_on_any calls t read reading = (
       now.world,
       now.counts,
@@ -139,7 +139,7 @@ module _ (tells : Bool) (child : Answers) (first old : UnitCrew) (at now new : M
     stops_beginning : (read : Reading) (c : Command) → command_of old.setup old.project u done ≡ c → IsReading read → IsTrue tells → StopsToBegin read old.project u c fault now.world now.counts new.counts
     stops_beginning read c is reading t = subst (λ (d : Command). StopsToBegin read old.project u d fault now.world now.counts new.counts) is (stops_to_begin t read reading)
 
-    pub calls_unbegun : IsTrue tells → FromFirst child first at old (λ b. CallsCut (told_in b) fault None (Began unit spawned ∷ es) es at.world at.counts new.counts)
+    pub calls_unbegun : IsTrue tells → FromFirst child first at old (λ b. CallsCut (call_basis b) fault None (Began unit spawned ∷ es) es at.world at.counts new.counts)
     calls_unbegun t f r s reading k = (
       now.world,
       now.counts,
@@ -147,8 +147,8 @@ module _ (tells : Bool) (child : Answers) (first old : UnitCrew) (at now new : M
       inr (unit, spawned, refl, record { unit = u; there = there; stops = stops_beginning r (command_in (Of f r s) unit u) (commanded (command_of old.setup old.project u done) refl t f r s reading k) reading t }),
     )
 
-    pub calls_unbegun_on_any : (IsTrue tells → CallsOverAny child old.setup old.project old.done.items es at.world at.counts now.world now.counts)
-        → IsTrue tells → CallsCutAny child old.setup old.project old.done.items fault None (Began unit spawned ∷ es) es at.world at.counts new.counts
+    pub calls_unbegun_on_any : (IsTrue tells → CallsOnAny child old.setup old.project old.done.items es at.world at.counts now.world now.counts)
+        → IsTrue tells → CallsCutOnAny child old.setup old.project old.done.items fault None (Began unit spawned ∷ es) es at.world at.counts new.counts
     calls_unbegun_on_any calls t read reading = (
       now.world,
       now.counts,
@@ -174,7 +174,7 @@ behind_untold names (Err e) ran old new is = is
 
 -- What came of a unit in flight, by what it waits for.
 
-module _ (told : Told) (place : ℕ) (u : Planned) (there : unit_at told.project place ≡ Some u) (c : Command) (asks : c ≡ told.command place u) (writes : c.out ≡ Some u.out) (before left : World) (old : Counts) (still : ℕ → Type 0) where
+module _ (told : CallBasis) (place : ℕ) (u : Planned) (there : unit_at told.project place ≡ Some u) (c : Command) (asks : c ≡ told.command place u) (writes : c.out ≡ Some u.out) (before left : World) (old : Counts) (still : ℕ → Type 0) where
   -- its record counts now, where it has no child
   counts_now : (by : Awaited) → WaitsTold told place u c before left old.starts.flying still by → GivesRecord (record_at told.read (records_folder told.project) before.files u.key) by
   counts_now (awaited.Child launched) waits = tt
@@ -188,11 +188,11 @@ module _ (told : Told) (place : ℕ) (u : Planned) (there : unit_at told.project
 
   -- and so a child gave its reply
   replied_landing : (launched : Launched) (ended : Ended) → IsInFlight told.child c (told.sees place u left) launched.ticket old.starts.flying still
-      → (still launched.ticket → IfSome (child_at launched.ticket old.starts.flying) (λ spawned. LandsAs spawned before ended left)) → EndsAsReplied (reply_told told place u left) u ended left
+      → (still launched.ticket → IfSome (child_at launched.ticket old.starts.flying) (λ spawned. LandsAs spawned before ended left)) → EndsAsReplied (reply_in told place u left) u ended left
   replied_landing launched ended flight lands =
       let landed : LandsAs (child_spawned (told.child c) c flight.spawned launched.ticket) before ended left =
       subst (λ (o : Option ChildInFlight). IfSome o (λ spawned. LandsAs spawned before ended left)) flight.flies (lands flight.stands) in
-      let replies : told.child c (seen_by c flight.spawned) ≡ reply_told told place u left = ap (told.child c) flight.sees ∙ ap (λ (d : Command). told.child d (told.sees place u left)) asks in
+      let replies : told.child c (seen_by c flight.spawned) ≡ reply_in told place u left = ap (told.child c) flight.sees ∙ ap (λ (d : Command). told.child d (told.sees place u left)) asks in
       record {
         answer = landed.answer ∙ ap ended_by replies;
         files = landed_files u.out (told.child c (seen_by c flight.spawned)).files (inside_out c.out flight.spawned.files) before left flight.emptied
@@ -201,7 +201,7 @@ module _ (told : Told) (place : ℕ) (u : Planned) (there : unit_at told.project
       }
 
   replies_so : (by : Awaited) (answer : Result Ended StartFault) (well : Type 0) (mid : Counts) → WaitsTold told place u c before left old.starts.flying still by → EndsBy by answer well still before left old mid
-      → is_some (child_in by) ≡ true → IfOk answer (λ ended. EndsAsReplied (reply_told told place u left) u ended left)
+      → is_some (child_in by) ≡ true → IfOk answer (λ ended. EndsAsReplied (reply_in told place u left) u ended left)
   replies_so (awaited.Child launched) (Ok ended) well mid flight ends is = replied_landing launched ended flight ends.lands
   replies_so (awaited.Child launched) (Err fault) well mid flight ends is = tt
   replies_so (awaited.Record again) answer well mid waits ends is = absurd (false≢true is)
@@ -228,7 +228,7 @@ module _ (told : Told) (place : ℕ) (u : Planned) (there : unit_at told.project
 
 -- over a basis it waits so
 waits_in : (b : Basis) (place : ℕ) (u : Planned) (c : Command) (next : Option ℕ) (before left : World) (flying : List ChildInFlight) (still : ℕ → Type 0) (by : Awaited) → WaitsBy b u c (view_in b place u) by next before flying still
-    → WaitsTold (told_in b) place u c before left flying still by
+    → WaitsTold (call_basis b) place u c before left flying still by
 waits_in b place u c next before left flying still (awaited.Child launched) waits = waits.0
 waits_in b place u c next before left flying still (awaited.Record again) waits = waits.1
 
@@ -250,37 +250,37 @@ module _ {P : Type 0} (world : P → World) (counts : P → Counts) (tells : Boo
   Behind result said = (names : Ended → List Call) (answer : Result Ended StartFault) (k k' : Counts) → CallsBehind names answer said k k' → CallsBehind names answer result k k'
 
   answers : (result : Result (Unit {0}) BuildFault) (said : Result Ran BuildFault) → (IsOk result → IsOk said) → Behind result said → Lands said
-      → IsTrue tells → FromFirst child first at old (λ b. AnswersCalling (told_in b) a.unit (is_started es a.unit) result now.world now.counts new.world new.counts)
+      → IsTrue tells → FromFirst child first at old (λ b. AnswersCalling (call_basis b) a.unit (is_started es a.unit) result now.world now.counts new.world new.counts)
   answers result said so same_calls lands t f r s reading k =
       let h = story.happened t f r s reading k in
       let so_begun = all_get (FliesSo (On f r s) es old.store.next now.world now.counts.starts.flying still) old.aloft.items index a h.begun at_index in
       let (asks, waits) = begun_as (On f r s) order a.unit u there a.begun old.store.next now.world now.counts.starts.flying still so_begun.begun_so in
       let (left, answer, ends, only, behind) = lands t in
-      answers_calling (told_in (On f r s)) a.unit u there a.begun.command asks (ap (λ (d : Command). d.out) asks ∙ command_out (On f r s) order a.unit u there) now.world (world left) now.counts still a.begun.awaited (is_started es a.unit) so_begun.started
+      answers_calling (call_basis (On f r s)) a.unit u there a.begun.command asks (ap (λ (d : Command). d.out) asks ∙ command_out (On f r s) order a.unit u there) now.world (world left) now.counts still a.begun.awaited (is_started es a.unit) so_begun.started
       (waits_in (On f r s) a.unit u a.begun.command old.store.next now.world (world left) now.counts.starts.flying still a.begun.awaited waits)
       answer result (IsOk said) so (counts left) ends new.world new.counts only (same_calls (answered_called r old.project u a.begun.command (world left) a.begun.awaited) answer (counts left) new.counts (behind r reading))
 
   -- it has answered
-  pub calls_answered : (answer : Answer BadUnit) (ran : Ran) → Lands (ended_well ran) → IsTrue tells → FromFirst child first at old (λ b. CallsOver (told_in b) (Gave a.unit answer ∷ es) at.world at.counts new.world new.counts)
+  pub calls_answered : (answer : Answer BadUnit) (ran : Ran) → Lands (ended_well ran) → IsTrue tells → FromFirst child first at old (λ b. CallsOver (call_basis b) (Gave a.unit answer ∷ es) at.world at.counts new.world new.counts)
   calls_answered answer ran lands t f r s reading k =
       (now.world, now.counts, story.calls t f r s reading k, answers (Ok tt) (ended_well ran) (λ ok. ok) (λ names said old new. behind_well names said ran old new) lands t f r s reading k)
 
   -- a fault came in its place
-  cut : (fault : BuildFault) (unit : ℕ) → unit ≡ a.unit → IsTrue tells → FromFirst child first at old (λ b. AnswersCalling (told_in b) a.unit (is_started es a.unit) (Err fault) now.world now.counts new.world new.counts)
-      → FromFirst child first at old (λ b. CallsCut (told_in b) fault (Some unit) es es at.world at.counts new.counts)
+  cut : (fault : BuildFault) (unit : ℕ) → unit ≡ a.unit → IsTrue tells → FromFirst child first at old (λ b. AnswersCalling (call_basis b) a.unit (is_started es a.unit) (Err fault) now.world now.counts new.world new.counts)
+      → FromFirst child first at old (λ b. CallsCut (call_basis b) fault (Some unit) es es at.world at.counts new.counts)
   cut fault unit its t so f r s reading k =
-      (now.world, now.counts, story.calls t f r s reading k, (new.world, subst (λ n. AnswersCalling (told_in (On f r s)) n (is_started es n) (Err fault) now.world now.counts new.world new.counts) (sym its) (so f r s reading k)))
+      (now.world, now.counts, story.calls t f r s reading k, (new.world, subst (λ n. AnswersCalling (call_basis (On f r s)) n (is_started es n) (Err fault) now.world now.counts new.world new.counts) (sym its) (so f r s reading k)))
 
-  pub calls_unanswered : (fault : BuildFault) (unit : ℕ) → unit ≡ a.unit → Lands (ended_badly fault) → IsTrue tells → FromFirst child first at old (λ b. CallsCut (told_in b) fault (Some unit) es es at.world at.counts new.counts)
+  pub calls_unanswered : (fault : BuildFault) (unit : ℕ) → unit ≡ a.unit → Lands (ended_badly fault) → IsTrue tells → FromFirst child first at old (λ b. CallsCut (call_basis b) fault (Some unit) es es at.world at.counts new.counts)
   calls_unanswered fault unit its lands t = cut fault unit its t (answers (Err fault) (ended_badly fault) (λ ok. ok) (λ names said old new. behind_badly names said fault old new) lands t)
 
   -- memory is refused for its lines
-  pub calls_untold : (ran : Ran) (unit : ℕ) → unit ≡ a.unit → Lands (ended_well ran) → IsTrue tells → FromFirst child first at old (λ b. CallsCut (told_in b) OutOfMemory (Some unit) es es at.world at.counts new.counts)
+  pub calls_untold : (ran : Ran) (unit : ℕ) → unit ≡ a.unit → Lands (ended_well ran) → IsTrue tells → FromFirst child first at old (λ b. CallsCut (call_basis b) OutOfMemory (Some unit) es es at.world at.counts new.counts)
   calls_untold ran unit its lands t = cut OutOfMemory unit its t (answers (Err OutOfMemory) (ended_well ran) (λ none. refl) (λ names said old new. behind_untold names said ran old new) lands t)
 
   -- The same over any records.
 
-  module _ (lawful : IsLawful (needs_of old.project) es) (calls : IsTrue tells → CallsOverAny child old.setup old.project old.done.items es at.world at.counts now.world now.counts)
+  module _ (lawful : IsLawful (needs_of old.project) es) (calls : IsTrue tells → CallsOnAny child old.setup old.project old.done.items es at.world at.counts now.world now.counts)
       (anew : IsTrue tells → FliesAnew child old.setup old.project old.done.items now.world now.counts.starts.flying still a) where
     so_flies : IsTrue tells → FliesIn old.project es now.world now.counts.starts.flying a
     so_flies t = all_get (FliesIn old.project es now.world now.counts.starts.flying) old.aloft.items index a (story.changes t).flies at_index
@@ -292,20 +292,20 @@ module _ {P : Type 0} (world : P → World) (counts : P → Counts) (tells : Boo
         ∙ good_at (states_in old.project es) u.reaches p (all_reach old.project order es lawful a.unit u (Begun, begun, refl) there) among)
 
     answers_on_any : (done' : List (Option (List Directive))) → command_of old.setup old.project u old.done.items ≡ command_of old.setup old.project u done' → (result : Result (Unit {0}) BuildFault) (said : Result Ran BuildFault) → (IsOk result → IsOk said) → Behind result said → Lands said
-        → IsTrue tells → (read : Reading) → IsReading read → AnswersCalling (told_on_any read child old.setup old.project done') a.unit (is_started es a.unit) result now.world now.counts new.world new.counts
+        → IsTrue tells → (read : Reading) → IsReading read → AnswersCalling (call_basis_on_any read child old.setup old.project done') a.unit (is_started es a.unit) result now.world now.counts new.world new.counts
     answers_on_any done' same result said so same_calls lands t read reading =
         let flies = so_flies t in
         let carries = all_get (λ (x : Aloft). FliesAgain read old.setup old.project old.done.items at.world now.world x) old.aloft.items index a ((story.again t).waits read reading) at_index u there in
         let (left, answer, ends, only, behind) = lands t in
         let asks = asks_now read child old.setup old.project order a.unit u there old.done.items at.world now.world now.counts still a.begun.command a.begun.awaited carries (anew t u there) in
-        answers_calling (told_on_any read child old.setup old.project done') a.unit u there a.begun.command (asks ∙ same)
+        answers_calling (call_basis_on_any read child old.setup old.project done') a.unit u there a.begun.command (asks ∙ same)
         (writes_to_folder read child old.setup old.project order a.unit u there old.done.items at.world now.world now.counts still a.begun.command asks) now.world (world left) now.counts still a.begun.awaited (is_started es a.unit) flies.started
         (waits_on_any read child old.setup old.project order a.unit u there old.done.items at.world now.world now.counts still a.begun.command asks (world left) (far flies.state) done' same a.begun.awaited answer (IsOk said) (counts left) carries (anew t u there) ends)
         answer result (IsOk said) so (counts left) ends new.world new.counts only (same_calls (answered_called read old.project u a.begun.command (world left) a.begun.awaited) answer (counts left) new.counts (behind read reading))
 
     -- it has answered; what is noted of it changes no command of those that have begun
     pub calls_answered_on_any : (done' : List (Option (List Directive))) (d : Option (List Directive)) → done' ≡ slice_set old.done.items a.unit d → (answer : Answer BadUnit) (ran : Ran) → Lands (ended_well ran)
-        → IsTrue tells → CallsOverAny child old.setup old.project done' (Gave a.unit answer ∷ es) at.world at.counts new.world new.counts
+        → IsTrue tells → CallsOnAny child old.setup old.project done' (Gave a.unit answer ∷ es) at.world at.counts new.world new.counts
     calls_answered_on_any done' d set answer ran lands t read reading =
         let flies = so_flies t in
         let same : (place : ℕ) → HasBegun (states_in old.project es) place → (v : Planned) → unit_at old.project place ≡ Some v → command_of old.setup old.project v old.done.items ≡ command_of old.setup old.project v done' =
@@ -317,20 +317,20 @@ module _ {P : Type 0} (world : P → World) (counts : P → Counts) (tells : Boo
         )
 
     -- a fault came in its place
-    cut_on_any : (fault : BuildFault) (unit : ℕ) → unit ≡ a.unit → IsTrue tells → ((read : Reading) → IsReading read → AnswersCalling (told_on_any read child old.setup old.project old.done.items) a.unit (is_started es a.unit) (Err fault) now.world now.counts new.world new.counts)
-        → CallsCutAny child old.setup old.project old.done.items fault (Some unit) es es at.world at.counts new.counts
+    cut_on_any : (fault : BuildFault) (unit : ℕ) → unit ≡ a.unit → IsTrue tells → ((read : Reading) → IsReading read → AnswersCalling (call_basis_on_any read child old.setup old.project old.done.items) a.unit (is_started es a.unit) (Err fault) now.world now.counts new.world new.counts)
+        → CallsCutOnAny child old.setup old.project old.done.items fault (Some unit) es es at.world at.counts new.counts
     cut_on_any fault unit its t so read reading = (
       now.world,
       now.counts,
       calls t read reading,
-      (new.world, subst (λ n. AnswersCalling (told_on_any read child old.setup old.project old.done.items) n (is_started es n) (Err fault) now.world now.counts new.world new.counts) (sym its) (so read reading)),
+      (new.world, subst (λ n. AnswersCalling (call_basis_on_any read child old.setup old.project old.done.items) n (is_started es n) (Err fault) now.world now.counts new.world new.counts) (sym its) (so read reading)),
     )
 
-    pub calls_unanswered_on_any : (fault : BuildFault) (unit : ℕ) → unit ≡ a.unit → Lands (ended_badly fault) → IsTrue tells → CallsCutAny child old.setup old.project old.done.items fault (Some unit) es es at.world at.counts new.counts
+    pub calls_unanswered_on_any : (fault : BuildFault) (unit : ℕ) → unit ≡ a.unit → Lands (ended_badly fault) → IsTrue tells → CallsCutOnAny child old.setup old.project old.done.items fault (Some unit) es es at.world at.counts new.counts
     calls_unanswered_on_any fault unit its lands t =
         cut_on_any fault unit its t (answers_on_any old.done.items refl (Err fault) (ended_badly fault) (λ ok. ok) (λ names said old new. behind_badly names said fault old new) lands t)
 
     -- memory is refused for its lines
-    pub calls_untold_on_any : (ran : Ran) (unit : ℕ) → unit ≡ a.unit → Lands (ended_well ran) → IsTrue tells → CallsCutAny child old.setup old.project old.done.items OutOfMemory (Some unit) es es at.world at.counts new.counts
-    calls_untold_on_any ran unit its lands t =
+    pub calls_uncall_basis_on_any : (ran : Ran) (unit : ℕ) → unit ≡ a.unit → Lands (ended_well ran) → IsTrue tells → CallsCutOnAny child old.setup old.project old.done.items OutOfMemory (Some unit) es es at.world at.counts new.counts
+    calls_uncall_basis_on_any ran unit its lands t =
         cut_on_any OutOfMemory unit its t (answers_on_any old.done.items refl (Err OutOfMemory) (ended_well ran) (λ none. refl) (λ names said old new. behind_untold names said ran old new) lands t)

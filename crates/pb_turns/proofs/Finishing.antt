@@ -35,7 +35,7 @@ use Rattle.pb_run.specs.Telling.{unit_lines}
 use Rattle.pb_run.proofs.Shown.{each_of}
 use Rattle.pb_soundness.specs.Records.{Reading, record_at}
 use Rattle.pb_store.specs.Held.{HoldsNumbers}
-use Rattle.pb_turns.specs.Calling.{CallsCut, CallsCutAny, CallsOver, CallsOverAny, told_in}
+use Rattle.pb_turns.specs.Calling.{CallsCut, CallsCutOnAny, CallsOver, CallsOnAny, call_basis}
 use Rattle.pb_turns.specs.Crew.{needs_of, launched_of, ticket_of_child}
 use Rattle.pb_turns.specs.Ends.{rows_in, nothing_said, Stands, StandsWhole, StandsCut, EndsWhole, EndsCut, Grounding, Dropped, Drained}
 use Rattle.pb_turns.specs.Laws.{SaysFirstRows}
@@ -289,8 +289,8 @@ module _ {S : Type 0} (tells : Bool) (child : Answers) (Turns : S → List ℕ �
               (began_new fault ends.before c.reasons.items refl (lawful ends.project flies) ends.came ends.changes ends.began t r reading);
           started = started_from_nothing (basis f r child c.setup c.project sources) (ordered ends.project) es c.done.items c.store.next mid.world h.keeps at.world keeps.sources_stay fault ends.before new.world (started_new fault ends.before ends.changes ends.started t r reading);
         });
-    calls = since_first (λ b. CallsCut (told_in b) fault asked es ends.before at.world at.counts mid.counts) ends.setup ends.project ends.calls;
-    calls_on_any = λ t. on_first (λ s p. CallsCutAny child s p c.done.items fault asked es ends.before at.world at.counts mid.counts) ends.setup ends.project (ends.calls_on_any t);
+    calls = since_first (λ b. CallsCut (call_basis b) fault asked es ends.before at.world at.counts mid.counts) ends.setup ends.project ends.calls;
+    calls_on_any = λ t. on_first (λ s p. CallsCutOnAny child s p c.done.items fault asked es ends.before at.world at.counts mid.counts) ends.setup ends.project (ends.calls_on_any t);
   }
 
   -- memory is refused for the summary
@@ -389,8 +389,8 @@ module _ {S : Type 0} (tells : Bool) (child : Answers) (Turns : S → List ℕ �
           stands_whole (basis f r child c.setup c.project sources) d.done.items d.aloft.items d.store.next es new.world new.counts.starts.flying still' (happened (basis f r child c.setup c.project sources) es t refl h)
           (ap is_finished (sym states_are) ∙ finished) (length_states (needs_of c.project) es ∙ length-map c.project.plan.planned (λ (u : Planned). u.needs)) d.reasons.items at.world
           (began_from_nothing (basis f r child c.setup c.project sources) (ordered story.project) es c.done.items c.store.next mid.world h.keeps at.world keeps.sources_stay es d.reasons.items new.world (lawful story.project flown.flies) (inl refl) (began_whole t r reading)) d.started.items started_is summary now_is);
-      calls = since_first (λ b. (w : World) × CallsOver (told_in b) es at.world at.counts w mid.counts) story.setup story.project (λ t f r sources reading keeps. (mid.world, story.calls t f r sources reading keeps));
-      calls_on_any = λ t. (mid.world, on_first (λ s p. CallsOverAny child s p c.done.items es at.world at.counts mid.world mid.counts) story.setup story.project (story.calls_on_any t));
+      calls = since_first (λ b. (w : World) × CallsOver (call_basis b) es at.world at.counts w mid.counts) story.setup story.project (λ t f r sources reading keeps. (mid.world, story.calls t f r sources reading keeps));
+      calls_on_any = λ t. (mid.world, on_first (λ s p. CallsOnAny child s p c.done.items es at.world at.counts mid.world mid.counts) story.setup story.project (story.calls_on_any t));
     }
 
 -- memory is refused before a unit begins

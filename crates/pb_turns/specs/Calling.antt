@@ -29,21 +29,21 @@ use Rattle.pb_soundness.specs.Records.{Reading, place_of, record_at}
 use Rattle.pb_turns.specs.Rows.{is_started}
 use Rattle.pb_unit.specs.declared.plan.Planned.{Planned}
 
--- what the calls of a build are told by: how texts are read as records, the child, the project, the command of the unit at a place, and what its child sees of a world
-pub record Told : Type 0 where
+-- what it takes to tell the calls of a build: how texts are read as records, the child, the project, the command of the unit at a place, and what its child sees of a world
+pub record CallBasis : Type 0 where
   pub read : Reading
   pub child : Answers
   pub project : Project
   pub command : ℕ → Planned → Command
   pub sees : ℕ → Planned → World → World
 
--- over a basis: the unit's command and view in a build from nothing, whatever the world
-abbrev pub told_in : Basis → Told
-told_in b = record { read = b.read; child = b.child; project = b.project; command = command_in b; sees = λ place u w. view_in b place u }
+-- over a basis: the command and the view of the unit in a build from nothing, whatever the world
+abbrev pub call_basis : Basis → CallBasis
+call_basis b = record { read = b.read; child = b.child; project = b.project; command = command_in b; sees = λ place u w. view_in b place u }
 
 -- over any records, true or not: the command that the unit has after what is noted of the runs, and what that sees of the world
-abbrev pub told_on_any : Reading → Answers → Setup → Project → List (Option (List Directive)) → Told
-told_on_any read child setup project done = record {
+abbrev pub call_basis_on_any : Reading → Answers → Setup → Project → List (Option (List Directive)) → CallBasis
+call_basis_on_any read child setup project done = record {
   read = read;
   child = child;
   project = project;
@@ -59,23 +59,23 @@ CallsToBegin read child project u c false before old after new = (after ≡ befo
 CallsToBegin read child project u c true before old after new = (ticket : ℕ) × Launches child c ticket (past_look read project u c before old) new
 
 -- the unit at a place began by just these calls
-pub record BeginsCalling (told : Told) (place : ℕ) (spawned : Bool) (before : World) (old : Counts) (after : World) (new : Counts) : Type 0 where
+pub record BeginsCalling (b : CallBasis) (place : ℕ) (spawned : Bool) (before : World) (old : Counts) (after : World) (new : Counts) : Type 0 where
   pub unit : Planned
-  pub there : unit_at told.project place ≡ Some unit
-  pub only : ChangesOnly (is_of (records_folder told.project) unit.key) before after
-  pub calls : CallsToBegin told.read told.child told.project unit (told.command place unit) spawned before old after new
+  pub there : unit_at b.project place ≡ Some unit
+  pub only : ChangesOnly (is_of (records_folder b.project) unit.key) before after
+  pub calls : CallsToBegin b.read b.child b.project unit (b.command place unit) spawned before old after new
 
 -- it could not begin
-pub record StopsBeginning (told : Told) (place : ℕ) (fault : BuildFault) (w : World) (old new : Counts) : Type 0 where
+pub record StopsBeginning (b : CallBasis) (place : ℕ) (fault : BuildFault) (w : World) (old new : Counts) : Type 0 where
   pub unit : Planned
-  pub there : unit_at told.project place ≡ Some unit
-  pub stops : StopsToBegin told.read told.project unit (told.command place unit) fault w old new
+  pub there : unit_at b.project place ≡ Some unit
+  pub stops : StopsToBegin b.read b.project unit (b.command place unit) fault w old new
 
 -- A unit answers.
 
 -- the reply of the child to the command of the unit at a place, by what it sees of a world
-abbrev pub reply_told : Told → ℕ → Planned → World → Reply
-reply_told told place u w = told.child (told.command place u) (told.sees place u w)
+abbrev pub reply_in : CallBasis → ℕ → Planned → World → Reply
+reply_in b place u w = b.child (b.command place u) (b.sees place u w)
 
 -- a child ended as a reply says, and left just its files in the unit's folder
 pub record EndsAsReplied (reply : Reply) (u : Planned) (ended : Ended) (left : World) : Type 0 where
@@ -83,39 +83,39 @@ pub record EndsAsReplied (reply : Reply) (u : Planned) (ended : Ended) (left : W
   pub files : files_in u.out left.files ≡ replied_files u.out reply
 
 -- the answer of the unit at a place was taken: the end of its child was asked for, where it has one, and behind it just the calls came that belong to the answer; where it answers by its record, that is the one that counts now. Where a child was started for it and answered, it gave its reply to what it sees of the world that it left: that stood still to its end. So it is where the place tells its maps, and only there is any of this said
-pub record AnswersCalling (told : Told) (place : ℕ) (spawned : Bool) (result : Result (Unit {0}) BuildFault) (before : World) (old : Counts) (after : World) (new : Counts) : Type 0 where
+pub record AnswersCalling (b : CallBasis) (place : ℕ) (spawned : Bool) (result : Result (Unit {0}) BuildFault) (before : World) (old : Counts) (after : World) (new : Counts) : Type 0 where
   pub unit : Planned
-  pub there : unit_at told.project place ≡ Some unit
+  pub there : unit_at b.project place ≡ Some unit
   pub by : Awaited
   pub is_child : spawned ≡ is_some (child_in by)
-  pub counts_now : GivesRecord (record_at told.read (records_folder told.project) before.files unit.key) by
+  pub counts_now : GivesRecord (record_at b.read (records_folder b.project) before.files unit.key) by
   pub left : World
   pub mid : Counts
   pub answer : Result Ended StartFault
   pub ends : EndsBy by answer (IsOk result) (λ ticket. Unit {0}) before left old mid
-  pub replied : spawned ≡ true → IfOk answer (λ ended. EndsAsReplied (reply_told told place unit left) unit ended left)
-  pub only : ChangesOnly (is_at_or_below (place_of (records_folder told.project) unit.key)) left after
-  pub calls : CallsBehind (answered_called told.read told.project unit (told.command place unit) left by) answer result mid new
+  pub replied : spawned ≡ true → IfOk answer (λ ended. EndsAsReplied (reply_in b place unit left) unit ended left)
+  pub only : ChangesOnly (is_at_or_below (place_of (records_folder b.project) unit.key)) left after
+  pub calls : CallsBehind (answered_called b.read b.project unit (b.command place unit) left by) answer result mid new
 
 -- All of them.
 
 -- from a first moment of the place to a last one just these calls were made, over these events
-abbrev pub CallsOver : Told → List (Event BadUnit) → World → Counts → World → Counts → Type 0
-CallsOver told [] first at last now = (last ≡ first) × (now ≡ at)
-CallsOver told (Began place spawned ∷ es) first at last now = (before : World) × (old : Counts) × CallsOver told es first at before old × BeginsCalling told place spawned before old last now
-CallsOver told (Gave place answer ∷ es) first at last now = (before : World) × (old : Counts) × CallsOver told es first at before old × AnswersCalling told place (is_started es place) (Ok tt) before old last now
+abbrev pub CallsOver : CallBasis → List (Event BadUnit) → World → Counts → World → Counts → Type 0
+CallsOver b [] first at last now = (last ≡ first) × (now ≡ at)
+CallsOver b (Began place spawned ∷ es) first at last now = (before : World) × (old : Counts) × CallsOver b es first at before old × BeginsCalling b place spawned before old last now
+CallsOver b (Gave place answer ∷ es) first at last now = (before : World) × (old : Counts) × CallsOver b es first at before old × AnswersCalling b place (is_started es place) (Ok tt) before old last now
 
 -- where a fault came, these last: as the answer of a unit was taken; as one could not begin; or none
-abbrev pub StopsLast : Told → BuildFault → Option ℕ → List (Event BadUnit) → List (Event BadUnit) → World → Counts → Counts → Type 0
-StopsLast told fault (Some place) es before w old new = (after : World) × AnswersCalling told place (is_started before place) (Err fault) w old after new
-StopsLast told fault None es before w old new = (new ≡ old) ⊎ ((place : ℕ) × (spawned : Bool) × (es ≡ Began place spawned ∷ before) × StopsBeginning told place fault w old new)
+abbrev pub StopsLast : CallBasis → BuildFault → Option ℕ → List (Event BadUnit) → List (Event BadUnit) → World → Counts → Counts → Type 0
+StopsLast b fault (Some place) es before w old new = (after : World) × AnswersCalling b place (is_started before place) (Err fault) w old after new
+StopsLast b fault None es before w old new = (new ≡ old) ⊎ ((place : ℕ) × (spawned : Bool) × (es ≡ Began place spawned ∷ before) × StopsBeginning b place fault w old new)
 
-abbrev pub CallsCut : Told → BuildFault → Option ℕ → List (Event BadUnit) → List (Event BadUnit) → World → Counts → Counts → Type 0
-CallsCut told fault asked es before first at new = (w : World) × (old : Counts) × CallsOver told before first at w old × StopsLast told fault asked es before w old new
+abbrev pub CallsCut : CallBasis → BuildFault → Option ℕ → List (Event BadUnit) → List (Event BadUnit) → World → Counts → Counts → Type 0
+CallsCut b fault asked es before first at new = (w : World) × (old : Counts) × CallsOver b before first at w old × StopsLast b fault asked es before w old new
 
 -- the same over any records, true or not, and whatever reads their texts
-abbrev pub CallsOverAny : Answers → Setup → Project → List (Option (List Directive)) → List (Event BadUnit) → World → Counts → World → Counts → Type 0
-CallsOverAny child setup project done es first at last now = (read : Reading) → IsReading read → CallsOver (told_on_any read child setup project done) es first at last now
+abbrev pub CallsOnAny : Answers → Setup → Project → List (Option (List Directive)) → List (Event BadUnit) → World → Counts → World → Counts → Type 0
+CallsOnAny child setup project done es first at last now = (read : Reading) → IsReading read → CallsOver (call_basis_on_any read child setup project done) es first at last now
 
-abbrev pub CallsCutAny : Answers → Setup → Project → List (Option (List Directive)) → BuildFault → Option ℕ → List (Event BadUnit) → List (Event BadUnit) → World → Counts → Counts → Type 0
-CallsCutAny child setup project done fault asked es before first at new = (read : Reading) → IsReading read → CallsCut (told_on_any read child setup project done) fault asked es before first at new
+abbrev pub CallsCutOnAny : Answers → Setup → Project → List (Option (List Directive)) → BuildFault → Option ℕ → List (Event BadUnit) → List (Event BadUnit) → World → Counts → Counts → Type 0
+CallsCutOnAny child setup project done fault asked es before first at new = (read : Reading) → IsReading read → CallsCut (call_basis_on_any read child setup project done) fault asked es before first at new

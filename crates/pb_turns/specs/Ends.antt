@@ -22,7 +22,7 @@ use Rattle.pb_project.specs.declared.project.Setup.{Setup}
 use Rattle.pb_record.specs.Parts.{IsReading}
 use Rattle.pb_run.specs.Halves.{Footing, Basis, basis, Keeps}
 use Rattle.pb_soundness.specs.Records.{Reading}
-use Rattle.pb_turns.specs.Calling.{CallsCut, CallsCutAny, CallsOver, CallsOverAny, told_in}
+use Rattle.pb_turns.specs.Calling.{CallsCut, CallsCutOnAny, CallsOver, CallsOnAny, call_basis}
 use Rattle.pb_turns.specs.Crew.{needs_of, ticket_of_child}
 use Rattle.pb_turns.specs.Moments.{Moment}
 use Rattle.pb_turns.specs.Rows.{Reasons, Row, rows_of, said_from, started_keys, is_success, key_told, said_told, bad_told, differences_of, kept_of, noted_told, summary_of}
@@ -110,8 +110,8 @@ pub record EndsWhole {S : Type 0} (tells : Bool) (child : Answers) (Turns : S �
   pub again : IsTrue tells → AllAnswerAgain setup project es done old.world
   pub anew : IsTrue tells → AllAnswerAnew child setup project es done new.world
   pub told : IsTrue tells → Grounding child setup project next old.world (λ b. StandsWhole b es reasons summary old.world new.world)
-  pub calls : IsTrue tells → Grounding child setup project next old.world (λ b. (last : World) × CallsOver (told_in b) es old.world old.counts last mid)
-  pub calls_on_any : IsTrue tells → (last : World) × CallsOverAny child setup project done es old.world old.counts last mid
+  pub calls : IsTrue tells → Grounding child setup project next old.world (λ b. (last : World) × CallsOver (call_basis b) es old.world old.counts last mid)
+  pub calls_on_any : IsTrue tells → (last : World) × CallsOnAny child setup project done es old.world old.counts last mid
 
 -- a fault ended them: its cause, and what the sink had heard, are those of the moment before the children in flight were dropped; no more children flew at one time than by the events before it, and the turn was asked no more; where an answer ended in it, or a unit could not begin, units were missing (`HandsBack`, `Flies`).
 -- Over a place that tells its maps the same is said as at a good end, of the units that have begun and of those that have answered, of the calls, and of records that are not kept; of one that could not begin, by a fault of its start or for want of memory as its child was tried, something had differed too; and where no run number was left, all were given, likewise
@@ -142,8 +142,8 @@ pub record EndsCut {S : Type 0} (tells : Bool) (child : Answers) (Turns : S → 
   pub again : IsTrue tells → AllAnswerAgain setup project es done old.world
   pub anew : IsTrue tells → AllAnswerAnew child setup project es done new.world
   pub told : IsTrue tells → Grounding child setup project next old.world (λ b. StandsCut b fault es before old.world new.world)
-  pub calls : IsTrue tells → Grounding child setup project next old.world (λ b. CallsCut (told_in b) fault asked es before old.world old.counts mid.counts)
-  pub calls_on_any : IsTrue tells → CallsCutAny child setup project done fault asked es before old.world old.counts mid.counts
+  pub calls : IsTrue tells → Grounding child setup project next old.world (λ b. CallsCut (call_basis b) fault asked es before old.world old.counts mid.counts)
+  pub calls_on_any : IsTrue tells → CallsCutOnAny child setup project done fault asked es before old.world old.counts mid.counts
 
 -- how they end, by the answer
 abbrev pub TurnsEnd : {S : Type 0} → Bool → Answers → (S → List ℕ → List ℕ → Step → S → Type 0) → Setup → Project → Option ℕ → S → S → Result Summary BuildFault → Moment → Moment → Type 0

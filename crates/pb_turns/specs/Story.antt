@@ -40,7 +40,7 @@ use Rattle.pb_store.specs.Migrating.{TakesNumber, lacks_number}
 use Rattle.pb_store.specs.declared.difference.Difference.{Difference}
 use Rattle.pb_turns.specs.Again.{AnswersAgain, FliesAgain}
 use Rattle.pb_turns.specs.Anew.{AnswersAnew, FliesAnew}
-use Rattle.pb_turns.specs.Calling.{CallsCut, CallsCutAny, CallsOver, CallsOverAny, told_in}
+use Rattle.pb_turns.specs.Calling.{CallsCut, CallsCutOnAny, CallsOver, CallsOnAny, call_basis}
 use Rattle.pb_turns.specs.Crew.{needs_of, launched_of}
 use Rattle.pb_turns.specs.Moments.{Moment}
 use Rattle.pb_turns.specs.Rows.{Reasons, fault_in, messages_in, is_started}
@@ -297,8 +297,8 @@ pub record Story (tells : Bool) (child : Answers) (first : UnitCrew) (at : Momen
   pub held : IsTrue tells → (read : Reading) → IsReading read → HoldsNumbers (record_at read (records_folder c.project) now.world.files) c.store.numbers
   pub happened : IsTrue tells → FromFirst child first at c (λ b. Happened b c.done.items c.aloft.items c.store.next es now.world now.counts.starts.flying still)
   pub taken : IsTrue tells → (read : Reading) → IsReading read → NumbersGiven (LacksNoNumber c.project read at.world) es first.store.next c.store.next
-  pub calls : IsTrue tells → FromFirst child first at c (λ b. CallsOver (told_in b) es at.world at.counts now.world now.counts)
-  pub calls_on_any : IsTrue tells → CallsOverAny child c.setup c.project c.done.items es at.world at.counts now.world now.counts
+  pub calls : IsTrue tells → FromFirst child first at c (λ b. CallsOver (call_basis b) es at.world at.counts now.world now.counts)
+  pub calls_on_any : IsTrue tells → CallsOnAny child c.setup c.project c.done.items es at.world at.counts now.world now.counts
   pub unnoted : NotesBegun c.project es first.reasons.items c.reasons.items
   pub noted : NotesStarted c.project es c.reasons.items
 
@@ -339,5 +339,5 @@ pub record StoryEnds (tells : Bool) (child : Answers) (fault : BuildFault) (aske
   pub started : IsTrue tells → StartedOnAny c.setup c.project c.done.items fault before es at.world now.world
   pub happened : IsTrue tells → FromFirst child first at c (λ b. Happened b c.done.items c.aloft.items c.store.next es now.world now.counts.starts.flying still)
   pub caused : IsTrue tells → (read : Reading) → IsReading read → Spends (LacksNoNumber c.project read at.world) fault first.store.next es
-  pub calls : IsTrue tells → FromFirst child first at c (λ b. CallsCut (told_in b) fault asked es before at.world at.counts now.counts)
-  pub calls_on_any : IsTrue tells → CallsCutAny child c.setup c.project c.done.items fault asked es before at.world at.counts now.counts
+  pub calls : IsTrue tells → FromFirst child first at c (λ b. CallsCut (call_basis b) fault asked es before at.world at.counts now.counts)
+  pub calls_on_any : IsTrue tells → CallsCutOnAny child c.setup c.project c.done.items fault asked es before at.world at.counts now.counts

@@ -25,7 +25,7 @@ use Rattle.pb_turns.proofs.Anew.{answered_anew, unanswered_anew}
 use Rattle.pb_turns.proofs.Alone.{apart_removed, none_writes}
 use Rattle.pb_turns.proofs.Answering.{failed_happened, untold_happened, answered_happened}
 use Rattle.pb_turns.proofs.Beginning.{goes_lists}
-use Rattle.pb_turns.proofs.Calling.{calls_answered, calls_answered_on_any, calls_unanswered, calls_unanswered_on_any, calls_untold, calls_untold_on_any}
+use Rattle.pb_turns.proofs.Calling.{calls_answered, calls_answered_on_any, calls_unanswered, calls_unanswered_on_any, calls_untold, calls_uncall_basis_on_any}
 use Rattle.pb_turns.proofs.Changing.{its_writes, changes_less, changes_after}
 use Rattle.pb_turns.proofs.Counting.{came_answering, names_answering, goes_answered, stops_answered, stops_untold}
 use Rattle.pb_turns.proofs.Differing.{answered_began, unanswered_began}
@@ -184,7 +184,7 @@ returns-in-Err-lines_of_unit-clause-story g c = λ first at taken faults es give
           c.in-Ok.ran c.in-Ok.ensures.outcome (λ footing read setup sources states done reading t. c.in-Ok.ensures.keeps footing read setup sources states done reading t (s.held t read reading)) c.in-Ok.ensures.directives c.remove-unit.new.self.items c.remove-unit.ensures.items;
       caused = λ t read reading. tt;
       calls = calls_untold g.P.Place.world g.P.Place.counts g.P.Place.tells g.P.Place.child first c.args.crew.now at now new (g.P.Place.still c.args.place.now) es given s c.requires.manned.order c.args.index c.remove-unit.result at_index c.index-units-unit.result there c.in-Ok.ran unit its c.in-Ok.ensures.lands;
-      calls_on_any = calls_untold_on_any g.P.Place.world g.P.Place.counts g.P.Place.tells g.P.Place.child first c.args.crew.now at now new (g.P.Place.still c.args.place.now) es given s c.requires.manned.order c.args.index c.remove-unit.result at_index c.index-units-unit.result there lawful s.calls_on_any
+      calls_on_any = calls_uncall_basis_on_any g.P.Place.world g.P.Place.counts g.P.Place.tells g.P.Place.child first c.args.crew.now at now new (g.P.Place.still c.args.place.now) es given s c.requires.manned.order c.args.index c.remove-unit.result at_index c.index-units-unit.result there lawful s.calls_on_any
           (λ t. all_get (FliesAnew g.P.Place.child c.args.crew.now.setup c.args.crew.now.project c.args.crew.now.done.items now.world now.counts.starts.flying (g.P.Place.still c.args.place.now)) c.args.crew.now.aloft.items c.args.index c.remove-unit.result (s.anew t).waits at_index)
           c.in-Ok.ran unit its c.in-Ok.ensures.lands;
     }
