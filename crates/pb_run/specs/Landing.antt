@@ -1,5 +1,5 @@
 -- What comes of a unit that has begun: what the end of its child left, where it has one, and which calls come behind it.
-use Rattle.std.specs.Prelude.{◌≡◌, ◌++◌, ◌∷◌, ℕ, if◌then◌else◌, is_some, List, [], Option, Some, None, Result, Ok, Err, IsOk, IfOk, IfSome}
+use Rattle.std.specs.Prelude.{◌≡◌, ◌++◌, ◌∷◌, ℕ, if◌then◌else◌, is_some, List, [], map, Option, Some, None, Result, Ok, Err, IsOk, IfOk, IfErr, IfSome}
 use Rattle.pb_answer.specs.declared.fault.BuildFault.{BuildFault}
 use Rattle.pb_command.specs.Answers.{answered_of}
 use Rattle.pb_command.specs.Judge.{file_at}
@@ -7,7 +7,7 @@ use Rattle.pb_place.specs.declared.call.Call.{Call}
 use Rattle.pb_place.specs.declared.call.Call.TheVariants as call
 use Rattle.pb_place.specs.Children.{LandsAs, child_at}
 use Rattle.pb_place.specs.Counts.{Counts, counted_finish}
-use Rattle.pb_place.specs.World.{World, ChangesOnlyInSome}
+use Rattle.pb_place.specs.World.{World, Map, ChangesOnlyInSome}
 use Rattle.pb_place.specs.declared.command.Command.{Command}
 use Rattle.pb_place.specs.declared.command.Ended.{Ended}
 use Rattle.pb_place.specs.declared.place.StartFault.{StartFault}
@@ -15,15 +15,19 @@ use Rattle.pb_project.specs.Targets.{dep_info_of}
 use Rattle.pb_project.specs.declared.project.Project.{Project}
 use Rattle.pb_record.specs.declared.record.InputName.{InputName}
 use Rattle.pb_record.specs.declared.record.Record.{Record}
-use Rattle.pb_run.specs.Causes.{NumbersInTurn}
-use Rattle.pb_run.specs.Outcome.{judgement_by, ran_of, unstarted}
+use Rattle.pb_run.specs.Causes.{MakesInTurn, NumbersInTurn, child_fault}
+use Rattle.pb_run.specs.Halves.{needed_keys}
+use Rattle.pb_run.specs.Outcome.{judgement_by, names_in, ran_of, unstarted}
 use Rattle.pb_run.specs.Standing.{records_folder}
 use Rattle.pb_run.specs.declared.begun.Awaited.{Awaited}
 use Rattle.pb_run.specs.declared.begun.Awaited.TheVariants as awaited
 use Rattle.pb_run.specs.declared.ran.Judgement.{Judgement}
 use Rattle.pb_run.specs.declared.ran.Ran.{Ran}
+use Rattle.pb_soundness.specs.Inputs.{input_in}
 use Rattle.pb_soundness.specs.Records.{Reading, record_at}
+use Rattle.pb_store.specs.Keeping.{kept_of, numbered}
 use Rattle.pb_store.specs.Looking.{kept_called, migrated_called}
+use Rattle.pb_store.specs.Migrating.{migrated}
 use Rattle.pb_store.specs.Replaying.{IsReplayed}
 use Rattle.pb_unit.specs.declared.plan.Planned.{Planned}
 
@@ -47,6 +51,23 @@ ran_from (awaited.Record again) ran = unstarted ran
 -- what came of a unit is the judgement of this answer, by the files that then stood: of the one that its child gave, or that its record gives again
 abbrev pub IsJudged : Project → Planned → Command → Awaited → Ended → World → Ran → Type 0
 IsJudged project u c by ended w ran = ran ≡ ran_from by (ran_of project u c ended w.files)
+
+-- The record of a unit that is good.
+
+-- the names of the inputs in an answer, by the files that then stood
+abbrev pub names_of : Project → Planned → Command → Ended → Map → List InputName
+names_of project u c ended files = names_in (answered_of project u c ended (file_at (dep_info_of project u) files))
+
+-- of its child's answer: its command, the inputs that the answer names, with the values that they have in this world, this run number, the numbers that the records of the needed units have, and the streams
+abbrev pub record_of : Reading → Project → Planned → Command → ℕ → Ended → World → Record
+record_of read project u c number ended w =
+    kept_of (records_folder project) u.key c (map (input_in c.target w) (names_of project u c ended w.files)) number (numbered (record_at read (records_folder project) w.files) (needed_keys project u)) ended
+
+-- what stands in its record's place once it has answered so, in this world: of one with a child its record; of one without the record that was there, which has got the next number if it had none
+abbrev pub record_left : Reading → Project → Planned → Command → Awaited → Ended → Option ℕ → World → Option Record
+record_left read project u c (awaited.Child launched) ended next w = Some (record_of read project u c launched.number ended w)
+record_left read project u c (awaited.Record again) ended next w =
+    if again.numbered then record_at read (records_folder project) w.files u.key else migrated next (numbered (record_at read (records_folder project) w.files) (needed_keys project u)) (record_at read (records_folder project) w.files u.key)
 
 -- where no child was started, the answer that is given again is that of this record
 abbrev pub GivesRecord : Option Record → Awaited → Type 0
@@ -75,7 +96,8 @@ abbrev pub answered_called : Reading → Project → Planned → Command → Wor
 answered_called read project u c w by ended =
     dep_info_looked (dep_info_of project u) ++ judged_called read project u c w by (judgement_by project u ended (answered_of project u c ended (file_at (dep_info_of project u) w.files)))
 
--- behind the answer of a child just these calls were made, in this order; where it gave none, no call
-abbrev pub CallsBehind : {T : Type 0} → (Ended → List Call) → Result Ended StartFault → Result T BuildFault → Counts → Counts → Type 0
-CallsBehind calls (Ok ended) result old new = NumbersInTurn result (calls ended) old new
-CallsBehind calls (Err fault) result old new = new ≡ old
+-- behind an answer just these calls were made, in this order, and a number may be missing only to a record that is given again; where a child gave none, no call, and its fault is told
+abbrev pub CallsBehind : {T : Type 0} → List ℕ → Awaited → (Ended → List Call) → Result Ended StartFault → Result T BuildFault → Counts → Counts → Type 0
+CallsBehind key (awaited.Child launched) calls (Ok ended) result old new = MakesInTurn result (calls ended) old new
+CallsBehind key (awaited.Record again) calls (Ok ended) result old new = NumbersInTurn result (calls ended) old new
+CallsBehind key by calls (Err fault) result old new = (new ≡ old) × IfErr result (λ e. e ≡ child_fault key fault)

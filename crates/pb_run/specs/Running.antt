@@ -42,7 +42,7 @@ pub record RunsThrough {T : Type 0} (read : Reading) (child : Answers) (project 
   pub answer : Result Ended StartFault
   pub ends : EndsBy begun.awaited answer (IsOk result) (λ ticket. Unit {0}) between left mid ended
   pub only : ChangesOnly (is_at_or_below (place_of (records_folder project) u.key)) left after
-  pub behind : CallsBehind (answered_called read project u c left begun.awaited) answer result ended new
+  pub behind : CallsBehind u.key begun.awaited (answered_called read project u c left begun.awaited) answer result ended new
 
 -- a unit was run by just these calls
 abbrev pub RunsCalling : {T : Type 0} → Reading → Answers → Project → Planned → Command → Result T BuildFault → World → Counts → World → Counts → Type 0

@@ -19,7 +19,7 @@ ghost use Rattle.pb_answer.specs.declared.bad_unit.BadUnit.{BadUnit};
 ghost use Rattle.pb_record.specs.Parts.{IsReading};
 ghost use Rattle.pb_run.specs.Causes.{Takes, Begins, Lands, Drops, Runs, MayBeginUnit, MayAnswerUnit, MayRunUnit, StopsAt, is_of_child, is_of_look, is_of_start, is_of_write, is_spent};
 ghost use Rattle.pb_run.specs.Halves.{Footing, Basis, basis, outcomes_in, Keeps, IsBegun, CanBegin, CanAnswer, BeginsApart, KeepsOthersStill, WritesTo, awaits_number, child_of};
-ghost use Rattle.pb_run.specs.Landing.{EndsBy, CallsBehind, GivesRecord, IsJudged, answered_called};
+ghost use Rattle.pb_run.specs.Landing.{EndsBy, CallsBehind, GivesRecord, IsJudged, answered_called, record_left};
 ghost use Rattle.pb_run.specs.Launching.{HasLooked, IsSpawned, LaunchEnds, Launches};
 ghost use Rattle.pb_run.specs.Outcome.{outcome_by, directives_in, ran_of, unstarted};
 ghost use Rattle.pb_run.specs.Running.{RunsCalling};
@@ -237,12 +237,16 @@ pub fn answer_unit<P: Place>(
     ensures cause { (read : Reading) → IsReading read → IsTrue P.tells → IfErr result (λ e. is_spent e ≡ true → lacks_number (record_at read (records_folder project.now) (P.world place.old).files unit.now.key) ≡ true) }
     ensures judged { IsTrue P.tells → IfOk result (λ ran. (left : P) × (ended : Ended) × EndsBy begun.awaited (Ok ended) (IsOk result) (P.still place.old) (P.world place.old) (P.world left) (P.counts place.old) (P.counts left)
         × IsJudged project.now unit.now begun.command begun.awaited ended (P.world left) ran) }
+    ensures bad { IfOk result (λ ran. IsSome ran.bad → store.new.next ≡ store.old.next) }
+    ensures kept { (read : Reading) → IsReading read → IsTrue P.tells → WritesTo unit.now.out (child_of begun) (P.counts place.old).starts.flying → HoldsNumbers (record_at read (records_folder project.now) (P.world place.old).files) store.old.numbers
+        → IfOk result (λ ran. is_some ran.bad ≡ false → (left : P) × (ended : Ended) × EndsBy begun.awaited (Ok ended) (IsOk result) (P.still place.old) (P.world place.old) (P.world left) (P.counts place.old) (P.counts left)
+        × (record_at read (records_folder project.now) (P.world place.new).files unit.now.key ≡ record_left read project.now unit.now begun.command begun.awaited ended store.old.next (P.world left))) }
     ensures written { IfErr result (λ e. is_of_write e ≡ true → (P.counts place.new).failing ≡ Some (call.Write (place_of (records_folder project.now) unit.now.key))) }
     ensures most { P.most place.new ≡ P.most place.old }
     ensures takes { Takes (Lands (child_of begun)) (MayAnswerUnit store.old.next unit.now.key (child_of begun)) result (P.counts place.old) (P.counts place.new) }
     ensures lands { IsTrue P.tells → (left : P) × (answer : Result Ended StartFault) × EndsBy begun.awaited answer (IsOk result) (P.still place.old) (P.world place.old) (P.world left) (P.counts place.old) (P.counts left)
         × ChangesOnly (is_at_or_below (place_of (records_folder project.now) unit.now.key)) (P.world left) (P.world place.new)
-        × ((read : Reading) → IsReading read → CallsBehind (answered_called read project.now unit.now begun.command (P.world left) begun.awaited) answer result (P.counts left) (P.counts place.new)) }
+        × ((read : Reading) → IsReading read → CallsBehind unit.now.key begun.awaited (answered_called read project.now unit.now begun.command (P.world left) begun.awaited) answer result (P.counts left) (P.counts place.new)) }
 {
     let Begun {
         unit: name,

@@ -14,7 +14,7 @@ ghost use Rattle.pb_project.specs.Targets.{dep_info_of};
 ghost use Rattle.pb_record.specs.Parts.{IsReading};
 ghost use Rattle.pb_record.specs.Sorted.{are_sorted};
 ghost use Rattle.pb_record.specs.declared.record.Record.{Record};
-ghost use Rattle.pb_run.specs.Causes.{Takes, NoStart, Lands, MayFollow, MayAnswerUnit, MakesInTurn, NumbersInTurn, is_of_look, is_of_write, is_spent};
+ghost use Rattle.pb_run.specs.Causes.{Takes, NoStart, Lands, MayFollow, MayAnswerUnit, MakesInTurn, NumbersInTurn, child_fault, is_of_look, is_of_write, is_spent};
 ghost use Rattle.pb_directive.specs.declared.directive.Directive.{Directive};
 ghost use Rattle.pb_flight.specs.declared.flight.State.{State};
 ghost use Rattle.pb_flight.specs.declared.flight.State.TheVariants as state;
@@ -22,7 +22,7 @@ ghost use Rattle.pb_place.specs.Folders.{files_in};
 ghost use Rattle.pb_answer.specs.declared.bad_unit.BadUnit.{BadUnit};
 ghost use Rattle.pb_project.specs.declared.project.Setup.{Setup};
 ghost use Rattle.pb_run.specs.Halves.{Footing, basis, begun_with, outcomes_in, key_at, needed_keys, Keeps, IsBegun, CanAnswer, BeginsApart, KeepsOthersStill, WritesTo};
-ghost use Rattle.pb_run.specs.Landing.{HasEnded, CallsBehind, answered_called, dep_info_looked, IsJudged};
+ghost use Rattle.pb_run.specs.Landing.{HasEnded, CallsBehind, answered_called, dep_info_looked, record_left, record_of, IsJudged};
 ghost use Rattle.pb_run.specs.Standing.{IsCommandOf, records_folder};
 ghost use Rattle.pb_run.specs.declared.begun.Awaited.TheVariants as awaited;
 ghost use Rattle.pb_run.specs.declared.begun.Begun.{Begun};
@@ -68,7 +68,7 @@ pub(crate) fn finish<P: Place>(
     ensures takes { (next : Option ℕ) → Takes (Lands (Some launched.now)) (MayAnswerUnit next unit (Some launched.now)) result (P.counts place.old) (P.counts place.new) }
     ensures ended { IsTrue P.tells → MatchResult result
         (λ ended. HasEnded launched.now.ticket (Ok ended) (IsOk result) (P.still place.old launched.now.ticket) (P.world place.old) (P.world place.new) (P.counts place.old) (P.counts place.new))
-        (λ e. (fault : StartFault) × HasEnded launched.now.ticket (Err fault) (IsOk result) (P.still place.old launched.now.ticket) (P.world place.old) (P.world place.new) (P.counts place.old) (P.counts place.new)) }
+        (λ e. (fault : StartFault) × HasEnded launched.now.ticket (Err fault) (IsOk result) (P.still place.old launched.now.ticket) (P.world place.old) (P.world place.new) (P.counts place.old) (P.counts place.new) × (e ≡ child_fault unit fault)) }
     ensures unwritten { IfErr result (λ e. is_of_write e ≡ false) }
 {
     match place.finish(alloc, launched.ticket) {
@@ -305,9 +305,12 @@ pub(crate) fn land<P: Place>(
     ensures takes { Takes (Lands (Some launched.now)) (MayAnswerUnit store.old.next unit.now.key (Some launched.now)) result (P.counts place.old) (P.counts place.new) }
     ensures lands { IsTrue P.tells → (left : P) × (answer : Result Ended StartFault) × HasEnded launched.now.ticket answer (IsOk result) (P.still place.old launched.now.ticket) (P.world place.old) (P.world left) (P.counts place.old) (P.counts left)
         × ChangesOnly (is_at_or_below (place_of (records_folder project.now) unit.now.key)) (P.world left) (P.world place.new)
-        × ((read : Reading) → IsReading read → CallsBehind (answered_called read project.now unit.now command.now (P.world left) (awaited.Child launched.now)) answer result (P.counts left) (P.counts place.new)) }
+        × ((read : Reading) → IsReading read → CallsBehind unit.now.key (awaited.Child launched.now) (answered_called read project.now unit.now command.now (P.world left) (awaited.Child launched.now)) answer result (P.counts left) (P.counts place.new)) }
     ensures judged { IsTrue P.tells → IfOk result (λ ran. (left : P) × (ended : Ended) × HasEnded launched.now.ticket (Ok ended) (IsOk result) (P.still place.old launched.now.ticket) (P.world place.old) (P.world left) (P.counts place.old) (P.counts left)
         × IsJudged project.now unit.now command.now (awaited.Child launched.now) ended (P.world left) ran) }
+    ensures kept { (read : Reading) → IsReading read → IsTrue P.tells → WritesTo unit.now.out (Some launched.now) (P.counts place.old).starts.flying → HoldsNumbers (record_at read (records_folder project.now) (P.world place.old).files) store.old.numbers
+        → IfOk result (λ ran. is_some ran.bad ≡ false → (left : P) × (ended : Ended) × HasEnded launched.now.ticket (Ok ended) (IsOk result) (P.still place.old launched.now.ticket) (P.world place.old) (P.world left) (P.counts place.old) (P.counts left)
+        × (record_at read (records_folder project.now) (P.world place.new).files unit.now.key ≡ Some (record_of read project.now unit.now command.now launched.now.number ended (P.world left)))) }
     ensures written { IfErr result (λ e. is_of_write e ≡ true → (P.counts place.new).failing ≡ Some (call.Write (place_of (records_folder project.now) unit.now.key))) }
 {
     project.is_in_order();
@@ -388,6 +391,9 @@ pub(crate) fn reuse<P: Place>(
     ensures lands { IsTrue P.tells → ChangesOnly (is_at_or_below (place_of (records_folder project.now) unit.now.key)) (P.world place.old) (P.world place.new) }
     ensures calls { (read : Reading) → IsReading read → IsTrue P.tells → NumbersInTurn result (answered_called read project.now unit.now command.now (P.world place.old) (awaited.Record again.now) again.now.ended) (P.counts place.old) (P.counts place.new) }
     ensures judged { IsTrue P.tells → IfOk result (IsJudged project.now unit.now command.now (awaited.Record again.now) again.now.ended (P.world place.old)) }
+    ensures bad { IfOk result (λ ran. IsSome ran.bad → store.new.next ≡ store.old.next) }
+    ensures kept { (read : Reading) → IsReading read → IsTrue P.tells → HoldsNumbers (record_at read (records_folder project.now) (P.world place.old).files) store.old.numbers
+        → IfOk result (λ ran. is_some ran.bad ≡ false → record_at read (records_folder project.now) (P.world place.new).files unit.now.key ≡ record_left read project.now unit.now command.now (awaited.Record again.now) again.now.ended store.old.next (P.world place.old)) }
     ensures written { IfErr result (λ e. is_of_write e ≡ true → (P.counts place.new).failing ≡ Some (call.Write (place_of (records_folder project.now) unit.now.key))) }
 {
     project.is_in_order();
