@@ -177,6 +177,13 @@ module _ (read : Reading) (project : Project) (u : Planned) (c : Command) (by : 
   good_made result names new good are makes =
       told_of result new (subst (λ b. NumbersInTurn result (cond b [] (recorded_called read project u c w j.names by)) mid new) (sym good) (subst (λ (ns : List Call). NumbersInTurn result ns mid new) are makes))
 
+  -- it is good, and a call stopped it then
+  pub good_stops : (fault : BuildFault) (names : List Call) (new : Counts) → is_some j.ran.bad ≡ false → names ≡ recorded_called read project u c w j.names by → StopsAt fault names mid new → StopsAt fault (answered_called read project u c w by ended) old new
+  good_stops fault names new good are stops =
+      subst (λ (x : Judgement). StopsAt fault (dep_info_looked (dep_info_of project u) ++ judged_called read project u c w by x) old new) judged
+      (stops_then fault (dep_info_looked (dep_info_of project u)) (judged_called read project u c w by j) old mid new first
+      (subst (λ b. StopsAt fault (cond b [] (recorded_called read project u c w j.names by)) mid new) (sym good) (subst (λ (ns : List Call). StopsAt fault ns mid new) are stops)))
+
 -- the record is kept; it has a number; it is given one
 pub kept_so : (read : Reading) (project : Project) (u : Planned) (c : Command) (l : Launched) (folder : List ℕ) (v w : World) (names known : List InputName) → folder ≡ records_folder project → v ≡ w → names ≡ known
     → kept_called folder u.key c.target v names ≡ recorded_called read project u c w known (awaited.Child l)

@@ -8,6 +8,7 @@ pub mod Held
 pub mod InTurn
 pub mod Judged
 pub mod Kept
+pub mod Left
 pub mod Recorded
 pub mod RecordedAnswer
 pub mod RecordedBegin

@@ -11,6 +11,7 @@ use Rattle.pb_place.specs.Paths.{is_at_or_below}
 use Rattle.pb_place.specs.World.{World, Answers, ChangesOnly}
 use Rattle.pb_place.specs.declared.child_in_flight.ChildInFlight.{ChildInFlight}
 use Rattle.pb_place.specs.declared.command.Command.{Command}
+use Rattle.pb_place.specs.declared.call.Call.{Call}
 use Rattle.pb_place.specs.declared.command.Ended.{Ended}
 use Rattle.pb_place.specs.declared.place.PlaceFault.TheVariants as place
 use Rattle.pb_place.specs.declared.place.StartFault.{StartFault}
@@ -92,12 +93,25 @@ spawned_so : (inside : List ℕ → Bool) (child : Answers) (c : Command) (w : W
 spawned_so inside child c w flying still None spawned = tt
 spawned_so inside child c w flying still (Some launched) spawned = record { spawned = spawned.spawned; only = spawned.only; flies = spawned.flies; emptied = spawned.emptied; stands = tt }
 
+-- what is called behind an answer is the same, whatever is told of it
+pub behind_well : {T : Type 0} (key : List ℕ) (by : Awaited) (calls : Ended → List Call) (answer : Result Ended StartFault) (ran : Ran) (run : T) (old new : Counts) → CallsBehind key by calls answer (ended_well ran) old new → CallsBehind {T = T} key by calls answer (Ok run) old new
+behind_well key (awaited.Child launched) calls (Ok it) ran run old new so = so
+behind_well key (awaited.Child launched) calls (Err fault) ran run old new so = (so.0, tt)
+behind_well key (awaited.Record again) calls (Ok it) ran run old new so = so
+behind_well key (awaited.Record again) calls (Err fault) ran run old new so = (so.0, tt)
+
+pub behind_badly : (T : Type 0) (key : List ℕ) (by : Awaited) (calls : Ended → List Call) (answer : Result Ended StartFault) (fault : BuildFault) (old new : Counts) → CallsBehind key by calls answer (ended_badly fault) old new → CallsBehind {T = T} key by calls answer (Err fault) old new
+behind_badly T key (awaited.Child launched) calls (Ok it) fault old new so = so
+behind_badly T key (awaited.Child launched) calls (Err e) fault old new so = so
+behind_badly T key (awaited.Record again) calls (Ok it) fault old new so = so
+behind_badly T key (awaited.Record again) calls (Err e) fault old new so = so
+
 module _ (read : Reading) (child : Answers) (project : Project) (u : Planned) (c : Command) (begun : Begun) (w between left after : World) (old mid ended new : Counts) (answer : Result Ended StartFault) (still : ℕ → Type 0) (is : begun.command ≡ c)
     (begins : MatchOption (child_of begun) (mid ≡ past_look read project u begun.command w old) (λ launched. Launches child begun.command launched.ticket (past_look read project u begun.command w old) mid))
     (spawned : IfSome (child_of begun) (λ launched. IsSpawned (is_of (records_folder project) u.key) child begun.command w launched.ticket mid.starts.flying still))
     (same : child_of begun ≡ None → between ≡ w) (gives : GivesRecord (record_at read (records_folder project) w.files u.key) begun.awaited) (only : ChangesOnly (is_at_or_below (place_of (records_folder project) u.key)) left after) where
   through : {T : Type 0} (result : Result T BuildFault) → EndsBy begun.awaited answer (IsOk result) still between left mid ended
-      → CallsBehind (answered_called read project u begun.command left begun.awaited) answer result ended new → RunsThrough read child project u c result w old after new
+      → CallsBehind u.key begun.awaited (answered_called read project u begun.command left begun.awaited) answer result ended new → RunsThrough read child project u c result w old after new
   through result ends behind = subst (λ k. RunsThrough read child project u k result w old after new) is record {
     begun = begun;
     between = between;
@@ -115,17 +129,9 @@ module _ (read : Reading) (child : Answers) (project : Project) (u : Planned) (c
   }
 
   pub ran_well : {T : Type 0} (ran : Ran) (run : T) → EndsBy begun.awaited answer (IsOk (ended_well ran)) still between left mid ended
-      → CallsBehind (answered_called read project u begun.command left begun.awaited) answer (ended_well ran) ended new → RunsThrough {T = T} read child project u c (Ok run) w old after new
-  ran_well {T} ran run ends behind = through {T = T} (Ok run) ends (well answer behind)
-    where
-      well : (a : Result Ended StartFault) → CallsBehind (answered_called read project u begun.command left begun.awaited) a (ended_well ran) ended new → CallsBehind {T = T} (answered_called read project u begun.command left begun.awaited) a (Ok run) ended new
-      well (Ok it) so = so
-      well (Err fault) so = so
+      → CallsBehind u.key begun.awaited (answered_called read project u begun.command left begun.awaited) answer (ended_well ran) ended new → RunsThrough {T = T} read child project u c (Ok run) w old after new
+  ran_well {T} ran run ends behind = through {T = T} (Ok run) ends (behind_well u.key begun.awaited (answered_called read project u begun.command left begun.awaited) answer ran run ended new behind)
 
   pub ran_badly : {T : Type 0} (fault : BuildFault) → EndsBy begun.awaited answer (IsOk (ended_badly fault)) still between left mid ended
-      → CallsBehind (answered_called read project u begun.command left begun.awaited) answer (ended_badly fault) ended new → RunsThrough {T = T} read child project u c (Err fault) w old after new
-  ran_badly {T} fault ends behind = through {T = T} (Err fault) ends (badly answer behind)
-    where
-      badly : (a : Result Ended StartFault) → CallsBehind (answered_called read project u begun.command left begun.awaited) a (ended_badly fault) ended new → CallsBehind {T = T} (answered_called read project u begun.command left begun.awaited) a (Err fault) ended new
-      badly (Ok it) so = so
-      badly (Err e) so = so
+      → CallsBehind u.key begun.awaited (answered_called read project u begun.command left begun.awaited) answer (ended_badly fault) ended new → RunsThrough {T = T} read child project u c (Err fault) w old after new
+  ran_badly {T} fault ends behind = through {T = T} (Err fault) ends (behind_badly T u.key begun.awaited (answered_called read project u begun.command left begun.awaited) answer fault ended new behind)

@@ -1,17 +1,19 @@
-use Rattle.std.proofs.Common.{◌∙◌, Ok, Option, ap, refl, subst, sym}
+use Rattle.std.proofs.Common.{◌≡◌, ◌∙◌, Ok, Option, ap, refl, subst, sym}
 use Rattle.std.proofs.lemmas.Bool.{false≢true}
+use Rattle.std.specs.Prelude.{IsOk}
 use Rattle.pb_place.specs.Children.{child_at}
 use Rattle.pb_place.specs.Counts.{Starts}
 use Rattle.pb_place.specs.Paths.{is_at_or_below}
 use Rattle.pb_place.specs.World.{ChangesOnly}
 use Rattle.pb_place.proofs.Folders.{only_same}
 use Rattle.pb_run.specs.Halves.{KeepsOthersStill, WritesTo, basis, child_in, child_of}
-use Rattle.pb_run.specs.Landing.{CallsBehind, EndsBy, IsJudged, answered_called}
+use Rattle.pb_run.specs.Landing.{CallsBehind, EndsBy, IsJudged, answered_called, record_left}
 use Rattle.pb_run.specs.Standing.{records_folder}
 use Rattle.pb_run.specs.declared.begun.Awaited.{Awaited}
 use Rattle.pb_run.specs.declared.begun.Awaited.TheVariants as awaited
 use Rattle.pb_run.specs.declared.begun.Launched.{Launched}
 use Rattle.pb_soundness.specs.Apart.{is_of}
+use Rattle.pb_soundness.specs.Records.{record_at}
 use Rattle.pb_run.proofs.Calling.{ended_badly, ended_well}
 use Rattle.pb_run.proofs.Kept.{flying_answer}
 use Rattle.pb_run.proofs.Causing.{land_spares}
@@ -99,7 +101,7 @@ returns-in-Ok-clause-lands g c told =
       answer,
       subst (λ (o : Awaited). EndsBy o answer _ (g.P.Place.still c.args.place.now) (g.P.Place.world c.args.place.now) (g.P.Place.world left) (g.P.Place.counts c.args.place.now) (g.P.Place.counts left)) (sym c.in-Child.is) ended,
       only,
-      λ read reading. subst (λ (o : Awaited). CallsBehind (answered_called read c.args.project.now c.args.unit.now c.args.begun.command (g.P.Place.world left) o) answer (ended_well c.in-Ok.ran) (g.P.Place.counts left) (g.P.Place.counts c.land.new.place)) (sym c.in-Child.is) (calls read reading),
+      λ read reading. subst (λ (o : Awaited). CallsBehind c.args.unit.now.key o (answered_called read c.args.project.now c.args.unit.now c.args.begun.command (g.P.Place.world left) o) answer (ended_well c.in-Ok.ran) (g.P.Place.counts left) (g.P.Place.counts c.land.new.place)) (sym c.in-Child.is) (calls read reading),
     )
 
 pub returns-in-Child-clause-lands : goal.returns-in-Child-clause-lands
@@ -109,7 +111,7 @@ returns-in-Child-clause-lands g c told =
       answer,
       subst (λ (o : Awaited). EndsBy o answer _ (g.P.Place.still c.args.place.now) (g.P.Place.world c.args.place.now) (g.P.Place.world left) (g.P.Place.counts c.args.place.now) (g.P.Place.counts left)) (sym c.in-Child.is) ended,
       only,
-      λ read reading. subst (λ (o : Awaited). CallsBehind (answered_called read c.args.project.now c.args.unit.now c.args.begun.command (g.P.Place.world left) o) answer (ended_badly c.in-Err.fault) (g.P.Place.counts left) (g.P.Place.counts c.land.new.place)) (sym c.in-Child.is) (calls read reading),
+      λ read reading. subst (λ (o : Awaited). CallsBehind c.args.unit.now.key o (answered_called read c.args.project.now c.args.unit.now c.args.begun.command (g.P.Place.world left) o) answer (ended_badly c.in-Err.fault) (g.P.Place.counts left) (g.P.Place.counts c.land.new.place)) (sym c.in-Child.is) (calls read reading),
     )
 
 pub returns-in-Ok-reuse-clause-lands : goal.returns-in-Ok-reuse-clause-lands
@@ -121,7 +123,7 @@ returns-in-Ok-reuse-clause-lands g c told = (
       (sym c.in-Record.is) (refl, refl, refl),
   c.in-Ok-reuse.ensures.lands told,
   λ read reading. subst
-      (λ (o : Awaited). CallsBehind (answered_called read c.args.project.now c.args.unit.now c.args.begun.command (g.P.Place.world c.args.place.now) o) (Ok c.in-Record.again.ended) (ended_well c.in-Ok-reuse.ran) (g.P.Place.counts c.args.place.now) (g.P.Place.counts c.reuse.new.place))
+      (λ (o : Awaited). CallsBehind c.args.unit.now.key o (answered_called read c.args.project.now c.args.unit.now c.args.begun.command (g.P.Place.world c.args.place.now) o) (Ok c.in-Record.again.ended) (ended_well c.in-Ok-reuse.ran) (g.P.Place.counts c.args.place.now) (g.P.Place.counts c.reuse.new.place))
       (sym c.in-Record.is) (c.in-Ok-reuse.ensures.calls read reading told),
 )
 
@@ -134,7 +136,7 @@ returns-clause-lands g c told = (
       (sym c.in-Record.is) (refl, refl, refl),
   c.in-Err-reuse.ensures.lands told,
   λ read reading. subst
-      (λ (o : Awaited). CallsBehind (answered_called read c.args.project.now c.args.unit.now c.args.begun.command (g.P.Place.world c.args.place.now) o) (Ok c.in-Record.again.ended) (ended_badly c.in-Err-reuse.fault) (g.P.Place.counts c.args.place.now) (g.P.Place.counts c.reuse.new.place))
+      (λ (o : Awaited). CallsBehind c.args.unit.now.key o (answered_called read c.args.project.now c.args.unit.now c.args.begun.command (g.P.Place.world c.args.place.now) o) (Ok c.in-Record.again.ended) (ended_badly c.in-Err-reuse.fault) (g.P.Place.counts c.args.place.now) (g.P.Place.counts c.reuse.new.place))
       (sym c.in-Record.is) (c.in-Err-reuse.ensures.calls read reading told),
 )
 
@@ -198,3 +200,33 @@ returns-in-Ok-reuse-clause-still g c told writes ticket apart = c.in-Ok-reuse.en
 
 pub returns-clause-still : goal.returns-clause-still
 returns-clause-still g c told writes ticket apart = c.in-Err-reuse.ensures.still told ticket
+
+pub returns-in-Ok-clause-bad : goal.returns-in-Ok-clause-bad
+returns-in-Ok-clause-bad g c bad = c.land.ensures.next
+
+pub returns-in-Ok-reuse-clause-bad : goal.returns-in-Ok-reuse-clause-bad
+returns-in-Ok-reuse-clause-bad g c bad = c.in-Ok-reuse.ensures.bad bad
+
+pub returns-in-Ok-clause-kept : goal.returns-in-Ok-clause-kept
+returns-in-Ok-clause-kept g c read is told writes holds good =
+    let (left, ended, ends, stands) = c.in-Ok.ensures.kept read is told (subst (λ (o : Awaited). WritesTo c.args.unit.now.out (child_in o) (g.P.Place.counts c.args.place.now).starts.flying) c.in-Child.is writes) holds good in (
+      left,
+      ended,
+      subst (λ (o : Awaited). EndsBy o (Ok ended) (IsOk (ended_well c.in-Ok.ran)) (g.P.Place.still c.args.place.now) (g.P.Place.world c.args.place.now) (g.P.Place.world left) (g.P.Place.counts c.args.place.now) (g.P.Place.counts left)) (sym c.in-Child.is) ends,
+      subst (λ (o : Awaited). record_at read (records_folder c.args.project.now) (g.P.Place.world c.land.new.place).files c.args.unit.now.key ≡ record_left read c.args.project.now c.args.unit.now c.args.begun.command o ended c.args.store.now.next (g.P.Place.world left)) (sym c.in-Child.is) stands,
+    )
+
+pub returns-in-Ok-reuse-clause-kept : goal.returns-in-Ok-reuse-clause-kept
+returns-in-Ok-reuse-clause-kept g c read is told writes holds good = (
+  c.args.place.now,
+  c.in-Record.again.ended,
+  subst
+      (λ (o : Awaited). EndsBy o (Ok c.in-Record.again.ended) (IsOk (ended_well c.in-Ok-reuse.ran)) (g.P.Place.still c.args.place.now) (g.P.Place.world c.args.place.now) (g.P.Place.world c.args.place.now) (g.P.Place.counts c.args.place.now) (g.P.Place.counts c.args.place.now))
+      (sym c.in-Record.is) (refl, refl, refl),
+  subst (λ (o : Awaited). record_at read (records_folder c.args.project.now) (g.P.Place.world c.reuse.new.place).files c.args.unit.now.key ≡ record_left read c.args.project.now c.args.unit.now c.args.begun.command o c.in-Record.again.ended c.args.store.now.next (g.P.Place.world c.args.place.now)) (sym c.in-Record.is)
+      (c.in-Ok-reuse.ensures.kept read is told holds good),
+)
+
+pub returns-in-Ok-reuse-clause-outcome : goal.returns-in-Ok-reuse-clause-outcome
+returns-in-Ok-reuse-clause-outcome g c footing read setup sources states done is told can =
+    c.in-Ok-reuse.ensures.outcome footing read setup sources states done is told (can_by_parts (basis footing read g.P.Place.child setup c.args.project.now sources) c.args.index c.args.begun c.args.store.now.next (g.P.Place.world c.args.place.now) (g.P.Place.counts c.args.place.now).starts.flying (g.P.Place.still c.args.place.now) c.args.unit.now.key (awaited.Record c.in-Record.again) c.requires.named c.in-Record.is states done c.args.unit.now can)

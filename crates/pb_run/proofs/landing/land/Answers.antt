@@ -9,13 +9,15 @@ use Rattle.pb_place.specs.Folders.{files_in}
 use Rattle.pb_place.specs.World.{World, ChangesOnly}
 use Rattle.pb_place.specs.Paths.{is_at_or_below}
 use Rattle.std.proofs.lemmas.Bool.{false≢true}
+use Rattle.pb_run.specs.Causes.{child_fault}
 use Rattle.pb_run.specs.Halves.{basis, outcomes_in}
 use Rattle.pb_run.specs.Outcome.{outcome_by}
 use Rattle.pb_project.specs.Targets.{dep_info_of}
 use Rattle.pb_run.specs.Landing.{dep_info_looked}
 use Rattle.pb_run.specs.declared.begun.Awaited.TheVariants as awaited
 use Rattle.pb_run.proofs.Answering.{landed_gives, landed_only}
-use Rattle.pb_run.proofs.Calling.{bad_made, ended_badly, ended_well, good_made, kept_so, numbering_first, numbers_so}
+use Rattle.pb_run.proofs.Calling.{bad_made, ended_well, good_made, good_stops, kept_so, stops_first}
+use Rattle.pb_run.proofs.Left.{record_kept}
 use Rattle.pb_run.proofs.Ending.{TellsAnswer, landed_more, landed_told}
 use Rattle.pb_run.proofs.Settling.{keeps_bad, keeps_landed}
 use Rattle.pb_run.proofs.RecordedOthers.{still_over}
@@ -140,8 +142,8 @@ returns-in-Ok-keep-clause-unkept g c told writes bad = absurd (false≢true (sym
 
 pub returns-in-Err-clause-lands : goal.returns-in-Err-clause-lands
 returns-in-Err-clause-lands g c told =
-    let (fault, ended) = c.in-Err.ensures.ended told in
-    (c.finish.new.place, Err fault, ended, none_changed _ (g.P.Place.world c.finish.new.place) (g.P.Place.world c.finish.new.place) refl, λ read reading. refl)
+    let (fault, ended, is) = c.in-Err.ensures.ended told in
+    (c.finish.new.place, Err fault, ended, none_changed _ (g.P.Place.world c.finish.new.place) (g.P.Place.world c.finish.new.place) refl, λ read reading. (refl, is ∙ ap (λ (k : List ℕ). child_fault k fault) c.requires.named))
 
 pub returns-in-Err-judged_now-clause-lands : goal.returns-in-Err-judged_now-clause-lands
 returns-in-Err-judged_now-clause-lands g c told = (
@@ -149,7 +151,7 @@ returns-in-Err-judged_now-clause-lands g c told = (
   Ok c.in-Ok.ended,
   ended_anyway _ _ _ _ _ (g.P.Place.world c.args.place.now) (g.P.Place.world c.finish.new.place) (g.P.Place.counts c.args.place.now) (g.P.Place.counts c.finish.new.place) (λ wrong. absurd (false≢true wrong)) (c.in-Ok.ensures.ended told),
   none_changed _ (g.P.Place.world c.finish.new.place) (g.P.Place.world c.judged_now.new.place) (c.in-Err-judged_now.ensures.same told),
-  λ read reading. numbering_first c.in-Err-judged_now.fault (dep_info_looked (dep_info_of c.args.project.now c.args.unit.now)) _ (g.P.Place.counts c.finish.new.place) (g.P.Place.counts c.judged_now.new.place) c.in-Err-judged_now.ensures.calls,
+  λ read reading. stops_first c.in-Err-judged_now.fault (dep_info_looked (dep_info_of c.args.project.now c.args.unit.now)) _ (g.P.Place.counts c.finish.new.place) (g.P.Place.counts c.judged_now.new.place) c.in-Err-judged_now.ensures.calls,
 )
 
 pub returns-then-is_some-clause-lands : goal.returns-then-is_some-clause-lands
@@ -182,10 +184,10 @@ returns-clause-lands g c told = (
   ended_anyway _ _ _ _ _ (g.P.Place.world c.args.place.now) (g.P.Place.world c.finish.new.place) (g.P.Place.counts c.args.place.now) (g.P.Place.counts c.finish.new.place) (λ wrong. absurd (false≢true wrong)) (c.in-Ok.ensures.ended told),
   record_alone c.args.store.now.folder (records_folder c.args.project.now) c.args.unit.now.key (g.P.Place.world c.finish.new.place) (g.P.Place.world c.judged_now.new.place) (g.P.Place.world c.keep.new.place) c.requires.folder
       (c.in-Ok-judged_now.ensures.same told) (c.in-Err-keep.ensures.only told),
-  λ read reading. good_made read c.args.project.now c.args.unit.now c.args.command.now (awaited.Child c.args.launched.now) (g.P.Place.world c.finish.new.place) c.in-Ok.ended c.in-Ok-judged_now.judgement (c.in-Ok-judged_now.ensures.judged told)
-      (g.P.Place.counts c.finish.new.place) (g.P.Place.counts c.judged_now.new.place) c.in-Ok-judged_now.ensures.calls (ended_badly c.in-Err-keep.fault) _ (g.P.Place.counts c.keep.new.place) (sym c.is_some.ensures ∙ c.if-is_some.false)
+  λ read reading. good_stops read c.args.project.now c.args.unit.now c.args.command.now (awaited.Child c.args.launched.now) (g.P.Place.world c.finish.new.place) c.in-Ok.ended c.in-Ok-judged_now.judgement (c.in-Ok-judged_now.ensures.judged told)
+      (g.P.Place.counts c.finish.new.place) (g.P.Place.counts c.judged_now.new.place) c.in-Ok-judged_now.ensures.calls c.in-Err-keep.fault _ (g.P.Place.counts c.keep.new.place) (sym c.is_some.ensures ∙ c.if-is_some.false)
       (kept_so read c.args.project.now c.args.unit.now c.args.command.now c.args.launched.now c.args.store.now.folder (g.P.Place.world c.judged_now.new.place) (g.P.Place.world c.finish.new.place) c.as_slice.result.now c.in-Ok-judged_now.judgement.names c.requires.folder (c.in-Ok-judged_now.ensures.same told) c.as_slice.ensures)
-      (numbers_so (ended_badly c.in-Err-keep.fault) _ (g.P.Place.counts c.judged_now.new.place) (g.P.Place.counts c.keep.new.place) (c.in-Err-keep.ensures.calls told)),
+      (c.in-Err-keep.ensures.calls told),
 )
 
 pub returns-then-is_some-clause-numbers : goal.returns-then-is_some-clause-numbers
@@ -240,3 +242,18 @@ returns-clause-still g c told writes ticket apart stands stood =
     (subst (λ (f : List ℕ). KeepsStillOutside (is_at_or_below (place_of f c.args.unit.now.key)) (without c.args.launched.now.ticket (g.P.Place.counts c.args.place.now).starts.flying) (g.P.Place.still c.judged_now.new.place) (g.P.Place.still c.keep.new.place)) c.requires.folder
     (subst (λ fs. KeepsStillOutside (is_at_or_below (place_of c.args.store.now.folder c.args.unit.now.key)) fs (g.P.Place.still c.judged_now.new.place) (g.P.Place.still c.keep.new.place)) (ap (λ (s : Starts). s.flying) (c.in-Ok-judged_now.ensures.takes.1 ∙ (c.in-Ok.ensures.takes c.args.store.now.next).1)) (c.in-Err-keep.ensures.still told))))
     stands stood
+
+pub returns-then-is_some-clause-kept : goal.returns-then-is_some-clause-kept
+returns-then-is_some-clause-kept g c read is told writes holds good = absurd (false≢true (sym good ∙ (sym c.is_some.ensures ∙ c.if-is_some.true)))
+
+pub returns-in-Ok-keep-clause-kept : goal.returns-in-Ok-keep-clause-kept
+returns-in-Ok-keep-clause-kept g c read is told writes holds good = (
+  c.finish.new.place,
+  c.in-Ok.ended,
+  c.in-Ok.ensures.ended told,
+  record_kept read c.args.project.now c.args.unit.now c.args.command.now c.args.store.now.folder c.requires.folder (g.P.Place.world c.judged_now.new.place) (g.P.Place.world c.finish.new.place) (g.P.Place.world c.keep.new.place) (c.in-Ok-judged_now.ensures.same told) c.in-Ok.ended
+      c.args.launched.now.number c.as_slice.result.now c.in-Ok-judged_now.judgement c.as_slice.ensures (c.in-Ok-judged_now.ensures.judged told)
+      (c.in-Ok-keep.ensures.stands read is told
+      (held_landed read c.args.project.now c.is_in_order.ensures c.args.index c.args.unit.now c.requires.unit c.args.store.now.folder (g.P.Place.world c.args.place.now) (g.P.Place.world c.finish.new.place) (g.P.Place.world c.judged_now.new.place) c.args.store.now.numbers c.requires.folder (c.in-Ok-judged_now.ensures.same told)
+      (ended_only c.args.unit.now.out c.args.launched.now (g.P.Place.counts c.args.place.now).starts.flying (g.P.Place.world c.args.place.now) (g.P.Place.world c.finish.new.place) c.requires.flies writes (c.in-Ok.ensures.only told)) holds)),
+)

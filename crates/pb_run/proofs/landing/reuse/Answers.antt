@@ -16,6 +16,7 @@ use Rattle.pb_run.specs.declared.ran.Judgement.{Judgement}
 use Rattle.pb_run.proofs.Calling.{bad_made, ended_badly, ended_well, good_made, numbered_so, numbering_first, renewed_names}
 use Rattle.pb_run.proofs.Causing.{follow_spares}
 use Rattle.pb_run.proofs.Held.{held_same, held_there}
+use Rattle.pb_run.proofs.Left.{record_renewed, record_stayed}
 use Rattle.pb_run.proofs.Reusing.{flying_alone, flying_follow, keeps_bad_again, keeps_numbered, keeps_renewed, keeps_unrenewed, others_renewed, others_unchanged, renewed_outcome, renewed_so, renewing_so, replay_outcome, reused_only, reused_same, reused_still}
 use Rattle.pb_run.proofs.Writes.{none_changed, record_alone}
 use Rattle.pb_run.proofs.landing.reuse.Goals as goal
@@ -269,3 +270,18 @@ returns-in-Ok-migrate-clause-still g c told =
 pub returns-clause-still : goal.returns-clause-still
 returns-clause-still g c told =
     reused_still c.args.store.now.folder (records_folder c.args.project.now) c.args.unit.now.key (g.P.Place.counts c.args.place.now).starts.flying (g.P.Place.counts c.judged_now.new.place).starts.flying (g.P.Place.still c.args.place.now) (g.P.Place.still c.judged_now.new.place) (g.P.Place.still c.migrate.new.place) c.requires.folder (ap (λ (s : Starts). s.flying) c.in-Ok.ensures.takes.1) (c.in-Ok.ensures.still told) (c.in-Err-migrate.ensures.still told)
+
+pub returns-in-Ok-migrate-clause-bad : goal.returns-in-Ok-migrate-clause-bad
+returns-in-Ok-migrate-clause-bad g c bad = absurd (false≢true (sym (sym c.is_some.ensures ∙ c.if-is_some.false) ∙ bad))
+
+pub returns-then-is_some-clause-kept : goal.returns-then-is_some-clause-kept
+returns-then-is_some-clause-kept g c read is told holds good = absurd (false≢true (sym good ∙ (sym c.is_some.ensures ∙ c.if-is_some.true)))
+
+pub returns-then-again-clause-kept : goal.returns-then-again-clause-kept
+returns-then-again-clause-kept g c read is told holds good =
+    record_stayed read c.args.project.now c.args.unit.now c.args.command.now (records_folder c.args.project.now) refl (g.P.Place.world c.args.place.now) (g.P.Place.world c.args.place.now) (g.P.Place.world c.judged_now.new.place) refl c.args.again.now.ended c.args.again.now c.args.store.now.next c.if-again.true (c.in-Ok.ensures.same told)
+
+pub returns-in-Ok-migrate-clause-kept : goal.returns-in-Ok-migrate-clause-kept
+returns-in-Ok-migrate-clause-kept g c read is told holds good =
+    record_renewed read c.args.project.now c.args.unit.now c.args.command.now c.args.store.now.folder c.requires.folder (g.P.Place.world c.judged_now.new.place) (g.P.Place.world c.args.place.now) (g.P.Place.world c.migrate.new.place) (c.in-Ok.ensures.same told) c.args.again.now.ended c.args.again.now c.args.store.now.next c.if-again.false
+    (c.in-Ok-migrate.ensures.stands read is told (held_same read c.args.store.now.folder (records_folder c.args.project.now) (g.P.Place.world c.args.place.now) (g.P.Place.world c.judged_now.new.place) c.args.store.now.numbers c.requires.folder (c.in-Ok.ensures.same told) holds))
