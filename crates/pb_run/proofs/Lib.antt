@@ -1,3 +1,4 @@
+pub mod Anew
 pub mod Answering
 pub mod Calling
 pub mod Causing

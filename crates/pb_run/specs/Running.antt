@@ -1,10 +1,13 @@
--- Which calls the run of a unit makes, from its beginning to its answer.
+-- Which calls the run of a unit makes, from its beginning to its answer, and what comes of one for which a child was started.
 use Rattle.std.specs.Prelude.{◌≡◌, ◌⊎◌, IfSome, IsOk, MatchOption, None, Result, Err}
 use Rattle.pb_answer.specs.declared.fault.BuildFault.{BuildFault}
+use Rattle.pb_command.specs.Judge.{ended_by, replied_files}
 use Rattle.pb_place.specs.CallsInTurn.{past_calls}
 use Rattle.pb_place.specs.Counts.{Counts}
+use Rattle.pb_place.specs.Folders.{files_in}
 use Rattle.pb_place.specs.Paths.{is_at_or_below}
-use Rattle.pb_place.specs.World.{World, Answers, ChangesOnly}
+use Rattle.pb_place.specs.World.{World, Answers, ChangesOnly, seen_by}
+use Rattle.pb_place.specs.declared.child.Reply.{Reply}
 use Rattle.pb_place.specs.declared.command.Command.{Command}
 use Rattle.pb_place.specs.declared.command.Ended.{Ended}
 use Rattle.pb_place.specs.declared.place.StartFault.{StartFault}
@@ -13,8 +16,10 @@ use Rattle.pb_run.specs.Causes.{StopsAt}
 use Rattle.pb_run.specs.Halves.{child_of}
 use Rattle.pb_run.specs.Landing.{CallsBehind, EndsBy, GivesRecord, answered_called}
 use Rattle.pb_run.specs.Launching.{IsSpawned, LaunchEnds, Launches}
+use Rattle.pb_run.specs.Outcome.{ran_of}
 use Rattle.pb_run.specs.Standing.{records_folder}
 use Rattle.pb_run.specs.declared.begun.Begun.{Begun}
+use Rattle.pb_run.specs.declared.ran.Ran.{Ran}
 use Rattle.pb_soundness.specs.Apart.{is_of}
 use Rattle.pb_soundness.specs.Records.{Reading, place_of, record_at}
 use Rattle.pb_store.specs.Looking.{looked_at}
@@ -47,3 +52,11 @@ pub record RunsThrough {T : Type 0} (read : Reading) (child : Answers) (project 
 -- a unit was run by just these calls
 abbrev pub RunsCalling : {T : Type 0} → Reading → Answers → Project → Planned → Command → Result T BuildFault → World → Counts → World → Counts → Type 0
 RunsCalling read child project u c result w old after new = ((fault : BuildFault) × (result ≡ Err fault) × StopsToBegin read project u c fault w old new) ⊎ RunsThrough read child project u c result w old after new
+
+-- what came of a unit is what this reply of its child comes to, and its folder holds just the files of that reply
+abbrev pub ComesOfReply : Project → Planned → Command → Reply → World → Ran → Type 0
+ComesOfReply project u c reply after ran = (ran ≡ ran_of project u c (ended_by reply) (replied_files u.out reply)) × (files_in u.out after.files ≡ replied_files u.out reply)
+
+-- a unit for which a child was started: what came of it is what the child's reply to its command comes to, by what that sees of the world as it was before the run, whatever the records say
+abbrev pub RunsAnew : Project → Planned → Answers → Command → World → World → Ran → Type 0
+RunsAnew project u child c w after ran = ComesOfReply project u c (child c (seen_by c w)) after ran

@@ -22,7 +22,7 @@ ghost use Rattle.pb_run.specs.Halves.{Footing, Basis, basis, outcomes_in, Keeps,
 ghost use Rattle.pb_run.specs.Landing.{EndsBy, CallsBehind, GivesRecord, IsJudged, answered_called, record_left};
 ghost use Rattle.pb_run.specs.Launching.{HasLooked, IsSpawned, LaunchEnds, Launches};
 ghost use Rattle.pb_run.specs.Outcome.{outcome_by, directives_in, ran_of, unstarted};
-ghost use Rattle.pb_run.specs.Running.{RunsCalling};
+ghost use Rattle.pb_run.specs.Running.{RunsAnew, RunsCalling};
 ghost use Rattle.pb_run.specs.Standing.{IsCommandOf, IsInOrder, records_folder};
 ghost use Rattle.pb_run.specs.declared.begun.Begun.{Begun};
 ghost use Rattle.pb_unit.specs.declared.plan.Planned.{Planned};
@@ -353,6 +353,7 @@ pub fn run_unit<P: Place>(
     ensures untaken { (read : Reading) → IsReading read → IsTrue P.tells → IfOk result (λ run. run.difference ≡ None → lacks_number (record_at read (records_folder project.now) (P.world place.old).files unit.now.key) ≡ false → store.new.next ≡ store.old.next) }
     ensures judged { (read : Reading) → IsReading read → IsTrue P.tells → IfOk result (λ run. run.difference ≡ None → (again : Replayed) × IsReplayed (record_at read (records_folder project.now) (P.world place.old).files unit.now.key) again
         × (run.ran ≡ unstarted (ran_of project.now unit.now (command_of setup.now project.now unit.now done.now) again.ended (P.world place.old).files))) }
+    ensures anew { IsTrue P.tells → IfOk result (λ run. IsSome run.difference → RunsAnew project.now unit.now P.child (command_of setup.now project.now unit.now done.now) (P.world place.old) (P.world place.new) run.ran) }
     ensures spent { store.old.next ≡ None → IsTrue P.tells → P.world place.new ≡ P.world place.old }
     ensures cause { (read : Reading) → IsReading read → IsTrue P.tells → HoldsNumbers (record_at read (records_folder project.now) (P.world place.old).files) store.old.numbers
         → IfErr result (λ e. is_spent e ≡ true → ((difference : Difference) × FirstDifference read (records_folder project.now) unit.now.key (command_of setup.now project.now unit.now done.now) (P.world place.old) (Some difference))

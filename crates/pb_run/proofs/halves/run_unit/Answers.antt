@@ -1,4 +1,5 @@
 use Rattle.std.proofs.Common.{◌≡◌, ◌∙◌, inl, inr, Bool, true, false, refl, slice_set, sym, subst, ap}
+use Rattle.std.specs.Prelude.{IsOk}
 use Rattle.pb_flight.specs.declared.flight.State.TheVariants as state
 use Rattle.pb_run.specs.Causes.{RunsBy}
 use Rattle.pb_command.specs.Command.{command_of}
@@ -8,6 +9,8 @@ use Rattle.pb_run.specs.Outcome.{ran_of, unstarted}
 use Rattle.pb_place.specs.World.{World}
 use Rattle.pb_soundness.specs.Records.{record_at}
 use Rattle.pb_store.specs.Migrating.{lacks_number}
+use Rattle.pb_run.proofs.Anew.{runs_anew}
+use Rattle.pb_run.proofs.Calling.{ended_well}
 use Rattle.pb_run.proofs.Judged.{judged_again, numbered_given, taken_so}
 use Rattle.pb_run.proofs.RunsInTurn.{awaits_alone, begins_so, launch_needs, ran_badly, ran_well, spent_starts, stops_so}
 use Rattle.pb_run.proofs.Reusing.{child_numbered}
@@ -137,3 +140,13 @@ returns-in-Ok-answer_unit-clause-judged g c read reading told none =
           ∙ ap (λ (k : Command). unstarted (ran_of c.args.project.now c.args.unit.now k again.ended (g.P.Place.world c.begin_unit.new.place).files)) c.in-Ok.ensures.asks
           ∙ ap (λ (w : World). unstarted (ran_of c.args.project.now c.args.unit.now (command_of c.args.setup.now c.args.project.now c.args.unit.now c.args.done.now) again.ended w.files)) (c.in-Ok.ensures.same told alone),
     )
+
+pub returns-in-Ok-answer_unit-clause-anew : goal.returns-in-Ok-answer_unit-clause-anew
+returns-in-Ok-answer_unit-clause-anew g c told some =
+    let (left, ended, ends, is) = c.in-Ok-answer_unit.ensures.judged told in
+    let (left', answer, ends', only, behind) = c.in-Ok-answer_unit.ensures.lands told in
+    runs_anew g.P.Place.child c.args.setup.now c.args.project.now c.is_in_order.ensures c.args.index c.args.unit.now c.requires.unit c.args.done.now c.in-Ok.made.begun.command c.in-Ok.ensures.asks
+    (g.P.Place.world c.args.place.now) (g.P.Place.world c.begin_unit.new.place) (g.P.Place.world c.answer_unit.new.place) (g.P.Place.counts c.begin_unit.new.place) (g.P.Place.still c.begin_unit.new.place)
+    c.in-Ok.made.begun.awaited (c.in-Ok.ensures.spawned ∙ some) (c.in-Ok.ensures.launched told)
+    c.in-Ok-answer_unit.ran (IsOk (ended_well c.in-Ok-answer_unit.ran)) (g.P.Place.world left) (g.P.Place.counts left) ended ends is
+    (IsOk (ended_well c.in-Ok-answer_unit.ran)) (g.P.Place.world left') (g.P.Place.counts left') answer ends' refl only
