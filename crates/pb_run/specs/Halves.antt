@@ -193,7 +193,7 @@ abbrev pub WritesTo : List ℕ → Option Launched → List ChildInFlight → Ty
 WritesTo out None flying = Unit {0}
 WritesTo out (Some launched) flying = IfSome (child_at launched.ticket flying) (λ spawned. spawned.command.out ≡ Some out)
 
--- what was kept still for each child but this one stays so, where no change of these paths touches it
+-- what was kept still for each ticket but this child's stays so, where no change of these paths touches what its child sees, if it has one in flight
 abbrev pub KeepsOthersStill : Option Launched → (List ℕ → Bool) → List ChildInFlight → (ℕ → Type 0) → (ℕ → Type 0) → Type 0
 KeepsOthersStill launched inside flying before after =
     (ticket : ℕ) → IfSome launched (λ its. ticket ≢ its.ticket) → ((v w : World) → ChangesOnly inside v w → StandsStill ticket flying v w) → before ticket → after ticket

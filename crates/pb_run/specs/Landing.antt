@@ -31,7 +31,7 @@ use Rattle.pb_store.specs.Migrating.{migrated}
 use Rattle.pb_store.specs.Replaying.{IsReplayed}
 use Rattle.pb_unit.specs.declared.plan.Planned.{Planned}
 
--- the end of the child of this ticket was asked for, by one call and no other, which gave this answer, and changed the child's folder alone; where all went well it answered, and then, where it stood still, it left what was fixed when it was spawned
+-- the end of the child of this ticket was asked for, by one call and no other, which counts as one that gave this answer, and changed the child's folder alone; where all went well it answered, and then, where it stood still, it left what was fixed when it was spawned
 pub record HasEnded (ticket : ℕ) (answer : Result Ended StartFault) (well stood : Type 0) (before after : World) (old new : Counts) : Type 0 where
   pub counted : new ≡ counted_finish ticket answer old
   pub answered : well → IsOk answer
