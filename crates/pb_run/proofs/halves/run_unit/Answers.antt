@@ -22,6 +22,16 @@ use Rattle.pb_run.proofs.halves.run_unit.Goals as goal
 pub answer_unit-requires-clause-flies : goal.answer_unit-requires-clause-flies
 answer_unit-requires-clause-flies g c = lifted_flies (child_of c.in-Ok.made.begun) (g.P.Place.counts c.args.place.now).starts (g.P.Place.counts c.begin_unit.new.place).starts c.in-Ok.ensures.takes.1
 
+pub returns-in-Ok-answer_unit-clause-anew : goal.returns-in-Ok-answer_unit-clause-anew
+returns-in-Ok-answer_unit-clause-anew g c told some =
+    let (left, ended, ends, is) = c.in-Ok-answer_unit.ensures.judged told in
+    let (left', answer, ends', only, behind) = c.in-Ok-answer_unit.ensures.lands told in
+    runs_anew g.P.Place.child c.args.setup.now c.args.project.now c.is_in_order.ensures c.args.index c.args.unit.now c.requires.unit c.args.done.now c.in-Ok.made.begun.command c.in-Ok.ensures.asks
+    (g.P.Place.world c.args.place.now) (g.P.Place.world c.begin_unit.new.place) (g.P.Place.world c.answer_unit.new.place) (g.P.Place.counts c.begin_unit.new.place) (g.P.Place.still c.begin_unit.new.place)
+    c.in-Ok.made.begun.awaited (c.in-Ok.ensures.spawned ∙ some) (c.in-Ok.ensures.launched told)
+    c.in-Ok-answer_unit.ran (IsOk (ended_well c.in-Ok-answer_unit.ran)) (g.P.Place.world left) (g.P.Place.counts left) ended ends is
+    (IsOk (ended_well c.in-Ok-answer_unit.ran)) (g.P.Place.world left') (g.P.Place.counts left') answer ends' refl only
+
 pub returns-in-Ok-answer_unit-clause-outcome : goal.returns-in-Ok-answer_unit-clause-outcome
 returns-in-Ok-answer_unit-clause-outcome g c footing read sources states is told holds can =
     let b = basis footing read g.P.Place.child c.args.setup.now c.args.project.now sources in
@@ -140,13 +150,3 @@ returns-in-Ok-answer_unit-clause-judged g c read reading told none =
           ∙ ap (λ (k : Command). unstarted (ran_of c.args.project.now c.args.unit.now k again.ended (g.P.Place.world c.begin_unit.new.place).files)) c.in-Ok.ensures.asks
           ∙ ap (λ (w : World). unstarted (ran_of c.args.project.now c.args.unit.now (command_of c.args.setup.now c.args.project.now c.args.unit.now c.args.done.now) again.ended w.files)) (c.in-Ok.ensures.same told alone),
     )
-
-pub returns-in-Ok-answer_unit-clause-anew : goal.returns-in-Ok-answer_unit-clause-anew
-returns-in-Ok-answer_unit-clause-anew g c told some =
-    let (left, ended, ends, is) = c.in-Ok-answer_unit.ensures.judged told in
-    let (left', answer, ends', only, behind) = c.in-Ok-answer_unit.ensures.lands told in
-    runs_anew g.P.Place.child c.args.setup.now c.args.project.now c.is_in_order.ensures c.args.index c.args.unit.now c.requires.unit c.args.done.now c.in-Ok.made.begun.command c.in-Ok.ensures.asks
-    (g.P.Place.world c.args.place.now) (g.P.Place.world c.begin_unit.new.place) (g.P.Place.world c.answer_unit.new.place) (g.P.Place.counts c.begin_unit.new.place) (g.P.Place.still c.begin_unit.new.place)
-    c.in-Ok.made.begun.awaited (c.in-Ok.ensures.spawned ∙ some) (c.in-Ok.ensures.launched told)
-    c.in-Ok-answer_unit.ran (IsOk (ended_well c.in-Ok-answer_unit.ran)) (g.P.Place.world left) (g.P.Place.counts left) ended ends is
-    (IsOk (ended_well c.in-Ok-answer_unit.ran)) (g.P.Place.world left') (g.P.Place.counts left') answer ends' refl only
