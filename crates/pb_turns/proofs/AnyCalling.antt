@@ -21,7 +21,7 @@ use Rattle.pb_place.proofs.Folders.{only_started}
 use Rattle.pb_project.specs.Targets.{unit_at}
 use Rattle.pb_project.specs.declared.project.Project.{Project}
 use Rattle.pb_project.specs.declared.project.Setup.{Setup}
-use Rattle.pb_run.specs.Halves.{IsInFlight}
+use Rattle.pb_run.specs.Halves.{IsInFlight, child_in}
 use Rattle.pb_run.specs.Landing.{CallsBehind, EndsBy, answered_called}
 use Rattle.pb_run.specs.Standing.{IsInOrder, records_folder}
 use Rattle.pb_run.specs.declared.begun.Awaited.{Awaited}
@@ -35,7 +35,7 @@ use Rattle.pb_soundness.proofs.Places.{record_same}
 use Rattle.pb_store.specs.Replaying.{IsReplayed, replayed}
 use Rattle.pb_turns.specs.Again.{CarriesAgain}
 use Rattle.pb_turns.specs.Anew.{CarriesAnew}
-use Rattle.pb_turns.specs.Calling.{AnswersCalling, BeginsCalling, CallsOver, CallsToBegin, EndsAsReplied, CallBasis, call_basis_on_any}
+use Rattle.pb_turns.specs.Calling.{AnswersCalling, BeginsCalling, CallsOver, CallsToBegin, EndsAsReplied, FliesFor, CallBasis, call_basis_on_any}
 use Rattle.pb_turns.specs.Crew.{needs_of}
 use Rattle.pb_turns.specs.Story.{states_in}
 use Rattle.pb_turns.proofs.States.{begun_more, begun_now}
@@ -65,6 +65,7 @@ module _ (read : Reading) (child : Answers) (setup : Setup) (project : Project) 
     there = f.there;
     by = f.by;
     is_child = f.is_child;
+    its = subst (λ (c : Command). IfSome (child_in f.by) (FliesFor c old.starts.flying)) (same f.unit f.there) f.its;
     counts_now = f.counts_now;
     left = f.left;
     mid = f.mid;
@@ -72,7 +73,7 @@ module _ (read : Reading) (child : Answers) (setup : Setup) (project : Project) 
     ends = f.ends;
     replied = λ started. subst (λ (c : Command). IfOk f.answer (λ ended. EndsAsReplied (child c (seen_by c f.left)) f.unit ended f.left)) (same f.unit f.there) (f.replied started);
     only = f.only;
-    calls = subst (λ (c : Command). CallsBehind (answered_called read project f.unit c f.left f.by) f.answer result f.mid new) (same f.unit f.there) f.calls;
+    calls = subst (λ (c : Command). CallsBehind f.unit.key f.by (answered_called read project f.unit c f.left f.by) f.answer result f.mid new) (same f.unit f.there) f.calls;
   }
 
   pub calls_same : (es : List (Event BadUnit)) → IsLawful (needs_of project) es → ((place : ℕ) → HasBegun (states_in project es) place → SameCommand place) → (first : World) (at : Counts) (last : World) (now : Counts)

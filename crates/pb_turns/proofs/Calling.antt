@@ -46,7 +46,7 @@ use Rattle.pb_soundness.specs.Records.{Reading, place_of, record_at}
 use Rattle.pb_store.specs.Looking.{looked_at}
 use Rattle.pb_turns.specs.Again.{FliesAgain}
 use Rattle.pb_turns.specs.Anew.{FliesAnew}
-use Rattle.pb_turns.specs.Calling.{AnswersCalling, BeginsCalling, CallsCut, CallsCutOnAny, CallsOver, CallsOnAny, CallsToBegin, EndsAsReplied, CallBasis, reply_in, call_basis, call_basis_on_any}
+use Rattle.pb_turns.specs.Calling.{AnswersCalling, BeginsCalling, CallsCut, CallsCutOnAny, CallsOver, CallsOnAny, CallsToBegin, EndsAsReplied, FliesFor, CallBasis, reply_in, call_basis, call_basis_on_any}
 use Rattle.pb_turns.specs.Crew.{needs_of}
 use Rattle.pb_turns.specs.Moments.{Moment}
 use Rattle.pb_turns.specs.Rows.{is_started}
@@ -158,19 +158,29 @@ module _ (tells : Bool) (child : Answers) (first old : UnitCrew) (at now new : M
 
 -- A unit answers.
 
--- what is called behind the answer of a child is the same, whatever is told of it
-pub behind_well : (names : Ended → List Call) (answer : Result Ended StartFault) (ran : Ran) (old new : Counts) → CallsBehind names answer (ended_well ran) old new → CallsBehind {T = Unit {0}} names answer (Ok tt) old new
-behind_well names (Ok ended) ran old new is = is
-behind_well names (Err fault) ran old new is = is
+-- what is called behind an answer is the same, whatever is told of it
+pub behind_well : (key : List ℕ) (by : Awaited) (names : Ended → List Call) (answer : Result Ended StartFault) (ran : Ran) (old new : Counts) → CallsBehind key by names answer (ended_well ran) old new → CallsBehind {T = Unit {0}} key by names answer (Ok tt) old new
+behind_well key (awaited.Child launched) names (Ok ended) ran old new is = is
+behind_well key (awaited.Record again) names (Ok ended) ran old new is = is
+behind_well key (awaited.Child launched) names (Err fault) ran old new is = is
+behind_well key (awaited.Record again) names (Err fault) ran old new is = is
 
-pub behind_badly : (names : Ended → List Call) (answer : Result Ended StartFault) (fault : BuildFault) (old new : Counts) → CallsBehind names answer (ended_badly fault) old new → CallsBehind {T = Unit {0}} names answer (Err fault) old new
-behind_badly names (Ok ended) fault old new is = is
-behind_badly names (Err e) fault old new is = is
+pub behind_badly : (key : List ℕ) (by : Awaited) (names : Ended → List Call) (answer : Result Ended StartFault) (fault : BuildFault) (old new : Counts) → CallsBehind key by names answer (ended_badly fault) old new → CallsBehind {T = Unit {0}} key by names answer (Err fault) old new
+behind_badly key (awaited.Child launched) names (Ok ended) fault old new is = is
+behind_badly key (awaited.Record again) names (Ok ended) fault old new is = is
+behind_badly key (awaited.Child launched) names (Err e) fault old new is = is
+behind_badly key (awaited.Record again) names (Err e) fault old new is = is
 
 -- memory is refused for the lines
-pub behind_untold : (names : Ended → List Call) (answer : Result Ended StartFault) (ran : Ran) (old new : Counts) → CallsBehind names answer (ended_well ran) old new → CallsBehind {T = Unit {0}} names answer (Err OutOfMemory) old new
-behind_untold names (Ok ended) ran old new is = subst (MakesSome (names ended) old) (sym is) (some_all (names ended) old)
-behind_untold names (Err e) ran old new is = is
+pub behind_untold : (key : List ℕ) (by : Awaited) (names : Ended → List Call) (answer : Result Ended StartFault) (ran : Ran) (old new : Counts) → IsOk answer → CallsBehind key by names answer (ended_well ran) old new → CallsBehind {T = Unit {0}} key by names answer (Err OutOfMemory) old new
+behind_untold key (awaited.Child launched) names (Ok ended) ran old new answered is = subst (MakesSome (names ended) old) (sym is) (some_all (names ended) old)
+behind_untold key (awaited.Record again) names (Ok ended) ran old new answered is = subst (MakesSome (names ended) old) (sym is) (some_all (names ended) old)
+behind_untold key by names (Err e) ran old new answered is = absurd (false≢true answered)
+
+-- where all went well there is an answer
+has_answered : (by : Awaited) (answer : Result Ended StartFault) (well : Type 0) (still : ℕ → Type 0) (before left : World) (old mid : Counts) → EndsBy by answer well still before left old mid → well → IsOk answer
+has_answered (awaited.Child launched) answer well still before left old mid ends is = ends.answered is
+has_answered (awaited.Record again) answer well still before left old mid ends all = let (unchanged, counted, is) = ends in subst (λ (r : Result Ended StartFault). IsOk r) (sym is) refl
 
 -- What came of a unit in flight, by what it waits for.
 
@@ -179,6 +189,11 @@ module _ (told : CallBasis) (place : ℕ) (u : Planned) (there : unit_at told.pr
   counts_now : (by : Awaited) → WaitsTold told place u c before left old.starts.flying still by → GivesRecord (record_at told.read (records_folder told.project) before.files u.key) by
   counts_now (awaited.Child launched) waits = tt
   counts_now (awaited.Record again) waits = waits
+
+  -- its child is in flight for its command
+  its_child : (by : Awaited) → WaitsTold told place u c before left old.starts.flying still by → IfSome (child_in by) (FliesFor (told.command place u) old.starts.flying)
+  its_child (awaited.Child launched) flight = (child_spawned (told.child c) c flight.spawned launched.ticket, flight.flies, asks)
+  its_child (awaited.Record again) waits = tt
 
   -- what its child sees stood still
   stood_still : (by : Awaited) (answer : Result Ended StartFault) (well well' : Type 0) (mid : Counts) → WaitsTold told place u c before left old.starts.flying still by → (well' → well) → EndsBy by answer well still before left old mid
@@ -209,13 +224,14 @@ module _ (told : CallBasis) (place : ℕ) (u : Planned) (there : unit_at told.pr
   -- it has answered, or a fault came in its place
   answers_calling : (by : Awaited) (spawned : Bool) → spawned ≡ is_some (child_in by) → WaitsTold told place u c before left old.starts.flying still by
       → (answer : Result Ended StartFault) (result : Result (Unit {0}) BuildFault) (well : Type 0) → (IsOk result → well) → (mid : Counts) → EndsBy by answer well still before left old mid
-      → (after : World) (new : Counts) → ChangesOnly (is_at_or_below (place_of (records_folder told.project) u.key)) left after → CallsBehind (answered_called told.read told.project u c left by) answer result mid new
+      → (after : World) (new : Counts) → ChangesOnly (is_at_or_below (place_of (records_folder told.project) u.key)) left after → CallsBehind u.key by (answered_called told.read told.project u c left by) answer result mid new
       → AnswersCalling told place spawned result before old after new
   answers_calling by spawned is_child waits answer result well so mid ends after new only behind = record {
     unit = u;
     there = there;
     by = by;
     is_child = is_child;
+    its = its_child by waits;
     counts_now = counts_now by waits;
     left = left;
     mid = mid;
@@ -223,7 +239,7 @@ module _ (told : CallBasis) (place : ℕ) (u : Planned) (there : unit_at told.pr
     ends = stood_still by answer well (IsOk result) mid waits so ends;
     replied = λ started. replies_so by answer well mid waits ends (sym is_child ∙ started);
     only = only;
-    calls = subst (λ (d : Command). CallsBehind (answered_called told.read told.project u d left by) answer result mid new) asks behind;
+    calls = subst (λ (d : Command). CallsBehind u.key by (answered_called told.read told.project u d left by) answer result mid new) asks behind;
   }
 
 -- over a basis it waits so
@@ -243,11 +259,11 @@ module _ {P : Type 0} (world : P → World) (counts : P → Counts) (tells : Boo
   abbrev pub Lands : Result Ran BuildFault → Type 0
   Lands said = IsTrue tells → (left : P) × (answer : Result Ended StartFault) × EndsBy a.begun.awaited answer (IsOk said) still now.world (world left) now.counts (counts left)
       × ChangesOnly (is_at_or_below (place_of (records_folder old.project) u.key)) (world left) new.world
-      × ((read : Reading) → IsReading read → CallsBehind (answered_called read old.project u a.begun.command (world left) a.begun.awaited) answer said (counts left) new.counts)
+      × ((read : Reading) → IsReading read → CallsBehind u.key a.begun.awaited (answered_called read old.project u a.begun.command (world left) a.begun.awaited) answer said (counts left) new.counts)
 
   -- what is called behind, whatever is told of it
   abbrev Behind : Result (Unit {0}) BuildFault → Result Ran BuildFault → Type 0
-  Behind result said = (names : Ended → List Call) (answer : Result Ended StartFault) (k k' : Counts) → CallsBehind names answer said k k' → CallsBehind names answer result k k'
+  Behind result said = (key : List ℕ) (by : Awaited) (names : Ended → List Call) (answer : Result Ended StartFault) (k k' : Counts) → (IsOk said → IsOk answer) → CallsBehind key by names answer said k k' → CallsBehind key by names answer result k k'
 
   answers : (result : Result (Unit {0}) BuildFault) (said : Result Ran BuildFault) → (IsOk result → IsOk said) → Behind result said → Lands said
       → IsTrue tells → FromFirst child first at old (λ b. AnswersCalling (call_basis b) a.unit (is_started es a.unit) result now.world now.counts new.world new.counts)
@@ -258,12 +274,13 @@ module _ {P : Type 0} (world : P → World) (counts : P → Counts) (tells : Boo
       let (left, answer, ends, only, behind) = lands t in
       answers_calling (call_basis (On f r s)) a.unit u there a.begun.command asks (ap (λ (d : Command). d.out) asks ∙ command_out (On f r s) order a.unit u there) now.world (world left) now.counts still a.begun.awaited (is_started es a.unit) so_begun.started
       (waits_in (On f r s) a.unit u a.begun.command old.store.next now.world (world left) now.counts.starts.flying still a.begun.awaited waits)
-      answer result (IsOk said) so (counts left) ends new.world new.counts only (same_calls (answered_called r old.project u a.begun.command (world left) a.begun.awaited) answer (counts left) new.counts (behind r reading))
+      answer result (IsOk said) so (counts left) ends new.world new.counts only (same_calls u.key a.begun.awaited (answered_called r old.project u a.begun.command (world left) a.begun.awaited) answer (counts left) new.counts
+      (has_answered a.begun.awaited answer (IsOk said) still now.world (world left) now.counts (counts left) ends) (behind r reading))
 
   -- it has answered
   pub calls_answered : (answer : Answer BadUnit) (ran : Ran) → Lands (ended_well ran) → IsTrue tells → FromFirst child first at old (λ b. CallsOver (call_basis b) (Gave a.unit answer ∷ es) at.world at.counts new.world new.counts)
   calls_answered answer ran lands t f r s reading k =
-      (now.world, now.counts, story.calls t f r s reading k, answers (Ok tt) (ended_well ran) (λ ok. ok) (λ names said old new. behind_well names said ran old new) lands t f r s reading k)
+      (now.world, now.counts, story.calls t f r s reading k, answers (Ok tt) (ended_well ran) (λ ok. ok) (λ key by names said old new answered. behind_well key by names said ran old new) lands t f r s reading k)
 
   -- a fault came in its place
   cut : (fault : BuildFault) (unit : ℕ) → unit ≡ a.unit → IsTrue tells → FromFirst child first at old (λ b. AnswersCalling (call_basis b) a.unit (is_started es a.unit) (Err fault) now.world now.counts new.world new.counts)
@@ -272,11 +289,11 @@ module _ {P : Type 0} (world : P → World) (counts : P → Counts) (tells : Boo
       (now.world, now.counts, story.calls t f r s reading k, (new.world, subst (λ n. AnswersCalling (call_basis (On f r s)) n (is_started es n) (Err fault) now.world now.counts new.world new.counts) (sym its) (so f r s reading k)))
 
   pub calls_unanswered : (fault : BuildFault) (unit : ℕ) → unit ≡ a.unit → Lands (ended_badly fault) → IsTrue tells → FromFirst child first at old (λ b. CallsCut (call_basis b) fault (Some unit) es es at.world at.counts new.counts)
-  calls_unanswered fault unit its lands t = cut fault unit its t (answers (Err fault) (ended_badly fault) (λ ok. ok) (λ names said old new. behind_badly names said fault old new) lands t)
+  calls_unanswered fault unit its lands t = cut fault unit its t (answers (Err fault) (ended_badly fault) (λ ok. ok) (λ key by names said old new answered. behind_badly key by names said fault old new) lands t)
 
   -- memory is refused for its lines
   pub calls_untold : (ran : Ran) (unit : ℕ) → unit ≡ a.unit → Lands (ended_well ran) → IsTrue tells → FromFirst child first at old (λ b. CallsCut (call_basis b) OutOfMemory (Some unit) es es at.world at.counts new.counts)
-  calls_untold ran unit its lands t = cut OutOfMemory unit its t (answers (Err OutOfMemory) (ended_well ran) (λ none. refl) (λ names said old new. behind_untold names said ran old new) lands t)
+  calls_untold ran unit its lands t = cut OutOfMemory unit its t (answers (Err OutOfMemory) (ended_well ran) (λ none. refl) (λ key by names said old new answered. behind_untold key by names said ran old new (answered refl)) lands t)
 
   -- The same over any records.
 
@@ -301,7 +318,8 @@ module _ {P : Type 0} (world : P → World) (counts : P → Counts) (tells : Boo
         answers_calling (call_basis_on_any read child old.setup old.project done') a.unit u there a.begun.command (asks ∙ same)
         (writes_to_folder read child old.setup old.project order a.unit u there old.done.items at.world now.world now.counts still a.begun.command asks) now.world (world left) now.counts still a.begun.awaited (is_started es a.unit) flies.started
         (waits_on_any read child old.setup old.project order a.unit u there old.done.items at.world now.world now.counts still a.begun.command asks (world left) (far flies.state) done' same a.begun.awaited answer (IsOk said) (counts left) carries (anew t u there) ends)
-        answer result (IsOk said) so (counts left) ends new.world new.counts only (same_calls (answered_called read old.project u a.begun.command (world left) a.begun.awaited) answer (counts left) new.counts (behind read reading))
+        answer result (IsOk said) so (counts left) ends new.world new.counts only (same_calls u.key a.begun.awaited (answered_called read old.project u a.begun.command (world left) a.begun.awaited) answer (counts left) new.counts
+        (has_answered a.begun.awaited answer (IsOk said) still now.world (world left) now.counts (counts left) ends) (behind read reading))
 
     -- it has answered; what is noted of it changes no command of those that have begun
     pub calls_answered_on_any : (done' : List (Option (List Directive))) (d : Option (List Directive)) → done' ≡ slice_set old.done.items a.unit d → (answer : Answer BadUnit) (ran : Ran) → Lands (ended_well ran)
@@ -313,7 +331,7 @@ module _ {P : Type 0} (world : P → World) (counts : P → Counts) (tells : Boo
           now.world,
           now.counts,
           calls_same read child old.setup old.project old.done.items done' es lawful same at.world at.counts now.world now.counts (calls t read reading),
-          answers_on_any done' (same a.unit (Begun, flies.state, refl) u there) (Ok tt) (ended_well ran) (λ ok. ok) (λ names said old new. behind_well names said ran old new) lands t read reading,
+          answers_on_any done' (same a.unit (Begun, flies.state, refl) u there) (Ok tt) (ended_well ran) (λ ok. ok) (λ key by names said old new answered. behind_well key by names said ran old new) lands t read reading,
         )
 
     -- a fault came in its place
@@ -328,9 +346,9 @@ module _ {P : Type 0} (world : P → World) (counts : P → Counts) (tells : Boo
 
     pub calls_unanswered_on_any : (fault : BuildFault) (unit : ℕ) → unit ≡ a.unit → Lands (ended_badly fault) → IsTrue tells → CallsCutOnAny child old.setup old.project old.done.items fault (Some unit) es es at.world at.counts new.counts
     calls_unanswered_on_any fault unit its lands t =
-        cut_on_any fault unit its t (answers_on_any old.done.items refl (Err fault) (ended_badly fault) (λ ok. ok) (λ names said old new. behind_badly names said fault old new) lands t)
+        cut_on_any fault unit its t (answers_on_any old.done.items refl (Err fault) (ended_badly fault) (λ ok. ok) (λ key by names said old new answered. behind_badly key by names said fault old new) lands t)
 
     -- memory is refused for its lines
     pub calls_uncall_basis_on_any : (ran : Ran) (unit : ℕ) → unit ≡ a.unit → Lands (ended_well ran) → IsTrue tells → CallsCutOnAny child old.setup old.project old.done.items OutOfMemory (Some unit) es es at.world at.counts new.counts
     calls_uncall_basis_on_any ran unit its lands t =
-        cut_on_any OutOfMemory unit its t (answers_on_any old.done.items refl (Err OutOfMemory) (ended_well ran) (λ none. refl) (λ names said old new. behind_untold names said ran old new) lands t)
+        cut_on_any OutOfMemory unit its t (answers_on_any old.done.items refl (Err OutOfMemory) (ended_well ran) (λ none. refl) (λ key by names said old new answered. behind_untold key by names said ran old new (answered refl)) lands t)

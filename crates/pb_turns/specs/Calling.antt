@@ -1,16 +1,18 @@
 -- Which calls of the place the units of a build make, event by event, and in which worlds.
-use Rattle.std.specs.Prelude.{◌≡◌, ◌⊎◌, ◌∷◌, [], ℕ, Bool, true, false, is_some, List, Option, Some, None, Result, Ok, Err, IsOk, IfOk}
+use Rattle.std.specs.Prelude.{◌≡◌, ◌⊎◌, ◌∷◌, [], ℕ, Bool, true, false, is_some, List, Option, Some, None, Result, Ok, Err, IsOk, IfOk, IfSome}
 use Rattle.pb_answer.specs.declared.bad_unit.BadUnit.{BadUnit}
 use Rattle.pb_answer.specs.declared.fault.BuildFault.{BuildFault}
 use Rattle.pb_command.specs.Command.{command_of}
 use Rattle.pb_command.specs.Judge.{ended_by, replied_files}
 use Rattle.pb_directive.specs.declared.directive.Directive.{Directive}
 use Rattle.pb_flight.specs.Events.{Event, Began, Gave}
+use Rattle.pb_place.specs.Children.{child_at}
 use Rattle.pb_place.specs.Counts.{Counts}
 use Rattle.pb_place.specs.Folders.{files_in}
 use Rattle.pb_place.specs.Paths.{is_at_or_below}
 use Rattle.pb_place.specs.World.{World, Answers, ChangesOnly, seen_by}
 use Rattle.pb_place.specs.declared.child.Reply.{Reply}
+use Rattle.pb_place.specs.declared.child_in_flight.ChildInFlight.{ChildInFlight}
 use Rattle.pb_place.specs.declared.command.Command.{Command}
 use Rattle.pb_place.specs.declared.command.Ended.{Ended}
 use Rattle.pb_place.specs.declared.place.StartFault.{StartFault}
@@ -24,6 +26,7 @@ use Rattle.pb_run.specs.Launching.{Launches}
 use Rattle.pb_run.specs.Running.{StopsToBegin, past_look}
 use Rattle.pb_run.specs.Standing.{records_folder}
 use Rattle.pb_run.specs.declared.begun.Awaited.{Awaited}
+use Rattle.pb_run.specs.declared.begun.Launched.{Launched}
 use Rattle.pb_soundness.specs.Apart.{is_of}
 use Rattle.pb_soundness.specs.Records.{Reading, place_of, record_at}
 use Rattle.pb_turns.specs.Rows.{is_started}
@@ -82,12 +85,17 @@ pub record EndsAsReplied (reply : Reply) (u : Planned) (ended : Ended) (left : W
   pub answer : ended ≡ ended_by reply
   pub files : files_in u.out left.files ≡ replied_files u.out reply
 
--- the answer of the unit at a place was taken: the end of its child was asked for, where it has one, and behind it just the calls came that belong to the answer; where it answers by its record, that is the one that counts now. Where a child was started for it and answered, it gave its reply to what it sees of the world that it left: that stood still to its end. So it is where the place tells its maps, and only there is any of this said
+-- the child that was launched is in flight, and was spawned for this command
+abbrev pub FliesFor : Command → List ChildInFlight → Launched → Type 0
+FliesFor c flying launched = (spawned : ChildInFlight) × (child_at launched.ticket flying ≡ Some spawned) × (spawned.command ≡ c)
+
+-- the answer of the unit at a place was taken: the end of its child was asked for, where it has one, which was in flight for the command of the unit, and behind it just the calls came that belong to the answer; where it answers by its record, that is the one that counts now. Where a child was started for it and answered, it gave its reply to what it sees by the basis of calls, of the world that it left. So it is where the place tells its maps, and only there is any of this said
 pub record AnswersCalling (b : CallBasis) (place : ℕ) (spawned : Bool) (result : Result (Unit {0}) BuildFault) (before : World) (old : Counts) (after : World) (new : Counts) : Type 0 where
   pub unit : Planned
   pub there : unit_at b.project place ≡ Some unit
   pub by : Awaited
   pub is_child : spawned ≡ is_some (child_in by)
+  pub its : IfSome (child_in by) (FliesFor (b.command place unit) old.starts.flying)
   pub counts_now : GivesRecord (record_at b.read (records_folder b.project) before.files unit.key) by
   pub left : World
   pub mid : Counts
@@ -95,7 +103,7 @@ pub record AnswersCalling (b : CallBasis) (place : ℕ) (spawned : Bool) (result
   pub ends : EndsBy by answer (IsOk result) (λ ticket. Unit {0}) before left old mid
   pub replied : spawned ≡ true → IfOk answer (λ ended. EndsAsReplied (reply_in b place unit left) unit ended left)
   pub only : ChangesOnly (is_at_or_below (place_of (records_folder b.project) unit.key)) left after
-  pub calls : CallsBehind (answered_called b.read b.project unit (b.command place unit) left by) answer result mid new
+  pub calls : CallsBehind unit.key by (answered_called b.read b.project unit (b.command place unit) left by) answer result mid new
 
 -- All of them.
 
@@ -110,12 +118,14 @@ abbrev pub StopsLast : CallBasis → BuildFault → Option ℕ → List (Event B
 StopsLast b fault (Some place) es before w old new = (after : World) × AnswersCalling b place (is_started before place) (Err fault) w old after new
 StopsLast b fault None es before w old new = (new ≡ old) ⊎ ((place : ℕ) × (spawned : Bool) × (es ≡ Began place spawned ∷ before) × StopsBeginning b place fault w old new)
 
+-- just these calls were made over the events before a fault, and these last
 abbrev pub CallsCut : CallBasis → BuildFault → Option ℕ → List (Event BadUnit) → List (Event BadUnit) → World → Counts → Counts → Type 0
 CallsCut b fault asked es before first at new = (w : World) × (old : Counts) × CallsOver b before first at w old × StopsLast b fault asked es before w old new
 
--- the same over any records, true or not, and whatever reads their texts
+-- over any records, true or not, and whatever reads their texts: just these calls were made, by the commands that the units have after what is noted of the runs
 abbrev pub CallsOnAny : Answers → Setup → Project → List (Option (List Directive)) → List (Event BadUnit) → World → Counts → World → Counts → Type 0
 CallsOnAny child setup project done es first at last now = (read : Reading) → IsReading read → CallsOver (call_basis_on_any read child setup project done) es first at last now
 
+-- and so where a fault came
 abbrev pub CallsCutOnAny : Answers → Setup → Project → List (Option (List Directive)) → BuildFault → Option ℕ → List (Event BadUnit) → List (Event BadUnit) → World → Counts → Counts → Type 0
 CallsCutOnAny child setup project done fault asked es before first at new = (read : Reading) → IsReading read → CallsCut (call_basis_on_any read child setup project done) fault asked es before first at new
