@@ -121,8 +121,9 @@ started_flies needs _ unit (lawful.answer es u given before flying gives) begun 
     no_answer given e = cc
 
 -- one has answered
-pub numbers_answered : (IsNumbered : ℕ → Type 0) (es : List (Event BadUnit)) (first now next : Option ℕ) (unit : ℕ) (answer : Answer BadUnit) → TakesNumber now next → (is_started es unit ≡ true → next ≡ now) → (IsNumbered unit → next ≡ now) → NumbersGiven IsNumbered es first now → NumbersGiven IsNumbered (Gave unit answer ∷ es) first next
-numbers_answered IsNumbered es first now next unit answer takes none numbered numbers = (now, numbers, takes, none, numbered)
+pub numbers_answered : (IsNumbered : ℕ → Type 0) (es : List (Event BadUnit)) (first now next : Option ℕ) (unit : ℕ) (answer : Answer BadUnit) → TakesNumber now next → (is_started es unit ≡ true → next ≡ now) → (IsSome answer.fault → next ≡ now) → (IsNumbered unit → next ≡ now) → NumbersGiven IsNumbered es first now
+    → NumbersGiven IsNumbered (Gave unit answer ∷ es) first next
+numbers_answered IsNumbered es first now next unit answer takes none bad numbered numbers = (now, numbers, takes, none, bad, numbered)
 
 -- a fault came in place of an answer
 pub spends_answered : (IsNumbered : ℕ → Type 0) (es : List (Event BadUnit)) (first now : Option ℕ) (key : List ℕ) (launched : Option Launched) (e : BuildFault) (old new : Starts) → MayAnswerUnit now key launched e old new → NumbersGiven IsNumbered es first now → Spends IsNumbered e first es
@@ -144,10 +145,10 @@ begun_taken tells child first old at now still es given unit story next o number
 
 pub answered_taken : (tells : Bool) (child : Answers) (first old : UnitCrew) (at now : Moment) (still : ℕ → Type 0) (es : List (Event BadUnit)) (given : ℕ) → Story tells child first at old now still es given
     → (index : ℕ) (a : Aloft) (u : Planned) → slice_get old.aloft.items index ≡ Some a → unit_at old.project a.unit ≡ Some u → (answer : Answer BadUnit) (next : Option ℕ) → TakesNumber old.store.next next
-    → (is_started es a.unit ≡ true → next ≡ old.store.next) → (awaits_number a.begun.awaited ≡ false → next ≡ old.store.next)
+    → (is_started es a.unit ≡ true → next ≡ old.store.next) → (IsSome answer.fault → next ≡ old.store.next) → (awaits_number a.begun.awaited ≡ false → next ≡ old.store.next)
     → IsTrue tells → (read : Reading) → IsReading read → NumbersGiven (LacksNoNumber old.project read at.world) (Gave a.unit answer ∷ es) first.store.next next
-answered_taken tells child first old at now still es given story index a u at_index there answer next takes none untaken t read reading =
-    numbers_answered (LacksNoNumber old.project read at.world) es first.store.next old.store.next next a.unit answer takes none
+answered_taken tells child first old at now still es given story index a u at_index there answer next takes none bad untaken t read reading =
+    numbers_answered (LacksNoNumber old.project read at.world) es first.store.next old.store.next next a.unit answer takes none bad
     (λ numbered. untaken (carries_number read old.setup old.project old.done.items at.world now.world u a.begun.command a.begun.awaited
     (all_get (λ (x : Aloft). FliesAgain read old.setup old.project old.done.items at.world now.world x) old.aloft.items index a ((story.again t).waits read reading) at_index u there) (numbered u there)))
     (story.taken t read reading)

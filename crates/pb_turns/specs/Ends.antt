@@ -75,7 +75,7 @@ pub record StandsCut (b : Basis) (fault : BuildFault) (es before : List (Event B
   pub started : StartedFor b fault before es old new
 
 -- the units came to their end, and nothing was set to fail; it is a success exactly where no bad unit is told, and then each of them has answered and is good; the bad unit that is told is the first by the answers; nothing is noted of a unit that has not begun, and of each that has what differed first, which is something exactly where a child was started for it.
--- Over a place that tells its maps, whether the records are true or not: each unit that has begun did so for what differed first of it from the record that counted in its place at first, and where nothing did the units which it reaches were, where the record names them, as it names them (what a child in flight has written so far is left open); one for which no child was started answered by that record, and by the files of its folder as they stood at first; one for which a child was started answered what that gives to what the unit's command sees of the last world, and its folder holds just the files of that reply; just these calls were made; so many run numbers were given from the next one at first, none to a unit that answered by a record which had one then; and no record is kept of a unit whose answer was dropped, or was bad where a child was started for it
+-- Over a place that tells its maps, whether the records are true or not: each unit that has begun did so for what differed first of it from the record that counted in its place at first, and where nothing did the units which it reaches were, where the record names them, as it names them (what a child in flight has written so far is left open); one for which no child was started answered by that record, and by the files of its folder as they stood at first; one for which a child was started answered what that gives to what the unit's command sees of the last world, and its folder holds just the files of that reply; just these calls were made; so many run numbers were given from the next one at first, none to a unit that answered bad, or by a record which had one then; and no record is kept of a unit whose answer was dropped, or was bad where a child was started for it
 pub record EndsWhole {S : Type 0} (tells : Bool) (child : Answers) (Turns : S → List ℕ → List ℕ → Step → S → Type 0) (setup : Setup) (project : Project) (next : Option ℕ) (from last : S) (summary : Summary) (old new : Moment) : Type 0 where
   pub es : List (Event BadUnit)
   pub flies : Flies Turns (needs_of project) Anyhow Anything from es last

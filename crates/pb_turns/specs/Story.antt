@@ -101,12 +101,12 @@ pub record Stops (tells : Bool) (fault : BuildFault) (project : Project) (first 
   pub starts : now.counts.starts.count ≡ upped (length (started_by es)) first.counts.starts.count
   pub settings : now.counts.starts.settings ≡ first.counts.starts.settings
 
--- the next run number after these events, by the next one at first: a unit that begins takes a number where a child is started for it, and none where none is; one that answers takes at most one, and none where a child was started for it, or where it is known that its record had one. That a record which is kept or numbered has the number that was taken is said of the records (`HasRecord`); and where a removal failed as a unit began, the number that was taken for it is not counted here
+-- the next run number after these events, by the next one at first: a unit that begins takes a number where a child is started for it, and none where none is; one that answers takes at most one, and none where a child was started for it, where it is bad, or where it is known that its record had one. That a record which is kept or numbered has the number that was taken is said of the records (`HasRecord`); and where a removal failed as a unit began, the number that was taken for it is not counted here
 abbrev pub NumbersGiven : (ℕ → Type 0) → List (Event BadUnit) → Option ℕ → Option ℕ → Type 0
 NumbersGiven IsNumbered [] first now = now ≡ first
 NumbersGiven IsNumbered (Began unit true ∷ es) first now = (number : ℕ) × NumbersGiven IsNumbered es first (Some number) × (now ≡ after number)
 NumbersGiven IsNumbered (Began unit false ∷ es) first now = NumbersGiven IsNumbered es first now
-NumbersGiven IsNumbered (Gave unit answer ∷ es) first now = (before : Option ℕ) × NumbersGiven IsNumbered es first before × TakesNumber before now × (is_started es unit ≡ true → now ≡ before) × (IsNumbered unit → now ≡ before)
+NumbersGiven IsNumbered (Gave unit answer ∷ es) first now = (before : Option ℕ) × NumbersGiven IsNumbered es first before × TakesNumber before now × (is_started es unit ≡ true → now ≡ before) × (IsSome answer.fault → now ≡ before) × (IsNumbered unit → now ≡ before)
 
 -- where a fault says that no run number is left, all were given
 abbrev pub Spends : (ℕ → Type 0) → BuildFault → Option ℕ → List (Event BadUnit) → Type 0

@@ -215,8 +215,8 @@ returns-clause-story g c = λ first at taken faults es given unit s flying lawfu
       goes = goes_lists c.args.crew.now.project at new c.args.crew.now.started.items c.args.crew.now.started.items _ c.remove-unit.new.self.items (Gave c.remove-unit.result.unit answer ∷ es) given refl c.remove-unit.ensures.items
           (goes_answered c.args.crew.now.project at now new c.args.crew.now.started.items c.args.crew.now.aloft.items es given s.goes is_given c.args.index c.remove-unit.result at_index begun refl c.requires.manned.units_apart answer
           c.in-Ok.ensures.takes.0 c.in-Ok.ensures.takes.1 c.answer_unit.ensures.most);
-      numbers = numbers_answered IsUntold es first.store.next c.args.crew.now.store.next c.answer_unit.new.store.next c.remove-unit.result.unit answer c.answer_unit.ensures.next childless (λ untold. absurd untold) s.numbers;
-      taken = answered_taken g.P.Place.tells g.P.Place.child first c.args.crew.now at now (g.P.Place.still c.args.place.now) es given s c.args.index c.remove-unit.result c.index-units-unit.result at_index there answer c.answer_unit.new.store.next c.answer_unit.ensures.next childless c.answer_unit.ensures.untaken;
+      numbers = numbers_answered IsUntold es first.store.next c.args.crew.now.store.next c.answer_unit.new.store.next c.remove-unit.result.unit answer c.answer_unit.ensures.next childless c.in-Ok.ensures.bad (λ untold. absurd untold) s.numbers;
+      taken = answered_taken g.P.Place.tells g.P.Place.child first c.args.crew.now at now (g.P.Place.still c.args.place.now) es given s c.args.index c.remove-unit.result c.index-units-unit.result at_index there answer c.answer_unit.new.store.next c.answer_unit.ensures.next childless c.in-Ok.ensures.bad c.answer_unit.ensures.untaken;
       changes = λ t. changes_after c.args.crew.now.project c.requires.manned.order at.world c.args.crew.now.aloft.items es now.world new.world now.counts.starts.flying new.counts.starts.flying (s.changes t) (λ j y at_j. flying_of c.args.crew.now now.counts j y c.requires.manned at_j)
           c.args.index c.remove-unit.result at_index c.index-units-unit.result there c.requires.manned.units_apart c.requires.manned.tickets_apart
           (only t) c.answer_unit.ensures.stay c.remove-unit.new.self.items c.remove-unit.ensures.items answer
