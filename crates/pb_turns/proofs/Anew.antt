@@ -66,12 +66,12 @@ use Rattle.pb_unit.specs.declared.plan.Planned.{Planned}
 -- A unit does something that is not good: none that has begun reaches it.
 
 module _ (project : Project) (order : IsInOrder project) (es : List (Event BadUnit)) (lawful : IsLawful (needs_of project) es) (i : ℕ) (u : Planned) (there : unit_at project i ≡ Some u) (not_good : is_good_at (slice_get (states_in project es) i) ≡ false) (setup : Setup) where
-  reaches_others : (place : ℕ) (v : Planned) → HasBegun (states_in project es) place → unit_at project place ≡ Some v → (p : ℕ) → Contains v.reaches p → p ≢ i
+  pub reaches_others : (place : ℕ) (v : Planned) → HasBegun (states_in project es) place → unit_at project place ≡ Some v → (p : ℕ) → Contains v.reaches p → p ≢ i
   reaches_others place v has at p among same =
       false≢true (sym not_good ∙ ap (λ n. is_good_at (slice_get (states_in project es) n)) (sym same) ∙ good_at (states_in project es) v.reaches p (all_reach project order es lawful place v has at) among)
 
   -- what the command of one that has begun sees stays, also its own
-  sees_on : (place : ℕ) (v : Planned) → HasBegun (states_in project es) place → unit_at project place ≡ Some v → (done : List (Option (List Directive))) (c : Command) → c ≡ command_of setup project v done
+  pub sees_on : (place : ℕ) (v : Planned) → HasBegun (states_in project es) place → unit_at project place ≡ Some v → (done : List (Option (List Directive))) (c : Command) → c ≡ command_of setup project v done
       → (w w' : World) → ChangesOnly (is_of (records_folder project) u.key) w w' → seen_by c w' ≡ seen_by c w
   sees_on place v has at done c asks w w' only =
       seen_still project order i u there w w' only v c (subst (IsFor project v) (sym asks) (is_for setup project v done (order.packages place v at))) (reaches_others place v has at)
@@ -135,7 +135,7 @@ module _ (child : Answers) (setup : Setup) (project : Project) (order : IsInOrde
   reply = child c (seen_by c flight.spawned)
 
   -- it left what was fixed when it was spawned
-  landed : (well : Type 0) (left : World) (mid : Counts) (ended : Ended) → HasEnded ticket (Ok ended) well (still ticket) w left old mid → LandsAs (child_spawned (child c) c flight.spawned ticket) w ended left
+  pub landed : (well : Type 0) (left : World) (mid : Counts) (ended : Ended) → HasEnded ticket (Ok ended) well (still ticket) w left old mid → LandsAs (child_spawned (child c) c flight.spawned ticket) w ended left
   landed well left mid ended ends = subst (λ (o : Option ChildInFlight). IfSome o (λ s. LandsAs s w ended left)) flight.flies (ends.lands flight.stands)
 
   -- just the files of its reply

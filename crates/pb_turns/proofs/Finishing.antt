@@ -41,7 +41,7 @@ use Rattle.pb_turns.specs.Ends.{rows_in, nothing_said, Stands, StandsWhole, Stan
 use Rattle.pb_turns.specs.Laws.{SaysFirstRows}
 use Rattle.pb_turns.specs.Moments.{Moment, Heard}
 use Rattle.pb_turns.specs.Rows.{summary_of, started_keys, is_started, messages_in, bad_of, directives_told, Reasons, key_told, said_told, bad_told, differences_of, kept_of, is_success, noted_of, count_told, noted_told}
-use Rattle.pb_turns.specs.Story.{states_in, untouched, AllAnswerAgain, Stops, Changes, Happened, AllBegan, AllBeganFor, AllBeganOnAny, CameAfter, HadDiffered, LacksNoNumber, NamesUnit, NumbersGiven, Spends, StartedOnAny, HasNoRecord, KeepsNoneOfBad, KeepsNoneInFlight, HasGiven, Story, StoryEnds, OnlyOf, NotesStarted, AllAnswerAnew}
+use Rattle.pb_turns.specs.Story.{states_in, untouched, AllAnswerAgain, Stops, Changes, Happened, AllBegan, AllBeganFor, AllBeganOnAny, CameAfter, HadDiffered, LacksNoNumber, NamesUnit, NumbersGiven, Spends, StartedOnAny, HasNoRecord, KeepsNoneOfBad, KeepsNoneInFlight, HasGiven, Story, StoryEnds, OnlyOf, NotesStarted, AllAnswerAnew, AllLeaveRecords}
 use Rattle.pb_turns.specs.Summing.{summary_by, keys_at, differences_at}
 use Rattle.pb_turns.specs.declared.crew.Aloft.{Aloft}
 use Rattle.pb_turns.specs.declared.crew.UnitCrew.{UnitCrew}
@@ -50,6 +50,7 @@ use Rattle.pb_turns.proofs.Anew.{replies_first}
 use Rattle.pb_turns.proofs.Changing.{changes_first}
 use Rattle.pb_turns.proofs.Counting.{appends_none, stops_refused}
 use Rattle.pb_turns.proofs.Differing.{began_from_nothing, started_from_nothing}
+use Rattle.pb_turns.proofs.Leaving.{recordings_first}
 use Rattle.pb_turns.proofs.States.{due_all}
 use Rattle.pb_turns.proofs.Staying.{none_began, or_before}
 use Rattle.pb_turns.proofs.Unbegun.{none_noted}
@@ -116,6 +117,7 @@ story_first tells child c at still aloft started holds = record {
   unrecorded = λ t. none_in_flight c.project at.world;
   again = λ t. replays_first c.setup c.project c.done.items c.aloft.items at.world aloft;
   anew = λ t. replies_first child c.setup c.project c.done.items c.aloft.items at.world at.counts.starts.flying still aloft;
+  left = λ t. recordings_first child c.setup c.project c.done.items c.aloft.items c.store.next at.world aloft;
   began = λ t read reading place has. absurd (none_begun c.project place has);
   quiet = λ t read reading none numbered. refl;
   held = holds;
@@ -219,6 +221,8 @@ module _ {S : Type 0} (tells : Bool) (child : Answers) (Turns : S → List ℕ �
     → Changes c.project fw c.aloft.items events mid.world mid.counts.starts.flying → HadDiffered c.project read sources command fault before events fw mid.world → HadDiffered c.project read sources command fault before events fw new.world)
     (anew : (setup : Setup) (noted : List (Option (List Directive))) (events : List (Event BadUnit)) (fw : World) → IsTrue tells → IsLawful (needs_of c.project) events → Changes c.project fw c.aloft.items events mid.world mid.counts.starts.flying
     → AllAnswerAnew child setup c.project events noted mid.world → AllAnswerAnew child setup c.project events noted new.world)
+    (left : (setup : Setup) (noted : List (Option (List Directive))) (events : List (Event BadUnit)) (next : Option ℕ) (fw : World) → IsTrue tells → IsLawful (needs_of c.project) events → Changes c.project fw c.aloft.items events mid.world mid.counts.starts.flying
+    → AllLeaveRecords child setup c.project events noted next fw mid.world → AllLeaveRecords child setup c.project events noted next fw new.world)
     (order : IsInOrder first.project) where
   -- what a basis keeps at first
   abbrev Since : (Basis → Type 0) → Setup → Project → Type 0
@@ -280,6 +284,7 @@ module _ {S : Type 0} (tells : Bool) (child : Answers) (Turns : S → List ℕ �
     started = λ t. on_first (λ s p. StartedOnAny s p c.done.items fault ends.before es at.world new.world) ends.setup ends.project (started_new fault ends.before ends.changes ends.started t);
     again = λ t. on_first (λ s p. AllAnswerAgain s p es c.done.items at.world) ends.setup ends.project (ends.again t);
     anew = λ t. on_first (λ s p. AllAnswerAnew child s p es c.done.items new.world) ends.setup ends.project (anew c.setup c.done.items es at.world t (lawful ends.project flies) (ends.changes t) (ends.anew t));
+    left = λ t. on_first (λ s p. AllLeaveRecords child s p es c.done.items first.store.next at.world new.world) ends.setup ends.project (left c.setup c.done.items es first.store.next at.world t (lawful ends.project flies) (ends.changes t) (ends.left t));
     told = since_first (λ b. StandsCut b fault es ends.before at.world new.world) ends.setup ends.project (λ t f r sources reading keeps.
         let h = ends.happened t f r sources reading keeps in
         record {
@@ -308,6 +313,7 @@ module _ {S : Type 0} (tells : Bool) (child : Answers) (Turns : S → List ℕ �
     unrecorded = s.unrecorded;
     again = λ t. (s.again t).gave;
     anew = λ t. (s.anew t).gave;
+    left = λ t. (s.left t).gave;
     began = s.began;
     started = λ t read reading. none_began c.project read _ _ OutOfMemory es at.world mid.world;
     happened = s.happened;
@@ -384,6 +390,7 @@ module _ {S : Type 0} (tells : Bool) (child : Answers) (Turns : S → List ℕ �
       began = λ t. on_first (λ s p. AllBeganOnAny s p c.done.items es d.reasons.items at.world new.world) story.setup story.project (began_whole t);
       again = λ t. on_first (λ s p. AllAnswerAgain s p es c.done.items at.world) story.setup story.project (story.again t).gave;
       anew = λ t. on_first (λ s p. AllAnswerAnew child s p es c.done.items new.world) story.setup story.project (anew c.setup c.done.items es at.world t (lawful story.project flown.flies) (story.changes t) (story.anew t).gave);
+      left = λ t. on_first (λ s p. AllLeaveRecords child s p es c.done.items first.store.next at.world new.world) story.setup story.project (left c.setup c.done.items es first.store.next at.world t (lawful story.project flown.flies) (story.changes t) (story.left t).gave);
       told = since_first (λ b. StandsWhole b es d.reasons.items summary at.world new.world) story.setup story.project (λ t f r sources reading keeps.
           let h = story.happened t f r sources reading keeps in
           stands_whole (basis f r child c.setup c.project sources) d.done.items d.aloft.items d.store.next es new.world new.counts.starts.flying still' (happened (basis f r child c.setup c.project sources) es t refl h)
@@ -422,6 +429,7 @@ ends_before tells child Turns setup project next from at none = record {
   started = λ t read reading. none_began project read _ _ OutOfMemory [] at.world at.world;
   again = λ t. (replays_first setup project [] [] at.world refl).gave;
   anew = λ t. (replies_first child setup project [] [] at.world [] (λ n. Unit {0}) refl).gave;
+  left = λ t. (recordings_first child setup project [] [] next at.world refl).gave;
   told = λ t f r sources reading keeps. record {
     stands = stands (basis f r child setup project sources) (nothing_said project) [] next [] at.world [] (λ n. Unit {0}) record {
       keeps = keeps;

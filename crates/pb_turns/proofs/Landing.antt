@@ -32,12 +32,13 @@ use Rattle.pb_soundness.specs.Apart.{is_of}
 use Rattle.pb_soundness.specs.Records.{Reading, out_of}
 use Rattle.pb_turns.specs.Crew.{needs_of, IsManned, IsOfPlan}
 use Rattle.pb_turns.specs.Rows.{Reasons}
-use Rattle.pb_turns.specs.Story.{states_in, AllAnswerAnew, AllBegan, Changes, FliesIn, Happened, HasNoRecord, CameAfter, HadDiffered}
+use Rattle.pb_turns.specs.Story.{states_in, AllAnswerAnew, AllBegan, AllLeaveRecords, Changes, FliesIn, Happened, HasNoRecord, CameAfter, HadDiffered}
 use Rattle.pb_turns.specs.declared.crew.Aloft.{Aloft}
 use Rattle.pb_turns.specs.declared.crew.UnitCrew.{UnitCrew}
 use Rattle.pb_turns.proofs.Anew.{gave_on}
 use Rattle.pb_turns.proofs.Answered as answered
 use Rattle.pb_turns.proofs.Changing.{its_writes, changes_less}
+use Rattle.pb_turns.proofs.Leaving.{all_left_on}
 use Rattle.pb_turns.proofs.Lists.{all_get}
 use Rattle.pb_turns.proofs.Manning.{flying_of}
 use Rattle.pb_turns.proofs.Staying.{begun_apart, dropped_beside, none_dropped, start_beside}
@@ -137,3 +138,12 @@ anew_dropped c counts manned child setup done es first w w' index a at lawful ol
     let of_plan : IsOfPlan c.project a = all_get (IsOfPlan c.project) c.aloft.items index a manned.units at in
     let so : FliesIn c.project es w counts.starts.flying a = all_get (FliesIn c.project es w counts.starts.flying) c.aloft.items index a old.flies at in
     gave_on c.project manned.order es lawful a.unit of_plan.unit of_plan.there (ap is_good_at so.state) setup child w w' (only_its c counts manned es w w' a of_plan.unit of_plan.there so only) (λ b is. begun_apart b (sym so.state ∙ is)) done gave
+
+-- and which records those have left that have answered
+pub left_dropped : (c : UnitCrew) (counts : Counts) (manned : IsManned c counts) (child : Answers) (setup : Setup) (done : List (Option (List Directive))) (es : List (Event BadUnit)) (next : Option ℕ) (first w w' : World)
+    (index : ℕ) (a : Aloft) (at : slice_get c.aloft.items index ≡ Some a) (lawful : IsLawful (needs_of c.project) es) (old : Changes c.project first c.aloft.items es w counts.starts.flying)
+    → ((out : List ℕ) → WritesTo out (child_of a.begun) counts.starts.flying → ChangesOnly (is_at_or_below out) w w') → AllLeaveRecords child setup c.project es done next first w → AllLeaveRecords child setup c.project es done next first w'
+left_dropped c counts manned child setup done es next first w w' index a at lawful old only gave =
+    let of_plan : IsOfPlan c.project a = all_get (IsOfPlan c.project) c.aloft.items index a manned.units at in
+    let so : FliesIn c.project es w counts.starts.flying a = all_get (FliesIn c.project es w counts.starts.flying) c.aloft.items index a old.flies at in
+    all_left_on c.project manned.order es lawful a.unit of_plan.unit of_plan.there (ap is_good_at so.state) setup child w w' (only_its c counts manned es w w' a of_plan.unit of_plan.there so only) (λ b is. begun_apart b (sym so.state ∙ is)) done next first gave

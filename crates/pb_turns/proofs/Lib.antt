@@ -18,6 +18,7 @@ pub mod AnyCalling
 pub mod Calling
 pub mod Beginning
 pub mod Answering
+pub mod Leaving
 pub mod Landing
 pub mod Noting
 pub mod Numbering

@@ -1,5 +1,5 @@
 -- What has happened while the units of a build began and answered.
-use Rattle.std.specs.Prelude.{◌≡◌, ◌≢◌, ◌⊎◌, ◌==◌, ◌∷◌, [], ℕ, zero, suc, max, Bool, true, false, if◌then◌else◌, List, length, take, Option, Some, None, is_some, Contains, IsSome, IsTrue, slice_get}
+use Rattle.std.specs.Prelude.{◌≡◌, ◌≢◌, ◌⊎◌, ◌==◌, ◌∷◌, [], ℕ, zero, suc, max, Bool, true, false, if◌then◌else◌, List, length, take, Option, Some, None, is_some, Contains, IfSome, IsSome, IsTrue, slice_get}
 use Rattle.std.specs.FinMap as finite
 use Rattle.std.specs.Io.KnownBytes.{Appends}
 use Rattle.std.specs.List.{AllByRecursion}
@@ -7,6 +7,7 @@ use Rattle.pb_answer.specs.declared.fault.BuildFault.{BuildFault}
 use Rattle.pb_answer.specs.declared.fault.BuildFault.TheVariants.{Plan, Toolchain, Child, Device, Sink, OutOfMemory}
 use Rattle.pb_answer.specs.declared.fault.DeviceFault.TheVariants.{NumbersSpent}
 use Rattle.pb_command.specs.Command.{command_of}
+use Rattle.pb_command.specs.Judge.{ended_by}
 use Rattle.pb_directive.specs.declared.directive.Directive.{Directive}
 use Rattle.pb_flight.specs.declared.flight.Answer.{Answer}
 use Rattle.pb_flight.specs.declared.flight.State.{State}
@@ -26,8 +27,10 @@ use Rattle.pb_answer.specs.declared.bad_unit.BadUnit.{BadUnit}
 use Rattle.pb_project.specs.declared.project.Project.{Project}
 use Rattle.pb_project.specs.declared.project.Setup.{Setup}
 use Rattle.pb_record.specs.Parts.{IsReading}
+use Rattle.pb_record.specs.declared.record.Record.{Record}
 use Rattle.pb_run.specs.Causes.{HasCause, is_of_start}
-use Rattle.pb_run.specs.Halves.{Footing, Basis, basis, outcomes_in, command_in, Keeps, IsBegun, WritesTo, child_of, key_at}
+use Rattle.pb_run.specs.Halves.{Footing, Basis, basis, outcomes_in, command_in, Keeps, IsBegun, WritesTo, child_of, key_at, needed_keys}
+use Rattle.pb_run.specs.Landing.{record_of}
 use Rattle.pb_run.specs.Outcome.{Outcome, directives_in}
 use Rattle.pb_run.specs.Standing.{records_folder}
 use Rattle.pb_run.specs.Telling.{unit_lines}
@@ -36,10 +39,11 @@ use Rattle.pb_soundness.specs.Numbers.{after}
 use Rattle.pb_soundness.specs.Records.{Reading, place_of, record_at}
 use Rattle.pb_store.specs.Differences.{FirstDifference}
 use Rattle.pb_store.specs.Held.{HoldsNumbers}
-use Rattle.pb_store.specs.Migrating.{TakesNumber, lacks_number}
+use Rattle.pb_store.specs.Keeping.{numbered}
+use Rattle.pb_store.specs.Migrating.{TakesNumber, lacks_number, migrated}
 use Rattle.pb_store.specs.declared.difference.Difference.{Difference}
 use Rattle.pb_turns.specs.Again.{AnswersAgain, FliesAgain}
-use Rattle.pb_turns.specs.Anew.{AnswersAnew, FliesAnew}
+use Rattle.pb_turns.specs.Anew.{reply_to, AnswersAnew, FliesAnew}
 use Rattle.pb_turns.specs.Calling.{CallsCut, CallsCutOnAny, CallsOver, CallsOnAny, call_basis}
 use Rattle.pb_turns.specs.Crew.{needs_of, launched_of}
 use Rattle.pb_turns.specs.Moments.{Moment}
@@ -244,6 +248,41 @@ pub record Replies (child : Answers) (setup : Setup) (project : Project) (done :
   pub waits : AllByRecursion (FliesAnew child setup project done now flying still) aloft
   pub gave : AllAnswerAnew child setup project es done now
 
+-- what had happened before the unit at a place answered
+abbrev pub events_until : List (Event BadUnit) → ℕ → List (Event BadUnit)
+events_until [] place = []
+events_until (Began unit spawned ∷ es) place = events_until es place
+events_until (Gave unit answer ∷ es) place = if unit == place then es else events_until es place
+
+-- the record of a unit for which a child was started: that of its command, of what its child gives to what it sees of this world, of the values that the inputs which are found in that have in this world, and of the numbers that the records of the needed units have; with this run number
+abbrev pub record_anew : Reading → Answers → Setup → Project → List (Option (List Directive)) → World → Planned → ℕ → Record
+record_anew read child setup project done now u number = record_of read project u (command_of setup project u done) number (ended_by (reply_to child (command_of setup project u done) now)) now
+
+-- which record stands in this world in the place of the unit at a place that has answered, of which it is said whether a child was started for it, and what had happened before it began, and before it answered. Of a good one for which a child was started: its record, with the run number that was the next as it began. Of a good one without a child: the record that stood at first, where that had a number; else that record with the run number that was the next as it answered, and with the numbers that the records of the needed units have. Of a bad one without a child: what stood at first
+pub record LeavesRecord (read : Reading) (child : Answers) (setup : Setup) (project : Project) (done : List (Option (List Directive))) (started : Bool) (before until : List (Event BadUnit)) (next : Option ℕ) (first now : World) (place : ℕ) (answer : Answer BadUnit) : Type 0 where
+  pub unit : Planned
+  pub there : unit_at project place ≡ Some unit
+  pub anew : started ≡ true → answer.fault ≡ None
+      → (number : ℕ) × NumbersGiven (LacksNoNumber project read first) before next (Some number) × (record_at read (records_folder project) now.files unit.key ≡ Some (record_anew read child setup project done now unit number))
+  pub again : started ≡ false → answer.fault ≡ None
+      → (number : Option ℕ) × NumbersGiven (LacksNoNumber project read first) until next number
+      × (record_at read (records_folder project) now.files unit.key ≡ migrated number (numbered (record_at read (records_folder project) now.files) (needed_keys project unit)) (record_at read (records_folder project) first.files unit.key))
+  pub bad : started ≡ false → IsSome answer.fault → finite.get now.files (place_of (records_folder project) unit.key) ≡ finite.get first.files (place_of (records_folder project) unit.key)
+
+-- each unit that answered has left its record so, whether the records are true or not, and whatever reads their texts
+abbrev pub AllLeaveRecords : Answers → Setup → Project → List (Event BadUnit) → List (Option (List Directive)) → Option ℕ → World → World → Type 0
+AllLeaveRecords child setup project es done next first now = (read : Reading) → IsReading read → (place : ℕ) (answer : Answer BadUnit) → slice_get (states_in project es) place ≡ Some (Answered answer)
+    → LeavesRecord read child setup project done (is_started es place) (events_before es place) (events_until es place) next first now place answer
+
+-- the child of a unit in flight was launched with the run number that was the next as the unit began
+abbrev pub CarriesNumber : Project → Reading → List (Event BadUnit) → Option ℕ → World → Aloft → Type 0
+CarriesNumber project read es next first a = IfSome (child_of a.begun) (λ launched. NumbersGiven (LacksNoNumber project read first) (events_before es a.unit) next (Some launched.number))
+
+-- those that answered, and those in flight
+pub record Recordings (child : Answers) (setup : Setup) (project : Project) (done : List (Option (List Directive))) (aloft : List Aloft) (es : List (Event BadUnit)) (next : Option ℕ) (first now : World) : Type 0 where
+  pub carries : (read : Reading) → IsReading read → AllByRecursion (CarriesNumber project read es next first) aloft
+  pub gave : AllLeaveRecords child setup project es done next first now
+
 -- a unit in flight has begun so; all that it reaches is good
 pub record FliesSo (b : Basis) (es : List (Event BadUnit)) (next : Option ℕ) (world : World) (flying : List ChildInFlight) (still : ℕ → Type 0) (a : Aloft) : Type 0 where
   pub state : slice_get (states_in b.project es) a.unit ≡ Some Begun
@@ -292,6 +331,7 @@ pub record Story (tells : Bool) (child : Answers) (first : UnitCrew) (at : Momen
   pub unrecorded : IsTrue tells → KeepsNoneInFlight c.project es None now.world
   pub again : IsTrue tells → Replays c.setup c.project c.done.items c.aloft.items es at.world now.world
   pub anew : IsTrue tells → Replies child c.setup c.project c.done.items c.aloft.items es now.world now.counts.starts.flying still
+  pub left : IsTrue tells → Recordings child c.setup c.project c.done.items c.aloft.items es first.store.next at.world now.world
   pub began : IsTrue tells → AllBeganOnAny c.setup c.project c.done.items es c.reasons.items at.world now.world
   pub quiet : IsTrue tells → (read : Reading) → IsReading read → IsQuiet c.project read es at.world now.world
   pub held : IsTrue tells → (read : Reading) → IsReading read → HoldsNumbers (record_at read (records_folder c.project) now.world.files) c.store.numbers
@@ -335,6 +375,7 @@ pub record StoryEnds (tells : Bool) (child : Answers) (fault : BuildFault) (aske
   pub unrecorded : IsTrue tells → KeepsNoneInFlight c.project before asked now.world
   pub again : IsTrue tells → AllAnswerAgain c.setup c.project es c.done.items at.world
   pub anew : IsTrue tells → AllAnswerAnew child c.setup c.project es c.done.items now.world
+  pub left : IsTrue tells → AllLeaveRecords child c.setup c.project es c.done.items first.store.next at.world now.world
   pub began : IsTrue tells → AllBeganOnAny c.setup c.project c.done.items before c.reasons.items at.world now.world
   pub started : IsTrue tells → StartedOnAny c.setup c.project c.done.items fault before es at.world now.world
   pub happened : IsTrue tells → FromFirst child first at c (λ b. Happened b c.done.items c.aloft.items c.store.next es now.world now.counts.starts.flying still)

@@ -13,7 +13,7 @@ ghost use Rattle.pb_soundness.specs.Records.{Reading};
 ghost use Rattle.pb_turns.specs.Crew.{needs_of, tickets_of, IsManned};
 ghost use Rattle.pb_turns.specs.Ends.{Dropped, Drained};
 ghost use Rattle.pb_turns.specs.Rows.{Reasons};
-ghost use Rattle.pb_turns.specs.Story.{AllAnswerAnew, AllBegan, CameAfter, Changes, HadDiffered, Happened, HasNoRecord};
+ghost use Rattle.pb_turns.specs.Story.{AllAnswerAnew, AllBegan, AllLeaveRecords, CameAfter, Changes, HadDiffered, Happened, HasNoRecord};
 ghost use Rattle.pb_project.specs.Targets.{unit_at};
 ghost use Rattle.pb_project.specs.declared.project.Setup.{Setup};
 ghost use Rattle.pb_unit.specs.declared.plan.Planned.{Planned};
@@ -48,6 +48,9 @@ fn drop_first<P: Place>(alloc: Global, crew: &mut UnitCrew, place: &mut P)
     ensures anew { (setup : Setup) (done : List (Option (List Directive))) (es : List (Event BadUnit)) (first : World) → IsTrue P.tells → IsLawful (needs_of crew.old.project) es
         → Changes crew.old.project first crew.old.aloft.items es (P.world place.old) (P.counts place.old).starts.flying
         → AllAnswerAnew P.child setup crew.old.project es done (P.world place.old) → AllAnswerAnew P.child setup crew.old.project es done (P.world place.new) }
+    ensures left { (setup : Setup) (done : List (Option (List Directive))) (es : List (Event BadUnit)) (next : Option ℕ) (first : World) → IsTrue P.tells → IsLawful (needs_of crew.old.project) es
+        → Changes crew.old.project first crew.old.aloft.items es (P.world place.old) (P.counts place.old).starts.flying
+        → AllLeaveRecords P.child setup crew.old.project es done next first (P.world place.old) → AllLeaveRecords P.child setup crew.old.project es done next first (P.world place.new) }
 {
     let aloft = crew.aloft.remove(0);
     drop_unit(alloc, place, &aloft.begun);
@@ -76,6 +79,9 @@ pub(crate) fn drain<P: Place>(alloc: Global, crew: &mut UnitCrew, place: &mut P)
     ensures anew { (setup : Setup) (done : List (Option (List Directive))) (es : List (Event BadUnit)) (first : World) → IsTrue P.tells → IsLawful (needs_of crew.old.project) es
         → Changes crew.old.project first crew.old.aloft.items es (P.world place.old) (P.counts place.old).starts.flying
         → AllAnswerAnew P.child setup crew.old.project es done (P.world place.old) → AllAnswerAnew P.child setup crew.old.project es done (P.world place.new) }
+    ensures left { (setup : Setup) (done : List (Option (List Directive))) (es : List (Event BadUnit)) (next : Option ℕ) (first : World) → IsTrue P.tells → IsLawful (needs_of crew.old.project) es
+        → Changes crew.old.project first crew.old.aloft.items es (P.world place.old) (P.counts place.old).starts.flying
+        → AllLeaveRecords P.child setup crew.old.project es done next first (P.world place.old) → AllLeaveRecords P.child setup crew.old.project es done next first (P.world place.new) }
 {
     while !crew.aloft.is_empty() {
         drop_first(alloc, crew, place);

@@ -29,6 +29,7 @@ use Rattle.pb_turns.proofs.Calling.{calls_answered, calls_answered_on_any, calls
 use Rattle.pb_turns.proofs.Changing.{its_writes, changes_less, changes_after}
 use Rattle.pb_turns.proofs.Counting.{came_answering, names_answering, goes_answered, stops_answered, stops_untold}
 use Rattle.pb_turns.proofs.Differing.{answered_began, unanswered_began}
+use Rattle.pb_turns.proofs.Leaving.{answered_left, unanswered_left}
 use Rattle.pb_turns.proofs.Lists.{all_get, get_map, map_removed}
 use Rattle.pb_turns.proofs.Manning.{answer_fault_lands, flying_of, manned_answered}
 use Rattle.pb_turns.proofs.Numbering.{answered_taken, has_child, started_flies, numbers_answered, spends_answered}
@@ -133,6 +134,7 @@ returns-in-Err-clause-story g c = λ first at taken faults es given unit s flyin
           (flight_asked c.args.crew.now.project c.requires.manned.order es now.world new.world c.remove-unit.result.unit c.index-units-unit.result there (only t) (s.unrecorded t));
       again = λ t. (s.again t).gave;
       anew = unanswered_anew g.P.Place.tells g.P.Place.child first c.args.crew.now at now new (g.P.Place.still c.args.place.now) es given s c.requires.manned.order lawful c.args.index c.remove-unit.result c.index-units-unit.result there at_index only;
+      left = unanswered_left g.P.Place.tells g.P.Place.child first c.args.crew.now at now new (g.P.Place.still c.args.place.now) es given s c.requires.manned.order lawful c.args.index c.remove-unit.result c.index-units-unit.result there at_index only;
       began = unanswered_began g.P.Place.tells g.P.Place.child first c.args.crew.now at now new (g.P.Place.still c.args.place.now) es given s c.requires.manned.order lawful c.args.index c.remove-unit.result c.index-units-unit.result there at_index only c.answer_unit.ensures.same
           (λ t none. let (left, ended, ends, behind, calls) = c.in-Err.ensures.lands t in folder_answered c.args.crew.now.project c.requires.manned.order c.remove-unit.result.unit c.index-units-unit.result there c.remove-unit.result.begun.awaited none ended _ _ now.world (g.P.Place.world left) new.world now.counts (g.P.Place.counts left) ends behind);
       started = λ t read reading. none_began c.args.crew.now.project read _ _ c.in-Err.fault es at.world new.world;
@@ -176,6 +178,7 @@ returns-in-Err-lines_of_unit-clause-story g c = λ first at taken faults es give
           (flight_asked c.args.crew.now.project c.requires.manned.order es now.world new.world c.remove-unit.result.unit c.index-units-unit.result there (only t) (s.unrecorded t));
       again = λ t. (s.again t).gave;
       anew = unanswered_anew g.P.Place.tells g.P.Place.child first c.args.crew.now at now new (g.P.Place.still c.args.place.now) es given s c.requires.manned.order lawful c.args.index c.remove-unit.result c.index-units-unit.result there at_index only;
+      left = unanswered_left g.P.Place.tells g.P.Place.child first c.args.crew.now at now new (g.P.Place.still c.args.place.now) es given s c.requires.manned.order lawful c.args.index c.remove-unit.result c.index-units-unit.result there at_index only;
       began = unanswered_began g.P.Place.tells g.P.Place.child first c.args.crew.now at now new (g.P.Place.still c.args.place.now) es given s c.requires.manned.order lawful c.args.index c.remove-unit.result c.index-units-unit.result there at_index only c.answer_unit.ensures.same
           (λ t none. let (left, ended, ends, behind, calls) = c.in-Ok.ensures.lands t in folder_answered c.args.crew.now.project c.requires.manned.order c.remove-unit.result.unit c.index-units-unit.result there c.remove-unit.result.begun.awaited none ended _ _ now.world (g.P.Place.world left) new.world now.counts (g.P.Place.counts left) ends behind);
       started = λ t read reading. none_began c.args.crew.now.project read _ _ OutOfMemory es at.world new.world;
@@ -232,6 +235,9 @@ returns-clause-story g c = λ first at taken faults es given unit s flying lawfu
           c.in-Ok.ran c.in-Ok-lines_of_unit.lines (c.in-Ok-lines_of_unit.ensures ∙ ap (λ p. unit_lines p c.index-units-unit.result c.in-Ok.ran.started c.as_slice.result.now) c.get.ensures ∙ ap (λ ms. unit_lines c.args.crew.now.project c.index-units-unit.result c.in-Ok.ran.started ms) c.as_slice.ensures)
           c.in-Ok.ensures.started c.in-Ok.ensures.judged (λ t. let (left, answer, ends, changed, behind) = c.in-Ok.ensures.lands t in (left, answer, ends, changed))
           c.remove-unit.new.self.items c.note_answer.new.done.items c.remove-unit.ensures.items c.note_answer.ensures.done;
+      left = answered_left g.P.Place.tells g.P.Place.child first c.args.crew.now at now new (g.P.Place.still c.args.place.now) es given s c.requires.manned.order lawful c.args.index c.remove-unit.result c.index-units-unit.result there at_index only g.P.Place.world g.P.Place.counts
+          c.in-Ok.ran c.in-Ok-lines_of_unit.lines (λ read reading t. c.in-Ok.ensures.kept read reading t (writes t) (s.held t read reading)) (λ t. let (left, answer, ends, changed, behind) = c.in-Ok.ensures.lands t in (left, answer, ends, changed))
+          (λ t. c.in-Ok.ensures.unkept t (writes t)) c.remove-unit.new.self.items c.note_answer.new.done.items c.remove-unit.ensures.items c.note_answer.ensures.done;
       began = answered_began g.P.Place.tells g.P.Place.child first c.args.crew.now at now new (g.P.Place.still c.args.place.now) es given s c.requires.manned.order lawful c.args.index c.remove-unit.result c.index-units-unit.result there at_index only c.answer_unit.ensures.same
           (λ t none. let (left, ended, ends, behind, calls) = c.in-Ok.ensures.lands t in folder_answered c.args.crew.now.project c.requires.manned.order c.remove-unit.result.unit c.index-units-unit.result there c.remove-unit.result.begun.awaited none ended _ _ now.world (g.P.Place.world left) new.world now.counts (g.P.Place.counts left) ends behind)
           c.note_answer.new.done.items c.in-Ok.ran.directives answer c.note_answer.ensures.done;

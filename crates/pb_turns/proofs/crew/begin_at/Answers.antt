@@ -18,6 +18,7 @@ use Rattle.pb_turns.proofs.Calling.{calls_begun, calls_begun_on_any, calls_unbeg
 use Rattle.pb_turns.proofs.Changing.{changes_begun, changes_more}
 use Rattle.pb_turns.proofs.Counting.{goes_begun, stops_begun, stops_refused_begun, children_are}
 use Rattle.pb_turns.proofs.Differing.{differed_tried, begun_began, unbegun_began, unbegun_started}
+use Rattle.pb_turns.proofs.Leaving.{begun_left, unbegun_left}
 use Rattle.pb_turns.proofs.Manning.{manned_same, manned_begun, begin_fault_flies, flying_of}
 use Rattle.pb_turns.proofs.Numbering.{begun_taken, numbers_begun}
 use Rattle.pb_turns.proofs.Quiet.{begun_quiet}
@@ -65,6 +66,7 @@ returns-in-Err-clause-story g c = λ first at taken faults es given s flying law
         unrecorded = s.unrecorded;
         again = λ t. gave_begun c.args.crew.now.setup c.args.crew.now.project c.args.crew.now.done.items es at.world c.args.unit false may.untouched (s.again t).gave;
         anew = unbegun_anew g.P.Place.tells g.P.Place.child first c.args.crew.now at now now (g.P.Place.still c.args.place.now) es given s c.requires.manned.order lawful c.args.unit u there may (λ t. only_same _ now.world) false;
+        left = unbegun_left g.P.Place.tells g.P.Place.child first c.args.crew.now at now now (g.P.Place.still c.args.place.now) es given s c.requires.manned.order lawful c.args.unit u there may (λ t. only_same _ now.world) false;
         began = s.began;
         started = λ t read reading. none_tried c.args.crew.now.project read _ _ OutOfMemory es at.world now.world c.args.unit refl;
         happened = refused_happened g.P.Place.tells g.P.Place.child first c.args.crew.now at now now (g.P.Place.still c.args.place.now) (g.P.Place.still c.args.place.now) es given c.args.unit u c.requires.manned.order there s may c.make_room.new.aloft.items c.make_room.ensures.aloft;
@@ -106,6 +108,7 @@ returns-in-Err-begin_unit-clause-story g c = λ first at taken faults es given s
         unrecorded = λ t. flight_unbegun c.args.crew.now.project c.requires.manned.order es (g.P.Place.world c.args.place.now) (g.P.Place.world c.begin_unit.new.place) c.args.unit c.index-units-unit.result there (c.begin_unit.ensures.only t) (s.unrecorded t) may.untouched;
         again = λ t. gave_begun c.args.crew.now.setup c.args.crew.now.project c.args.crew.now.done.items es at.world c.args.unit spawned may.untouched (s.again t).gave;
         anew = unbegun_anew g.P.Place.tells g.P.Place.child first c.args.crew.now at now new (g.P.Place.still c.args.place.now) es given s c.requires.manned.order lawful c.args.unit c.index-units-unit.result there may (λ t. c.begin_unit.ensures.only t) spawned;
+        left = unbegun_left g.P.Place.tells g.P.Place.child first c.args.crew.now at now new (g.P.Place.still c.args.place.now) es given s c.requires.manned.order lawful c.args.unit c.index-units-unit.result there may (λ t. c.begin_unit.ensures.only t) spawned;
         began = unbegun_began g.P.Place.tells g.P.Place.child first c.args.crew.now at now new (g.P.Place.still c.args.place.now) es given s c.requires.manned.order lawful flying c.args.unit c.index-units-unit.result there may (λ t. c.begin_unit.ensures.only t) c.as_slice.result.now c.as_slice.ensures.value;
         started = unbegun_started g.P.Place.tells g.P.Place.child first c.args.crew.now at now new (g.P.Place.still c.args.place.now) es given s c.requires.manned.order lawful flying c.args.unit c.index-units-unit.result there may (λ t. c.begin_unit.ensures.only t) c.as_slice.result.now c.as_slice.ensures.value
             spawned c.in-Err-begin_unit.fault (within_reasons c.args.crew.now c.args.unit c.requires.manned.reasoned c.requires.unit)
@@ -159,6 +162,8 @@ returns-clause-story g c = λ first at taken faults es given s flying lawful is_
           c.in-Ok-begin_unit.ensures.carries c.in-Ok-begin_unit.ensures.same;
       anew = begun_anew g.P.Place.tells g.P.Place.child first c.args.crew.now at now new (g.P.Place.still c.args.place.now) es given s c.requires.manned.order lawful c.args.unit c.index-units-unit.result there may (λ t. c.begin_unit.ensures.only t) (g.P.Place.still c.begin_unit.new.place) c.begin_unit.ensures.stay c.begin_unit.ensures.still
           c.as_slice.result.now c.as_slice.ensures.value c.in-Ok-begin_unit.made.begun c.in-Ok-begin_unit.ensures.asks c.in-Ok-begin_unit.ensures.launched c.note_begun.new.aloft.items more;
+      left = begun_left g.P.Place.tells g.P.Place.child first c.args.crew.now at now new (g.P.Place.still c.args.place.now) es given s c.requires.manned.order lawful c.args.unit c.index-units-unit.result there may (λ t. c.begin_unit.ensures.only t) c.begin_unit.new.store.next
+          c.in-Ok-begin_unit.made.begun c.in-Ok-begin_unit.ensures.number c.note_begun.new.aloft.items more;
       began = begun_began g.P.Place.tells g.P.Place.child first c.args.crew.now at now new (g.P.Place.still c.args.place.now) es given s c.requires.manned.order lawful flying c.args.unit c.index-units-unit.result there may (λ t. c.begin_unit.ensures.only t) c.as_slice.result.now c.as_slice.ensures.value
           c.in-Ok-begin_unit.made.begun c.in-Ok-begin_unit.ensures.asks c.in-Ok-begin_unit.made.difference c.note_begun.new.reasons.items (λ read reading t. c.in-Ok-begin_unit.ensures.differs read reading t (s.held t read reading)) c.in-Ok-begin_unit.ensures.spawned
           (within_reasons c.args.crew.now c.args.unit c.requires.manned.reasoned c.requires.unit) c.in-Ok-begin_unit.ensures.same c.note_begun.ensures.reasons;

@@ -3,7 +3,7 @@ use Rattle.pb_flight.specs.Events.{IsLawful}
 use Rattle.pb_project.specs.declared.project.Project.{Project}
 use Rattle.pb_project.specs.Targets.{unit_at}
 use Rattle.pb_turns.specs.Crew.{needs_of}
-use Rattle.pb_turns.specs.Story.{AllAnswerAnew, AllBegan, CameAfter, Changes, HadDiffered, HasNoRecord}
+use Rattle.pb_turns.specs.Story.{AllAnswerAnew, AllBegan, AllLeaveRecords, CameAfter, Changes, HadDiffered, HasNoRecord}
 use Rattle.pb_turns.specs.declared.crew.UnitCrew.{UnitCrew}
 use Rattle.pb_turns.proofs.dropping.drain.Goals as goal
 
@@ -44,4 +44,10 @@ loop-alloc-preserved g c = record {
       (c.drop_first.ensures.anew setup done es first tells (subst (λ (p : Project). IsLawful (needs_of p) es) (sym same) lawful)
       (subst (λ (p : Project). Changes p first c.loop-alloc.crew.aloft.items es (g.P.Place.world c.loop-alloc.place) (g.P.Place.counts c.loop-alloc.place).starts.flying) (sym same) (c.loop-alloc.invariant.changes first es tells old))
       (subst (λ (p : Project). AllAnswerAnew g.P.Place.child setup p es done (g.P.Place.world c.loop-alloc.place)) (sym same) (c.loop-alloc.invariant.anew setup done es first tells lawful old gave)));
+  left = λ setup done es next first tells lawful old gave.
+      let same = ap (λ (x : UnitCrew). x.project) c.loop-alloc.invariant.same in
+      subst (λ (p : Project). AllLeaveRecords g.P.Place.child setup p es done next first (g.P.Place.world c.drop_first.new.place)) same
+      (c.drop_first.ensures.left setup done es next first tells (subst (λ (p : Project). IsLawful (needs_of p) es) (sym same) lawful)
+      (subst (λ (p : Project). Changes p first c.loop-alloc.crew.aloft.items es (g.P.Place.world c.loop-alloc.place) (g.P.Place.counts c.loop-alloc.place).starts.flying) (sym same) (c.loop-alloc.invariant.changes first es tells old))
+      (subst (λ (p : Project). AllLeaveRecords g.P.Place.child setup p es done next first (g.P.Place.world c.loop-alloc.place)) (sym same) (c.loop-alloc.invariant.left setup done es next first tells lawful old gave)));
 }

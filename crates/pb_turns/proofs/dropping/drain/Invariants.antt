@@ -13,7 +13,7 @@ use Rattle.pb_turns.specs.Ends.{Dropped}
 use Rattle.pb_turns.specs.Rows.{Reasons}
 use Rattle.pb_project.specs.Targets.{unit_at}
 use Rattle.pb_project.specs.declared.project.Setup.{Setup}
-use Rattle.pb_turns.specs.Story.{AllAnswerAnew, AllBegan, Changes, HadDiffered, Happened, HasNoRecord, CameAfter}
+use Rattle.pb_turns.specs.Story.{AllAnswerAnew, AllBegan, AllLeaveRecords, Changes, HadDiffered, Happened, HasNoRecord, CameAfter}
 use Rattle.pb_unit.specs.declared.plan.Planned.{Planned}
 use Rattle.pb_turns.proofs.dropping.drain.Given as goal
 
@@ -39,6 +39,9 @@ invariant-loop-alloc g l = record {
   anew : (setup : Setup) (done : List (Option (List Directive))) (es : List (Event BadUnit)) (first : World) → IsTrue g.P.Place.tells → IsLawful (needs_of l.fn.crew.project) es
       → Changes l.fn.crew.project first l.fn.crew.aloft.items es (g.P.Place.world l.fn.place) (g.P.Place.counts l.fn.place).starts.flying
       → AllAnswerAnew g.P.Place.child setup l.fn.crew.project es done (g.P.Place.world l.fn.place) → AllAnswerAnew g.P.Place.child setup l.fn.crew.project es done (g.P.Place.world l.place);
+  left : (setup : Setup) (done : List (Option (List Directive))) (es : List (Event BadUnit)) (next : Option ℕ) (first : World) → IsTrue g.P.Place.tells → IsLawful (needs_of l.fn.crew.project) es
+      → Changes l.fn.crew.project first l.fn.crew.aloft.items es (g.P.Place.world l.fn.place) (g.P.Place.counts l.fn.place).starts.flying
+      → AllLeaveRecords g.P.Place.child setup l.fn.crew.project es done next first (g.P.Place.world l.fn.place) → AllLeaveRecords g.P.Place.child setup l.fn.crew.project es done next first (g.P.Place.world l.place);
 }
 
 abbrev pub decreases-loop-alloc : goal.decreases-loop-alloc

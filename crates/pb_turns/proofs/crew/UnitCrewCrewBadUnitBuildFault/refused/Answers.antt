@@ -18,6 +18,7 @@ returns g c = λ first first_place last_place first_out last_out es given s. rec
   unrecorded = s.unrecorded;
   again = λ t. (s.again t).gave;
   anew = λ t. (s.anew t).gave;
+  left = λ t. (s.left t).gave;
   began = s.began;
   started = λ t read reading. none_began _ read _ _ OutOfMemory es _ _;
   happened = s.happened;

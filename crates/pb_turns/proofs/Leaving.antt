@@ -1,0 +1,390 @@
+-- Which records units leave that have answered.
+use Rattle.std.proofs.Common.{◌≡◌, ◌≢◌, ◌∙◌, ◌++◌, inl, inr, Bool, true, false, List, [], ◌∷◌, ℕ, Option, Some, None, Result, Ok, Err, Contains, IsTrue, IsSome, if◌then◌else◌, is_some, map, refl, sym, ap, subst, slice_get, slice_set, eq-eqb}
+use Rattle.std.proofs.lemmas.Bool.{ne_eqb, false≢true}
+use Rattle.std.specs.FinMap as finite
+use Rattle.std.specs.List.{AllByRecursion, remove}
+use Rattle.std.specs.Prelude.{IfSome, IsOk, MatchOption}
+use Rattle.pb_answer.specs.declared.bad_unit.BadUnit.{BadUnit}
+use Rattle.pb_command.specs.Answers.{answered_of}
+use Rattle.pb_command.specs.Command.{command_of}
+use Rattle.pb_command.specs.Judge.{ended_by, file_at}
+use Rattle.pb_directive.specs.declared.directive.Directive.{Directive}
+use Rattle.pb_flight.specs.declared.flight.Answer.{Answer}
+use Rattle.pb_flight.specs.declared.flight.State.TheVariants.{Untouched, Begun, Answered}
+use Rattle.pb_flight.specs.Events.{Event, Began, Gave, IsLawful, MayBegin}
+use Rattle.pb_flight.specs.Laws.{HasBegun}
+use Rattle.pb_flight.specs.Table.{is_good_at}
+use Rattle.pb_flight.proofs.Lists.{contains_head, contains_tail}
+use Rattle.pb_place.specs.Counts.{Counts}
+use Rattle.pb_place.specs.Folders.{files_in}
+use Rattle.pb_place.specs.Paths.{is_at_or_below}
+use Rattle.pb_place.specs.World.{World, Answers, ChangesOnly, from_nothing, seen_by}
+use Rattle.pb_place.specs.declared.child.Reply.{Reply}
+use Rattle.pb_place.specs.declared.command.Command.{Command}
+use Rattle.pb_place.specs.declared.command.Ended.{Ended}
+use Rattle.pb_place.specs.declared.place.StartFault.{StartFault}
+use Rattle.pb_project.specs.Targets.{crate_name_of, dep_info_of, unit_at}
+use Rattle.pb_project.specs.declared.project.Project.{Project}
+use Rattle.pb_project.specs.declared.project.Setup.{Setup}
+use Rattle.pb_record.specs.Parts.{IsReading}
+use Rattle.pb_record.specs.declared.record.Input.{Input}
+use Rattle.pb_record.specs.declared.record.Input.TheVariants.{Value}
+use Rattle.pb_record.specs.declared.record.InputName.{InputName}
+use Rattle.pb_record.specs.declared.record.InputName.TheVariants.{Path, Variable}
+use Rattle.pb_record.specs.declared.record.Record.{Record}
+use Rattle.pb_run.specs.Halves.{child_in, child_of, needed_keys}
+use Rattle.pb_run.specs.Landing.{EndsBy, names_of, record_left, record_of}
+use Rattle.pb_run.specs.Outcome.{names_in}
+use Rattle.pb_run.specs.Standing.{IsInOrder, records_folder}
+use Rattle.pb_run.specs.declared.begun.Awaited.{Awaited}
+use Rattle.pb_run.specs.declared.begun.Awaited.TheVariants as awaited
+use Rattle.pb_run.specs.declared.begun.Begun.{Begun as unit_begun}
+use Rattle.pb_run.specs.declared.begun.Launched.{Launched}
+use Rattle.pb_run.specs.declared.ran.Ran.{Ran}
+use Rattle.pb_run.proofs.Answering.{files_kept}
+use Rattle.pb_run.proofs.Calling.{ended_well}
+use Rattle.pb_run.proofs.Recorded.{files_still, key_needed, record_still, sources_still}
+use Rattle.pb_run.proofs.Spawning.{place_within, widen}
+use Rattle.pb_run.proofs.Units.{dep_info_inside, inside_file}
+use Rattle.pb_run.proofs.Views.{is_for}
+use Rattle.pb_soundness.specs.Apart.{is_of}
+use Rattle.pb_soundness.specs.Grounded.{Standing}
+use Rattle.pb_soundness.specs.Inputs.{input_in, path_input}
+use Rattle.pb_soundness.specs.Numbers.{after}
+use Rattle.pb_soundness.specs.Records.{Reading, number_of, place_of, record_at}
+use Rattle.pb_soundness.specs.Reuse.{number_if}
+use Rattle.pb_soundness.proofs.Places.{place_outside, record_same}
+use Rattle.pb_store.specs.Keeping.{kept_of, numbered, or_zero}
+use Rattle.pb_store.specs.Migrating.{migrated, migrated_by}
+use Rattle.pb_store.specs.declared.replaying.Replayed.{Replayed}
+use Rattle.pb_turns.specs.Again.{CarriesAgain, FliesAgain}
+use Rattle.pb_turns.specs.Anew.{reply_to, CarriesAnew, FliesAnew}
+use Rattle.pb_turns.specs.Crew.{needs_of}
+use Rattle.pb_turns.specs.Moments.{Moment}
+use Rattle.pb_turns.specs.Rows.{is_started}
+use Rattle.pb_turns.specs.Story.{states_in, events_before, events_until, record_anew, AllLeaveRecords, CarriesNumber, FliesIn, LacksNoNumber, LeavesRecord, NumbersGiven, Recordings, Story}
+use Rattle.pb_turns.specs.declared.crew.Aloft.{Aloft}
+use Rattle.pb_turns.specs.declared.crew.UnitCrew.{UnitCrew}
+use Rattle.pb_turns.proofs.Again.{command_stays}
+use Rattle.pb_turns.proofs.Anew.{landed, reaches_others, sees_on}
+use Rattle.pb_turns.proofs.Happening.{before_now, before_other, started_other}
+use Rattle.pb_turns.proofs.Lists.{all_at_each, all_get, all_left, all_more}
+use Rattle.pb_turns.proofs.Reaching.{not_of_two}
+use Rattle.pb_turns.proofs.States.{another, answered_before, answered_cases}
+use Rattle.pb_turns.proofs.Staying.{begun_apart, place_its_own, untouched_apart}
+use Rattle.pb_turns.proofs.Unkept.{no_answer}
+use Rattle.pb_unit.specs.declared.plan.Planned.{Planned}
+
+-- What had happened before a unit answered, where another answers, or this one.
+
+until_other : (es : List (Event BadUnit)) (unit place : ℕ) (answer : Answer BadUnit) → unit ≢ place → events_until (Gave unit answer ∷ es) place ≡ events_until es place
+until_other es unit place answer ne = ap (λ b. if b then es else events_until es place) (ne_eqb unit place ne)
+
+until_now : (es : List (Event BadUnit)) (unit : ℕ) (answer : Answer BadUnit) → events_until (Gave unit answer ∷ es) unit ≡ es
+until_now es unit answer = ap (λ b. if b then es else events_until es unit) (eq-eqb unit unit refl)
+
+-- What a record rests on.
+
+input_still : (target : List ℕ) (v w : World) (name : InputName) → from_nothing target w ≡ from_nothing target v → input_in target w name ≡ input_in target v name
+input_still target v w (Path path) same = ap (λ (x : World). path_input path x.files (finite.get x.files path)) same
+input_still target v w (Variable name) same = ap (λ (x : World). Value name (finite.get x.variables name)) same
+
+inputs_still : (target : List ℕ) (v w : World) (names : List InputName) → from_nothing target w ≡ from_nothing target v → map (input_in target w) names ≡ map (input_in target v) names
+inputs_still target v w [] same = refl
+inputs_still target v w (name ∷ names) same = ap (λ (i : Input). i ∷ map (input_in target w) names) (input_still target v w name same) ∙ ap (λ (is : List Input). input_in target v name ∷ is) (inputs_still target v w names same)
+
+numbered_still : (old new : Standing) (needs : List (List ℕ)) → ((need : List ℕ) → Contains needs need → new need ≡ old need) → numbered new needs ≡ numbered old needs
+numbered_still old new [] same = refl
+numbered_still old new (need ∷ needs) same =
+    ap (λ (o : Option Record). (need, or_zero (number_if o)) ∷ numbered new needs) (same need (contains_head need needs))
+    ∙ ap (λ (pairs : List (List ℕ × ℕ)). (need, or_zero (number_if (old need))) ∷ pairs) (numbered_still old new needs (λ n has. same n (contains_tail need needs n has)))
+
+-- a record with a number stays as it is
+number_stays : (r : Record) (own : Option ℕ) (flag : Bool) (next : Option ℕ) (pairs : List (List ℕ × ℕ)) → flag ≡ is_some own → (if flag then Some r else migrated_by own next pairs r) ≡ migrated_by own next pairs r
+number_stays r (Some n) true next pairs is = refl
+number_stays r (Some n) false next pairs is = refl
+number_stays r None true next pairs is = absurd (false≢true (sym is))
+number_stays r None false next pairs is = refl
+
+module _ (read : Reading) (project : Project) (order : IsInOrder project) (place : ℕ) (u : Planned) (there : unit_at project place ≡ Some u) where
+  abbrev at_in : World → Standing
+  at_in w = record_at read (records_folder project) w.files
+
+  record_on : (c : Command) (number : ℕ) (ended : Ended) (w w' : World) → from_nothing c.target w' ≡ from_nothing c.target w → files_in u.out w'.files ≡ files_in u.out w.files
+      → ((need : List ℕ) → Contains (needed_keys project u) need → at_in w' need ≡ at_in w need) → record_of read project u c number ended w' ≡ record_of read project u c number ended w
+  record_on c number ended w w' sources own needed =
+      let info : file_at (dep_info_of project u) w'.files ≡ file_at (dep_info_of project u) w.files = sym (inside w') ∙ ap (file_at (dep_info_of project u)) own ∙ inside w in
+      let names : names_of project u c ended w'.files ≡ names_of project u c ended w.files = ap (λ (x : Option (List ℕ)). names_in (answered_of project u c ended x)) info in
+      ap (λ (ns : List InputName). kept_of (records_folder project) u.key c (map (input_in c.target w') ns) number (numbered (at_in w') (needed_keys project u)) ended) names
+      ∙ ap (λ (inputs : List Input). kept_of (records_folder project) u.key c inputs number (numbered (at_in w') (needed_keys project u)) ended) (inputs_still c.target w w' (names_of project u c ended w.files) sources)
+      ∙ ap (λ (pairs : List (List ℕ × ℕ)). kept_of (records_folder project) u.key c (map (input_in c.target w) (names_of project u c ended w.files)) number pairs ended) (numbered_still (at_in w) (at_in w') (needed_keys project u) needed)
+    where
+      inside : (x : World) → file_at (dep_info_of project u) (files_in u.out x.files) ≡ file_at (dep_info_of project u) x.files
+      inside x = inside_file u.out (dep_info_of project u) x.files (λ q at. dep_info_inside project u u.unit.what (crate_name_of project u) q at)
+
+  -- a unit does something that this one does not reach, also this one
+  module _ (i : ℕ) (v : Planned) (at : unit_at project i ≡ Some v) (far : (p : ℕ) → Contains u.reaches p → p ≢ i) (w w' : World) (only : ChangesOnly (is_of (records_folder project) v.key) w w') where
+    needed_on : (need : List ℕ) → Contains (needed_keys project u) need → at_in w' need ≡ at_in w need
+    needed_on need has =
+        let (x, its, is) = key_needed project order u need has in
+        subst (λ (key : List ℕ). at_in w' key ≡ at_in w key) (sym is) (record_still project order i v at w w' only read its.place x its.there (far its.place (order.needs_reached place u there its.place its.among)))
+
+    numbered_on : numbered (at_in w') (needed_keys project u) ≡ numbered (at_in w) (needed_keys project u)
+    numbered_on = numbered_still (at_in w) (at_in w') (needed_keys project u) needed_on
+
+    record_stands : (c : Command) → c.target ≡ project.workspace.target → files_in u.out w'.files ≡ files_in u.out w.files → (number : ℕ) (ended : Ended) → record_of read project u c number ended w' ≡ record_of read project u c number ended w
+    record_stands c target own number ended =
+        record_on c number ended w w' (subst (λ (t : List ℕ). from_nothing t w' ≡ from_nothing t w) (sym target) (sources_still project order i v at w w' only)) own needed_on
+
+-- A unit does something that is not good.
+
+module _ (project : Project) (order : IsInOrder project) (es : List (Event BadUnit)) (lawful : IsLawful (needs_of project) es) (i : ℕ) (u : Planned) (there : unit_at project i ≡ Some u) (not_good : is_good_at (slice_get (states_in project es) i) ≡ false)
+    (setup : Setup) (child : Answers) (w w' : World) (only : ChangesOnly (is_of (records_folder project) u.key) w w') where
+  -- what another has left stands
+  left_on : (read : Reading) (started : Bool) (before until : List (Event BadUnit)) (next : Option ℕ) (first : World) (place : ℕ) (answer : Answer BadUnit) → HasBegun (states_in project es) place → place ≢ i
+      → (done done' : List (Option (List Directive))) → ((v : Planned) → unit_at project place ≡ Some v → command_of setup project v done ≡ command_of setup project v done')
+      → LeavesRecord read child setup project done started before until next first w place answer → LeavesRecord read child setup project done' started before until next first w' place answer
+  left_on read started before until next first place answer has ne done done' commands g =
+      let c : Command = command_of setup project g.unit done' in
+      let far = reaches_others project order es lawful i u there not_good setup place g.unit has g.there in
+      let stays = record_still project order i u there w w' only read place g.unit g.there ne in
+      record {
+        unit = g.unit;
+        there = g.there;
+        anew = λ child_started good.
+            let (number, taken, stands) = g.anew child_started good in (
+              number,
+              taken,
+              stays ∙ stands ∙ ap Some (
+                  ap (λ (d : Command). record_of read project g.unit d number (ended_by (reply_to child d w)) w) (commands g.unit g.there)
+                  ∙ ap (λ (reply : Reply). record_of read project g.unit c number (ended_by reply) w) (sym (ap (child c) (sees_on project order es lawful i u there not_good setup place g.unit has g.there done' c refl w w' only)))
+                  ∙ sym (record_stands read project order place g.unit g.there i u there far w w' only c (is_for setup project g.unit done' (order.packages place g.unit g.there)).target
+                  (files_still project order i u there w w' only place g.unit g.there ne) number (ended_by (reply_to child c w')))),
+            );
+        again = λ none good.
+            let (number, taken, stands) = g.again none good in (
+              number,
+              taken,
+              stays ∙ stands ∙ ap (λ (pairs : List (List ℕ × ℕ)). migrated number pairs (record_at read (records_folder project) first.files g.unit.key)) (sym (numbered_on read project order place g.unit g.there i u there far w w' only)),
+            );
+        bad = λ none bad.
+            only.files (place_of (records_folder project) g.unit.key) (not_of_two project order place i g.unit u g.there there ne (place_of (records_folder project) g.unit.key) (place_its_own (records_folder project) g.unit.key)) ∙ g.bad none bad;
+      }
+
+  pub all_left_on : ((a : Answer BadUnit) → slice_get (states_in project es) i ≡ Some (Answered a) → ⊥) → (done : List (Option (List Directive))) (next : Option ℕ) (first : World) → AllLeaveRecords child setup project es done next first w → AllLeaveRecords child setup project es done next first w'
+  all_left_on not_answered done next first gave read reading place answer state =
+      left_on read (is_started es place) (events_before es place) (events_until es place) next first place answer (Answered answer, state, refl) (λ same. not_answered answer (ap (slice_get (states_in project es)) (sym same) ∙ state)) done done (λ v at. refl)
+      (gave read reading place answer state)
+
+-- the same events, said otherwise
+events_same : (read : Reading) (child : Answers) (setup : Setup) (project : Project) (done : List (Option (List Directive))) (started started' : Bool) (before before' until until' : List (Event BadUnit)) (next : Option ℕ) (first now : World) (place : ℕ) (answer : Answer BadUnit)
+    → started' ≡ started → before' ≡ before → until' ≡ until → LeavesRecord read child setup project done started before until next first now place answer → LeavesRecord read child setup project done started' before' until' next first now place answer
+events_same read child setup project done started started' before before' until until' next first now place answer same same_before same_until left =
+    subst (λ (b : Bool). LeavesRecord read child setup project done b before' until' next first now place answer) (sym same)
+    (subst (λ (x : List (Event BadUnit)). LeavesRecord read child setup project done started x until' next first now place answer) (sym same_before)
+    (subst (λ (x : List (Event BadUnit)). LeavesRecord read child setup project done started before x next first now place answer) (sym same_until) left))
+
+-- A unit answers that was in flight.
+
+module _ (read : Reading) (child : Answers) (setup : Setup) (project : Project) (order : IsInOrder project) (place : ℕ) (u : Planned) (there : unit_at project place ≡ Some u) (far : (p : ℕ) → Contains u.reaches p → p ≢ place)
+    (done done' : List (Option (List Directive))) (same : command_of setup project u done ≡ command_of setup project u done') (c : Command) (w new : World) (old : Counts) (still : ℕ → Type 0) (sees : c ≡ command_of setup project u done → seen_by c new ≡ seen_by c w)
+    (only : ChangesOnly (is_of (records_folder project) u.key) w new) (next : Option ℕ) where
+  abbrev Stands : Awaited → Ended → World → Type 0
+  Stands by ended left = record_at read (records_folder project) new.files u.key ≡ record_left read project u c by ended next left
+
+  -- its child gave the answer
+  anew_child : (launched : Launched) → CarriesAnew child setup project done w old.starts.flying still u c (awaited.Child launched)
+      → (well : Type 0) (left : World) (mid : Counts) (ended : Ended) → EndsBy (awaited.Child launched) (Ok ended) well still w left old mid → Stands (awaited.Child launched) ended left
+      → (well' : Type 0) (left' : World) (mid' : Counts) (ended' : Ended) → EndsBy (awaited.Child launched) (Ok ended') well' still w left' old mid' → ChangesOnly (is_at_or_below (place_of (records_folder project) u.key)) left' new
+      → record_at read (records_folder project) new.files u.key ≡ Some (record_anew read child setup project done' new u launched.number)
+  anew_child launched carries well left mid ended ends stands well' left' mid' ended' ends' behind =
+      let (asks, flight) = carries in
+      let lands = landed child setup project order place u there done c asks w old launched.ticket still flight well left mid ended ends in
+      let lands' = landed child setup project order place u there done c asks w old launched.ticket still flight well' left' mid' ended' ends' in
+      let replies : child c (seen_by c flight.spawned) ≡ reply_to child c new = ap (child c) (flight.sees ∙ sym (sees asks)) in
+      let ended_so : ended ≡ ended_by (reply_to child c new) = lands.answer ∙ ap ended_by replies in
+      let target : c.target ≡ project.workspace.target = ap (λ (d : Command). d.target) asks ∙ (is_for setup project u done (order.packages place u there)).target in
+      stands ∙ ap Some (
+      ap (λ (e : Ended). record_of read project u c launched.number e left) ended_so
+      ∙ ap (λ (x : World). record_of read project u c launched.number (ended_by (reply_to child c new)) x) (lands.world ∙ sym lands'.world)
+      ∙ sym (record_stands read project order place u there place u there far left' new (widen (is_at_or_below (place_of (records_folder project) u.key)) (is_of (records_folder project) u.key) left' new (place_within (records_folder project) u.key) behind) c target
+      (files_kept (records_folder project) u.key u.out left' new order.folder (order.keys place u there) (order.folders place u there) behind) launched.number (ended_by (reply_to child c new)))
+      ∙ ap (λ (d : Command). record_of read project u d launched.number (ended_by (reply_to child d new)) new) (asks ∙ same))
+
+  -- its record gave it
+  again_record : (first : World) (again : Replayed) → CarriesAgain read setup project done first w u c (awaited.Record again) → (well : Type 0) (left : World) (mid : Counts) (ended : Ended) → EndsBy (awaited.Record again) (Ok ended) well still w left old mid
+      → Stands (awaited.Record again) ended left
+      → record_at read (records_folder project) new.files u.key ≡ migrated next (numbered (record_at read (records_folder project) new.files) (needed_keys project u)) (record_at read (records_folder project) first.files u.key)
+  again_record first again carries well left mid ended ends stands =
+      let (unchanged, counted, is) = ends in
+      let here : record_at read (records_folder project) w.files u.key ≡ Some carries.kept =
+      record_same read (records_folder project) first.files w.files u.key (carries.stays (place_of (records_folder project) u.key) (place_its_own (records_folder project) u.key)) ∙ carries.here in
+      stands
+      ∙ ap (λ (x : World). if again.numbered then record_at read (records_folder project) x.files u.key else migrated next (numbered (record_at read (records_folder project) x.files) (needed_keys project u)) (record_at read (records_folder project) x.files u.key)) unchanged
+      ∙ ap (λ (o : Option Record). if again.numbered then o else migrated next (numbered (record_at read (records_folder project) w.files) (needed_keys project u)) o) here
+      ∙ number_stays carries.kept (number_of carries.kept) again.numbered next (numbered (record_at read (records_folder project) w.files) (needed_keys project u)) (ap (λ (x : Replayed). x.numbered) carries.gives)
+      ∙ ap (λ (pairs : List (List ℕ × ℕ)). migrated next pairs (Some carries.kept)) (sym (numbered_on read project order place u there place u there far w new only))
+      ∙ ap (migrated next (numbered (record_at read (records_folder project) new.files) (needed_keys project u))) (sym carries.here)
+
+  -- whichever gave it, where it is good
+  anew_by : (by : Awaited) → is_some (child_in by) ≡ true → CarriesAnew child setup project done w old.starts.flying still u c by → (Taken : ℕ → Type 0) → IfSome (child_in by) (λ launched. Taken launched.number)
+      → (well : Type 0) (left : World) (mid : Counts) (ended : Ended) → EndsBy by (Ok ended) well still w left old mid → Stands by ended left
+      → (well' : Type 0) (left' : World) (mid' : Counts) (answer : Result Ended StartFault) → EndsBy by answer well' still w left' old mid' → well' → ChangesOnly (is_at_or_below (place_of (records_folder project) u.key)) left' new
+      → (number : ℕ) × Taken number × (record_at read (records_folder project) new.files u.key ≡ Some (record_anew read child setup project done' new u number))
+  anew_by (awaited.Record again) has carries Taken taken well left mid ended ends stands well' left' mid' answer ends' so behind = absurd (false≢true has)
+  anew_by (awaited.Child launched) has carries Taken taken well left mid ended ends stands well' left' mid' (Err fault) ends' so behind = absurd (false≢true (ends'.answered so))
+  anew_by (awaited.Child launched) has carries Taken taken well left mid ended ends stands well' left' mid' (Ok ended') ends' so behind =
+      (launched.number, taken, anew_child launched carries well left mid ended ends stands well' left' mid' ended' ends' behind)
+
+  again_by : (first : World) (by : Awaited) → is_some (child_in by) ≡ false → CarriesAgain read setup project done first w u c by → (well : Type 0) (left : World) (mid : Counts) (ended : Ended) → EndsBy by (Ok ended) well still w left old mid → Stands by ended left
+      → record_at read (records_folder project) new.files u.key ≡ migrated next (numbered (record_at read (records_folder project) new.files) (needed_keys project u)) (record_at read (records_folder project) first.files u.key)
+  again_by first (awaited.Child launched) none carries well left mid ended ends stands = absurd (false≢true (sym none))
+  again_by first (awaited.Record again) none carries well left mid ended ends stands = again_record first again carries well left mid ended ends stands
+
+  -- and where it is bad
+  bad_by : (first : World) (by : Awaited) → is_some (child_in by) ≡ false → CarriesAgain read setup project done first w u c by → ChangesOnly (is_at_or_below u.out) w new → finite.get new.files (place_of (records_folder project) u.key) ≡ finite.get first.files (place_of (records_folder project) u.key)
+  bad_by first (awaited.Child launched) none carries inside = absurd (false≢true (sym none))
+  bad_by first (awaited.Record again) none carries inside =
+      let key = order.keys place u there in
+      inside.files (place_of (records_folder project) u.key) (subst (λ (out : List ℕ). is_at_or_below out (place_of (records_folder project) u.key) ≡ false) (sym (order.folders place u there)) (place_outside (records_folder project) u.key u.key key key))
+      ∙ carries.stays (place_of (records_folder project) u.key) (place_its_own (records_folder project) u.key)
+
+-- A unit in flight.
+
+-- its child was launched with the run number that was the next after these events
+abbrev LaunchedAfter : Project → Reading → Option ℕ → World → List (Event BadUnit) → Option Launched → Type 0
+LaunchedAfter project read next first before o = IfSome o (λ launched. NumbersGiven (LacksNoNumber project read first) before next (Some launched.number))
+
+-- Nothing has begun.
+
+pub recordings_first : (child : Answers) (setup : Setup) (project : Project) (done : List (Option (List Directive))) (aloft : List Aloft) (next : Option ℕ) (w : World) → aloft ≡ [] → Recordings child setup project done aloft [] next w w
+recordings_first child setup project done aloft next w none = record {
+  carries = λ read reading. subst (AllByRecursion (CarriesNumber project read [] next w)) (sym none) tt;
+  gave = λ read reading place answer state. absurd (no_answer (needs_of project) place answer state);
+}
+
+module _ (tells : Bool) (child : Answers) (first old : UnitCrew) (at now new : Moment) (still : ℕ → Type 0) (es : List (Event BadUnit)) (given : ℕ) (story : Story tells child first at old now still es given) (order : IsInOrder old.project) (lawful : IsLawful (needs_of old.project) es) where
+  flown : IsTrue tells → (k : ℕ) (a : Aloft) → slice_get old.aloft.items k ≡ Some a → FliesIn old.project es now.world now.counts.starts.flying a
+  flown t k a at_k = all_get (FliesIn old.project es now.world now.counts.starts.flying) old.aloft.items k a (story.changes t).flies at_k
+
+  -- A unit begins.
+
+  module _ (unit : ℕ) (u : Planned) (there : unit_at old.project unit ≡ Some u) (may : MayBegin (needs_of old.project) (states_in old.project es) unit) (only : IsTrue tells → ChangesOnly (is_of (records_folder old.project) u.key) now.world new.world) where
+    -- those that had answered, also where it could not
+    pub unbegun_left : (spawned : Bool) → IsTrue tells → AllLeaveRecords child old.setup old.project (Began unit spawned ∷ es) old.done.items first.store.next at.world new.world
+    unbegun_left spawned t read reading place answer state =
+        let (ne, before) = answered_before (states_in old.project es) unit place answer Untouched may.untouched state in
+        events_same read child old.setup old.project old.done.items (is_started es place) (is_started (Began unit spawned ∷ es) place) (events_before es place) (events_before (Began unit spawned ∷ es) place) (events_until es place) (events_until es place) first.store.next at.world new.world place answer
+        (started_other es unit place spawned ne) (before_other es unit place spawned ne) refl
+        (all_left_on old.project order es lawful unit u there (ap is_good_at may.untouched) old.setup child now.world new.world (only t) (λ a is. untouched_apart a (sym may.untouched ∙ is)) old.done.items first.store.next at.world (story.left t).gave
+        read reading place answer before)
+
+    -- it has
+    pub begun_left : (next : Option ℕ) (begun : unit_begun) → MatchOption (child_of begun) (next ≡ old.store.next) (λ launched. (old.store.next ≡ Some launched.number) × (next ≡ after launched.number))
+        → (aloft' : List Aloft) → aloft' ≡ old.aloft.items ++ record { unit = unit; begun = begun } ∷ []
+        → IsTrue tells → Recordings child old.setup old.project old.done.items aloft' (Began unit (is_some (child_of begun)) ∷ es) first.store.next at.world new.world
+    begun_left next begun number aloft' more t = record {
+      carries = λ read reading.
+          subst (AllByRecursion (CarriesNumber old.project read (Began unit (is_some (child_of begun)) ∷ es) first.store.next at.world)) (sym more)
+          (all_more (CarriesNumber old.project read (Began unit (is_some (child_of begun)) ∷ es) first.store.next at.world) old.aloft.items (record { unit = unit; begun = begun } ∷ [])
+          (all_at_each (CarriesNumber old.project read es first.store.next at.world) (CarriesNumber old.project read (Began unit (is_some (child_of begun)) ∷ es) first.store.next at.world) old.aloft.items
+          (λ k a at_k carries.
+          number_on read (child_of a.begun) (events_before es a.unit) (events_before (Began unit (is_some (child_of begun)) ∷ es) a.unit)
+          (before_other es unit a.unit (is_some (child_of begun)) (another (states_in old.project es) unit a.unit may.untouched (Begun, (flown t k a at_k).state, refl))) carries)
+          ((story.left t).carries read reading))
+          (own read reading (child_of begun) number, tt));
+      gave = unbegun_left (is_some (child_of begun)) t;
+    }
+      where
+        number_on : (read : Reading) (o : Option Launched) (before before' : List (Event BadUnit)) → before' ≡ before → LaunchedAfter old.project read first.store.next at.world before o → LaunchedAfter old.project read first.store.next at.world before' o
+        number_on read o before before' same takes = subst (λ (x : List (Event BadUnit)). LaunchedAfter old.project read first.store.next at.world x o) (sym same) takes
+
+        own : (read : Reading) → IsReading read → (o : Option Launched) → MatchOption o (next ≡ old.store.next) (λ launched. (old.store.next ≡ Some launched.number) × (next ≡ after launched.number)) → LaunchedAfter old.project read first.store.next at.world (events_before (Began unit (is_some (child_of begun)) ∷ es) unit) o
+        own read reading None number = tt
+        own read reading (Some launched) number =
+            number_on read (Some launched) es (events_before (Began unit (is_some (child_of begun)) ∷ es) unit) (before_now es unit (is_some (child_of begun)))
+            (subst (NumbersGiven (LacksNoNumber old.project read at.world) es first.store.next) number.0 (story.taken t read reading))
+
+  -- A unit answers.
+
+  module _ (index : ℕ) (a : Aloft) (u : Planned) (there : unit_at old.project a.unit ≡ Some u) (at_index : slice_get old.aloft.items index ≡ Some a) (only : IsTrue tells → ChangesOnly (is_of (records_folder old.project) u.key) now.world new.world) where
+    -- a fault came in its place
+    pub unanswered_left : IsTrue tells → AllLeaveRecords child old.setup old.project es old.done.items first.store.next at.world new.world
+    unanswered_left t =
+        let state = (flown t index a at_index).state in
+        all_left_on old.project order es lawful a.unit u there (ap is_good_at state) old.setup child now.world new.world (only t) (λ b is. begun_apart b (sym state ∙ is)) old.done.items first.store.next at.world (story.left t).gave
+
+    -- it has
+    pub answered_left : {P : Type 0} (world : P → World) (counts : P → Counts) (ran : Ran) (lines : List ℕ)
+        → ((read : Reading) → IsReading read → IsTrue tells → is_some ran.bad ≡ false → (left : P) × (ended : Ended) × EndsBy a.begun.awaited (Ok ended) (IsOk (ended_well ran)) still now.world (world left) now.counts (counts left)
+        × (record_at read (records_folder old.project) new.world.files u.key ≡ record_left read old.project u a.begun.command a.begun.awaited ended old.store.next (world left)))
+        → (IsTrue tells → (left : P) × (answer : Result Ended StartFault) × EndsBy a.begun.awaited answer (IsOk (ended_well ran)) still now.world (world left) now.counts (counts left) × ChangesOnly (is_at_or_below (place_of (records_folder old.project) u.key)) (world left) new.world)
+        → (IsTrue tells → IsSome ran.bad → ChangesOnly (is_at_or_below u.out) now.world new.world)
+        → (aloft' : List Aloft) (done' : List (Option (List Directive))) → aloft' ≡ remove old.aloft.items index → done' ≡ slice_set old.done.items a.unit ran.directives
+        → IsTrue tells → Recordings child old.setup old.project done' aloft' (Gave a.unit record { fault = ran.bad; lines = lines } ∷ es) first.store.next at.world new.world
+    answered_left {P} world counts ran lines kept lands unkept aloft' done' is set t = record {
+      carries = λ read reading. subst (AllByRecursion (CarriesNumber old.project read es first.store.next at.world)) (sym is)
+          (all_left (CarriesNumber old.project read es first.store.next at.world) (CarriesNumber old.project read es first.store.next at.world) old.aloft.items index (λ j y at_j ne carries. carries) ((story.left t).carries read reading));
+      gave = λ read reading place answer state_after. elim (answered_cases (states_in old.project es) a.unit place answer its_answer Begun state state_after) [
+        | inl (same, its) ↦
+            subst (λ (x : Answer BadUnit). LeavesRecord read child old.setup old.project done' (is_started es place) (events_before es place) (events_until (Gave a.unit its_answer ∷ es) place) first.store.next at.world new.world place x) its
+            (subst (λ n. LeavesRecord read child old.setup old.project done' (is_started es n) (events_before es n) (events_until (Gave a.unit its_answer ∷ es) n) first.store.next at.world new.world n its_answer) same (own read reading))
+        | inr (ne, before) ↦
+            events_same read child old.setup old.project done' (is_started es place) (is_started es place) (events_before es place) (events_before es place) (events_until es place) (events_until (Gave a.unit its_answer ∷ es) place) first.store.next at.world new.world place answer
+            refl refl (until_other es a.unit place its_answer ne)
+            (left_on old.project order es lawful a.unit u there (ap is_good_at state) old.setup child now.world new.world (only t) read (is_started es place) (events_before es place) (events_until es place) first.store.next at.world place answer
+            (Answered answer, before, refl) (λ e. ne (sym e)) old.done.items done' (λ v at_v. commands place v (Answered answer, before, refl) at_v) ((story.left t).gave read reading place answer before))
+      ];
+    }
+      where
+        its_answer : Answer BadUnit
+        its_answer = record { fault = ran.bad; lines = lines }
+
+        flies : FliesIn old.project es now.world now.counts.starts.flying a
+        flies = flown t index a at_index
+
+        state : slice_get (states_in old.project es) a.unit ≡ Some Begun
+        state = flies.state
+
+        has : HasBegun (states_in old.project es) a.unit
+        has = (Begun, state, refl)
+
+        commands : (place : ℕ) (v : Planned) → HasBegun (states_in old.project es) place → unit_at old.project place ≡ Some v → command_of old.setup old.project v old.done.items ≡ command_of old.setup old.project v done'
+        commands place v begun at_v = command_stays old.setup old.project order es lawful a.unit state old.done.items done' ran.directives set place v begun at_v
+
+        far : (p : ℕ) → Contains u.reaches p → p ≢ a.unit
+        far = reaches_others old.project order es lawful a.unit u there (ap is_good_at state) old.setup a.unit u has there
+
+        sees : a.begun.command ≡ command_of old.setup old.project u old.done.items → seen_by a.begun.command new.world ≡ seen_by a.begun.command now.world
+        sees asks = sees_on old.project order es lawful a.unit u there (ap is_good_at state) old.setup a.unit u has there old.done.items a.begun.command asks now.world new.world (only t)
+
+        waits : CarriesAnew child old.setup old.project old.done.items now.world now.counts.starts.flying still u a.begun.command a.begun.awaited
+        waits = all_get (FliesAnew child old.setup old.project old.done.items now.world now.counts.starts.flying still) old.aloft.items index a (story.anew t).waits at_index u there
+
+        replays : (read : Reading) → IsReading read → CarriesAgain read old.setup old.project old.done.items at.world now.world u a.begun.command a.begun.awaited
+        replays read reading = all_get (λ (x : Aloft). FliesAgain read old.setup old.project old.done.items at.world now.world x) old.aloft.items index a ((story.again t).waits read reading) at_index u there
+
+        own : (read : Reading) → IsReading read
+            → LeavesRecord read child old.setup old.project done' (is_started es a.unit) (events_before es a.unit) (events_until (Gave a.unit its_answer ∷ es) a.unit) first.store.next at.world new.world a.unit its_answer
+        own read reading =
+            let (left', answer', ends', behind) = lands t in
+            record {
+              unit = u;
+              there = there;
+              anew = λ started good.
+                  let (left, ended, ends, stands) = kept read reading t (ap is_some good) in
+                  anew_by read child old.setup old.project order a.unit u there far old.done.items done' (commands a.unit u has there) a.begun.command now.world new.world now.counts still sees (only t) old.store.next a.begun.awaited
+                  (sym flies.started ∙ started) waits (λ number. NumbersGiven (LacksNoNumber old.project read at.world) (events_before es a.unit) first.store.next (Some number))
+                  (all_get (CarriesNumber old.project read es first.store.next at.world) old.aloft.items index a ((story.left t).carries read reading) at_index)
+                  (IsOk (ended_well ran)) (world left) (counts left) ended ends stands (IsOk (ended_well ran)) (world left') (counts left') answer' ends' refl behind;
+              again = λ none good.
+                  let (left, ended, ends, stands) = kept read reading t (ap is_some good) in (
+                    old.store.next,
+                    subst (λ (x : List (Event BadUnit)). NumbersGiven (LacksNoNumber old.project read at.world) x first.store.next old.store.next) (sym (until_now es a.unit its_answer)) (story.taken t read reading),
+                    again_by read child old.setup old.project order a.unit u there far old.done.items done' (commands a.unit u has there) a.begun.command now.world new.world now.counts still sees (only t) old.store.next at.world a.begun.awaited
+                        (sym flies.started ∙ none) (replays read reading) (IsOk (ended_well ran)) (world left) (counts left) ended ends stands,
+                  );
+              bad = λ none bad.
+                  bad_by read child old.setup old.project order a.unit u there far old.done.items done' (commands a.unit u has there) a.begun.command now.world new.world now.counts still sees (only t) old.store.next at.world a.begun.awaited
+                  (sym flies.started ∙ none) (replays read reading) (unkept t bad);
+            }
