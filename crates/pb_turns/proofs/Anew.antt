@@ -47,7 +47,8 @@ use Rattle.pb_run.proofs.Units.{dep_info_inside, inside_file}
 use Rattle.pb_run.proofs.Views.{IsFor, is_for}
 use Rattle.pb_soundness.specs.Apart.{KeepsStillOutside, is_of}
 use Rattle.pb_soundness.specs.Records.{place_of}
-use Rattle.pb_turns.specs.Anew.{ran_anew, reply_to, AnswersAnew, CarriesAnew, FliesAnew}
+use Rattle.pb_soundness.specs.Inputs.{reply_in}
+use Rattle.pb_turns.specs.Anew.{ran_anew, AnswersAnew, CarriesAnew, FliesAnew}
 use Rattle.pb_turns.specs.Crew.{needs_of, place_of_unit, places_of, ticket_in, IsManned}
 use Rattle.pb_turns.specs.Moments.{Moment}
 use Rattle.pb_turns.specs.Rows.{is_started}
@@ -116,7 +117,7 @@ module _ (project : Project) (order : IsInOrder project) (es : List (Event BadUn
           unit = g.unit;
           there = g.there;
           reply = g.reply;
-          replies = g.replies ∙ ap (λ (c : Command). reply_to child c w) same ∙ sym (ap (child (command_of setup project g.unit done')) (sees_on place g.unit has g.there done' (command_of setup project g.unit done') refl w w' only));
+          replies = g.replies ∙ ap (λ (c : Command). reply_in child c w) same ∙ sym (ap (child (command_of setup project g.unit done')) (sees_on place g.unit has g.there done' (command_of setup project g.unit done') refl w w' only));
           files = files_still project order i u there w w' only place g.unit g.there ne ∙ g.files;
           fault = g.fault ∙ ap (λ (c : Command). (ran_anew project g.unit c g.reply).bad) same;
           lines = g.lines ∙ ap (λ (c : Command). unit_lines project g.unit true (ran_anew project g.unit c g.reply).messages) same;
@@ -167,7 +168,7 @@ module _ (child : Answers) (setup : Setup) (project : Project) (order : IsInOrde
         unit = u;
         there = there;
         reply = reply;
-        replies = ap (child c) (flight.sees ∙ sym sees) ∙ ap (λ (d : Command). reply_to child d new) command;
+        replies = ap (child c) (flight.sees ∙ sym sees) ∙ ap (λ (d : Command). reply_in child d new) command;
         files = files;
         fault = ap (λ (r : Ran). r.bad) all;
         lines = told ∙ ap (λ (b : Bool). unit_lines project u b ran.messages) started ∙ ap (λ (r : Ran). unit_lines project u true r.messages) all;

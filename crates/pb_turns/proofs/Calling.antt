@@ -46,7 +46,7 @@ use Rattle.pb_soundness.specs.Records.{Reading, place_of, record_at}
 use Rattle.pb_store.specs.Looking.{looked_at}
 use Rattle.pb_turns.specs.Again.{FliesAgain}
 use Rattle.pb_turns.specs.Anew.{FliesAnew}
-use Rattle.pb_turns.specs.Calling.{AnswersCalling, BeginsCalling, CallsCut, CallsCutOnAny, CallsOver, CallsOnAny, CallsToBegin, EndsAsReplied, FliesFor, CallBasis, reply_in, call_basis, call_basis_on_any}
+use Rattle.pb_turns.specs.Calling.{AnswersCalling, BeginsCalling, CallsCut, CallsCutOnAny, CallsOver, CallsOnAny, CallsToBegin, EndsAsReplied, FliesFor, CallBasis, reply_by, call_basis, call_basis_on_any}
 use Rattle.pb_turns.specs.Crew.{needs_of}
 use Rattle.pb_turns.specs.Moments.{Moment}
 use Rattle.pb_turns.specs.Rows.{is_started}
@@ -203,11 +203,11 @@ module _ (told : CallBasis) (place : ℕ) (u : Planned) (there : unit_at told.pr
 
   -- and so a child gave its reply
   replied_landing : (launched : Launched) (ended : Ended) → IsInFlight told.child c (told.sees place u left) launched.ticket old.starts.flying still
-      → (still launched.ticket → IfSome (child_at launched.ticket old.starts.flying) (λ spawned. LandsAs spawned before ended left)) → EndsAsReplied (reply_in told place u left) u ended left
+      → (still launched.ticket → IfSome (child_at launched.ticket old.starts.flying) (λ spawned. LandsAs spawned before ended left)) → EndsAsReplied (reply_by told place u left) u ended left
   replied_landing launched ended flight lands =
       let landed : LandsAs (child_spawned (told.child c) c flight.spawned launched.ticket) before ended left =
       subst (λ (o : Option ChildInFlight). IfSome o (λ spawned. LandsAs spawned before ended left)) flight.flies (lands flight.stands) in
-      let replies : told.child c (seen_by c flight.spawned) ≡ reply_in told place u left = ap (told.child c) flight.sees ∙ ap (λ (d : Command). told.child d (told.sees place u left)) asks in
+      let replies : told.child c (seen_by c flight.spawned) ≡ reply_by told place u left = ap (told.child c) flight.sees ∙ ap (λ (d : Command). told.child d (told.sees place u left)) asks in
       record {
         answer = landed.answer ∙ ap ended_by replies;
         files = landed_files u.out (told.child c (seen_by c flight.spawned)).files (inside_out c.out flight.spawned.files) before left flight.emptied
@@ -216,7 +216,7 @@ module _ (told : CallBasis) (place : ℕ) (u : Planned) (there : unit_at told.pr
       }
 
   replies_so : (by : Awaited) (answer : Result Ended StartFault) (well : Type 0) (mid : Counts) → WaitsTold told place u c before left old.starts.flying still by → EndsBy by answer well still before left old mid
-      → is_some (child_in by) ≡ true → IfOk answer (λ ended. EndsAsReplied (reply_in told place u left) u ended left)
+      → is_some (child_in by) ≡ true → IfOk answer (λ ended. EndsAsReplied (reply_by told place u left) u ended left)
   replies_so (awaited.Child launched) (Ok ended) well mid flight ends is = replied_landing launched ended flight ends.lands
   replies_so (awaited.Child launched) (Err fault) well mid flight ends is = tt
   replies_so (awaited.Record again) answer well mid waits ends is = absurd (false≢true is)

@@ -49,7 +49,7 @@ use Rattle.pb_run.proofs.Units.{dep_info_inside, inside_file}
 use Rattle.pb_run.proofs.Views.{is_for}
 use Rattle.pb_soundness.specs.Apart.{is_of}
 use Rattle.pb_soundness.specs.Grounded.{Standing}
-use Rattle.pb_soundness.specs.Inputs.{input_in, path_input}
+use Rattle.pb_soundness.specs.Inputs.{input_in, path_input, reply_in}
 use Rattle.pb_soundness.specs.Numbers.{after}
 use Rattle.pb_soundness.specs.Records.{Reading, number_of, place_of, record_at}
 use Rattle.pb_soundness.specs.Reuse.{number_if}
@@ -58,7 +58,7 @@ use Rattle.pb_store.specs.Keeping.{kept_of, numbered, or_zero}
 use Rattle.pb_store.specs.Migrating.{migrated, migrated_by}
 use Rattle.pb_store.specs.declared.replaying.Replayed.{Replayed}
 use Rattle.pb_turns.specs.Again.{CarriesAgain, FliesAgain}
-use Rattle.pb_turns.specs.Anew.{reply_to, CarriesAnew, FliesAnew}
+use Rattle.pb_turns.specs.Anew.{CarriesAnew, FliesAnew}
 use Rattle.pb_turns.specs.Crew.{needs_of}
 use Rattle.pb_turns.specs.Moments.{Moment}
 use Rattle.pb_turns.specs.Rows.{is_started}
@@ -156,10 +156,10 @@ module _ (project : Project) (order : IsInOrder project) (es : List (Event BadUn
               number,
               taken,
               stays ∙ stands ∙ ap Some (
-                  ap (λ (d : Command). record_of read project g.unit d number (ended_by (reply_to child d w)) w) (commands g.unit g.there)
+                  ap (λ (d : Command). record_of read project g.unit d number (ended_by (reply_in child d w)) w) (commands g.unit g.there)
                   ∙ ap (λ (reply : Reply). record_of read project g.unit c number (ended_by reply) w) (sym (ap (child c) (sees_on project order es lawful i u there not_good setup place g.unit has g.there done' c refl w w' only)))
                   ∙ sym (record_stands read project order place g.unit g.there i u there far w w' only c (is_for setup project g.unit done' (order.packages place g.unit g.there)).target
-                  (files_still project order i u there w w' only place g.unit g.there ne) number (ended_by (reply_to child c w')))),
+                  (files_still project order i u there w w' only place g.unit g.there ne) number (ended_by (reply_in child c w')))),
             );
         again = λ none good.
             let (number, taken, stands) = g.again none good in (
@@ -201,15 +201,15 @@ module _ (read : Reading) (child : Answers) (setup : Setup) (project : Project) 
       let (asks, flight) = carries in
       let lands = landed child setup project order place u there done c asks w old launched.ticket still flight well left mid ended ends in
       let lands' = landed child setup project order place u there done c asks w old launched.ticket still flight well' left' mid' ended' ends' in
-      let replies : child c (seen_by c flight.spawned) ≡ reply_to child c new = ap (child c) (flight.sees ∙ sym (sees asks)) in
-      let ended_so : ended ≡ ended_by (reply_to child c new) = lands.answer ∙ ap ended_by replies in
+      let replies : child c (seen_by c flight.spawned) ≡ reply_in child c new = ap (child c) (flight.sees ∙ sym (sees asks)) in
+      let ended_so : ended ≡ ended_by (reply_in child c new) = lands.answer ∙ ap ended_by replies in
       let target : c.target ≡ project.workspace.target = ap (λ (d : Command). d.target) asks ∙ (is_for setup project u done (order.packages place u there)).target in
       stands ∙ ap Some (
       ap (λ (e : Ended). record_of read project u c launched.number e left) ended_so
-      ∙ ap (λ (x : World). record_of read project u c launched.number (ended_by (reply_to child c new)) x) (lands.world ∙ sym lands'.world)
+      ∙ ap (λ (x : World). record_of read project u c launched.number (ended_by (reply_in child c new)) x) (lands.world ∙ sym lands'.world)
       ∙ sym (record_stands read project order place u there place u there far left' new (widen (is_at_or_below (place_of (records_folder project) u.key)) (is_of (records_folder project) u.key) left' new (place_within (records_folder project) u.key) behind) c target
-      (files_kept (records_folder project) u.key u.out left' new order.folder (order.keys place u there) (order.folders place u there) behind) launched.number (ended_by (reply_to child c new)))
-      ∙ ap (λ (d : Command). record_of read project u d launched.number (ended_by (reply_to child d new)) new) (asks ∙ same))
+      (files_kept (records_folder project) u.key u.out left' new order.folder (order.keys place u there) (order.folders place u there) behind) launched.number (ended_by (reply_in child c new)))
+      ∙ ap (λ (d : Command). record_of read project u d launched.number (ended_by (reply_in child d new)) new) (asks ∙ same))
 
   -- its record gave it
   again_record : (first : World) (again : Replayed) → CarriesAgain read setup project done first w u c (awaited.Record again) → (well : Type 0) (left : World) (mid : Counts) (ended : Ended) → EndsBy (awaited.Record again) (Ok ended) well still w left old mid

@@ -11,7 +11,7 @@ use Rattle.pb_flight.proofs.Lists.{get_set_other}
 use Rattle.pb_project.specs.declared.project.Project.{Project}
 use Rattle.pb_store.specs.declared.difference.Difference.{Difference}
 use Rattle.pb_turns.specs.Rows.{Reasons, is_started}
-use Rattle.pb_turns.specs.Story.{states_in, NotesBegun, NotesStarted}
+use Rattle.pb_turns.specs.Story.{states_in, NotesUnbegun, NotesStarted}
 use Rattle.pb_turns.proofs.Happening.{started_now, started_other}
 use Rattle.pb_turns.proofs.Lists.{get_set_within}
 use Rattle.pb_turns.proofs.States.{untouched_cases}
@@ -19,7 +19,7 @@ use Rattle.pb_unit.specs.declared.plan.Planned.{Planned}
 
 -- one more has begun, of which something is noted
 pub notes_begun : (project : Project) (es : List (Event BadUnit)) (first old now : Reasons) (unit : ℕ) (spawned : Bool) (reason : Option (Option Difference)) → slice_get (states_in project es) unit ≡ Some Untouched → now ≡ slice_set old unit reason
-    → NotesBegun project es first old → NotesBegun project (Began unit spawned ∷ es) first now
+    → NotesUnbegun project es first old → NotesUnbegun project (Began unit spawned ∷ es) first now
 notes_begun project es first old now unit spawned reason there is notes place at =
     let (ne, before) = untouched_cases (states_in project es) unit place Untouched Begun there refl at in
     ap (λ (reasons : Reasons). slice_get reasons place) is ∙ (get_set_other old unit place reason ne ∙ notes place before)
@@ -39,7 +39,7 @@ started_begun project es old now unit spawned d within its is notes place s at n
 
 -- one in flight has answered
 pub notes_answered : (project : Project) (es : List (Event BadUnit)) (first now : Reasons) (unit : ℕ) (answer : Answer BadUnit) → slice_get (states_in project es) unit ≡ Some Begun
-    → NotesBegun project es first now → NotesBegun project (Gave unit answer ∷ es) first now
+    → NotesUnbegun project es first now → NotesUnbegun project (Gave unit answer ∷ es) first now
 notes_answered project es first now unit answer there notes place at =
     let (ne, before) = untouched_cases (states_in project es) unit place Begun (Answered answer) there refl at in
     notes place before

@@ -19,12 +19,9 @@ use Rattle.pb_run.specs.Telling.{unit_lines}
 use Rattle.pb_run.specs.declared.begun.Awaited.{Awaited}
 use Rattle.pb_run.specs.declared.begun.Awaited.TheVariants as awaited
 use Rattle.pb_run.specs.declared.ran.Ran.{Ran}
+use Rattle.pb_soundness.specs.Inputs.{reply_in}
 use Rattle.pb_turns.specs.declared.crew.Aloft.{Aloft}
 use Rattle.pb_unit.specs.declared.plan.Planned.{Planned}
-
--- what a child gives to a command, by what that sees of a world
-abbrev pub reply_to : Answers → Command → World → Reply
-reply_to child c w = child c (seen_by c w)
 
 -- what comes of a unit by such a reply
 abbrev pub ran_anew : Project → Planned → Command → Reply → Ran
@@ -35,7 +32,7 @@ pub record AnswersAnew (child : Answers) (setup : Setup) (project : Project) (do
   pub unit : Planned
   pub there : unit_at project place ≡ Some unit
   pub reply : Reply
-  pub replies : reply ≡ reply_to child (command_of setup project unit done) now
+  pub replies : reply ≡ reply_in child (command_of setup project unit done) now
   pub files : files_in unit.out now.files ≡ replied_files unit.out reply
   pub fault : answer.fault ≡ (ran_anew project unit (command_of setup project unit done) reply).bad
   pub lines : answer.lines ≡ unit_lines project unit true (ran_anew project unit (command_of setup project unit done) reply).messages

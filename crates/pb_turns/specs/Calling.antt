@@ -77,8 +77,8 @@ pub record StopsBeginning (b : CallBasis) (place : ℕ) (fault : BuildFault) (w 
 -- A unit answers.
 
 -- the reply of the child to the command of the unit at a place, by what it sees of a world
-abbrev pub reply_in : CallBasis → ℕ → Planned → World → Reply
-reply_in b place u w = b.child (b.command place u) (b.sees place u w)
+abbrev pub reply_by : CallBasis → ℕ → Planned → World → Reply
+reply_by b place u w = b.child (b.command place u) (b.sees place u w)
 
 -- a child ended as a reply says, and left just its files in the unit's folder
 pub record EndsAsReplied (reply : Reply) (u : Planned) (ended : Ended) (left : World) : Type 0 where
@@ -101,7 +101,7 @@ pub record AnswersCalling (b : CallBasis) (place : ℕ) (spawned : Bool) (result
   pub mid : Counts
   pub answer : Result Ended StartFault
   pub ends : EndsBy by answer (IsOk result) (λ ticket. Unit {0}) before left old mid
-  pub replied : spawned ≡ true → IfOk answer (λ ended. EndsAsReplied (reply_in b place unit left) unit ended left)
+  pub replied : spawned ≡ true → IfOk answer (λ ended. EndsAsReplied (reply_by b place unit left) unit ended left)
   pub only : ChangesOnly (is_at_or_below (place_of (records_folder b.project) unit.key)) left after
   pub calls : CallsBehind unit.key by (answered_called b.read b.project unit (b.command place unit) left by) answer result mid new
 

@@ -43,7 +43,8 @@ use Rattle.pb_store.specs.Keeping.{numbered}
 use Rattle.pb_store.specs.Migrating.{TakesNumber, lacks_number, migrated}
 use Rattle.pb_store.specs.declared.difference.Difference.{Difference}
 use Rattle.pb_turns.specs.Again.{AnswersAgain, FliesAgain}
-use Rattle.pb_turns.specs.Anew.{reply_to, AnswersAnew, FliesAnew}
+use Rattle.pb_soundness.specs.Inputs.{reply_in}
+use Rattle.pb_turns.specs.Anew.{AnswersAnew, FliesAnew}
 use Rattle.pb_turns.specs.Calling.{CallsCut, CallsCutOnAny, CallsOver, CallsOnAny, call_basis}
 use Rattle.pb_turns.specs.Crew.{needs_of, launched_of}
 use Rattle.pb_turns.specs.Moments.{Moment}
@@ -105,7 +106,7 @@ pub record Stops (tells : Bool) (fault : BuildFault) (project : Project) (first 
   pub starts : now.counts.starts.count ≡ upped (length (started_by es)) first.counts.starts.count
   pub settings : now.counts.starts.settings ≡ first.counts.starts.settings
 
--- the next run number after these events, by the next one at first: a unit that begins takes a number where a child is started for it, and none where none is; one that answers takes at most one, and none where a child was started for it, where it is bad, or where it is known that its record had one. That a record which is kept or numbered has the number that was taken is said of the records (`HasRecord`); and where a removal failed as a unit began, the number that was taken for it is not counted here
+-- the next run number after these events, by the next one at first: a unit that begins takes a number where a child is started for it, and none where none is; one that answers takes at most one, and none where a child was started for it, where it is bad, or where it is known that its record had one. That a record which is kept or numbered has the number that was taken is said of the records (`LeavesRecord`); and where a removal failed as a unit began, the number that was taken for it is not counted here
 abbrev pub NumbersGiven : (ℕ → Type 0) → List (Event BadUnit) → Option ℕ → Option ℕ → Type 0
 NumbersGiven IsNumbered [] first now = now ≡ first
 NumbersGiven IsNumbered (Began unit true ∷ es) first now = (number : ℕ) × NumbersGiven IsNumbered es first (Some number) × (now ≡ after number)
@@ -256,7 +257,7 @@ events_until (Gave unit answer ∷ es) place = if unit == place then es else eve
 
 -- the record of a unit for which a child was started: that of its command, of what its child gives to what it sees of this world, of the values that the inputs which are found in that have in this world, and of the numbers that the records of the needed units have; with this run number
 abbrev pub record_anew : Reading → Answers → Setup → Project → List (Option (List Directive)) → World → Planned → ℕ → Record
-record_anew read child setup project done now u number = record_of read project u (command_of setup project u done) number (ended_by (reply_to child (command_of setup project u done) now)) now
+record_anew read child setup project done now u number = record_of read project u (command_of setup project u done) number (ended_by (reply_in child (command_of setup project u done) now)) now
 
 -- which record stands in this world in the place of the unit at a place that has answered, of which it is said whether a child was started for it, and what had happened before it began, and before it answered. Of a good one for which a child was started: its record, with the run number that was the next as it began. Of a good one without a child: the record that stood at first, where that had a number; else that record with the run number that was the next as it answered, and with the numbers that the records of the needed units have. Of a bad one without a child: what stood at first
 pub record LeavesRecord (read : Reading) (child : Answers) (setup : Setup) (project : Project) (done : List (Option (List Directive))) (started : Bool) (before until : List (Event BadUnit)) (next : Option ℕ) (first now : World) (place : ℕ) (answer : Answer BadUnit) : Type 0 where
@@ -301,8 +302,8 @@ abbrev pub IsQuiet : Project → Reading → List (Event BadUnit) → World → 
 IsQuiet project read es first now = started_by es ≡ [] → ((place : ℕ) → LacksNoNumber project read first place) → now ≡ first
 
 -- of a unit that has not begun the same is noted as at first
-abbrev pub NotesBegun : Project → List (Event BadUnit) → Reasons → Reasons → Type 0
-NotesBegun project es first now = (place : ℕ) → slice_get (states_in project es) place ≡ Some Untouched → slice_get now place ≡ slice_get first place
+abbrev pub NotesUnbegun : Project → List (Event BadUnit) → Reasons → Reasons → Type 0
+NotesUnbegun project es first now = (place : ℕ) → slice_get (states_in project es) place ≡ Some Untouched → slice_get now place ≡ slice_get first place
 
 -- of each that has begun it is noted what differed first, which is something exactly where a child was started for it
 abbrev pub NotesStarted : Project → List (Event BadUnit) → Reasons → Type 0
@@ -339,7 +340,7 @@ pub record Story (tells : Bool) (child : Answers) (first : UnitCrew) (at : Momen
   pub taken : IsTrue tells → (read : Reading) → IsReading read → NumbersGiven (LacksNoNumber c.project read at.world) es first.store.next c.store.next
   pub calls : IsTrue tells → FromFirst child first at c (λ b. CallsOver (call_basis b) es at.world at.counts now.world now.counts)
   pub calls_on_any : IsTrue tells → CallsOnAny child c.setup c.project c.done.items es at.world at.counts now.world now.counts
-  pub unnoted : NotesBegun c.project es first.reasons.items c.reasons.items
+  pub unnoted : NotesUnbegun c.project es first.reasons.items c.reasons.items
   pub noted : NotesStarted c.project es c.reasons.items
 
 -- the last event is the beginning of the unit of this key
