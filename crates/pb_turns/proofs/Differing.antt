@@ -8,7 +8,7 @@ use Rattle.pb_command.specs.Command.{command_of}
 use Rattle.pb_directive.specs.declared.directive.Directive.{Directive}
 use Rattle.pb_flight.specs.declared.flight.Answer.{Answer}
 use Rattle.pb_flight.specs.declared.flight.State.TheVariants.{Untouched, Begun, Answered}
-use Rattle.pb_flight.specs.Events.{Event, Began, Gave, IsLawful, MayBegin, begin, flying_after, started_by}
+use Rattle.pb_flight.specs.Events.{Event, Began, Gave, IsLawful, MayBegin, begin, started_by}
 use Rattle.pb_flight.specs.Laws.{HasBegun}
 use Rattle.pb_flight.specs.Table.{are_good, is_good_at}
 use Rattle.pb_flight.proofs.Handing.{began_lawful}
@@ -32,7 +32,7 @@ use Rattle.pb_soundness.specs.Records.{Reading, place_of, record_at}
 use Rattle.pb_store.specs.Differences.{FirstDifference}
 use Rattle.pb_store.specs.Migrating.{lacks_number}
 use Rattle.pb_store.specs.declared.difference.Difference.{Difference}
-use Rattle.pb_turns.specs.Crew.{needs_of, places_of}
+use Rattle.pb_turns.specs.Crew.{needs_of}
 use Rattle.pb_turns.specs.Moments.{Moment}
 use Rattle.pb_turns.specs.Rows.{Reasons}
 use Rattle.pb_turns.specs.Story.{states_in, AllBegan, AllBeganFor, AllBeganOnAny, BeganFor, FliesIn, HadDiffered, IsQuiet, KeepsChildless, KeepsNoneInFlight, OnlyOf, StartedFor, StartedOnAny, Story}
@@ -44,7 +44,6 @@ use Rattle.pb_turns.proofs.Lists.{all_get, get_put}
 use Rattle.pb_turns.proofs.Reaching.{all_reach, not_of_two, place_outside_other}
 use Rattle.pb_turns.proofs.States.{another, begun_cases, begun_now, good_set}
 use Rattle.pb_turns.proofs.Staying.{OrBefore, answered_beside, answered_on, began_beside, begun_apart, inside_folder, start_told}
-use Rattle.pb_turns.proofs.Waiting.{keeps_childless}
 use Rattle.pb_unit.specs.declared.plan.Planned.{Planned}
 
 some_none : {A : Type 0} (x : A) → Some x ≡ None → ⊥
@@ -54,7 +53,7 @@ module _ (project : Project) (read : Reading) (sources : World) where
   -- A unit begins.
 
   module _ (command : ℕ → Planned → Command) (order : IsInOrder project) (es : List (Event BadUnit)) (lawful : IsLawful (needs_of project) es) (reasons : Reasons) (first w w' : World) (only_first : OnlyOf project es first w) (stay : from_nothing project.workspace.target w ≡ sources)
-      (quiet : IsQuiet project read es first w) (gone : KeepsNoneInFlight project es None w) (waiting : KeepsChildless project es first w) (began_before : AllBegan project read sources command es reasons first w) (unit : ℕ) (u : Planned) (there : unit_at project unit ≡ Some u) (may : MayBegin (needs_of project) (states_in project es) unit) (only : ChangesOnly (is_of (records_folder project) u.key) w w') where
+      (quiet : IsQuiet project read es first w) (gone : KeepsNoneInFlight project es None w) (waiting : KeepsChildless project es None first w) (began_before : AllBegan project read sources command es reasons first w) (unit : ℕ) (u : Planned) (there : unit_at project unit ≡ Some u) (may : MayBegin (needs_of project) (states_in project es) unit) (only : ChangesOnly (is_of (records_folder project) u.key) w w') where
     ne_begun : (place : ℕ) → HasBegun (states_in project es) place → unit ≢ place
     ne_begun place has = another (states_in project es) unit place may.untouched has
 
@@ -84,7 +83,7 @@ module _ (project : Project) (read : Reading) (sources : World) where
         reached_stay = λ p v q among at inside. sym (only.files q (not_of_two project order p unit v u at there (ne_good p among) q inside));
         answered_stay = λ p v a q then' still at inside. sym (only.files q (not_of_two project order p unit v u at there (λ same. unanswered p a still (sym same)) q inside));
         unrecorded = subst (λ (x : List (Event BadUnit)). KeepsNoneInFlight project x None w) (sym (before_now es unit spawned)) gone;
-        waiting_stay = subst (λ (x : List (Event BadUnit)). KeepsChildless project x first w) (sym (before_now es unit spawned)) waiting;
+        waiting_stay = subst (λ (x : List (Event BadUnit)). KeepsChildless project x None first w) (sym (before_now es unit spawned)) waiting;
         difference = difference;
         named = named;
         started = started_now es unit spawned ∙ flag;
@@ -109,7 +108,7 @@ module _ (project : Project) (read : Reading) (sources : World) where
             f.answered_stay p v a q (subst (λ (x : List (Event BadUnit)). slice_get (states_in project x) p ≡ Some (Answered a)) (before_other es unit place spawned (ne_begun place has)) then')
             (sym (get_set_other (states_in project es) unit p Begun (unanswered p a still)) ∙ still) at inside;
         unrecorded = subst (λ (x : List (Event BadUnit)). KeepsNoneInFlight project x None f.world) (sym (before_other es unit place spawned (ne_begun place has))) f.unrecorded;
-        waiting_stay = subst (λ (x : List (Event BadUnit)). KeepsChildless project x first f.world) (sym (before_other es unit place spawned (ne_begun place has))) f.waiting_stay;
+        waiting_stay = subst (λ (x : List (Event BadUnit)). KeepsChildless project x None first f.world) (sym (before_other es unit place spawned (ne_begun place has))) f.waiting_stay;
         difference = f.difference;
         named = f.named;
         started = started_other es unit place spawned (ne_begun place has) ∙ f.started;
@@ -233,11 +232,8 @@ module _ (tells : Bool) (child : Answers) (first old : UnitCrew) (at now new : M
 
   -- A unit begins.
 
-  module _ (flying : places_of old.aloft.items ≡ flying_after es) (unit : ℕ) (u : Planned) (there : unit_at old.project unit ≡ Some u) (may : MayBegin (needs_of old.project) (states_in old.project es) unit) (only : IsTrue tells → ChangesOnly (is_of (records_folder old.project) u.key) now.world new.world)
+  module _ (unit : ℕ) (u : Planned) (there : unit_at old.project unit ≡ Some u) (may : MayBegin (needs_of old.project) (states_in old.project es) unit) (only : IsTrue tells → ChangesOnly (is_of (records_folder old.project) u.key) now.world new.world)
       (done : List (Option (List Directive))) (same_done : done ≡ old.done.items) where
-    waiting : IsTrue tells → (read : Reading) → IsReading read → KeepsChildless old.project es at.world now.world
-    waiting t read reading = keeps_childless read old.setup old.project old.done.items at.world now.world es old.aloft.items now.counts.starts.flying lawful flying (story.changes t).flies ((story.again t).waits read reading)
-
     by_done : (read : Reading) (c : Command) (difference : Option Difference) → c ≡ command_of old.setup old.project u done → FirstDifference read (records_folder old.project) u.key c now.world difference
         → FirstDifference read (records_folder old.project) u.key (commands_of old.done.items unit u) now.world difference
     by_done read c difference asks named = subst (λ (d : Command). FirstDifference read (records_folder old.project) u.key d now.world difference) (asks ∙ ap (command_of old.setup old.project u) same_done) named
@@ -249,7 +245,7 @@ module _ (tells : Bool) (child : Answers) (first old : UnitCrew) (at now new : M
         → IsTrue tells → AllBeganOnAny old.setup old.project old.done.items (Began unit (is_some (child_of begun)) ∷ es) reasons' at.world new.world
     begun_began begun asks difference reasons' differs spawned within same noted t read reading =
         subst (λ (items : Reasons). AllBegan old.project read (from_nothing old.project.workspace.target at.world) (commands_of old.done.items) (Began unit (is_some (child_of begun)) ∷ es) items at.world new.world) (sym noted)
-        (began_more old.project read (from_nothing old.project.workspace.target at.world) (commands_of old.done.items) order es lawful old.reasons.items at.world now.world new.world (story.changes t).only (stay_first t) (story.quiet t read reading) (story.unrecorded t) (waiting t read reading) (story.began t read reading) unit u there may (only t)
+        (began_more old.project read (from_nothing old.project.workspace.target at.world) (commands_of old.done.items) order es lawful old.reasons.items at.world now.world new.world (story.changes t).only (stay_first t) (story.quiet t read reading) (story.unrecorded t) (story.childless t) (story.began t read reading) unit u there may (only t)
         (is_some (child_of begun)) difference (by_done read begun.command difference asks (differs read reading t)) spawned within
         (λ none. same t (none_of (child_of begun) (spawned ∙ ap (λ (o : Option Difference). is_some o) none))))
 
@@ -265,7 +261,7 @@ module _ (tells : Bool) (child : Answers) (first old : UnitCrew) (at now new : M
         start_told old.project read (from_nothing old.project.workspace.target at.world) (commands_of old.done.items) fault es at.world new.world unit spawned (λ so.
         let (difference, named) = cause read reading t so in (
           slice_set old.reasons.items unit (Some (Some difference)),
-          own_began old.project read (from_nothing old.project.workspace.target at.world) (commands_of old.done.items) order es lawful old.reasons.items at.world now.world new.world (story.changes t).only (stay_first t) (story.quiet t read reading) (story.unrecorded t) (waiting t read reading) (story.began t read reading) unit u there may (only t)
+          own_began old.project read (from_nothing old.project.workspace.target at.world) (commands_of old.done.items) order es lawful old.reasons.items at.world now.world new.world (story.changes t).only (stay_first t) (story.quiet t read reading) (story.unrecorded t) (story.childless t) (story.began t read reading) unit u there may (only t)
               true (Some difference) (by_done read (command_of old.setup old.project u done) (Some difference) refl named) refl within (λ none. absurd (some_none difference none)),
         ))
 

@@ -1,8 +1,9 @@
 -- How the units of a project end, from the story of their crew.
-use Rattle.std.proofs.Common.{◌≡◌, ◌∙◌, ◌+◌, ◌<◌, Bool, true, List, [], ◌∷◌, ℕ, zero, suc, Option, Some, None, Contains, IsTrue, refl, sym, ap, subst, inl, arith, slice_get, map, take, length, is_none}
+use Rattle.std.proofs.Common.{◌≡◌, ◌∙◌, ◌+◌, ◌<◌, Bool, true, false, List, [], ◌∷◌, ℕ, zero, suc, Option, Some, None, Contains, IsTrue, refl, sym, ap, subst, inl, arith, slice_get, map, take, length, is_none}
 use Rattle.std.proofs.lemmas.List.{length-map}
 use Rattle.std.proofs.lemmas.Bool.{false≢true}
 use Rattle.std.proofs.lemmas.Option.{slice_get_within}
+use Rattle.std.specs.FinMap as finite
 use Rattle.std.specs.Io.KnownBytes.{Appends}
 use Rattle.std.specs.List.{AllByRecursion}
 use Rattle.pb_answer.specs.declared.fault.BuildFault.{BuildFault}
@@ -33,6 +34,7 @@ use Rattle.pb_run.specs.Halves.{Footing, Basis, basis, Keeps, outcomes_in}
 use Rattle.pb_run.specs.Standing.{IsInOrder, records_folder}
 use Rattle.pb_run.specs.Telling.{unit_lines}
 use Rattle.pb_run.proofs.Shown.{each_of}
+use Rattle.pb_soundness.specs.Apart.{is_of}
 use Rattle.pb_soundness.specs.Records.{Reading, record_at}
 use Rattle.pb_store.specs.Held.{HoldsNumbers}
 use Rattle.pb_turns.specs.Calling.{CallsCut, CallsCutOnAny, CallsOver, CallsOnAny, call_basis}
@@ -41,7 +43,7 @@ use Rattle.pb_turns.specs.Ends.{rows_in, nothing_said, Stands, StandsWhole, Stan
 use Rattle.pb_turns.specs.Laws.{SaysFirstRows}
 use Rattle.pb_turns.specs.Moments.{Moment, Heard}
 use Rattle.pb_turns.specs.Rows.{summary_of, started_keys, is_started, messages_in, bad_of, directives_told, Reasons, key_told, said_told, bad_told, differences_of, kept_of, is_success, noted_of, count_told, noted_told}
-use Rattle.pb_turns.specs.Story.{states_in, untouched, AllAnswerAgain, Stops, Changes, Happened, AllBegan, AllBeganFor, AllBeganOnAny, CameAfter, HadDiffered, LacksNoNumber, NamesUnit, NumbersGiven, Spends, StartedOnAny, HasNoRecord, KeepsNoneOfBad, KeepsNoneInFlight, HasGiven, Story, StoryEnds, OnlyOf, NotesStarted, AllAnswerAnew, AllLeaveRecords}
+use Rattle.pb_turns.specs.Story.{states_in, untouched, AllAnswerAgain, Stops, Changes, Happened, AllBegan, AllBeganFor, AllBeganOnAny, CameAfter, HadDiffered, LacksNoNumber, NamesUnit, NumbersGiven, Spends, StartedOnAny, HasNoRecord, KeepsNoneOfBad, KeepsNoneInFlight, KeepsChildless, HasGiven, Story, StoryEnds, OnlyOf, NotesStarted, AllAnswerAnew, AllLeaveRecords}
 use Rattle.pb_turns.specs.Summing.{summary_by, keys_at, differences_at}
 use Rattle.pb_turns.specs.declared.crew.Aloft.{Aloft}
 use Rattle.pb_turns.specs.declared.crew.UnitCrew.{UnitCrew}
@@ -52,7 +54,7 @@ use Rattle.pb_turns.proofs.Counting.{appends_none, stops_refused}
 use Rattle.pb_turns.proofs.Differing.{began_from_nothing, started_from_nothing}
 use Rattle.pb_turns.proofs.Leaving.{recordings_first}
 use Rattle.pb_turns.proofs.States.{due_all}
-use Rattle.pb_turns.proofs.Staying.{none_began, or_before}
+use Rattle.pb_turns.proofs.Staying.{none_began, or_before, started_after}
 use Rattle.pb_turns.proofs.Unbegun.{none_noted}
 use Rattle.pb_turns.proofs.Unkept.{none_bad, none_in_flight}
 use Rattle.pb_turns.proofs.Telling.{AllTold, Ended, all_good_at, due_told, first_told, ended_of, success_of}
@@ -115,6 +117,7 @@ story_first tells child c at still aloft started holds = record {
     gave = λ place answer is. absurd (no_answer answer (untouched_at (needs_of c.project) place (Answered answer) is));
   };
   unrecorded = λ t. none_in_flight c.project at.world;
+  childless = λ t place u q there state apart started inside. refl;
   again = λ t. replays_first c.setup c.project c.done.items c.aloft.items at.world aloft;
   anew = λ t. replies_first child c.setup c.project c.done.items c.aloft.items at.world at.counts.starts.flying still aloft;
   left = λ t. recordings_first child c.setup c.project c.done.items c.aloft.items c.store.next at.world aloft;
@@ -213,6 +216,8 @@ module _ {S : Type 0} (tells : Bool) (child : Answers) (Turns : S → List ℕ �
     (said : first.done.items ≡ nothing_said first.project) (drained : Drained mid.counts new.counts) (landed : new.counts.starts.flying ≡ []) (heard : new.heard ≡ mid.heard) (same : d ≡ record c { aloft = d.aloft })
     (changes : (fw : World) (events : List (Event BadUnit)) → IsTrue tells → Changes c.project fw c.aloft.items events mid.world mid.counts.starts.flying → Changes c.project fw d.aloft.items events new.world new.counts.starts.flying)
     (unrecorded : (fw : World) (events : List (Event BadUnit)) (place : ℕ) (u : Planned) → IsTrue tells → Changes c.project fw c.aloft.items events mid.world mid.counts.starts.flying → unit_at c.project place ≡ Some u → HasNoRecord c.project u mid.world → HasNoRecord c.project u new.world)
+    (stays : (fw : World) (events : List (Event BadUnit)) (place : ℕ) (u : Planned) (q : List ℕ) → IsTrue tells → Changes c.project fw c.aloft.items events mid.world mid.counts.starts.flying → unit_at c.project place ≡ Some u → is_started events place ≡ false
+    → is_of (records_folder c.project) u.key q ≡ true → finite.get new.world.files q ≡ finite.get mid.world.files q)
     (happened : (b : Basis) (events : List (Event BadUnit)) → IsTrue tells → b.project ≡ c.project → Happened b c.done.items c.aloft.items c.store.next events mid.world mid.counts.starts.flying still
     → Happened b d.done.items d.aloft.items d.store.next events new.world new.counts.starts.flying still')
     (begun : (read : Reading) (sources : World) (command : ℕ → Planned → Command) (fault : BuildFault) (events before : List (Event BadUnit)) (reasons : Reasons) (fw : World) → IsTrue tells → IsLawful (needs_of c.project) events → CameAfter c.project fault before events
@@ -278,6 +283,9 @@ module _ {S : Type 0} (tells : Bool) (child : Answers) (Turns : S → List ℕ �
     only = λ t. subst (λ (p : Project). OnlyOf p es at.world new.world) ends.project (changes at.world es t (ends.changes t)).only;
     unkept = λ t. subst (λ (p : Project). KeepsNoneOfBad p es new.world) ends.project (changes at.world es t (ends.changes t)).unkept;
     dropped = λ t. subst (λ (p : Project). KeepsNoneInFlight p ends.before asked new.world) ends.project (λ place u there state apart started. unrecorded at.world es place u t (ends.changes t) there (ends.unrecorded t place u there state apart started));
+    childless = λ t. subst (λ (p : Project). KeepsChildless p ends.before asked at.world new.world) ends.project
+        (λ place u q there state apart started inside.
+        stays at.world es place u q t (ends.changes t) there (started_after c.project ends.before es (lawful ends.project flies) (or_before c.project fault ends.before es ends.came) place state started) inside ∙ ends.childless t place u q there state apart started inside);
     reasons = c.reasons.items;
     done = c.done.items;
     began = λ t. on_first (λ s p. AllBeganOnAny s p c.done.items ends.before c.reasons.items at.world new.world) ends.setup ends.project (began_new fault ends.before c.reasons.items refl (lawful ends.project flies) ends.came ends.changes ends.began t);
@@ -311,6 +319,7 @@ module _ {S : Type 0} (tells : Bool) (child : Answers) (Turns : S → List ℕ �
     most = s.goes.most;
     changes = s.changes;
     unrecorded = s.unrecorded;
+    childless = s.childless;
     again = λ t. (s.again t).gave;
     anew = λ t. (s.anew t).gave;
     left = λ t. (s.left t).gave;
@@ -387,6 +396,8 @@ module _ {S : Type 0} (tells : Bool) (child : Answers) (Turns : S → List ℕ �
       taken = λ t read reading. subst (λ (p : Project). NumbersGiven (LacksNoNumber p read at.world) es first.store.next c.store.next) story.project (story.taken t read reading);
       unkept = λ t. subst (λ (p : Project). KeepsNoneOfBad p es new.world) story.project (changes at.world es t (story.changes t)).unkept;
       dropped = λ t. subst (λ (p : Project). KeepsNoneInFlight p es None new.world) story.project (λ place u there state apart started. unrecorded at.world es place u t (story.changes t) there (story.unrecorded t place u there state apart started));
+      childless = λ t. subst (λ (p : Project). KeepsChildless p es None at.world new.world) story.project
+          (λ place u q there state apart started inside. stays at.world es place u q t (story.changes t) there started inside ∙ story.childless t place u q there state apart started inside);
       began = λ t. on_first (λ s p. AllBeganOnAny s p c.done.items es d.reasons.items at.world new.world) story.setup story.project (began_whole t);
       again = λ t. on_first (λ s p. AllAnswerAgain s p es c.done.items at.world) story.setup story.project (story.again t).gave;
       anew = λ t. on_first (λ s p. AllAnswerAnew child s p es c.done.items new.world) story.setup story.project (anew c.setup c.done.items es at.world t (lawful story.project flown.flies) (story.changes t) (story.anew t).gave);
@@ -423,6 +434,7 @@ ends_before tells child Turns setup project next from at none = record {
   only = λ t. record { variables = refl; files = λ q outside. refl };
   unkept = λ t. none_bad project at.world;
   dropped = λ t. none_in_flight project at.world;
+  childless = λ t place u q there state apart started inside. refl;
   reasons = [];
   done = [];
   began = λ t read reading place has. absurd (none_begun project place has);

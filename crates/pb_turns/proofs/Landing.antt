@@ -1,5 +1,6 @@
 -- What has happened, where the child of a unit in flight is dropped.
-use Rattle.std.proofs.Common.{◌≡◌, ◌≢◌, ◌∙◌, inl, inr, List, ℕ, Option, Some, None, refl, sym, ap, subst, slice_get}
+use Rattle.std.proofs.Common.{◌≡◌, ◌≢◌, ◌∙◌, inl, inr, true, false, List, ℕ, Option, Some, None, refl, sym, ap, subst, slice_get}
+use Rattle.std.specs.FinMap as finite
 use Rattle.std.specs.List.{remove}
 use Rattle.std.proofs.lemmas.Bool.{cases_eq}
 use Rattle.std.specs.Prelude.{IfSome}
@@ -31,16 +32,18 @@ use Rattle.pb_run.proofs.Spawning.{launched_gone, out_within, widen}
 use Rattle.pb_soundness.specs.Apart.{is_of}
 use Rattle.pb_soundness.specs.Records.{Reading, out_of}
 use Rattle.pb_turns.specs.Crew.{needs_of, IsManned, IsOfPlan}
-use Rattle.pb_turns.specs.Rows.{Reasons}
+use Rattle.pb_turns.specs.Rows.{Reasons, is_started}
 use Rattle.pb_turns.specs.Story.{states_in, AllAnswerAnew, AllBegan, AllLeaveRecords, Changes, FliesIn, Happened, HasNoRecord, CameAfter, HadDiffered}
 use Rattle.pb_turns.specs.declared.crew.Aloft.{Aloft}
 use Rattle.pb_turns.specs.declared.crew.UnitCrew.{UnitCrew}
 use Rattle.pb_turns.proofs.Anew.{gave_on}
 use Rattle.pb_turns.proofs.Answered as answered
 use Rattle.pb_turns.proofs.Changing.{its_writes, changes_less}
+use Rattle.pb_turns.proofs.Happening.{none_of}
 use Rattle.pb_turns.proofs.Leaving.{all_left_on}
 use Rattle.pb_turns.proofs.Lists.{all_get}
 use Rattle.pb_turns.proofs.Manning.{flying_of}
+use Rattle.pb_turns.proofs.Reaching.{not_of_two}
 use Rattle.pb_turns.proofs.Staying.{begun_apart, dropped_beside, none_dropped, start_beside}
 use Rattle.pb_turns.proofs.Unkept.{none_still}
 use Rattle.pb_unit.specs.declared.plan.Planned.{Planned}
@@ -147,3 +150,16 @@ left_dropped c counts manned child setup done es next first w w' index a at lawf
     let of_plan : IsOfPlan c.project a = all_get (IsOfPlan c.project) c.aloft.items index a manned.units at in
     let so : FliesIn c.project es w counts.starts.flying a = all_get (FliesIn c.project es w counts.starts.flying) c.aloft.items index a old.flies at in
     all_left_on c.project manned.order es lawful a.unit of_plan.unit of_plan.there (ap is_good_at so.state) setup child w w' (only_its c counts manned es w w' a of_plan.unit of_plan.there so only) (λ b is. begun_apart b (sym so.state ∙ is)) done next first gave
+
+-- nothing changes of one for which no child was started
+pub childless_dropped : (c : UnitCrew) (counts : Counts) (manned : IsManned c counts) (first : World) (es : List (Event BadUnit)) (w w' : World) (index : ℕ) (a : Aloft) (at : slice_get c.aloft.items index ≡ Some a) (old : Changes c.project first c.aloft.items es w counts.starts.flying)
+    → ((out : List ℕ) → WritesTo out (child_of a.begun) counts.starts.flying → ChangesOnly (is_at_or_below out) w w') → (place : ℕ) (v : Planned) (q : List ℕ) → unit_at c.project place ≡ Some v → is_started es place ≡ false → is_of (records_folder c.project) v.key q ≡ true
+    → finite.get w'.files q ≡ finite.get w.files q
+childless_dropped c counts manned first es w w' index a at old only place v q there started inside =
+    let of_plan : IsOfPlan c.project a = all_get (IsOfPlan c.project) c.aloft.items index a manned.units at in
+    let so : FliesIn c.project es w counts.starts.flying a = all_get (FliesIn c.project es w counts.starts.flying) c.aloft.items index a old.flies at in
+    elim (cases_eq a.unit place) [
+      | inl same ↦ none_dropped (child_of a.begun) counts.starts.flying w w' (none_of (child_of a.begun) (sym so.started ∙ ap (is_started es) same ∙ started)) only q
+      | inr ne ↦
+          (only_its c counts manned es w w' a of_plan.unit of_plan.there so only).files q (not_of_two c.project manned.order place a.unit v of_plan.unit there of_plan.there (λ e. ne (sym e)) q inside)
+    ]

@@ -126,6 +126,13 @@ flew_before project before es place spawned lawful (inr (unit, new, is)) state s
     flew_last project before unit place new spawned may.untouched (subst (λ (x : List (Event BadUnit)). slice_get (states_in project x) place ≡ Some Begun) is state)
     (subst (λ (x : List (Event BadUnit)). is_started x place ≡ spawned) is started)
 
+-- a unit for which no child was started had begun so before
+pub started_after : (project : Project) (before es : List (Event BadUnit)) → IsLawful (needs_of project) es → OrBefore before es → (place : ℕ) → slice_get (states_in project before) place ≡ Some Begun → is_started before place ≡ false → is_started es place ≡ false
+started_after project before es lawful (inl same) place state started = ap (λ (x : List (Event BadUnit)). is_started x place) same ∙ started
+started_after project before es lawful (inr (unit, new, is)) place state started =
+    let (lawful_before, may) = began_lawful (needs_of project) _ before unit new (subst (IsLawful (needs_of project)) is lawful) in
+    ap (λ (x : List (Event BadUnit)). is_started x place) is ∙ started_other before unit place new (another (states_in project before) unit place may.untouched (Begun, state, refl)) ∙ started
+
 second : (x y : Bool) → y ≡ true → x || y ≡ true
 second true y h = refl
 second false y h = h

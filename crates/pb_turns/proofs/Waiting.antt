@@ -1,16 +1,16 @@
 -- Units in flight for which no child was started wait for what their records gave at first.
-use Rattle.std.proofs.Common.{◌≡◌, ◌∙◌, inl, inr, not, false, true, List, [], ◌∷◌, ℕ, suc, Option, Some, None, Result, Contains, refl, sym, ap, subst, slice_get}
+use Rattle.std.proofs.Common.{◌≡◌, ◌≢◌, ◌∙◌, inl, inr, not, Bool, false, true, List, ◌∷◌, ℕ, Option, Some, None, Result, refl, sym, ap, subst, slice_get}
+use Rattle.std.proofs.lemmas.Bool.{cases_eq}
 use Rattle.std.specs.FinMap as finite
-use Rattle.std.specs.List.{AllByRecursion}
 use Rattle.pb_answer.specs.declared.bad_unit.BadUnit.{BadUnit}
 use Rattle.pb_directive.specs.declared.directive.Directive.{Directive}
-use Rattle.pb_flight.specs.Events.{Event, Anything, IsLawful, flying_after}
-use Rattle.pb_flight.proofs.Flying.{begun_flying}
-use Rattle.pb_flight.proofs.Lists.{contains_none, contains_cases}
+use Rattle.pb_flight.specs.declared.flight.Answer.{Answer}
+use Rattle.pb_flight.specs.declared.flight.State.TheVariants.{Untouched, Begun, Answered}
+use Rattle.pb_flight.specs.Events.{Event, Began, Gave}
+use Rattle.pb_flight.proofs.Lists.{clash, get_set_other, get_set_same, injective}
 use Rattle.pb_place.specs.Counts.{Counts}
 use Rattle.pb_place.specs.Paths.{is_at_or_below}
 use Rattle.pb_place.specs.World.{World, ChangesOnly}
-use Rattle.pb_place.specs.declared.child_in_flight.ChildInFlight.{ChildInFlight}
 use Rattle.pb_place.specs.declared.command.Command.{Command}
 use Rattle.pb_place.specs.declared.command.Ended.{Ended}
 use Rattle.pb_place.specs.declared.place.StartFault.{StartFault}
@@ -18,7 +18,7 @@ use Rattle.pb_place.proofs.Within.{share_no_path}
 use Rattle.pb_project.specs.declared.project.Project.{Project}
 use Rattle.pb_project.specs.declared.project.Setup.{Setup}
 use Rattle.pb_project.specs.Targets.{unit_at}
-use Rattle.pb_run.specs.Halves.{awaits_number, child_in, child_of}
+use Rattle.pb_run.specs.Halves.{awaits_number, child_in}
 use Rattle.pb_run.specs.Landing.{EndsBy}
 use Rattle.pb_run.specs.Standing.{IsInOrder, records_folder}
 use Rattle.pb_run.specs.declared.begun.Awaited.{Awaited}
@@ -29,22 +29,13 @@ use Rattle.pb_soundness.specs.Records.{Reading, out_of, place_of, record_at}
 use Rattle.pb_soundness.proofs.Places.{out_place_apart}
 use Rattle.pb_store.specs.Migrating.{lacks_number}
 use Rattle.pb_store.specs.declared.replaying.Replayed.{Replayed}
-use Rattle.pb_turns.specs.Again.{CarriesAgain, FliesAgain}
-use Rattle.pb_turns.specs.Crew.{needs_of, places_of}
+use Rattle.pb_turns.specs.Again.{CarriesAgain}
 use Rattle.pb_turns.specs.Rows.{is_started}
-use Rattle.pb_turns.specs.Story.{FliesIn, KeepsChildless}
-use Rattle.pb_turns.specs.declared.crew.Aloft.{Aloft}
-use Rattle.pb_turns.proofs.Happening.{none_of}
-use Rattle.pb_turns.proofs.Lists.{all_get}
+use Rattle.pb_turns.specs.Story.{states_in, KeepsChildless, OnlyOf}
+use Rattle.pb_turns.proofs.Happening.{started_now, started_other}
+use Rattle.pb_turns.proofs.Reaching.{not_of_two}
+use Rattle.pb_turns.proofs.States.{another}
 use Rattle.pb_unit.specs.declared.plan.Planned.{Planned}
-
--- where a unit in flight stands in the list
-listed : (aloft : List Aloft) (place : ℕ) → Contains (places_of aloft) place → (k : ℕ) × (a : Aloft) × (slice_get aloft k ≡ Some a) × (a.unit ≡ place)
-listed [] place has = absurd (contains_none place has)
-listed (x ∷ aloft) place has = elim (contains_cases x.unit (places_of aloft) place has) [
-  | inl same ↦ (0, x, refl, same)
-  | inr more ↦ let (k, a, at, is) = listed aloft place more in (suc k, a, at, is)
-]
 
 no_child : (l : Launched) → Some l ≡ None → ⊥
 no_child l e = cc
@@ -60,20 +51,46 @@ folder_answered project order place u there (awaited.Record again) none answer w
     (subst (λ (out : List ℕ). is_at_or_below out q ≡ true) (order.folders place u there) inside)) ∙ ap (λ (x : World). finite.get x.files q) ends.0
 
 module _ (read : Reading) (setup : Setup) (project : Project) (done : List (Option (List Directive))) (first w : World) where
-  -- what it carries says so of it
-  stays_by : (u : Planned) (c : Command) (by : Awaited) → child_in by ≡ None → CarriesAgain read setup project done first w u c by → (q : List ℕ) → is_of (records_folder project) u.key q ≡ true → finite.get w.files q ≡ finite.get first.files q
-  stays_by u c (awaited.Child launched) none carries = absurd (no_child launched none)
-  stays_by u c (awaited.Record again) none carries = carries.stays
-
   -- where its record had a number, it waits for none
   pub carries_number : (u : Planned) (c : Command) (by : Awaited) → CarriesAgain read setup project done first w u c by → lacks_number (record_at read (records_folder project) first.files u.key) ≡ false → awaits_number by ≡ false
   carries_number u c (awaited.Child launched) carries numbered = refl
   carries_number u c (awaited.Record again) carries numbered = ap (λ (x : Replayed). not x.numbered) carries.gives ∙ (sym (ap lacks_number carries.here) ∙ numbered)
 
-  pub keeps_childless : (es : List (Event BadUnit)) (aloft : List Aloft) (flying : List ChildInFlight) → IsLawful (needs_of project) es → places_of aloft ≡ flying_after es → AllByRecursion (FliesIn project es w flying) aloft
-      → AllByRecursion (λ (a : Aloft). FliesAgain read setup project done first w a) aloft → KeepsChildless project es first w
-  keeps_childless es aloft flying lawful same flies waits place u q there state childless inside =
-      let (k, a, at, is) = listed aloft place (subst (λ (places : List ℕ). Contains places place) (sym same) (begun_flying (needs_of project) Anything es lawful place state)) in
-      let so : FliesIn project es w flying a = all_get (FliesIn project es w flying) aloft k a flies at in
-      stays_by u a.begun.command a.begun.awaited (none_of (child_of a.begun) (sym so.started ∙ (ap (is_started es) is ∙ childless)))
-      (all_get (λ (x : Aloft). FliesAgain read setup project done first w x) aloft k a waits at u (ap (unit_at project) is ∙ there)) q inside
+-- While they wait, their folders and records stand as at first.
+
+module _ (project : Project) (order : IsInOrder project) (es : List (Event BadUnit)) (first w w' : World) (unit : ℕ) (u : Planned) (there : unit_at project unit ≡ Some u) (only : ChangesOnly (is_of (records_folder project) u.key) w w') where
+  -- another unit changes only what is its own
+  others_stay : (place : ℕ) (v : Planned) → unit_at project place ≡ Some v → place ≢ unit → (q : List ℕ) → is_of (records_folder project) v.key q ≡ true → finite.get w'.files q ≡ finite.get w.files q
+  others_stay place v at ne q inside = only.files q (not_of_two project order place unit v u at there ne q inside)
+
+  module _ (old : KeepsChildless project es None first w) where
+    -- one has begun, and nothing was changed where no child was started for it
+    pub childless_begun : (spawned : Bool) → slice_get (states_in project es) unit ≡ Some Untouched → (spawned ≡ false → w' ≡ w) → OnlyOf project es first w → KeepsChildless project (Began unit spawned ∷ es) None first w'
+    childless_begun spawned untouched same only_first place v q at state apart started inside = elim (cases_eq unit place) [
+      | inl is ↦
+          ap (λ (x : World). finite.get x.files q) (same (sym (started_now es unit spawned) ∙ ap (is_started (Began unit spawned ∷ es)) is ∙ started))
+          ∙ only_first.files q (λ other x has at_x. not_of_two project order place other v x at at_x (λ e. another (states_in project es) unit other untouched has (is ∙ e)) q inside)
+      | inr ne ↦
+          others_stay place v at (λ e. ne (sym e)) q inside
+          ∙ old place v q at (sym (get_set_other (states_in project es) unit place Begun ne) ∙ state) apart (sym (started_other es unit place spawned ne) ∙ started) inside
+    ]
+
+    -- one could not begin
+    pub childless_unbegun : slice_get (states_in project es) unit ≡ Some Untouched → KeepsChildless project es None first w'
+    childless_unbegun untouched place v q at state apart started inside =
+        others_stay place v at (λ e. another (states_in project es) unit place untouched (Begun, state, refl) (sym e)) q inside ∙ old place v q at state apart started inside
+
+    -- the answer of one was taken, and it gave none
+    pub childless_asked : KeepsChildless project es (Some unit) first w'
+    childless_asked place v q at state apart started inside = others_stay place v at (λ e. apart (ap Some (sym e))) q inside ∙ old place v q at state (λ e. clash e) started inside
+
+    -- it has answered
+    pub childless_given : (given : Answer BadUnit) → slice_get (states_in project es) unit ≡ Some Begun → KeepsChildless project (Gave unit given ∷ es) None first w'
+    childless_given given begun place v q at state apart started inside = elim (cases_eq unit place) [
+      | inl same ↦ absurd (not_both given (injective (sym (get_set_same (states_in project es) unit Begun (Answered given) begun) ∙ ap (slice_get (states_in project (Gave unit given ∷ es))) same ∙ state)))
+      | inr ne ↦
+          others_stay place v at (λ e. ne (sym e)) q inside ∙ old place v q at (sym (get_set_other (states_in project es) unit place (Answered given) ne) ∙ state) apart started inside
+    ]
+      where
+        not_both : (a : Answer BadUnit) → Answered a ≡ Begun → ⊥
+        not_both a e = cc

@@ -26,7 +26,7 @@ use Rattle.pb_turns.specs.Calling.{CallsCut, CallsCutOnAny, CallsOver, CallsOnAn
 use Rattle.pb_turns.specs.Crew.{needs_of, ticket_of_child}
 use Rattle.pb_turns.specs.Moments.{Moment}
 use Rattle.pb_turns.specs.Rows.{Reasons, Row, rows_of, said_from, started_keys, is_success, key_told, said_told, bad_told, differences_of, kept_of, noted_told, summary_of}
-use Rattle.pb_turns.specs.Story.{states_in, untouched, upped, AllAnswerAgain, AllAnswerAnew, AllLeaveRecords, Stops, Spends, IsUntold, LacksNoNumber, OnlyOf, AllBeganFor, AllBeganOnAny, StartedFor, StartedOnAny, HasGiven, CameAfter, NamesUnit, NumbersGiven, KeepsNoneOfBad, KeepsNoneInFlight, NotesStarted}
+use Rattle.pb_turns.specs.Story.{states_in, untouched, upped, AllAnswerAgain, AllAnswerAnew, AllLeaveRecords, Stops, Spends, IsUntold, LacksNoNumber, OnlyOf, AllBeganFor, AllBeganOnAny, StartedFor, StartedOnAny, HasGiven, CameAfter, NamesUnit, NumbersGiven, KeepsNoneOfBad, KeepsNoneInFlight, KeepsChildless, NotesStarted}
 use Rattle.pb_unit.specs.declared.plan.Planned.{Planned}
 
 -- the children of these tickets were asked for their ends, each once, their answers were dropped, and nothing else was called; in which order no counter tells where each answers
@@ -75,7 +75,7 @@ pub record StandsCut (b : Basis) (fault : BuildFault) (es before : List (Event B
   pub started : StartedFor b fault before es old new
 
 -- the units came to their end, and nothing was set to fail; it is a success exactly where no bad unit is told, and then each of them has answered and is good; the bad unit that is told is the first by the answers; nothing is noted of a unit that has not begun, and of each that has what differed first, which is something exactly where a child was started for it.
--- Over a place that tells its maps, whether the records are true or not: each unit that has begun did so for what differed first of it from the record that counted in its place at first, and where nothing did the units which it reaches were, where the record names them, as it names them (what a child in flight has written so far is left open); one for which no child was started answered by that record, and by the files of its folder as they stood at first; one for which a child was started answered what that gives to what the unit's command sees of the last world, and its folder holds just the files of that reply; which record each of them left (`LeavesRecord`); just these calls were made; so many run numbers were given from the next one at first, none to a unit that answered bad, or by a record which had one then; and no record is kept of a unit whose answer was dropped, or was bad where a child was started for it
+-- Over a place that tells its maps, whether the records are true or not: each unit that has begun did so for what differed first of it from the record that counted in its place at first, and where nothing did the units which it reaches were, where the record names them, as it names them (what a child in flight has written so far is left open); one for which no child was started answered by that record, and by the files of its folder as they stood at first; one for which a child was started answered what that gives to what the unit's command sees of the last world, and its folder holds just the files of that reply; which record each of them left (`LeavesRecord`); just these calls were made; so many run numbers were given from the next one at first, none to a unit that answered bad, or by a record which had one then; and no record is kept of a unit whose answer was dropped, or was bad where a child was started for it, while of one that has not answered and has no child the folder and the record stand as at first
 pub record EndsWhole {S : Type 0} (tells : Bool) (child : Answers) (Turns : S → List ℕ → List ℕ → Step → S → Type 0) (setup : Setup) (project : Project) (next : Option ℕ) (from last : S) (summary : Summary) (old new : Moment) : Type 0 where
   pub es : List (Event BadUnit)
   pub flies : Flies Turns (needs_of project) Anyhow Anything from es last
@@ -106,6 +106,7 @@ pub record EndsWhole {S : Type 0} (tells : Bool) (child : Answers) (Turns : S �
   pub taken : IsTrue tells → (read : Reading) → IsReading read → NumbersGiven (LacksNoNumber project read old.world) es next numbers.0
   pub unkept : IsTrue tells → KeepsNoneOfBad project es new.world
   pub dropped : IsTrue tells → KeepsNoneInFlight project es None new.world
+  pub childless : IsTrue tells → KeepsChildless project es None old.world new.world
   pub began : IsTrue tells → AllBeganOnAny setup project done es reasons old.world new.world
   pub again : IsTrue tells → AllAnswerAgain setup project es done old.world
   pub anew : IsTrue tells → AllAnswerAnew child setup project es done new.world
@@ -115,7 +116,7 @@ pub record EndsWhole {S : Type 0} (tells : Bool) (child : Answers) (Turns : S �
   pub calls_on_any : IsTrue tells → (last : World) × CallsOnAny child setup project done es old.world old.counts last mid
 
 -- a fault ended them: its cause, and what the sink had heard, are those of the moment before the children in flight were dropped; no more children flew at one time than by the events before it, and the turn was asked no more; where an answer ended in it, or a unit could not begin, units were missing (`HandsBack`, `Flies`).
--- Over a place that tells its maps the same is said as at a good end, of the units that have begun, of those that have answered and the records that they left, of the calls, and of records that are not kept; of one that could not begin, by a fault of its start or for want of memory as its child was tried, something had differed too; and where no run number was left, all were given, likewise
+-- Over a place that tells its maps the same is said as at a good end, of the units that have begun, of those that have answered and the records that they left, of the calls, of records that are not kept, and of units that wait without a child; of one that could not begin, by a fault of its start or for want of memory as its child was tried, something had differed too; and where no run number was left, all were given, likewise
 pub record EndsCut {S : Type 0} (tells : Bool) (child : Answers) (Turns : S → List ℕ → List ℕ → Step → S → Type 0) (setup : Setup) (project : Project) (next : Option ℕ) (from back : S) (fault : BuildFault) (old new : Moment) : Type 0 where
   pub es : List (Event BadUnit)
   pub last : S
@@ -136,6 +137,7 @@ pub record EndsCut {S : Type 0} (tells : Bool) (child : Answers) (Turns : S → 
   pub only : IsTrue tells → OnlyOf project es old.world new.world
   pub unkept : IsTrue tells → KeepsNoneOfBad project es new.world
   pub dropped : IsTrue tells → KeepsNoneInFlight project before asked new.world
+  pub childless : IsTrue tells → KeepsChildless project before asked old.world new.world
   pub reasons : Reasons
   pub done : List (Option (List Directive))
   pub began : IsTrue tells → AllBeganOnAny setup project done before reasons old.world new.world

@@ -161,9 +161,9 @@ HasNoRecord project u w = (read : Reading) → record_at read (records_folder pr
 abbrev pub KeepsNoneInFlight : Project → List (Event BadUnit) → Option ℕ → World → Type 0
 KeepsNoneInFlight project es asked w = (place : ℕ) (u : Planned) → unit_at project place ≡ Some u → slice_get (states_in project es) place ≡ Some Begun → asked ≢ Some place → is_started es place ≡ true → HasNoRecord project u w
 
--- of a unit in flight for which no child was started the folder and the record stand as at first
-abbrev pub KeepsChildless : Project → List (Event BadUnit) → World → World → Type 0
-KeepsChildless project es first w = (place : ℕ) (u : Planned) (q : List ℕ) → unit_at project place ≡ Some u → slice_get (states_in project es) place ≡ Some Begun → is_started es place ≡ false → is_of (records_folder project) u.key q ≡ true
+-- of a unit in flight for which no child was started the folder and the record stand as at first; of this one, whose answer was taken, that is not said
+abbrev pub KeepsChildless : Project → List (Event BadUnit) → Option ℕ → World → World → Type 0
+KeepsChildless project es asked first w = (place : ℕ) (u : Planned) (q : List ℕ) → unit_at project place ≡ Some u → slice_get (states_in project es) place ≡ Some Begun → asked ≢ Some place → is_started es place ≡ false → is_of (records_folder project) u.key q ≡ true
     → finite.get w.files q ≡ finite.get first.files q
 
 -- what differed first of the unit at a place when it began, from what its command asks, in a world with these sources in which its record's text was as at first, where only what is of units that had begun before had been changed, and in which the folders and records of the units that it reaches, all of which have answered and are good, and of all that had answered before, stood as they stand now, and of those in flight one with a child had no record, and one without stood as at first; a child was started for it exactly where something differed, and that is noted. Where nothing differed its own folder stands now as at first, and so does its record, where that had a number at first. That world was the first one, where no child had been started yet and no record lacked a number at first
@@ -179,7 +179,7 @@ pub record BeganFor (project : Project) (read : Reading) (sources : World) (comm
   pub answered_stay : (p : ℕ) (v : Planned) (a : Answer BadUnit) (q : List ℕ) → slice_get (states_in project (events_before es place)) p ≡ Some (Answered a) → slice_get (states_in project es) p ≡ Some (Answered a) → unit_at project p ≡ Some v
       → is_of (records_folder project) v.key q ≡ true → finite.get world.files q ≡ finite.get now.files q
   pub unrecorded : KeepsNoneInFlight project (events_before es place) None world
-  pub waiting_stay : KeepsChildless project (events_before es place) first world
+  pub waiting_stay : KeepsChildless project (events_before es place) None first world
   pub difference : Option Difference
   pub named : FirstDifference read (records_folder project) unit.key (command place unit) world difference
   pub started : is_started es place ≡ is_some difference
@@ -330,6 +330,7 @@ pub record Story (tells : Bool) (child : Answers) (first : UnitCrew) (at : Momen
   pub numbers : NumbersGiven IsUntold es first.store.next c.store.next
   pub changes : IsTrue tells → Changes c.project at.world c.aloft.items es now.world now.counts.starts.flying
   pub unrecorded : IsTrue tells → KeepsNoneInFlight c.project es None now.world
+  pub childless : IsTrue tells → KeepsChildless c.project es None at.world now.world
   pub again : IsTrue tells → Replays c.setup c.project c.done.items c.aloft.items es at.world now.world
   pub anew : IsTrue tells → Replies child c.setup c.project c.done.items c.aloft.items es now.world now.counts.starts.flying still
   pub left : IsTrue tells → Recordings child c.setup c.project c.done.items c.aloft.items es first.store.next at.world now.world
@@ -374,6 +375,7 @@ pub record StoryEnds (tells : Bool) (child : Answers) (fault : BuildFault) (aske
   pub most : now.most ≡ max at.most (peak before)
   pub changes : IsTrue tells → Changes c.project at.world c.aloft.items es now.world now.counts.starts.flying
   pub unrecorded : IsTrue tells → KeepsNoneInFlight c.project before asked now.world
+  pub childless : IsTrue tells → KeepsChildless c.project before asked at.world now.world
   pub again : IsTrue tells → AllAnswerAgain c.setup c.project es c.done.items at.world
   pub anew : IsTrue tells → AllAnswerAnew child c.setup c.project es c.done.items now.world
   pub left : IsTrue tells → AllLeaveRecords child c.setup c.project es c.done.items first.store.next at.world now.world

@@ -1,6 +1,7 @@
 //! Children in flight at the end of a build: each is asked for its end, and its answer is dropped.
 
-ghost use Rattle.std.specs.Prelude.{◌≡◌, ◌<◌, [], ℕ, List, Option, Some, length, IsTrue};
+ghost use Rattle.std.specs.Prelude.{◌≡◌, ◌<◌, [], ℕ, true, false, List, Option, Some, length, IsTrue};
+ghost use Rattle.std.specs.FinMap as finite;
 ghost use Rattle.pb_directive.specs.declared.directive.Directive.{Directive};
 ghost use Rattle.pb_flight.specs.Events.{Event, IsLawful};
 ghost use Rattle.pb_place.specs.Counts.{Counts};
@@ -9,10 +10,12 @@ ghost use Rattle.pb_place.specs.declared.command.Command.{Command};
 ghost use Rattle.pb_answer.specs.declared.bad_unit.BadUnit.{BadUnit};
 ghost use Rattle.pb_answer.specs.declared.fault.BuildFault.{BuildFault};
 ghost use Rattle.pb_run.specs.Halves.{Basis};
+ghost use Rattle.pb_run.specs.Standing.{records_folder};
+ghost use Rattle.pb_soundness.specs.Apart.{is_of};
 ghost use Rattle.pb_soundness.specs.Records.{Reading};
 ghost use Rattle.pb_turns.specs.Crew.{needs_of, tickets_of, IsManned};
 ghost use Rattle.pb_turns.specs.Ends.{Dropped, Drained};
-ghost use Rattle.pb_turns.specs.Rows.{Reasons};
+ghost use Rattle.pb_turns.specs.Rows.{Reasons, is_started};
 ghost use Rattle.pb_turns.specs.Story.{AllAnswerAnew, AllBegan, AllLeaveRecords, CameAfter, Changes, HadDiffered, Happened, HasNoRecord};
 ghost use Rattle.pb_project.specs.Targets.{unit_at};
 ghost use Rattle.pb_project.specs.declared.project.Setup.{Setup};
@@ -36,6 +39,9 @@ fn drop_first<P: Place>(alloc: Global, crew: &mut UnitCrew, place: &mut P)
         → Changes crew.old.project first crew.old.aloft.items es (P.world place.old) (P.counts place.old).starts.flying → Changes crew.old.project first crew.new.aloft.items es (P.world place.new) (P.counts place.new).starts.flying }
     ensures unrecorded { (first : World) (es : List (Event BadUnit)) (index : ℕ) (unit : Planned) → IsTrue P.tells
         → Changes crew.old.project first crew.old.aloft.items es (P.world place.old) (P.counts place.old).starts.flying → unit_at crew.old.project index ≡ Some unit → HasNoRecord crew.old.project unit (P.world place.old) → HasNoRecord crew.old.project unit (P.world place.new) }
+    ensures childless { (first : World) (es : List (Event BadUnit)) (index : ℕ) (unit : Planned) (path : List ℕ) → IsTrue P.tells
+        → Changes crew.old.project first crew.old.aloft.items es (P.world place.old) (P.counts place.old).starts.flying → unit_at crew.old.project index ≡ Some unit → is_started es index ≡ false → is_of (records_folder crew.old.project) unit.key path ≡ true
+        → finite.get (P.world place.new).files path ≡ finite.get (P.world place.old).files path }
     ensures happened { (b : Basis) (es : List (Event BadUnit)) → IsTrue P.tells → b.project ≡ crew.old.project
         → Happened b crew.old.done.items crew.old.aloft.items crew.old.store.next es (P.world place.old) (P.counts place.old).starts.flying (P.still place.old)
         → Happened b crew.new.done.items crew.new.aloft.items crew.new.store.next es (P.world place.new) (P.counts place.new).starts.flying (P.still place.new) }
@@ -67,6 +73,9 @@ pub(crate) fn drain<P: Place>(alloc: Global, crew: &mut UnitCrew, place: &mut P)
         → Changes crew.old.project first crew.old.aloft.items es (P.world place.old) (P.counts place.old).starts.flying → Changes crew.old.project first crew.new.aloft.items es (P.world place.new) (P.counts place.new).starts.flying }
     ensures unrecorded { (first : World) (es : List (Event BadUnit)) (index : ℕ) (unit : Planned) → IsTrue P.tells
         → Changes crew.old.project first crew.old.aloft.items es (P.world place.old) (P.counts place.old).starts.flying → unit_at crew.old.project index ≡ Some unit → HasNoRecord crew.old.project unit (P.world place.old) → HasNoRecord crew.old.project unit (P.world place.new) }
+    ensures childless { (first : World) (es : List (Event BadUnit)) (index : ℕ) (unit : Planned) (path : List ℕ) → IsTrue P.tells
+        → Changes crew.old.project first crew.old.aloft.items es (P.world place.old) (P.counts place.old).starts.flying → unit_at crew.old.project index ≡ Some unit → is_started es index ≡ false → is_of (records_folder crew.old.project) unit.key path ≡ true
+        → finite.get (P.world place.new).files path ≡ finite.get (P.world place.old).files path }
     ensures happened { (b : Basis) (es : List (Event BadUnit)) → IsTrue P.tells → b.project ≡ crew.old.project
         → Happened b crew.old.done.items crew.old.aloft.items crew.old.store.next es (P.world place.old) (P.counts place.old).starts.flying (P.still place.old)
         → Happened b crew.new.done.items crew.new.aloft.items crew.new.store.next es (P.world place.new) (P.counts place.new).starts.flying (P.still place.new) }

@@ -19,7 +19,7 @@ use Rattle.pb_turns.specs.Anew.{FliesAnew}
 use Rattle.pb_turns.specs.Crew.{IsOfPlan, place_of_unit, places_of, needs_of}
 use Rattle.pb_turns.specs.Moments.{moment}
 use Rattle.pb_turns.specs.Rows.{is_started}
-use Rattle.pb_turns.specs.Story.{IsUntold, KeepsNoneInFlight, LacksNoNumber, NamesUnit, NoneWritesTo, Story, states_in}
+use Rattle.pb_turns.specs.Story.{IsUntold, KeepsChildless, KeepsNoneInFlight, LacksNoNumber, NamesUnit, NoneWritesTo, Story, states_in}
 use Rattle.pb_turns.proofs.Again.{answered_again}
 use Rattle.pb_turns.proofs.Anew.{answered_anew, unanswered_anew}
 use Rattle.pb_turns.proofs.Alone.{apart_removed, none_writes}
@@ -38,7 +38,7 @@ use Rattle.pb_turns.proofs.Reaching.{there_of}
 use Rattle.pb_turns.proofs.Staying.{none_began}
 use Rattle.pb_turns.proofs.Unbegun.{notes_answered, started_answered}
 use Rattle.pb_turns.proofs.Unkept.{flight_asked, flight_given}
-use Rattle.pb_turns.proofs.Waiting.{folder_answered}
+use Rattle.pb_turns.proofs.Waiting.{childless_asked, childless_given, folder_answered}
 use Rattle.pb_turns.proofs.crew.answer_at.Goals as goal
 
 pub answer_unit-requires-clause-asks : goal.answer_unit-requires-clause-asks
@@ -132,6 +132,8 @@ returns-in-Err-clause-story g c = λ first at taken faults es given unit s flyin
           (only t) c.answer_unit.ensures.stay c.remove-unit.new.self.items c.remove-unit.ensures.items;
       unrecorded = λ t. subst (λ n. KeepsNoneInFlight c.args.crew.now.project es (Some n) new.world) (sym its)
           (flight_asked c.args.crew.now.project c.requires.manned.order es now.world new.world c.remove-unit.result.unit c.index-units-unit.result there (only t) (s.unrecorded t));
+      childless = λ t. subst (λ n. KeepsChildless c.args.crew.now.project es (Some n) at.world new.world) (sym its)
+          (childless_asked c.args.crew.now.project c.requires.manned.order es at.world now.world new.world c.remove-unit.result.unit c.index-units-unit.result there (only t) (s.childless t));
       again = λ t. (s.again t).gave;
       anew = unanswered_anew g.P.Place.tells g.P.Place.child first c.args.crew.now at now new (g.P.Place.still c.args.place.now) es given s c.requires.manned.order lawful c.args.index c.remove-unit.result c.index-units-unit.result there at_index only;
       left = unanswered_left g.P.Place.tells g.P.Place.child first c.args.crew.now at now new (g.P.Place.still c.args.place.now) es given s c.requires.manned.order lawful c.args.index c.remove-unit.result c.index-units-unit.result there at_index only;
@@ -176,6 +178,8 @@ returns-in-Err-lines_of_unit-clause-story g c = λ first at taken faults es give
           (only t) c.answer_unit.ensures.stay c.remove-unit.new.self.items c.remove-unit.ensures.items;
       unrecorded = λ t. subst (λ n. KeepsNoneInFlight c.args.crew.now.project es (Some n) new.world) (sym its)
           (flight_asked c.args.crew.now.project c.requires.manned.order es now.world new.world c.remove-unit.result.unit c.index-units-unit.result there (only t) (s.unrecorded t));
+      childless = λ t. subst (λ n. KeepsChildless c.args.crew.now.project es (Some n) at.world new.world) (sym its)
+          (childless_asked c.args.crew.now.project c.requires.manned.order es at.world now.world new.world c.remove-unit.result.unit c.index-units-unit.result there (only t) (s.childless t));
       again = λ t. (s.again t).gave;
       anew = unanswered_anew g.P.Place.tells g.P.Place.child first c.args.crew.now at now new (g.P.Place.still c.args.place.now) es given s c.requires.manned.order lawful c.args.index c.remove-unit.result c.index-units-unit.result there at_index only;
       left = unanswered_left g.P.Place.tells g.P.Place.child first c.args.crew.now at now new (g.P.Place.still c.args.place.now) es given s c.requires.manned.order lawful c.args.index c.remove-unit.result c.index-units-unit.result there at_index only;
@@ -228,6 +232,7 @@ returns-clause-story g c = λ first at taken faults es given unit s flying lawfu
           (c.in-Ok.ensures.unkept t (its_writes c.args.crew.now.project c.requires.manned.order at.world c.args.crew.now.aloft.items es now.world new.world now.counts.starts.flying new.counts.starts.flying (s.changes t) (λ j y at_j. flying_of c.args.crew.now now.counts j y c.requires.manned at_j)
           c.args.index c.remove-unit.result at_index c.index-units-unit.result there) bad) (none read));
       unrecorded = λ t. flight_given c.args.crew.now.project c.requires.manned.order es now.world new.world c.remove-unit.result.unit c.index-units-unit.result there (only t) (s.unrecorded t) answer begun;
+      childless = λ t. childless_given c.args.crew.now.project c.requires.manned.order es at.world now.world new.world c.remove-unit.result.unit c.index-units-unit.result there (only t) (s.childless t) answer begun;
       again = answered_again g.P.Place.tells g.P.Place.child first c.args.crew.now at now new (g.P.Place.still c.args.place.now) es given s c.requires.manned.order g.P.Place.world g.P.Place.counts _ lawful c.args.index c.remove-unit.result c.index-units-unit.result c.requires.manned at_index there only
           c.in-Ok.ran c.in-Ok-lines_of_unit.lines (c.in-Ok-lines_of_unit.ensures ∙ ap (λ p. unit_lines p c.index-units-unit.result c.in-Ok.ran.started c.as_slice.result.now) c.get.ensures ∙ ap (λ ms. unit_lines c.args.crew.now.project c.index-units-unit.result c.in-Ok.ran.started ms) c.as_slice.ensures)
           c.in-Ok.ensures.judged c.remove-unit.new.self.items c.note_answer.new.done.items c.remove-unit.ensures.items c.note_answer.ensures.done;

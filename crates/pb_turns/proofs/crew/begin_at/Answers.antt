@@ -18,6 +18,7 @@ use Rattle.pb_turns.proofs.Calling.{calls_begun, calls_begun_on_any, calls_unbeg
 use Rattle.pb_turns.proofs.Changing.{changes_begun, changes_more}
 use Rattle.pb_turns.proofs.Counting.{goes_begun, stops_begun, stops_refused_begun, children_are}
 use Rattle.pb_turns.proofs.Differing.{differed_tried, begun_began, unbegun_began, unbegun_started}
+use Rattle.pb_turns.proofs.Happening.{none_of}
 use Rattle.pb_turns.proofs.Leaving.{begun_left, unbegun_left}
 use Rattle.pb_turns.proofs.Manning.{manned_same, manned_begun, begin_fault_flies, flying_of}
 use Rattle.pb_turns.proofs.Numbering.{begun_taken, numbers_begun}
@@ -26,6 +27,7 @@ use Rattle.pb_turns.proofs.Reaching.{there_at, there_some, within_reasons}
 use Rattle.pb_turns.proofs.Staying.{none_tried}
 use Rattle.pb_turns.proofs.Unbegun.{notes_begun, started_begun}
 use Rattle.pb_turns.proofs.Unkept.{flight_begun, flight_unbegun}
+use Rattle.pb_turns.proofs.Waiting.{childless_begun, childless_unbegun}
 use Rattle.pb_turns.proofs.crew.begin_at.Goals as goal
 
 pub begin_unit-requires-clause-unit : goal.begin_unit-requires-clause-unit
@@ -64,6 +66,7 @@ returns-in-Err-clause-story g c = λ first at taken faults es given s flying law
         changes = λ t. changes_begun c.args.crew.now.project c.requires.manned.order at.world c.args.crew.now.aloft.items es now.world now.world now.counts.starts.flying now.counts.starts.flying (s.changes t) (λ index a at. flying_of c.args.crew.now (g.P.Place.counts c.args.place.now) index a c.requires.manned at)
             c.args.unit u there may.untouched (only_same _ now.world) (λ ticket its is. is) false c.make_room.new.aloft.items c.make_room.ensures.aloft;
         unrecorded = s.unrecorded;
+        childless = s.childless;
         again = λ t. gave_begun c.args.crew.now.setup c.args.crew.now.project c.args.crew.now.done.items es at.world c.args.unit false may.untouched (s.again t).gave;
         anew = unbegun_anew g.P.Place.tells g.P.Place.child first c.args.crew.now at now now (g.P.Place.still c.args.place.now) es given s c.requires.manned.order lawful c.args.unit u there may (λ t. only_same _ now.world) false;
         left = unbegun_left g.P.Place.tells g.P.Place.child first c.args.crew.now at now now (g.P.Place.still c.args.place.now) es given s c.requires.manned.order lawful c.args.unit u there may (λ t. only_same _ now.world) false;
@@ -106,11 +109,12 @@ returns-in-Err-begin_unit-clause-story g c = λ first at taken faults es given s
             (s.changes t) (λ index a at. flying_of c.args.crew.now (g.P.Place.counts c.args.place.now) index a c.requires.manned at)
             c.args.unit c.index-units-unit.result there may.untouched (c.begin_unit.ensures.only t) c.begin_unit.ensures.stay spawned c.make_room.new.aloft.items c.make_room.ensures.aloft;
         unrecorded = λ t. flight_unbegun c.args.crew.now.project c.requires.manned.order es (g.P.Place.world c.args.place.now) (g.P.Place.world c.begin_unit.new.place) c.args.unit c.index-units-unit.result there (c.begin_unit.ensures.only t) (s.unrecorded t) may.untouched;
+        childless = λ t. childless_unbegun c.args.crew.now.project c.requires.manned.order es at.world (g.P.Place.world c.args.place.now) (g.P.Place.world c.begin_unit.new.place) c.args.unit c.index-units-unit.result there (c.begin_unit.ensures.only t) (s.childless t) may.untouched;
         again = λ t. gave_begun c.args.crew.now.setup c.args.crew.now.project c.args.crew.now.done.items es at.world c.args.unit spawned may.untouched (s.again t).gave;
         anew = unbegun_anew g.P.Place.tells g.P.Place.child first c.args.crew.now at now new (g.P.Place.still c.args.place.now) es given s c.requires.manned.order lawful c.args.unit c.index-units-unit.result there may (λ t. c.begin_unit.ensures.only t) spawned;
         left = unbegun_left g.P.Place.tells g.P.Place.child first c.args.crew.now at now new (g.P.Place.still c.args.place.now) es given s c.requires.manned.order lawful c.args.unit c.index-units-unit.result there may (λ t. c.begin_unit.ensures.only t) spawned;
-        began = unbegun_began g.P.Place.tells g.P.Place.child first c.args.crew.now at now new (g.P.Place.still c.args.place.now) es given s c.requires.manned.order lawful flying c.args.unit c.index-units-unit.result there may (λ t. c.begin_unit.ensures.only t) c.as_slice.result.now c.as_slice.ensures.value;
-        started = unbegun_started g.P.Place.tells g.P.Place.child first c.args.crew.now at now new (g.P.Place.still c.args.place.now) es given s c.requires.manned.order lawful flying c.args.unit c.index-units-unit.result there may (λ t. c.begin_unit.ensures.only t) c.as_slice.result.now c.as_slice.ensures.value
+        began = unbegun_began g.P.Place.tells g.P.Place.child first c.args.crew.now at now new (g.P.Place.still c.args.place.now) es given s c.requires.manned.order lawful c.args.unit c.index-units-unit.result there may (λ t. c.begin_unit.ensures.only t) c.as_slice.result.now c.as_slice.ensures.value;
+        started = unbegun_started g.P.Place.tells g.P.Place.child first c.args.crew.now at now new (g.P.Place.still c.args.place.now) es given s c.requires.manned.order lawful c.args.unit c.index-units-unit.result there may (λ t. c.begin_unit.ensures.only t) c.as_slice.result.now c.as_slice.ensures.value
             spawned c.in-Err-begin_unit.fault (within_reasons c.args.crew.now c.args.unit c.requires.manned.reasoned c.requires.unit)
             (λ read reading t. differed_tried _ _ _ spawned c.in-Err-begin_unit.fault tried (c.in-Err-begin_unit.ensures.cause read reading t (s.held t read reading)) (c.in-Err-begin_unit.ensures.tried read reading t (s.held t read reading)));
         happened = failed_happened g.P.Place.tells g.P.Place.child first c.args.crew.now at now
@@ -157,6 +161,8 @@ returns-clause-story g c = λ first at taken faults es given s flying lawful is_
           record { unit = c.args.unit; begun = c.in-Ok-begin_unit.made.begun } c.note_begun.new.aloft.items refl more (c.in-Ok-begin_unit.ensures.writes t) refl (λ launched read. c.in-Ok-begin_unit.ensures.dropped read t launched);
       unrecorded = λ t. flight_begun c.args.crew.now.project c.requires.manned.order es now.world new.world c.args.unit c.index-units-unit.result there (c.begin_unit.ensures.only t) (s.unrecorded t) (is_some (child_of c.in-Ok-begin_unit.made.begun)) may.untouched
           (λ launched read. c.in-Ok-begin_unit.ensures.dropped read t launched);
+      childless = λ t. childless_begun c.args.crew.now.project c.requires.manned.order es at.world now.world new.world c.args.unit c.index-units-unit.result there (c.begin_unit.ensures.only t) (s.childless t) (is_some (child_of c.in-Ok-begin_unit.made.begun)) may.untouched
+          (λ none. c.in-Ok-begin_unit.ensures.same t (none_of (child_of c.in-Ok-begin_unit.made.begun) none)) (s.changes t).only;
       again = begun_again g.P.Place.tells g.P.Place.child first c.args.crew.now at now new (g.P.Place.still c.args.place.now) es given s c.requires.manned.order c.args.unit c.index-units-unit.result there may.untouched (λ t. c.begin_unit.ensures.only t)
           c.as_slice.result.now c.as_slice.ensures.value c.in-Ok-begin_unit.made.begun c.in-Ok-begin_unit.ensures.asks c.in-Ok-begin_unit.made.difference c.note_begun.new.aloft.items more (λ read reading t. c.in-Ok-begin_unit.ensures.differs read reading t (s.held t read reading)) c.in-Ok-begin_unit.ensures.spawned
           c.in-Ok-begin_unit.ensures.carries c.in-Ok-begin_unit.ensures.same;
@@ -164,7 +170,7 @@ returns-clause-story g c = λ first at taken faults es given s flying lawful is_
           c.as_slice.result.now c.as_slice.ensures.value c.in-Ok-begin_unit.made.begun c.in-Ok-begin_unit.ensures.asks c.in-Ok-begin_unit.ensures.launched c.note_begun.new.aloft.items more;
       left = begun_left g.P.Place.tells g.P.Place.child first c.args.crew.now at now new (g.P.Place.still c.args.place.now) es given s c.requires.manned.order lawful c.args.unit c.index-units-unit.result there may (λ t. c.begin_unit.ensures.only t) c.begin_unit.new.store.next
           c.in-Ok-begin_unit.made.begun c.in-Ok-begin_unit.ensures.number c.note_begun.new.aloft.items more;
-      began = begun_began g.P.Place.tells g.P.Place.child first c.args.crew.now at now new (g.P.Place.still c.args.place.now) es given s c.requires.manned.order lawful flying c.args.unit c.index-units-unit.result there may (λ t. c.begin_unit.ensures.only t) c.as_slice.result.now c.as_slice.ensures.value
+      began = begun_began g.P.Place.tells g.P.Place.child first c.args.crew.now at now new (g.P.Place.still c.args.place.now) es given s c.requires.manned.order lawful c.args.unit c.index-units-unit.result there may (λ t. c.begin_unit.ensures.only t) c.as_slice.result.now c.as_slice.ensures.value
           c.in-Ok-begin_unit.made.begun c.in-Ok-begin_unit.ensures.asks c.in-Ok-begin_unit.made.difference c.note_begun.new.reasons.items (λ read reading t. c.in-Ok-begin_unit.ensures.differs read reading t (s.held t read reading)) c.in-Ok-begin_unit.ensures.spawned
           (within_reasons c.args.crew.now c.args.unit c.requires.manned.reasoned c.requires.unit) c.in-Ok-begin_unit.ensures.same c.note_begun.ensures.reasons;
       held = λ t read reading. c.in-Ok-begin_unit.ensures.numbers read t (s.held t read reading);

@@ -1,7 +1,9 @@
-use Rattle.std.proofs.Common.{◌≡◌, ◌∙◌, Some, sym, ap, subst}
+use Rattle.std.proofs.Common.{◌≡◌, ◌∙◌, true, Some, sym, ap, subst}
 use Rattle.pb_flight.specs.Events.{IsLawful}
 use Rattle.pb_project.specs.declared.project.Project.{Project}
 use Rattle.pb_project.specs.Targets.{unit_at}
+use Rattle.pb_run.specs.Standing.{records_folder}
+use Rattle.pb_soundness.specs.Apart.{is_of}
 use Rattle.pb_turns.specs.Crew.{needs_of}
 use Rattle.pb_turns.specs.Story.{AllAnswerAnew, AllBegan, AllLeaveRecords, CameAfter, Changes, HadDiffered, HasNoRecord}
 use Rattle.pb_turns.specs.declared.crew.UnitCrew.{UnitCrew}
@@ -24,6 +26,12 @@ loop-alloc-preserved g c = record {
       (subst (λ (p : Project). Changes p first c.loop-alloc.crew.aloft.items es (g.P.Place.world c.loop-alloc.place) (g.P.Place.counts c.loop-alloc.place).starts.flying) (sym same) (c.loop-alloc.invariant.changes first es tells old))
       (subst (λ (p : Project). unit_at p index ≡ Some unit) (sym same) there)
       (subst (λ (p : Project). HasNoRecord p unit (g.P.Place.world c.loop-alloc.place)) (sym same) (c.loop-alloc.invariant.unrecorded first es index unit tells old there none)));
+  childless = λ first es index unit path tells old there started inside.
+      let same = ap (λ (x : UnitCrew). x.project) c.loop-alloc.invariant.same in
+      c.drop_first.ensures.childless first es index unit path tells
+      (subst (λ (p : Project). Changes p first c.loop-alloc.crew.aloft.items es (g.P.Place.world c.loop-alloc.place) (g.P.Place.counts c.loop-alloc.place).starts.flying) (sym same) (c.loop-alloc.invariant.changes first es tells old))
+      (subst (λ (p : Project). unit_at p index ≡ Some unit) (sym same) there) started (subst (λ (p : Project). is_of (records_folder p) unit.key path ≡ true) (sym same) inside)
+      ∙ c.loop-alloc.invariant.childless first es index unit path tells old there started inside;
   happened = λ b es tells project h.
       c.drop_first.ensures.happened b es tells (project ∙ sym (ap (λ (x : UnitCrew). x.project) c.loop-alloc.invariant.same)) (c.loop-alloc.invariant.happened b es tells project h);
   began = λ read sources command fault es before reasons first tells lawful came old began.

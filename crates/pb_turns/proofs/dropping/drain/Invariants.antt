@@ -1,4 +1,5 @@
-use Rattle.std.proofs.Common.{◌≡◌, ℕ, List, Option, Some, IsTrue, length}
+use Rattle.std.proofs.Common.{◌≡◌, ℕ, true, false, List, Option, Some, IsTrue, length}
+use Rattle.std.specs.FinMap as finite
 use Rattle.pb_directive.specs.declared.directive.Directive.{Directive}
 use Rattle.pb_flight.specs.Events.{Event, IsLawful}
 use Rattle.pb_place.specs.Counts.{Counts}
@@ -7,10 +8,12 @@ use Rattle.pb_place.specs.declared.command.Command.{Command}
 use Rattle.pb_answer.specs.declared.bad_unit.BadUnit.{BadUnit}
 use Rattle.pb_answer.specs.declared.fault.BuildFault.{BuildFault}
 use Rattle.pb_run.specs.Halves.{Basis}
+use Rattle.pb_run.specs.Standing.{records_folder}
+use Rattle.pb_soundness.specs.Apart.{is_of}
 use Rattle.pb_soundness.specs.Records.{Reading}
 use Rattle.pb_turns.specs.Crew.{needs_of, tickets_of, IsManned}
 use Rattle.pb_turns.specs.Ends.{Dropped}
-use Rattle.pb_turns.specs.Rows.{Reasons}
+use Rattle.pb_turns.specs.Rows.{Reasons, is_started}
 use Rattle.pb_project.specs.Targets.{unit_at}
 use Rattle.pb_project.specs.declared.project.Setup.{Setup}
 use Rattle.pb_turns.specs.Story.{AllAnswerAnew, AllBegan, AllLeaveRecords, Changes, HadDiffered, Happened, HasNoRecord, CameAfter}
@@ -27,6 +30,9 @@ invariant-loop-alloc g l = record {
       → Changes l.fn.crew.project first l.fn.crew.aloft.items es (g.P.Place.world l.fn.place) (g.P.Place.counts l.fn.place).starts.flying → Changes l.fn.crew.project first l.crew.aloft.items es (g.P.Place.world l.place) (g.P.Place.counts l.place).starts.flying;
   unrecorded : (first : World) (es : List (Event BadUnit)) (index : ℕ) (unit : Planned) → IsTrue g.P.Place.tells
       → Changes l.fn.crew.project first l.fn.crew.aloft.items es (g.P.Place.world l.fn.place) (g.P.Place.counts l.fn.place).starts.flying → unit_at l.fn.crew.project index ≡ Some unit → HasNoRecord l.fn.crew.project unit (g.P.Place.world l.fn.place) → HasNoRecord l.fn.crew.project unit (g.P.Place.world l.place);
+  childless : (first : World) (es : List (Event BadUnit)) (index : ℕ) (unit : Planned) (path : List ℕ) → IsTrue g.P.Place.tells
+      → Changes l.fn.crew.project first l.fn.crew.aloft.items es (g.P.Place.world l.fn.place) (g.P.Place.counts l.fn.place).starts.flying → unit_at l.fn.crew.project index ≡ Some unit → is_started es index ≡ false → is_of (records_folder l.fn.crew.project) unit.key path ≡ true
+      → finite.get (g.P.Place.world l.place).files path ≡ finite.get (g.P.Place.world l.fn.place).files path;
   happened : (b : Basis) (es : List (Event BadUnit)) → IsTrue g.P.Place.tells → b.project ≡ l.fn.crew.project
       → Happened b l.fn.crew.done.items l.fn.crew.aloft.items l.fn.crew.store.next es (g.P.Place.world l.fn.place) (g.P.Place.counts l.fn.place).starts.flying (g.P.Place.still l.fn.place)
       → Happened b l.crew.done.items l.crew.aloft.items l.crew.store.next es (g.P.Place.world l.place) (g.P.Place.counts l.place).starts.flying (g.P.Place.still l.place);

@@ -1,7 +1,7 @@
 use Rattle.std.proofs.Common.{refl, inl, length}
 use Rattle.pb_run.specs.Halves.{child_of}
 use Rattle.std.proofs.lemmas.Option.{slice_get_read}
-use Rattle.pb_turns.proofs.Landing.{anew_dropped, left_dropped, unrecorded_dropped, drops_land, began_dropped, happened_dropped, changes_dropped, started_dropped}
+use Rattle.pb_turns.proofs.Landing.{anew_dropped, childless_dropped, left_dropped, unrecorded_dropped, drops_land, began_dropped, happened_dropped, changes_dropped, started_dropped}
 use Rattle.pb_turns.proofs.Manning.{flying_of, manned_answered}
 use Rattle.pb_turns.proofs.dropping.drop_first.Goals as goal
 
@@ -59,3 +59,9 @@ returns-clause-left g c = λ setup done es next first tells lawful old gave.
     let at = slice_get_read c.args.crew.now.aloft.items (length c.args.crew.now.aloft.items) 0 c.remove-aloft.result refl c.requires.some c.remove-aloft.ensures.value in
     left_dropped c.args.crew.now (g.P.Place.counts c.args.place.now) c.requires.manned g.P.Place.child setup done es next first (g.P.Place.world c.args.place.now) (g.P.Place.world c.drop_unit.new.place)
     0 c.remove-aloft.result at lawful old (λ out. c.drop_unit.ensures.only out tells) gave
+
+pub returns-clause-childless : goal.returns-clause-childless
+returns-clause-childless g c = λ first es index unit path tells old there started inside.
+    let at = slice_get_read c.args.crew.now.aloft.items (length c.args.crew.now.aloft.items) 0 c.remove-aloft.result refl c.requires.some c.remove-aloft.ensures.value in
+    childless_dropped c.args.crew.now (g.P.Place.counts c.args.place.now) c.requires.manned first es (g.P.Place.world c.args.place.now) (g.P.Place.world c.drop_unit.new.place)
+    0 c.remove-aloft.result at old (λ out. c.drop_unit.ensures.only out tells) index unit path there started inside

@@ -16,6 +16,7 @@ returns g c = λ first first_place last_place first_out last_out es given s. rec
   most = s.goes.most;
   changes = s.changes;
   unrecorded = s.unrecorded;
+  childless = s.childless;
   again = λ t. (s.again t).gave;
   anew = λ t. (s.anew t).gave;
   left = λ t. (s.left t).gave;
