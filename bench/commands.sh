@@ -1,222 +1,305 @@
 #!/usr/bin/env bash
-# Times the command of a library that depends on so many packages, for the target and for the host, all with scripts
-# that say some lines, and prints how many units it reaches, how many words it has and microseconds: the time is to
-# grow as the words. Beside it the judgement of an answer whose dep-info names so many files, each fourth of them in the
-# folder of a unit that is reached: the time is to grow as the files, and no faster than the units.
+# Measures `command` and `answered` over workspaces in memory.
 #
-# Seen: 68, 109 and 206 microseconds for 624, 1,224 and 2,424 words; and with 1,442 units reached 1.5, 6.2 and 26.2
-# milliseconds for 1,000, 4,000 and 16,000 files.
+#   command      the command of a library that depends on so many packages, for the target and for the host, all with
+#                scripts that say some lines
+#   binaries     the commands of all units of a package with so many binaries
+#   answered     the judgement of an answer whose dep-info names so many files, and a fourth of them once more in the
+#                folder of the last unit that is reached; the library depends on 240 packages
 #
-# The program that measures is made in a folder of its own, so it is no part of the repository.
+# Prints a line a size with how many words the commands have, or how many inputs the answer; and the exponents. Time is
+# to grow as the words, and of an answer as the files, and no faster than these times the units that are reached, 1,442.
+# What is measured and how is said in `measured.sh`.
 set -euo pipefail
-root=$(cd "$(dirname "$0")/.." && pwd)
-work=$(mktemp -d)
-trap 'rm -rf "$work"' EXIT
-mkdir "$work/crates"
-for name in pb_checks_files pb_closure pb_command pb_data pb_directive pb_resolved pb_feature pb_manifest pb_manifest_reader pb_memory pb_order pb_package pb_place pb_profile pb_project pb_record pb_unit pb_workspace; do
-  cp -a "$root/crates/$name" "$work/crates/$name"
-  rm -rf "$work/crates/$name/must-fail"
-  grep "^$name:" "$root/crates.txt" >> "$work/crates.txt"
-done
-echo 'measure: pb_checks_files pb_command pb_data pb_directive pb_feature pb_memory pb_package pb_place pb_project pb_unit pb_workspace' >> "$work/crates.txt"
-mkdir -p "$work/crates/measure/src"
-cp "$root/crates/pb_checks_plans/src/commands/making.rt" "$work/crates/measure/src/making.rt"
-cat > "$work/crates/measure/src/main.rt" <<'RATTLE'
-//! Times commands.
+crates="pb_closure pb_command pb_data pb_directive pb_resolved pb_feature pb_manifest pb_manifest_reader pb_memory pb_order pb_package pb_place pb_profile pb_project pb_record pb_unit pb_workspace"
+uses="pb_command pb_data pb_directive pb_feature pb_memory pb_package pb_place pb_project pb_unit pb_workspace"
+. "$(dirname "$0")/measured.sh"
+program <<'PROGRAM'
+//! Measures commands.
 #![tactic(auto)]
 
+mod child;
+mod files;
 mod making;
+mod measuring;
+mod workspace;
 
-use crate::making::{done_of, options_of, project_of};
-use pb_checks_files::Silent;
-use pb_command::{Project, Setup, answered, command};
-use pb_data::{Bytes, Items, Text};
+use anyhow::Result;
+use child::Silent;
+use files::put;
+use making::{done_of, project_of, setup_of};
+use measuring::{number_in, since, word_in};
+use pb_command::{answered, command};
+use pb_data::{Bytes, Text};
 use pb_directive::Directives;
 use pb_memory::Memory;
-use pb_place::{Command, Ended, PathText};
+use pb_place::{Command, Ended};
+use pb_project::{Answered, Project, Setup, UnitFault};
 use pb_unit::Planned;
-use std::alloc::Global;
-use std::test::Fail;
-use std::time::Instant;
+use std::alloc::{AllocError, Global};
+use std::env;
+use std::time::CpuClock;
 
-/// Puts a file.
-fn put(alloc: Global, memory: &mut Memory<Silent>, path: &str, text: &str) -> Result<(), Fail> {
-    let path = PathText::parse(alloc, path)?;
-    memory.put(alloc, &path, text.as_bytes())?;
-    Ok(())
-}
+/// How many packages the library depends on whose answer is judged.
+const REACHED: usize = 240;
 
-/// Puts the files of a package, of its sides' scripts too.
-fn put_package(alloc: Global, memory: &mut Memory<Silent>, place: usize) -> Result<(), Fail> {
-    let manifest = format!(in alloc; "package.name = \"p{place}\"\n")?;
-    let path = format!(in alloc; "/w/p{place}/Cargo.toml")?;
-    put(alloc, memory, path.as_str(), manifest.as_str())?;
-    let path = format!(in alloc; "/w/p{place}/src/lib.rs")?;
-    put(alloc, memory, path.as_str(), "")?;
-    let path = format!(in alloc; "/w/p{place}/build.rs")?;
-    put(alloc, memory, path.as_str(), "")?;
-    let said = "cargo::rustc-link-search=/x\ncargo::rustc-cfg=c\n";
-    let path = format!(in alloc; "/said/p{place}.target.run")?;
-    put(alloc, memory, path.as_str(), said)?;
-    let path = format!(in alloc; "/said/p{place}.host.run")?;
-    put(alloc, memory, path.as_str(), said)
+/// Puts the files of a package.
+fn put_package(rt: &HostRuntime, memory: &mut Memory<Silent>, number: usize) -> Result<()> {
+    let alloc = rt.alloc();
+    let manifest = format!(in alloc; "package.name = \"p{number}\"\n")?;
+    put(rt, memory, format!(in alloc; "/w/p{number}/Cargo.toml")?.as_str(), manifest.as_str())?;
+    put(rt, memory, format!(in alloc; "/w/p{number}/src/lib.rs")?.as_str(), "")?;
+    put(rt, memory, format!(in alloc; "/w/p{number}/build.rs")?.as_str(), "")
 }
 
 /// The manifest of a package that depends on so many others, for both sides.
-fn manifest(alloc: Global, count: usize) -> Result<String, Fail> {
-    let mut out = String::from_str(alloc, "package.name = \"r\"\n")?;
-    for place in 0..count {
-        let line = format!(in alloc; "dependencies.p{place}.path = \"p{place}\"\n")?;
-        out.push_str(line.as_str())?;
-        let line = format!(in alloc; "build-dependencies.p{place}.path = \"p{place}\"\n")?;
-        out.push_str(line.as_str())?;
+fn manifest_of(alloc: Global, count: usize) -> Result<String, AllocError> {
+    let mut text = String::from_str(alloc, "package.name = \"r\"\n")?;
+    for number in 0..count {
+        text.push_str(format!(in alloc; "dependencies.p{number}.path = \"p{number}\"\n")?.as_str())?;
+        text.push_str(format!(in alloc; "build-dependencies.p{number}.path = \"p{number}\"\n")?.as_str())?;
     }
-    Ok(out)
+    Ok(text)
 }
 
-/// A place with all these files.
-fn place_of(alloc: Global, count: usize) -> Result<Memory<Silent>, Fail> {
-    let mut memory = Memory::new(alloc, Silent);
-    let text = manifest(alloc, count)?;
-    put(alloc, &mut memory, "/w/Cargo.toml", text.as_str())?;
-    put(alloc, &mut memory, "/w/src/lib.rs", "")?;
-    put(alloc, &mut memory, "/w/build.rs", "")?;
-    for place in 0..count {
-        put_package(alloc, &mut memory, place)?;
+/// Puts such a package and the others.
+fn put_packages(rt: &HostRuntime, memory: &mut Memory<Silent>, count: usize) -> Result<()> {
+    let text = manifest_of(rt.alloc(), count)?;
+    put(rt, memory, "/w/Cargo.toml", text.as_str())?;
+    put(rt, memory, "/w/src/lib.rs", "")?;
+    put(rt, memory, "/w/build.rs", "")?;
+    for number in 0..count {
+        put_package(rt, memory, number)?;
     }
-    Ok(memory)
+    Ok(())
 }
 
-/// A setup without flags.
-fn setup(alloc: Global) -> Result<Setup, Fail> {
-    Ok(Setup {
-        tool: Text::from_str(alloc, "tool")?,
-        rustc: Text::from_str(alloc, "rustc")?,
-        flags: Items::new(alloc),
-        runner: Items::new(alloc),
-        toolchain: Bytes::from_slice(alloc, b"host: x\n")?,
-    })
+/// Puts a package with a library and so many binaries.
+fn put_binaries(rt: &HostRuntime, memory: &mut Memory<Silent>, count: usize) -> Result<()> {
+    let alloc = rt.alloc();
+    let mut text = String::from_str(alloc, "package.name = \"r\"\n")?;
+    for number in 0..count {
+        text.push_str(format!(in alloc; "[[bin]]\nname = \"b{number}\"\npath = \"b.rs\"\n")?.as_str())?;
+    }
+    put(rt, memory, "/w/Cargo.toml", text.as_str())?;
+    put(rt, memory, "/w/src/lib.rs", "")
 }
 
-/// Dep-info of so many files, each fourth of them in the folder of the last unit that is reached.
-fn info_of(alloc: Global, command: &Command, files: usize) -> Result<Bytes, Fail> {
-    let mut out = String::from_str(alloc, "o:")?;
+/// Puts the files of a shape.
+fn put_shape(rt: &HostRuntime, memory: &mut Memory<Silent>, shape: &str, count: usize) -> Result<()> {
+    match shape {
+        "command" => put_packages(rt, memory, count),
+        "binaries" => put_binaries(rt, memory, count),
+        _ => put_packages(rt, memory, REACHED),
+    }
+}
+
+/// Dep-info of so many files, and of a fourth of them once more in the folder of the last unit that is reached.
+fn info_of(alloc: Global, command: &Command, files: usize) -> Result<Bytes, AllocError> {
+    let mut text = String::from_str(alloc, "o:")?;
     let last = match command.reads.as_slice().last() {
         Some(last) => last.as_str(),
         None => "",
     };
     for number in 0..files {
-        let word = format!(in alloc; " src/{number}.rs")?;
-        out.push_str(word.as_str())?;
+        text.push_str(format!(in alloc; " src/{number}.rs")?.as_str())?;
         if number % 4 == 0 {
-            let word = format!(in alloc; " {last}/{number}.rs")?;
-            out.push_str(word.as_str())?;
+            text.push_str(format!(in alloc; " {last}/{number}.rs")?.as_str())?;
         }
     }
-    Ok(Bytes::from_slice(alloc, out.as_bytes())?)
+    Bytes::from_slice(alloc, text.as_bytes())
 }
 
-/// Times the judgement of an answer.
-fn judge(
-    rt: &HostRuntime,
-    project: &Project,
-    unit: &Planned,
-    made: &Command,
-    files: usize,
-) -> Result<(), Fail> {
-    let alloc = rt.alloc();
-    let info = info_of(alloc, made, files)?;
-    let ended = Ended {
+/// How a child ended that said nothing.
+fn silent_end(alloc: Global) -> Result<Ended, AllocError> {
+    let stdout = Bytes::from_slice(alloc, b"")?;
+    let stderr = Bytes::from_slice(alloc, b"")?;
+    Ok(Ended {
         status: 0,
-        stdout: Bytes::from_slice(alloc, b"")?,
-        stderr: Bytes::from_slice(alloc, b"")?,
-    };
-    let start = Instant::now(rt)?;
-    let answer = answered(alloc, project, unit, made, &ended, Some(&info));
-    let spent = start.elapsed(rt)?.as_micros();
-    if let Ok(answer) = answer {
-        let inputs = answer.inputs.len();
-        println!(rt; "answer files {files} inputs {inputs} microseconds {spent}")?;
-    }
-    Ok(())
+        stdout,
+        stderr,
+    })
 }
 
-/// Times the command of the last unit.
-fn measure_last(
-    rt: &HostRuntime,
-    project: &Project,
-    done: &[Option<Directives>],
+/// How many inputs an answer has that is let go, and 0 where there is none.
+fn let_go(answer: Result<Answered, UnitFault>) -> usize {
+    match answer {
+        Ok(answer) => {
+            let inputs = answer.inputs.len();
+            drop(answer);
+            inputs
+        }
+        Err(_) => 0,
+    }
+}
+
+/// What stands around the commands of a project.
+#[derive(Drop)]
+struct Around<'a> {
+    setup: &'a Setup,
+    project: &'a Project,
+    done: &'a [Option<Directives>],
+}
+
+/// What an answer is judged by.
+#[derive(Drop)]
+struct Judged<'a> {
+    unit: &'a Planned,
+    made: &'a Command,
+    ended: &'a Ended,
+    info: &'a Bytes,
+}
+
+/// What is measured, with which count and how often.
+#[derive(Drop)]
+struct Wanted<'a> {
+    shape: &'a str,
     count: usize,
-) -> Result<(), Fail> {
-    let alloc = rt.alloc();
-    let setup = setup(alloc)?;
-    let Some(unit) = project.plan.units().last() else {
-        return Ok(());
-    };
-    let start = Instant::now(rt)?;
-    let made = command(alloc, &setup, project, unit, done)?;
-    let spent = start.elapsed(rt)?.as_micros();
-    let reached = unit.reaches.len();
-    let words = made.words.len();
-    println!(rt; "command {count} reached {reached} words {words} microseconds {spent}")?;
-    for files in [1_000usize, 4_000, 16_000] {
-        judge(rt, project, unit, &made, files)?;
-    }
-    Ok(())
+    number: usize,
 }
 
-fn measure(rt: &HostRuntime, count: usize) -> Result<(), Fail> {
-    let alloc = rt.alloc();
-    let mut memory = place_of(alloc, count)?;
-    let options = options_of(alloc, "")?;
-    if let Some(project) = project_of(alloc, &mut memory, options)? {
-        let done = done_of(alloc, &memory, &project)?;
-        measure_last(rt, &project, done.as_slice(), count)?;
-    }
-    Ok(())
+/// Judges an answer. The time, and how many inputs it has.
+fn judge(rt: &HostRuntime, project: &Project, by: &Judged) -> Result<(u128, usize)> {
+    let start = rt.thread_cpu_time()?;
+    let answer = answered(rt.alloc(), project, by.unit, by.made, by.ended, Some(by.info));
+    let spent = since(rt, start);
+    let inputs = let_go(answer);
+    Ok((spent?, inputs))
 }
 
-/// A package with a library and so many binaries.
-fn put_binaries(alloc: Global, memory: &mut Memory<Silent>, count: usize) -> Result<(), Fail> {
-    let mut out = String::from_str(alloc, "package.name = \"r\"\n")?;
-    for number in 0..count {
-        let line = format!(in alloc; "[[bin]]\nname = \"b{number}\"\npath = \"b.rs\"\n")?;
-        out.push_str(line.as_str())?;
+/// How many words a command has that is let go, and 0 where there is none.
+fn words_of(made: Result<Command, AllocError>) -> usize {
+    match made {
+        Ok(made) => {
+            let words = made.words.len();
+            drop(made);
+            words
+        }
+        Err(_) => 0,
     }
-    put(alloc, memory, "/w/Cargo.toml", out.as_str())?;
-    put(alloc, memory, "/w/src/lib.rs", "")
 }
 
-/// Times the commands of all units of a package with so many binaries.
-fn measure_binaries(rt: &HostRuntime, count: usize) -> Result<(), Fail> {
-    let alloc = rt.alloc();
-    let mut memory = Memory::new(alloc, Silent);
-    put_binaries(alloc, &mut memory, count)?;
-    let options = options_of(alloc, "")?;
-    let Some(project) = project_of(alloc, &mut memory, options)? else {
-        return Ok(());
-    };
-    let setup = setup(alloc)?;
+/// Makes the command of a unit. The time, and how many words it has.
+fn command_once(rt: &HostRuntime, around: &Around, unit: &Planned) -> Result<(u128, usize)> {
+    let start = rt.thread_cpu_time()?;
+    let made = command(rt.alloc(), around.setup, around.project, unit, around.done);
+    let spent = since(rt, start);
+    let words = words_of(made);
+    Ok((spent?, words))
+}
+
+/// Makes the commands of all units. The time, and how many words they have.
+fn all_commands(rt: &HostRuntime, around: &Around) -> Result<(u128, usize)> {
     let mut words = 0usize;
-    let start = Instant::now(rt)?;
-    for unit in project.plan.units() {
-        let made = command(alloc, &setup, &project, unit, &[])?;
-        words = words.saturating_add(made.words.len());
+    let start = rt.thread_cpu_time()?;
+    for unit in around.project.plan.units() {
+        let made = command(rt.alloc(), around.setup, around.project, unit, around.done);
+        words = words.saturating_add(words_of(made));
     }
-    let spent = start.elapsed(rt)?.as_micros();
-    println!(rt; "binaries {count} words {words} microseconds {spent}")?;
-    Ok(())
+    Ok((since(rt, start)?, words))
 }
 
-fn main(rt: HostRuntime) -> Result<(), Fail> {
-    for count in [60usize, 120, 240] {
-        measure(&rt, count)?;
+/// One call.
+fn call(rt: &HostRuntime, around: &Around, by: &Judged, shape: &str) -> Result<(u128, usize)> {
+    match shape {
+        "command" => command_once(rt, around, by.unit),
+        "binaries" => all_commands(rt, around),
+        _ => judge(rt, around.project, by),
     }
-    for count in [1_000usize, 2_000, 4_000] {
-        measure_binaries(&rt, count)?;
+}
+
+/// The least time of so many calls, and the answer of the last.
+fn calls(rt: &HostRuntime, around: &Around, by: &Judged, wanted: &Wanted) -> Result<(u128, usize)> {
+    let mut least = u128::MAX;
+    let mut answer = 0usize;
+    for _ in 0..wanted.number {
+        let (spent, size) = call(rt, around, by, wanted.shape)?;
+        least = least.min(spent);
+        answer = size;
     }
+    Ok((least, answer))
+}
+
+/// The same of a unit and its command.
+fn calls_of(rt: &HostRuntime, around: &Around, unit: &Planned, made: &Command, wanted: &Wanted) -> Result<(u128, usize)> {
+    let files = if wanted.shape == "answered" { wanted.count } else { 0 };
+    let info = info_of(rt.alloc(), made, files)?;
+    let ended = silent_end(rt.alloc())?;
+    let by = Judged {
+        unit,
+        made,
+        ended: &ended,
+        info: &info,
+    };
+    calls(rt, around, &by, wanted)
+}
+
+/// The same of the last unit.
+fn calls_around(rt: &HostRuntime, around: &Around, wanted: &Wanted) -> Result<(u128, usize)> {
+    let Some(unit) = around.project.plan.units().last() else {
+        return Ok((0, 0));
+    };
+    let made = command(rt.alloc(), around.setup, around.project, unit, around.done)?;
+    let found = calls_of(rt, around, unit, &made, wanted);
+    drop(made);
+    found
+}
+
+/// The same in a setup, after what the scripts have said.
+fn calls_in(rt: &HostRuntime, setup: &Setup, project: &Project, wanted: &Wanted) -> Result<(u128, usize)> {
+    let done = done_of(rt.alloc(), project)?;
+    let around = Around {
+        setup,
+        project,
+        done: done.as_slice(),
+    };
+    let found = calls_around(rt, &around, wanted);
+    drop(done);
+    found
+}
+
+/// The same of a project.
+fn calls_on(rt: &HostRuntime, project: &Project, wanted: &Wanted) -> Result<(u128, usize)> {
+    let setup = setup_of(rt.alloc())?;
+    let found = calls_in(rt, &setup, project, wanted);
+    drop(setup);
+    found
+}
+
+/// The project of a shape, of files in a place that is empty before.
+fn filled(rt: &HostRuntime, memory: &mut Memory<Silent>, shape: &str, count: usize) -> Result<Project> {
+    put_shape(rt, memory, shape, count)?;
+    project_of(rt, memory)
+}
+
+/// The same, of a place that is let go.
+fn prepared(rt: &HostRuntime, shape: &str, count: usize) -> Result<Project> {
+    let mut memory = Memory::new(rt.alloc(), Silent);
+    let project = filled(rt, &mut memory, shape, count);
+    drop(memory);
+    project
+}
+
+/// All of it.
+fn measure(rt: &HostRuntime, wanted: &Wanted) -> Result<(u128, usize)> {
+    let project = prepared(rt, wanted.shape, wanted.count)?;
+    let found = calls_on(rt, &project, wanted);
+    drop(project);
+    found
+}
+
+fn main(rt: HostRuntime) -> Result<()> {
+    let words: Vec<String> = env::args(&rt)?.collect(rt.alloc())?;
+    let wanted = Wanted {
+        shape: word_in(words.as_slice(), 1),
+        count: number_in(words.as_slice(), 2),
+        number: number_in(words.as_slice(), 3),
+    };
+    let (least, answer) = measure(&rt, &wanted)?;
+    println!(rt; "{answer} {least}")?;
     Ok(())
 }
-RATTLE
-cd "$work/crates/measure"
-${TRY:-} rt "${1:-run}"
+PROGRAM
+measured command 60 120 240
+measured binaries 1000 2000 4000
+measured answered 1000 4000 16000

@@ -24,10 +24,10 @@ use anyhow::Result;
 use child::Silent;
 use files::put;
 use measuring::{number_in, since, word_in};
-use pb_feature::resolve;
+use pb_feature::{Features, resolve};
 use pb_memory::Memory;
-use pb_unit::Plan;
-use pb_workspace::{Options, SettledWorkspace, selected};
+use pb_unit::{Plan, PlanFault};
+use pb_workspace::{Options, SelectedWorkspace, SettledWorkspace, selected};
 use std::env;
 use std::time::CpuClock;
 use workspace::{options_of, workspace_in};
@@ -88,35 +88,91 @@ fn kept(plan: &Plan) -> usize {
     sum
 }
 
+/// The same of a plan that is let go, and 0 where there is none.
+fn let_go(plan: Result<Plan, PlanFault>) -> usize {
+    match plan {
+        Ok(plan) => {
+            let places = kept(&plan);
+            drop(plan);
+            places
+        }
+        Err(_) => 0,
+    }
+}
+
 /// Plans once. The time, and how many places the plan keeps.
+fn plan_once(rt: &HostRuntime, selection: &SelectedWorkspace<'_>, features: &Features) -> Result<(u128, usize)> {
+    let start = rt.thread_cpu_time()?;
+    let plan = Plan::plan(rt.alloc(), selection, features, "dev");
+    let spent = since(rt, start);
+    let places = let_go(plan);
+    Ok((spent?, places))
+}
+
+/// The same of what is selected, whose features are resolved before.
+fn call_selected(rt: &HostRuntime, selection: &SelectedWorkspace<'_>) -> Result<(u128, usize)> {
+    let features = resolve(rt.alloc(), selection)?;
+    let found = plan_once(rt, selection, &features);
+    drop(features);
+    found
+}
+
+/// The same of what options select of a workspace.
 fn call(rt: &HostRuntime, workspace: &SettledWorkspace, options: &Options) -> Result<(u128, usize)> {
     let selection = selected(rt.alloc(), workspace, options)?;
-    let features = resolve(rt.alloc(), &selection)?;
-    let start = rt.thread_cpu_time()?;
-    let plan = Plan::plan(rt.alloc(), &selection, &features, "dev");
-    let spent = since(rt, start)?;
-    match plan {
-        Ok(plan) => Ok((spent, kept(&plan))),
-        Err(_) => Ok((spent, 0)),
+    let found = call_selected(rt, &selection);
+    drop(selection);
+    found
+}
+
+/// The least time of so many calls, and the answer of the last.
+fn calls(rt: &HostRuntime, workspace: &SettledWorkspace, options: &Options, number: usize) -> Result<(u128, usize)> {
+    let mut least = u128::MAX;
+    let mut answer = 0usize;
+    for _ in 0..number {
+        let (spent, places) = call(rt, workspace, options)?;
+        least = least.min(spent);
+        answer = places;
     }
+    Ok((least, answer))
+}
+
+/// The same with the options of a build of the root package.
+fn calls_on(rt: &HostRuntime, workspace: &SettledWorkspace, number: usize) -> Result<(u128, usize)> {
+    let options = options_of(rt.alloc())?;
+    let found = calls(rt, workspace, &options, number);
+    drop(options);
+    found
+}
+
+/// The workspace of a shape, of files in a place that is empty before.
+fn filled(rt: &HostRuntime, memory: &mut Memory<Silent>, shape: &str, count: usize) -> Result<SettledWorkspace> {
+    put_shape(rt, memory, shape, count)?;
+    workspace_in(rt, memory)
+}
+
+/// The same, of a place that is let go.
+fn prepared(rt: &HostRuntime, shape: &str, count: usize) -> Result<SettledWorkspace> {
+    let mut memory = Memory::new(rt.alloc(), Silent);
+    let workspace = filled(rt, &mut memory, shape, count);
+    drop(memory);
+    workspace
+}
+
+/// All of it.
+fn measure(rt: &HostRuntime, shape: &str, count: usize, number: usize) -> Result<(u128, usize)> {
+    let workspace = prepared(rt, shape, count)?;
+    let found = calls_on(rt, &workspace, number);
+    drop(workspace);
+    found
 }
 
 fn main(rt: HostRuntime) -> Result<()> {
     let words: Vec<String> = env::args(&rt)?.collect(rt.alloc())?;
     let count = number_in(words.as_slice(), 2);
-    let calls = number_in(words.as_slice(), 3);
+    let number = number_in(words.as_slice(), 3);
     let shape = word_in(words.as_slice(), 1);
-    let mut memory = Memory::new(rt.alloc(), Silent);
-    put_shape(&rt, &mut memory, shape, count)?;
-    let workspace = workspace_in(&rt, &mut memory)?;
-    let options = options_of(rt.alloc())?;
-    let mut least = u128::MAX;
-    let mut answer = 0usize;
-    for _ in 0..calls {
-        let (spent, size) = call(&rt, &workspace, &options)?;
-        least = least.min(spent);
-        answer = size;
-    }
+    let (least, answer) = measure(&rt, shape, count, number)?;
     println!(rt; "{answer} {least}")?;
     Ok(())
 }

@@ -13,9 +13,9 @@
 # takes more than the preparation did: `keep` holds all inputs and the text of the record. What is measured and how is
 # said in `measured.sh`.
 #
-# On a busy machine, instructions grew with exponents of 1.00 to 1.03 in each shape; a record of 64 MiB took 116 million
-# of them to keep, and 133 MB of memory since its text is written into room that is made once; the same unit 84 million to
-# compare.
+# On a busy machine, instructions grew with exponents of 1.00 to 1.05 in each shape; a record of 64 MiB took 116 million
+# of them to keep, and 202 MB of memory: the values, the record's text, which is written into room that is made once, and
+# the file in memory; the same unit 84 million to compare.
 set -euo pipefail
 crates="pb_data pb_closure pb_order pb_memory pb_place pb_directive pb_manifest pb_package pb_profile pb_resolved pb_feature pb_unit pb_project pb_record pb_soundness pb_store"
 uses="pb_data pb_memory pb_place pb_project pb_record pb_soundness pb_store"
@@ -39,7 +39,7 @@ use pb_memory::Memory;
 use pb_place::{Command, Ended, PathFault, PathText, RelativePath};
 use pb_record::InputName;
 use pb_record::{Asked, Record, read_record};
-use pb_store::{Compared, Store};
+use pb_store::{Compared, OpenFault, Store, StoreFault};
 use std::alloc::{AllocError, Global};
 use std::env;
 use std::time::CpuClock;
@@ -221,23 +221,28 @@ fn put_sources(
     }
 }
 
-/// Puts all that a shape has. The unit's record, as a value.
+/// What was asked, by a record that is let go.
+fn asked_of(found: Option<Record>) -> Result<Asked> {
+    match found {
+        Some(kept) => Ok(kept.asked),
+        None => Err(anyhow::anyhow!("no record")),
+    }
+}
+
+/// Puts all that a shape has. What was asked by the unit's record.
 fn prepare(
     alloc: Global,
     place: &mut Memory<Silent>,
     shape: &str,
     count: usize,
-) -> Result<Record> {
+) -> Result<Asked> {
     let size = if shape == "file" { count.saturating_mul(1024) } else { 16 };
     let text = filler(alloc, size)?;
     put_sources(alloc, place, shape, count, text.as_str())?;
     let made = record_text(alloc, shape, count, text.as_str())?;
     put_file(alloc, place, "/t/debug/a.target.lib.record", made.as_str())?;
     let found = read_record(alloc, made.as_bytes())?;
-    match found {
-        Some(kept) => Ok(kept),
-        None => Err(anyhow::anyhow!("no record")),
-    }
+    asked_of(found)
 }
 
 /// The key of the unit.
@@ -288,8 +293,13 @@ fn own_command(
     ensures out { IfOk result (λ c. c.out ≡ Some (out_of folder.now key.now)) }
     ensures sorted { IfOk result (λ c. are_sorted c.pairs ≡ true) }
 {
-    let out = out_path(alloc, folder, key)?;
-    Ok(with_out(asked, out))
+    match out_path(alloc, folder, key) {
+        Ok(out) => Ok(with_out(asked, out)),
+        Err(fault) => {
+            drop(asked);
+            Err(fault)
+        }
+    }
 }
 
 /// The names of the declared files.
@@ -320,6 +330,18 @@ fn store_of(alloc: Global, place: &mut Memory<Silent>) -> Result<Store> {
     Ok(store)
 }
 
+/// So many where an opened store is the expected one. It is let go.
+fn opened(store: Result<Store, OpenFault>, count: usize) -> usize {
+    match store {
+        Ok(store) => {
+            let is_next = store.next == Some(8);
+            drop(store);
+            if is_next { count } else { 0 }
+        }
+        Err(_) => 0,
+    }
+}
+
 /// Opens the store; so many where it is the expected one.
 fn call_open(
     rt: &HostRuntime,
@@ -328,9 +350,38 @@ fn call_open(
 ) -> Result<(u128, usize)> {
     let folder = PathText::parse(rt.alloc(), "/t/debug")?;
     let start = rt.thread_cpu_time()?;
-    let store = Store::open(rt.alloc(), place, folder)?;
-    let spent = since(rt, start)?;
-    Ok((spent, if store.next == Some(8) { count } else { 0 }))
+    let store = Store::open(rt.alloc(), place, folder);
+    let spent = since(rt, start);
+    let answer = opened(store, count);
+    Ok((spent?, answer))
+}
+
+/// So many where nothing differs. What was found is let go.
+fn compared(found: Result<Compared, StoreFault>, count: usize) -> usize {
+    match found {
+        Ok(found) => {
+            let is_same = matches!(&found, Compared::Same(_));
+            drop(found);
+            if is_same { count } else { 0 }
+        }
+        Err(_) => 0,
+    }
+}
+
+/// Compares the unit by a store; so many where nothing differs.
+fn compare_by(
+    rt: &HostRuntime,
+    place: &mut Memory<Silent>,
+    store: &Store,
+    command: &Command,
+    count: usize,
+) -> Result<(u128, usize)> {
+    let key = own_key(rt.alloc())?;
+    let start = rt.thread_cpu_time()?;
+    let found = store.differs(rt.alloc(), place, &key, command);
+    let spent = since(rt, start);
+    let answer = compared(found, count);
+    Ok((spent?, answer))
 }
 
 /// Compares the unit; so many where nothing differs.
@@ -340,28 +391,85 @@ fn call_differs(
     command: &Command,
     count: usize,
 ) -> Result<(u128, usize)> {
-    let key = own_key(rt.alloc())?;
     let store = store_of(rt.alloc(), place)?;
-    let start = rt.thread_cpu_time()?;
-    let found = store.differs(rt.alloc(), place, &key, command)?;
-    let spent = since(rt, start)?;
-    Ok((spent, if matches!(found, Compared::Same(_)) { count } else { 0 }))
+    let found = compare_by(rt, place, &store, command, count);
+    drop(store);
+    found
 }
 
 /// Keeps the unit's record, with these inputs.
 fn keep_names(
     rt: &HostRuntime,
     place: &mut Memory<Silent>,
-    asked: Asked,
+    store: &mut Store,
+    key: &Text,
+    command: &Command,
     names: &[InputName],
-) -> Result<u128> {
-    let key = own_key(rt.alloc())?;
-    let mut store = store_of(rt.alloc(), place)?;
-    let command = own_command(rt.alloc(), asked, &store.folder, &key)?;
+) -> Result<u128>
+    requires key { is_key key.now ≡ true }
+    requires out { command.now.out ≡ Some (out_of store.old.folder key.now) }
+    requires sorted { are_sorted command.now.pairs ≡ true }
+{
     let ended = ended(rt.alloc())?;
     let start = rt.thread_cpu_time()?;
-    store.keep(rt.alloc(), place, &key, 8, &command, &[], names, &ended)?;
-    since(rt, start)
+    let kept = store.keep(rt.alloc(), place, key, 8, command, &[], names, &ended);
+    let spent = since(rt, start);
+    drop(ended);
+    kept?;
+    spent
+}
+
+/// The same, with so many inputs.
+fn keep_many(
+    rt: &HostRuntime,
+    place: &mut Memory<Silent>,
+    store: &mut Store,
+    key: &Text,
+    command: &Command,
+    count: usize,
+) -> Result<u128>
+    requires key { is_key key.now ≡ true }
+    requires out { command.now.out ≡ Some (out_of store.old.folder key.now) }
+    requires sorted { are_sorted command.now.pairs ≡ true }
+{
+    let names = names_of(rt.alloc(), count)?;
+    let spent = keep_names(rt, place, store, key, command, names.as_slice());
+    drop(names);
+    spent
+}
+
+/// The same, for what was asked.
+fn keep_asked(
+    rt: &HostRuntime,
+    place: &mut Memory<Silent>,
+    store: &mut Store,
+    key: &Text,
+    asked: Asked,
+    count: usize,
+) -> Result<u128>
+    requires { is_key key.now ≡ true }
+{
+    let command = own_command(rt.alloc(), asked, &store.folder, key)?;
+    let spent = keep_many(rt, place, store, key, &command, count);
+    drop(command);
+    spent
+}
+
+/// The same, under the key of the unit.
+fn keep_by(
+    rt: &HostRuntime,
+    place: &mut Memory<Silent>,
+    store: &mut Store,
+    asked: Asked,
+    count: usize,
+) -> Result<u128> {
+    match own_key(rt.alloc()) {
+        Ok(key) => keep_asked(rt, place, store, &key, asked, count),
+        Err(fault) => {
+            drop(asked);
+            Err(fault.into())
+        }
+    }
 }
 
 /// Keeps the unit's record; so many.
@@ -371,9 +479,17 @@ fn call_keep(
     asked: Asked,
     count: usize,
 ) -> Result<(u128, usize)> {
-    let names = names_of(rt.alloc(), count)?;
-    let spent = keep_names(rt, place, asked, names.as_slice())?;
-    Ok((spent, count))
+    match store_of(rt.alloc(), place) {
+        Ok(mut store) => {
+            let spent = keep_by(rt, place, &mut store, asked, count);
+            drop(store);
+            Ok((spent?, count))
+        }
+        Err(fault) => {
+            drop(asked);
+            Err(fault)
+        }
+    }
 }
 
 /// A call over what is prepared.
@@ -385,48 +501,71 @@ fn call(
     count: usize,
 ) -> Result<(u128, usize)> {
     match shape {
-        "open" => call_open(rt, place, count),
+        "open" => {
+            drop(asked);
+            call_open(rt, place, count)
+        }
         "keep" => call_keep(rt, place, asked, count),
         _ => {
             let command = asked.into_command();
-            call_differs(rt, place, &command, count)
+            let found = call_differs(rt, place, &command, count);
+            drop(command);
+            found
         }
     }
 }
 
-/// What is asked of the unit, where a shape is prepared.
-fn asked_in(
-    alloc: Global,
+/// A call over what is prepared for it, in a place that is empty before.
+fn prepare_and_call(
+    rt: &HostRuntime,
     place: &mut Memory<Silent>,
     shape: &str,
     count: usize,
-) -> Result<Asked> {
-    let kept = prepare(alloc, place, shape, count)?;
-    Ok(kept.asked)
+) -> Result<(u128, usize)> {
+    let asked = prepare(rt.alloc(), place, shape, count)?;
+    call(rt, place, shape, asked, count)
 }
 
-/// The least time of so many calls, each over what is prepared anew, and the answer of the last.
-fn calls(rt: &HostRuntime, shape: &str, count: usize, number: usize) -> Result<(u128, usize)> {
+/// What is prepared alone, where no call is made: so that the call is what the difference of two runs shows.
+fn prepare_alone(
+    rt: &HostRuntime,
+    place: &mut Memory<Silent>,
+    shape: &str,
+    count: usize,
+) -> Result<(u128, usize)> {
+    drop(prepare(rt.alloc(), place, shape, count)?);
+    if shape != "open" {
+        drop(store_of(rt.alloc(), place)?);
+    }
+    Ok((u128::MAX, 0))
+}
+
+/// One of both, in a place of its own.
+fn once(rt: &HostRuntime, shape: &str, count: usize, is_called: bool) -> Result<(u128, usize)> {
+    let mut place = Memory::new(rt.alloc(), Silent);
+    let found = if is_called {
+        prepare_and_call(rt, &mut place, shape, count)
+    } else {
+        prepare_alone(rt, &mut place, shape, count)
+    };
+    drop(place);
+    found
+}
+
+/// The least time of so many calls, each over what is prepared anew, and the answer of the last; without one, what is
+/// prepared alone.
+fn measure(rt: &HostRuntime, shape: &str, count: usize, number: usize) -> Result<(u128, usize)> {
+    if number == 0 {
+        return once(rt, shape, count, false);
+    }
     let mut least = u128::MAX;
     let mut answer = 0usize;
     for _ in 0..number {
-        let mut place = Memory::new(rt.alloc(), Silent);
-        let asked = asked_in(rt.alloc(), &mut place, shape, count)?;
-        let (spent, many) = call(rt, &mut place, shape, asked, count)?;
+        let (spent, many) = once(rt, shape, count, true)?;
         least = least.min(spent);
         answer = many;
     }
     Ok((least, answer))
-}
-
-/// What is prepared alone, where no call is made: so that the call is what the difference of two runs shows.
-fn prepare_alone(rt: &HostRuntime, shape: &str, count: usize) -> Result<()> {
-    let mut place = Memory::new(rt.alloc(), Silent);
-    asked_in(rt.alloc(), &mut place, shape, count)?;
-    if shape != "open" {
-        drop(store_of(rt.alloc(), &mut place)?);
-    }
-    Ok(())
 }
 
 fn main(rt: HostRuntime) -> Result<()> {
@@ -434,10 +573,7 @@ fn main(rt: HostRuntime) -> Result<()> {
     let count = number_in(words.as_slice(), 2);
     let number = number_in(words.as_slice(), 3);
     let shape = word_in(words.as_slice(), 1);
-    if number == 0 {
-        prepare_alone(&rt, shape, count)?;
-    }
-    let (least, answer) = calls(&rt, shape, count, number)?;
+    let (least, answer) = measure(&rt, shape, count, number)?;
     println!(rt; "{answer} {least}")?;
     Ok(())
 }

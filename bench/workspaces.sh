@@ -27,7 +27,8 @@ use measuring::{number_in, since, word_in};
 use pb_manifest_reader::read_manifest;
 use pb_memory::Memory;
 use pb_place::PathText;
-use pb_workspace::load;
+use pb_workspace::{LoadFault, SettledWorkspace, load};
+use std::alloc::Global;
 use std::env;
 use std::time::CpuClock;
 
@@ -113,16 +114,39 @@ fn texts_of(rt: &HostRuntime, count: usize) -> Result<Vec<String>> {
     Ok(texts)
 }
 
+/// Reads a manifest. Whether it is one.
+fn is_read(alloc: Global, text: &str) -> bool {
+    match read_manifest(alloc, text.as_bytes()) {
+        Ok(manifest) => {
+            drop(manifest);
+            true
+        }
+        Err(_) => false,
+    }
+}
+
 /// Reads manifests. The time, and how many are read.
 fn read_all(rt: &HostRuntime, texts: &[String]) -> Result<(u128, usize)> {
     let mut read = 0usize;
     let start = rt.thread_cpu_time()?;
     for text in texts {
-        if read_manifest(rt.alloc(), text.as_bytes()).is_ok() {
+        if is_read(rt.alloc(), text.as_str()) {
             read = read.saturating_add(1);
         }
     }
     Ok((since(rt, start)?, read))
+}
+
+/// How many packages a workspace has that is let go, and 0 where there is none.
+fn let_go(loaded: Result<SettledWorkspace, LoadFault>) -> usize {
+    match loaded {
+        Ok(workspace) => {
+            let packages = workspace.get().packages.len();
+            drop(workspace);
+            packages
+        }
+        Err(_) => 0,
+    }
 }
 
 /// Loads the workspace. The time, and how many packages it has.
@@ -132,11 +156,9 @@ fn load_one(rt: &HostRuntime, memory: &mut Memory<Silent>) -> Result<(u128, usiz
     let target = PathText::parse(alloc, "/w/target")?;
     let start = rt.thread_cpu_time()?;
     let loaded = load(alloc, memory, &manifest, &target);
-    let spent = since(rt, start)?;
-    match loaded {
-        Ok(workspace) => Ok((spent, workspace.get().packages.len())),
-        Err(_) => Ok((spent, 0)),
-    }
+    let spent = since(rt, start);
+    let packages = let_go(loaded);
+    Ok((spent?, packages))
 }
 
 /// Reads or loads once.
@@ -147,21 +169,39 @@ fn call(rt: &HostRuntime, memory: &mut Memory<Silent>, shape: &str, texts: &[Str
     load_one(rt, memory)
 }
 
-fn main(rt: HostRuntime) -> Result<()> {
-    let words: Vec<String> = env::args(&rt)?.collect(rt.alloc())?;
-    let count = number_in(words.as_slice(), 2);
-    let calls = number_in(words.as_slice(), 3);
-    let shape = word_in(words.as_slice(), 1);
-    let mut memory = Memory::new(rt.alloc(), Silent);
-    put_shape(&rt, &mut memory, shape, count)?;
-    let texts = texts_of(&rt, if shape == "read" { count } else { 0 })?;
+/// The least time of so many calls, and the answer of the last.
+fn calls(rt: &HostRuntime, memory: &mut Memory<Silent>, shape: &str, texts: &[String], number: usize) -> Result<(u128, usize)> {
     let mut least = u128::MAX;
     let mut answer = 0usize;
-    for _ in 0..calls {
-        let (spent, size) = call(&rt, &mut memory, shape, texts.as_slice())?;
+    for _ in 0..number {
+        let (spent, size) = call(rt, memory, shape, texts)?;
         least = least.min(spent);
         answer = size;
     }
+    Ok((least, answer))
+}
+
+/// The same over a place that is empty before.
+fn calls_on(rt: &HostRuntime, memory: &mut Memory<Silent>, shape: &str, count: usize, number: usize) -> Result<(u128, usize)> {
+    put_shape(rt, memory, shape, count)?;
+    let texts = texts_of(rt, if shape == "read" { count } else { 0 })?;
+    calls(rt, memory, shape, texts.as_slice(), number)
+}
+
+/// All of it.
+fn measure(rt: &HostRuntime, shape: &str, count: usize, number: usize) -> Result<(u128, usize)> {
+    let mut memory = Memory::new(rt.alloc(), Silent);
+    let found = calls_on(rt, &mut memory, shape, count, number);
+    drop(memory);
+    found
+}
+
+fn main(rt: HostRuntime) -> Result<()> {
+    let words: Vec<String> = env::args(&rt)?.collect(rt.alloc())?;
+    let count = number_in(words.as_slice(), 2);
+    let number = number_in(words.as_slice(), 3);
+    let shape = word_in(words.as_slice(), 1);
+    let (least, answer) = measure(&rt, shape, count, number)?;
     println!(rt; "{answer} {least}")?;
     Ok(())
 }
