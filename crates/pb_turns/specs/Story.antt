@@ -106,7 +106,7 @@ pub record Stops (tells : Bool) (fault : BuildFault) (project : Project) (first 
   pub starts : now.counts.starts.count ≡ upped (length (started_by es)) first.counts.starts.count
   pub settings : now.counts.starts.settings ≡ first.counts.starts.settings
 
--- the next run number after these events, by the next one at first: a unit that begins takes a number where a child is started for it, and none where none is; one that answers takes at most one, and none where a child was started for it, where it is bad, or where it is known that its record had one. That a record which is kept or numbered has the number that was taken is said of the records (`LeavesRecord`); and where a removal failed as a unit began, the number that was taken for it is not counted here
+-- the next run number after these events, by the next one at first: a unit that begins takes a number where a child is started for it, and none where none is; one that answers takes at most one, and none where a child was started for it, where it is bad, or where it is known that its record had one. That a record which is kept or numbered has the number that was taken is said of the records (`HasRecord`, `LeavesRecord`); and where a removal failed as a unit began, the number that was taken for it is not counted here
 abbrev pub NumbersGiven : (ℕ → Type 0) → List (Event BadUnit) → Option ℕ → Option ℕ → Type 0
 NumbersGiven IsNumbered [] first now = now ≡ first
 NumbersGiven IsNumbered (Began unit true ∷ es) first now = (number : ℕ) × NumbersGiven IsNumbered es first (Some number) × (now ≡ after number)
@@ -259,7 +259,7 @@ events_until (Gave unit answer ∷ es) place = if unit == place then es else eve
 abbrev pub record_anew : Reading → Answers → Setup → Project → List (Option (List Directive)) → World → Planned → ℕ → Record
 record_anew read child setup project done now u number = record_of read project u (command_of setup project u done) number (ended_by (reply_in child (command_of setup project u done) now)) now
 
--- which record stands in this world in the place of the unit at a place that has answered, of which it is said whether a child was started for it, and what had happened before it began, and before it answered. Of a good one for which a child was started: its record, with the run number that was the next as it began. Of a good one without a child: the record that stood at first, where that had a number; else that record with the run number that was the next as it answered, and with the numbers that the records of the needed units have. Of a bad one without a child: what stood at first
+-- which record stands in this world in the place of the unit at a place that has answered, of which it is said whether a child was started for it, and what had happened before it began, and before it answered. Of a good one for which a child was started: its record, with the run number that was the next as it began. Of a good one without a child: the record that stood at first, where that had a number, or none was left as it answered; else that record with the run number that was the next then, and with the numbers that the records of the needed units have. Of a bad one without a child: what stood at first
 pub record LeavesRecord (read : Reading) (child : Answers) (setup : Setup) (project : Project) (done : List (Option (List Directive))) (started : Bool) (before until : List (Event BadUnit)) (next : Option ℕ) (first now : World) (place : ℕ) (answer : Answer BadUnit) : Type 0 where
   pub unit : Planned
   pub there : unit_at project place ≡ Some unit
