@@ -139,7 +139,7 @@ module _ (footing : Footing) (read : Reading) (reading : IsReading read) (child 
   stay_true OnNothing old new none same = tt
 
   module _ {S : Type 0} (Turns : S → List ℕ → List ℕ → Step → S → Type 0) (from last : S) where
-    none_gives : (result : Result Summary BuildFault) (old new : Moment) → StopsEarly true child options result old new → GivesUnits footing read child (ByTurns Turns from) options result old new
+    none_gives : (result : Result Summary BuildFault) (old new : Moment) → StopsEarly true child options from last result old new → GivesUnits footing read child (ByTurns Turns from) options result old new
     none_gives (Ok summary) old new early = absurd (no_fault early.none_began.answer)
     none_gives (Err fault) old new early =
         let same : early.none_began.fault ≡ fault = told_of (Err fault) fault early.none_began.fault refl early.none_began.answer in

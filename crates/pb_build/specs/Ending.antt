@@ -106,14 +106,15 @@ pub record NoneBegan (tells : Bool) (child : Answers) (options : Options) (resul
   pub heard : new.heard ≡ old.heard
   pub landed : new.counts.starts.flying ≡ []
 
--- and its calls stopped there
-pub record StopsEarly (tells : Bool) (child : Answers) (options : Options) (result : Result Summary BuildFault) (old new : Moment) : Type 0 where
+-- its calls stopped there, and the turn was asked nothing
+pub record StopsEarly {S : Type 0} (tells : Bool) (child : Answers) (options : Options) (from last : S) (result : Result Summary BuildFault) (old new : Moment) : Type 0 where
   pub none_began : NoneBegan tells child options result old new
+  pub unasked : last ≡ from
   pub calls : IsTrue tells → StopsBefore options old.world none_began.fault old.counts new.counts
 
 -- a build's work up to its finish line
 abbrev pub Works : {S : Type 0} → Bool → Answers → (S → List ℕ → List ℕ → Step → S → Type 0) → Options → S → S → Result Summary BuildFault → Moment → Moment → Type 0
-Works tells child Turns options from last result old new = StopsEarly tells child options result old new ⊎ UnitsEnd tells child Turns options from last result old new
+Works tells child Turns options from last result old new = StopsEarly tells child options from last result old new ⊎ UnitsEnd tells child Turns options from last result old new
 
 -- The finish line.
 

@@ -14,6 +14,7 @@ returns-in-Err g c = λ from planned. inl record {
     heard = planned.heard;
     landed = c.in-Err.ensures.landed;
   };
+  unasked = refl;
   calls = λ told. c.in-Err.ensures.stops told from (unheard g.P.Place.tells c.args.options.now c.args.plan from _ planned);
 }
 
