@@ -1,5 +1,5 @@
 -- At what the program stops.
-use Rattle.std.proofs.Common.{◌≡◌, ◌≢◌, ◌==◌, ◌∙◌, ℕ, Bool, false, List, [], length, take, IfErr, Option, Some, Result, Ok, Err, refl, sym, ap, subst, inl}
+use Rattle.std.proofs.Common.{◌≡◌, ◌≢◌, ◌==◌, ◌∙◌, ℕ, Bool, false, List, [], length, IfErr, Option, Some, Result, Ok, Err, refl, sym, ap, subst, inl}
 use Rattle.std.proofs.lemmas.Bool.{false≢true}
 use Rattle.std.specs.Io.KnownBytes.{Appends}
 use Rattle.pb_data.specs.Table.{table_of}
@@ -71,8 +71,8 @@ files_put shows tells words shown reply files old new is has put =
     (put.0, (λ told. put.1 (has ∙ ap (λ r. r.files) (is told)) told), subst (λ fs. PutsIn tells put.0 fs old new) has put.2)
 
 -- a sink failed at these bytes
-pub sink_fails : (told bytes : List ℕ) (old new : Heard) → told ≡ bytes → ((n : ℕ) × Appends old.taken new.taken (take n told)) → new.faults ≡ up old.faults → FailsAt bytes old new
-sink_fails told bytes old new is part rose = (subst (λ b. (n : ℕ) × Appends old.taken new.taken (take n b)) is part, rose)
+pub sink_fails : (told bytes : List ℕ) (old new : Heard) → told ≡ bytes → TakesPart told old.taken new.taken → new.faults ≡ up old.faults → FailsAt bytes old new
+sink_fails told bytes old new is part rose = (subst (λ b. TakesPart b old.taken new.taken) is part, rose)
 
 -- a sink took them all
 pub sink_takes : (told bytes : List ℕ) (old new : Heard) → told ≡ bytes → Appends old.taken new.taken told → new.faults ≡ old.faults → Writes bytes old new

@@ -1,11 +1,12 @@
 -- What the program writes of a reply, and at what it stops: first the files, then the output, then standard error. Nothing is written behind a write that failed.
-use Rattle.std.specs.Prelude.{◌≡◌, ◌⊎◌, ℕ, Bool, List, [], ◌∷◌, ◌++◌, take, Option, Some, None, IsTrue}
+use Rattle.std.specs.Prelude.{◌≡◌, ◌⊎◌, ℕ, Bool, List, [], ◌∷◌, ◌++◌, Option, Some, None, IsTrue}
 use Rattle.std.specs.Io.KnownBytes.{Appends}
 use Rattle.pb_place.specs.CallsInTurn.{past_calls}
 use Rattle.pb_place.specs.declared.call.Call.{Call}
 use Rattle.pb_place.specs.declared.call.Call.TheVariants as call
 use Rattle.pb_place.specs.Counts.{Counts, up, past_place_fault}
 use Rattle.pb_place.specs.Paths.{below}
+use Rattle.pb_place.specs.Sinks.{TakesPart}
 use Rattle.pb_place.specs.World.{World, Torn, put_reply}
 use Rattle.pb_place.specs.declared.child.Reply.{Reply}
 use Rattle.pb_place.specs.declared.place.PlaceFault.TheVariants as place
@@ -21,9 +22,9 @@ pub record Heard : Type 0 where
 abbrev pub Writes : List ℕ → Heard → Heard → Type 0
 Writes bytes old new = Appends old.taken new.taken bytes × (new.faults ≡ old.faults)
 
--- the sink failed at some bytes, of which it took the first
+-- the sink failed at some bytes, of which it took the first, and not all
 abbrev pub FailsAt : List ℕ → Heard → Heard → Type 0
-FailsAt bytes old new = ((n : ℕ) × Appends old.taken new.taken (take n bytes)) × (new.faults ≡ up old.faults)
+FailsAt bytes old new = TakesPart bytes old.taken new.taken × (new.faults ≡ up old.faults)
 
 -- the maps of a place, and its counters
 pub record Kept : Type 0 where

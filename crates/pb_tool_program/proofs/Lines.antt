@@ -1,9 +1,10 @@
 -- The lines of a session that were written, and where it was stopped.
-use Rattle.std.proofs.Common.{◌≡◌, ◌≢◌, ◌⊎◌, ◌==◌, inl, inr, ℕ, Bool, true, false, List, [], ◌∷◌, ◌++◌, codes, length, take, Option, Some, None, is_some, IsTrue, Ok, refl, sym, subst}
+use Rattle.std.proofs.Common.{◌≡◌, ◌≢◌, ◌⊎◌, ◌==◌, inl, inr, ℕ, Bool, true, false, List, [], ◌∷◌, ◌++◌, codes, length, Option, Some, None, is_some, IsTrue, Ok, refl, sym, subst}
 use Rattle.std.proofs.lemmas.Bool.{false≢true}
 use Rattle.std.specs.Io.KnownBytes.{Appends}
 use Rattle.pb_answer.specs.Explanation.{ended, said_by_bad}
 use Rattle.pb_place.specs.Counts.{up}
+use Rattle.pb_place.specs.Sinks.{TakesPart}
 use Rattle.pb_memory.specs.Memory.{Held, no_held}
 use Rattle.pb_project.specs.declared.fault.UnitFault.{UnitFault}
 use Rattle.pb_session.specs.Sessions.{session_of}
@@ -59,12 +60,11 @@ session_untold bytes read steps first last old mid before after new answers is_r
 
 -- What a sink was given, by the clauses of the call that gave it.
 pub tells_by : (result : Bool) (bytes told : List ℕ) (old new : Heard) → told ≡ bytes
-    → (IsTrue result → Appends old.taken new.taken told) → (IsTrue result → new.faults ≡ old.faults) → (result ≡ false → (n : ℕ) × Appends old.taken new.taken (take n told)) → (result ≡ false → new.faults ≡ up old.faults)
+    → (IsTrue result → Appends old.taken new.taken told) → (IsTrue result → new.faults ≡ old.faults) → (result ≡ false → TakesPart told old.taken new.taken) → (result ≡ false → new.faults ≡ up old.faults)
     → Tells bytes old new
 tells_by true bytes told old new same all whole part fault = (true, (subst (Appends old.taken new.taken) same (all refl), whole refl))
 tells_by false bytes told old new same all whole part fault =
-    let (n, first) = part refl in
-    (false, ((n, subst (λ (bs : List ℕ). Appends old.taken new.taken (take n bs)) same first), fault refl))
+    (false, (subst (λ (bs : List ℕ). TakesPart bs old.taken new.taken) same (part refl), fault refl))
 
 -- There is something to tell.
 pub tells_some : (lost bytes : List ℕ) (old new : Heard) → bytes ≢ [] → Tells bytes old new ⊎ Tells lost old new → TellsOr lost bytes old new

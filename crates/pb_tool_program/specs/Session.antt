@@ -1,9 +1,10 @@
 -- What the session program says of its input, and how it ends.
-use Rattle.std.specs.Prelude.{◌≡◌, ◌⊎◌, ℕ, Bool, codes, List, [], ◌∷◌, ◌++◌, take, Option, Ok}
+use Rattle.std.specs.Prelude.{◌≡◌, ◌⊎◌, ℕ, Bool, codes, List, [], ◌∷◌, ◌++◌, Option, Ok}
 use Rattle.std.specs.Io.KnownBytes.{Appends}
 use Rattle.std.specs.FinMap as map
 use Rattle.pb_mini.specs.Answer.{answered}
 use Rattle.pb_place.specs.Counts.{up, no_calls}
+use Rattle.pb_place.specs.Sinks.{TakesPart}
 use Rattle.pb_place.specs.World.{Answers}
 use Rattle.pb_turns.specs.Moments.{Heard}
 use Rattle.pb_build.specs.Session.{Point, Course, Breaks}
@@ -17,9 +18,9 @@ use Rattle.pb_tool_program.specs.Writing.{Writes}
 abbrev pub bad_session : List ℕ
 bad_session = codes "error: bad session\n"
 
--- the session is told to be bad; or, where the sink failed, the first of these bytes were: what it has taken before and after, and its faults before and after
+-- the session is told to be bad; or, where the sink failed, the first of these bytes, and not all: what it has taken before and after, and its faults before and after
 abbrev pub Refused : Option (List ℕ) → Option (List ℕ) → ℕ → ℕ → Type 0
-Refused old new before after = (Appends old new bad_session × (after ≡ before)) ⊎ (((n : ℕ) × Appends old new (take n bad_session)) × (after ≡ up before))
+Refused old new before after = (Appends old new bad_session × (after ≡ before)) ⊎ (TakesPart bad_session old new × (after ≡ up before))
 
 -- a result line for each answer, with a line feed behind it
 abbrev pub lines_of : List Answer → List ℕ
@@ -34,7 +35,7 @@ small_compiler c w = answered c.words c.pairs w
 abbrev pub at_first : Heard → Point
 at_first heard = record { moment = record { world = record { files = map.empty; variables = map.empty }; counts = no_calls; most = 0; heard = heard }; answers = []; fuse = 0; deaths = [] }
 
--- the steps were taken in turn, the message lines of one build after those of another; and then a result line for each was written, all of these lines or the first bytes of them, at which the sink failed
+-- the steps were taken in turn, the message lines of one build after those of another; and then a result line for each was written, all of these lines or the first bytes of them, not all, at which the sink failed
 abbrev pub Written : Bool → List SessionStep → Heard → Heard → Type 0
 Written whole steps before after = (end : Point) × Course small_compiler steps (at_first before) end × Writes whole (lines_of end.answers) end.moment.heard after
 

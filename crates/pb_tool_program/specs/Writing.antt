@@ -1,13 +1,14 @@
 -- What is written to a sink, as far as it takes it.
-use Rattle.std.specs.Prelude.{◌≡◌, ◌⊎◌, ℕ, Bool, true, false, List, [], ◌∷◌, take}
+use Rattle.std.specs.Prelude.{◌≡◌, ◌⊎◌, ℕ, Bool, true, false, List, [], ◌∷◌}
 use Rattle.std.specs.Io.KnownBytes.{Appends}
 use Rattle.pb_place.specs.Counts.{up}
+use Rattle.pb_place.specs.Sinks.{TakesPart}
 use Rattle.pb_turns.specs.Moments.{Heard}
 
--- all of some bytes were written; or the first of them, and the sink failed
+-- all of some bytes were written; or the first of them, and not all, and the sink failed
 abbrev pub Writes : Bool → List ℕ → Heard → Heard → Type 0
 Writes true bytes old new = Appends old.taken new.taken bytes × (new.faults ≡ old.faults)
-Writes false bytes old new = ((n : ℕ) × Appends old.taken new.taken (take n bytes)) × (new.faults ≡ up old.faults)
+Writes false bytes old new = TakesPart bytes old.taken new.taken × (new.faults ≡ up old.faults)
 
 -- some bytes were told, as far as the sink took them
 abbrev pub Tells : List ℕ → Heard → Heard → Type 0
