@@ -37,6 +37,10 @@ pub record IsMigrated (read : Reading) (judge : Judge) (child : Answers) (folder
   pub needs_stand : HasNeeds (record_at read folder w.files) folder c.reads needs number
   pub unnamed : NoneNames (record_at read folder w.files) number
 
--- the next number is as it was, or was taken
+-- the next number was taken
+abbrev pub TakesNext : Option ℕ → Option ℕ → Type 0
+TakesNext old new = (number : ℕ) × (old ≡ Some number) × (new ≡ after number)
+
+-- it is as it was, or was taken
 abbrev pub TakesNumber : Option ℕ → Option ℕ → Type 0
-TakesNumber old new = (new ≡ old) ⊎ ((number : ℕ) × (old ≡ Some number) × (new ≡ after number))
+TakesNumber old new = (new ≡ old) ⊎ TakesNext old new

@@ -22,7 +22,7 @@ ghost use Rattle.pb_store.specs.Keeping.{Leaves, numbered};
 ghost use Rattle.pb_store.specs.Looking.{Looks, migrated_called};
 ghost use Rattle.pb_store.specs.Presence.{numbered_by};
 ghost use Rattle.pb_store.specs.declared.fault.StoreFault.TheVariants as store_fault;
-ghost use Rattle.pb_store.specs.Migrating.{IsMigrated, TakesNumber, lacks_number, migrated, numbered_record};
+ghost use Rattle.pb_store.specs.Migrating.{IsMigrated, TakesNext, TakesNumber, lacks_number, migrated, numbered_record};
 
 use crate::dropping::number_after;
 use crate::fault::StoreFault;
@@ -63,6 +63,7 @@ impl Store {
         ensures sound { (read : Reading) (judge : Judge) (c : Command) → IsReading read → IsTrue P.tells → HoldsNumbers (record_at read self.old.folder (P.world place.old).files) self.old.numbers → ((number : ℕ) → self.old.next ≡ Some number → IsMigrated read judge P.child self.old.folder key.now c needs.now number (P.world place.old) kept) → Sound read judge P.child self.old.folder (P.world place.old).files → Sound read judge P.child self.old.folder (P.world place.new).files }
         ensures ahead { (read : Reading) (judge : Judge) (c : Command) → IsReading read → IsTrue P.tells → HoldsNumbers (record_at read self.old.folder (P.world place.old).files) self.old.numbers → ((number : ℕ) → self.old.next ≡ Some number → IsMigrated read judge P.child self.old.folder key.now c needs.now number (P.world place.old) kept) → IsAhead (record_at read self.old.folder (P.world place.old).files) self.old.next → IsAhead (record_at read self.old.folder (P.world place.new).files) self.new.next }
         ensures next { TakesNumber self.old.next self.new.next }
+        ensures taken { OnOk result (TakesNext self.old.next self.new.next) }
         ensures folder { self.new.folder ≡ self.old.folder }
         ensures spent { self.old.next ≡ None → (result ≡ Err store_fault.NumbersSpent) × (IsTrue P.tells → P.world place.new ≡ P.world place.old) }
         ensures stands { (read : Reading) → IsReading read → IsTrue P.tells → kept.key ≡ key.now → OnOk result ((number : ℕ) × (self.old.next ≡ Some number) × (record_at read self.old.folder (P.world place.new).files key.now ≡ Some (numbered_record kept number (numbered_by self.old.numbers needs.now)))) }
@@ -115,9 +116,10 @@ impl Store {
         }
     }
 
-    /// Gives a unit's record of format 1 a run number, names the needed units with their numbers, which are held, and
-    /// writes it in its place as format 2. Where the record is of format 2, or none counts, nothing is changed. `needs` are the keys of
-    /// the units that the unit needs, in plan order. After a fault the old record stands, none, or the new one.
+    /// Gives a unit's record of format 1 the next run number, names the needed units with their numbers, which are held,
+    /// and writes it in its place as format 2. Where the record is of format 2, or none counts, nothing is changed.
+    /// `needs` are the keys of the units that the unit needs, in plan order. After a fault the old record stands, none,
+    /// or the new one, and the number may have been taken.
     ///
     /// Faults: NumbersSpent, only where the record is of format 1 and no number is left: nothing was changed then;
     /// Place, where the record cannot be read or written; OutOfMemory.
@@ -136,6 +138,7 @@ impl Store {
         ensures spent { self.old.next ≡ None → IsTrue P.tells → P.world place.new ≡ P.world place.old }
         ensures cause { (read : Reading) → IsReading read → IsTrue P.tells → result ≡ Err store_fault.NumbersSpent → lacks_number (record_at read self.old.folder (P.world place.old).files key.now) ≡ true }
         ensures same { (read : Reading) → IsReading read → IsTrue P.tells → lacks_number (record_at read self.old.folder (P.world place.old).files key.now) ≡ false → P.world place.new ≡ P.world place.old }
+        ensures taken { (read : Reading) → IsReading read → IsTrue P.tells → lacks_number (record_at read self.old.folder (P.world place.old).files key.now) ≡ true → OnOk result (TakesNext self.old.next self.new.next) }
         ensures unused { (read : Reading) → IsReading read → IsTrue P.tells → lacks_number (record_at read self.old.folder (P.world place.old).files key.now) ≡ false → self.new.next ≡ self.old.next }
         ensures stands { (read : Reading) → IsReading read → IsTrue P.tells → HoldsNumbers (record_at read self.old.folder (P.world place.old).files) self.old.numbers → OnOk result (record_at read self.old.folder (P.world place.new).files key.now ≡ migrated self.old.next (numbered (record_at read self.old.folder (P.world place.old).files) needs.now) (record_at read self.old.folder (P.world place.old).files key.now)) }
         ensures held { (read : Reading) (at : Standing) → IsReading read → IsTrue P.tells → HoldsNumbers at self.old.numbers → OnOk result (record_at read self.old.folder (P.world place.new).files key.now ≡ migrated self.old.next (numbered at needs.now) (record_at read self.old.folder (P.world place.old).files key.now)) }
