@@ -76,6 +76,7 @@ impl Store {
         ensures still { IsTrue P.tells → KeepsStillOutside (is_at_or_below (place_of self.old.folder key.now)) (P.counts place.old).starts.flying (P.still place.old) (P.still place.new) }
         ensures takes { Takes (MayMigrate self.old.next) result (P.counts place.old) (P.counts place.new) }
         ensures before { IfErr result (λ e. looked e ≡ true → (self.new.next ≡ self.old.next) × (IsTrue P.tells → P.world place.new ≡ P.world place.old)) }
+        ensures used { IfErr result (λ e. e ≡ store_fault.Place place_fault.Write → TakesNext self.old.next self.new.next) }
         ensures written { IfErr result (λ e. e ≡ store_fault.Place place_fault.Write → (P.counts place.new).failing ≡ Some (call.Write (place_of self.old.folder key.now))) }
         ensures calls { ((result ≡ Err store_fault.NumbersSpent) × (P.counts place.new ≡ P.counts place.old)) ⊎ Looks result (call.Write (place_of self.old.folder key.now) ∷ []) (P.counts place.old) (P.counts place.new) }
     {
@@ -119,7 +120,7 @@ impl Store {
     /// Gives a unit's record of format 1 the next run number, names the needed units with their numbers, which are held,
     /// and writes it in its place as format 2. Where the record is of format 2, or none counts, nothing is changed.
     /// `needs` are the keys of the units that the unit needs, in plan order. After a fault the old record stands, none,
-    /// or the new one, and the number may have been taken.
+    /// or the new one, and the number may have been taken; where the write failed, it was.
     ///
     /// Faults: NumbersSpent, only where the record is of format 1 and no number is left: nothing was changed then;
     /// Place, where the record cannot be read or written; OutOfMemory.
@@ -151,6 +152,7 @@ impl Store {
         ensures still { IsTrue P.tells → KeepsStillOutside (is_at_or_below (place_of self.old.folder key.now)) (P.counts place.old).starts.flying (P.still place.old) (P.still place.new) }
         ensures takes { Takes (MayMigrate self.old.next) result (P.counts place.old) (P.counts place.new) }
         ensures before { IfErr result (λ e. looked e ≡ true → (self.new.next ≡ self.old.next) × (IsTrue P.tells → P.world place.new ≡ P.world place.old)) }
+        ensures used { IfErr result (λ e. e ≡ store_fault.Place place_fault.Write → TakesNext self.old.next self.new.next) }
         ensures written { IfErr result (λ e. e ≡ store_fault.Place place_fault.Write → (P.counts place.new).failing ≡ Some (call.Write (place_of self.old.folder key.now))) }
         ensures calls { (read : Reading) → IsReading read → IsTrue P.tells → ((result ≡ Err store_fault.NumbersSpent) × (P.counts place.new ≡ past_calls (call.Read (place_of self.old.folder key.now) ∷ []) (P.counts place.old)))
             ⊎ Looks result (migrated_called self.old.folder key.now (record_at read self.old.folder (P.world place.old).files key.now)) (P.counts place.old) (P.counts place.new) }
