@@ -86,11 +86,11 @@ comes_by child project order place u there c out view w new old still (awaited.C
 )
 
 -- A unit does not reach itself.
-not_itself : (project : Project) (order : IsInOrder project) (place : ℕ) (u : Planned) → unit_at project place ≡ Some u → (p : ℕ) → Contains u.reaches p → p ≢ place
+pub not_itself : (project : Project) (order : IsInOrder project) (place : ℕ) (u : Planned) → unit_at project place ≡ Some u → (p : ℕ) → Contains u.reaches p → p ≢ place
 not_itself project order place u there p among same = let less : place < place = subst (λ n. n < place) same (each_of (λ n. n < place) u.reaches p (order.reaches place u there) among) in omega (arith, less)
 
 -- So the child that is spawned in its run sees what was there before.
-sees_first : (child : Answers) (project : Project) (order : IsInOrder project) (place : ℕ) (u : Planned) (there : unit_at project place ≡ Some u) (c : Command) (for : IsFor project u c) (w : World) (flying : List ChildInFlight) (still : ℕ → Type 0) (by : Awaited)
+pub sees_first : (child : Answers) (project : Project) (order : IsInOrder project) (place : ℕ) (u : Planned) (there : unit_at project place ≡ Some u) (c : Command) (for : IsFor project u c) (w : World) (flying : List ChildInFlight) (still : ℕ → Type 0) (by : Awaited)
     → IfSome (child_in by) (λ l. IsSpawned (is_of (records_folder project) u.key) child c w l.ticket flying still) → IfSome (child_in by) (λ l. IsInFlight child c (seen_by c w) l.ticket flying still)
 sees_first child project order place u there c for w flying still (awaited.Record again) spawned = tt
 sees_first child project order place u there c for w flying still (awaited.Child l) is = record {

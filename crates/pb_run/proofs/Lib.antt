@@ -18,6 +18,7 @@ pub mod RecordedLanding
 pub mod RecordedOthers
 pub mod RecordedReplay
 pub mod RecordedSame
+pub mod RecordStands
 pub mod Reusing
 pub mod Settling
 pub mod Shown

@@ -132,6 +132,13 @@ numbered_awaited o again is none = by again.numbered (sym (ap awaits_number is) 
     by true e = refl
     by false e = absurd (false≢true (sym e))
 
+pub unnumbered_awaited : (o : Awaited) (again : Replayed) → o ≡ awaited.Record again → awaits_number o ≡ true → again.numbered ≡ false
+unnumbered_awaited o again is waits = by again.numbered (sym (ap awaits_number is) ∙ waits)
+  where
+    by : (flag : Bool) → not flag ≡ true → flag ≡ false
+    by true e = absurd (false≢true e)
+    by false e = refl
+
 pub awaited_numberless : (o : Awaited) (again : Replayed) → o ≡ awaited.Record again → again.numbered ≡ false → awaits_number o ≡ true
 awaited_numberless o again is none = ap awaits_number is ∙ ap (λ (flag : Bool). not flag) none
 

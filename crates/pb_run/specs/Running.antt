@@ -1,5 +1,5 @@
 -- Which calls the run of a unit makes, from its beginning to its answer, and what comes of one for which a child was started.
-use Rattle.std.specs.Prelude.{◌≡◌, ◌⊎◌, IfSome, IsOk, MatchOption, None, Result, Err}
+use Rattle.std.specs.Prelude.{◌≡◌, ◌⊎◌, ℕ, IfSome, IsOk, MatchOption, Option, Some, None, Result, Err}
 use Rattle.pb_answer.specs.declared.fault.BuildFault.{BuildFault}
 use Rattle.pb_command.specs.Judge.{ended_by, replied_files}
 use Rattle.pb_place.specs.CallsInTurn.{past_calls}
@@ -13,8 +13,8 @@ use Rattle.pb_place.specs.declared.command.Ended.{Ended}
 use Rattle.pb_place.specs.declared.place.StartFault.{StartFault}
 use Rattle.pb_project.specs.declared.project.Project.{Project}
 use Rattle.pb_run.specs.Causes.{StopsAt}
-use Rattle.pb_run.specs.Halves.{child_of}
-use Rattle.pb_run.specs.Landing.{CallsBehind, EndsBy, GivesRecord, answered_called}
+use Rattle.pb_run.specs.Halves.{child_of, needed_keys}
+use Rattle.pb_run.specs.Landing.{CallsBehind, EndsBy, GivesRecord, answered_called, record_of}
 use Rattle.pb_run.specs.Launching.{IsSpawned, LaunchEnds, Launches}
 use Rattle.pb_run.specs.Outcome.{ran_of}
 use Rattle.pb_run.specs.Standing.{records_folder}
@@ -22,7 +22,10 @@ use Rattle.pb_run.specs.declared.begun.Begun.{Begun}
 use Rattle.pb_run.specs.declared.ran.Ran.{Ran}
 use Rattle.pb_soundness.specs.Apart.{is_of}
 use Rattle.pb_soundness.specs.Records.{Reading, place_of, record_at}
+use Rattle.pb_store.specs.Keeping.{numbered}
 use Rattle.pb_store.specs.Looking.{looked_at}
+use Rattle.pb_store.specs.Migrating.{migrated}
+use Rattle.pb_store.specs.declared.difference.Difference.{Difference}
 use Rattle.pb_unit.specs.declared.plan.Planned.{Planned}
 
 -- the counters once a unit was looked at for a difference from its record
@@ -60,3 +63,10 @@ ComesOfReply project u c reply after ran = (ran ≡ ran_of project u c (ended_by
 -- a unit for which a child was started: what came of it is what the child's reply to its command comes to, by what that sees of the world as it was before the run, whatever the records say
 abbrev pub RunsAnew : Project → Planned → Answers → Command → World → World → Ran → Type 0
 RunsAnew project u child c w after ran = ComesOfReply project u c (child c (seen_by c w)) after ran
+
+-- which record counts in the place of a good unit that was run, by what differed: where nothing did, the one that was there, which has got the next number if it had none; else that of the child's reply to its command, by what that sees of the world as it was, with the number that was the next, the values that the inputs which are found in it have now, and the numbers that the records of the needed units have
+abbrev pub KeepsRecord : Reading → Answers → Project → Planned → Command → Option Difference → Option ℕ → World → World → Type 0
+KeepsRecord read child project u c None next w after =
+    record_at read (records_folder project) after.files u.key ≡ migrated next (numbered (record_at read (records_folder project) w.files) (needed_keys project u)) (record_at read (records_folder project) w.files u.key)
+KeepsRecord read child project u c (Some difference) next w after =
+    (number : ℕ) × (next ≡ Some number) × (record_at read (records_folder project) after.files u.key ≡ Some (record_of read project u c number (ended_by (child c (seen_by c w))) after))

@@ -22,7 +22,7 @@ ghost use Rattle.pb_run.specs.Halves.{Footing, Basis, basis, outcomes_in, Keeps,
 ghost use Rattle.pb_run.specs.Landing.{EndsBy, CallsBehind, GivesRecord, IsJudged, answered_called, record_left};
 ghost use Rattle.pb_run.specs.Launching.{HasLooked, IsSpawned, LaunchEnds, Launches};
 ghost use Rattle.pb_run.specs.Outcome.{outcome_by, directives_in, ran_of, unstarted};
-ghost use Rattle.pb_run.specs.Running.{RunsAnew, RunsCalling};
+ghost use Rattle.pb_run.specs.Running.{KeepsRecord, RunsAnew, RunsCalling};
 ghost use Rattle.pb_run.specs.Standing.{IsCommandOf, IsInOrder, records_folder};
 ghost use Rattle.pb_run.specs.declared.begun.Begun.{Begun};
 ghost use Rattle.pb_unit.specs.declared.plan.Planned.{Planned};
@@ -31,11 +31,11 @@ ghost use Rattle.pb_soundness.specs.Grounded.{Standing};
 ghost use Rattle.pb_soundness.specs.Numbers.{after};
 ghost use Rattle.pb_soundness.specs.Records.{Reading, place_of, record_at};
 ghost use Rattle.pb_store.specs.Differences.{FirstDifference, FirstOf};
-ghost use Rattle.pb_store.specs.Held.{HoldsNumbers};
+ghost use Rattle.pb_store.specs.Held.{HoldsNumbers, number_held};
 ghost use Rattle.pb_place.specs.CallsInTurn.{past_calls};
 ghost use Rattle.pb_store.specs.Looking.{looked_at};
 ghost use Rattle.pb_store.specs.declared.difference.Difference.{Difference};
-ghost use Rattle.pb_store.specs.Migrating.{TakesNumber, lacks_number};
+ghost use Rattle.pb_store.specs.Migrating.{TakesNext, TakesNumber, lacks_number};
 ghost use Rattle.pb_store.specs.Replaying.{IsReplayed};
 ghost use Rattle.pb_store.specs.declared.replaying.Replayed.{Replayed};
 
@@ -117,11 +117,12 @@ pub fn begin_unit<P: Place>(
     ensures launched { IsTrue P.tells → IfOk result (λ made. IfSome (child_of made.begun) (λ launched. IsSpawned (is_of (records_folder project.now) unit.now.key) P.child made.begun.command (P.world place.old) launched.ticket (P.counts place.new).starts.flying (P.still place.new))) }
     ensures stay { (ticket : ℕ) (its : ChildInFlight) → child_at ticket (P.counts place.old).starts.flying ≡ Some its → child_at ticket (P.counts place.new).starts.flying ≡ Some its }
     ensures folder { store.new.folder ≡ store.old.folder }
+    ensures others_held { (l : List ℕ) → l ≢ unit.now.key → number_held store.new.numbers l ≡ number_held store.old.numbers l }
     ensures next { TakesNumber store.old.next store.new.next }
     ensures spent { store.old.next ≡ None → IsTrue P.tells → P.world place.new ≡ P.world place.old }
     ensures unnumbered { IfErr result (λ e. is_of_look e ≡ true → store.new.next ≡ store.old.next) }
     ensures number { IfOk result (λ made. MatchOption (child_of made.begun) (store.new.next ≡ store.old.next) (λ launched. (store.old.next ≡ Some launched.number) × (store.new.next ≡ after launched.number))) }
-    ensures taken { IfErr result (λ e. is_of_child e ≡ true → (number : ℕ) × (store.old.next ≡ Some number) × (store.new.next ≡ after number)) }
+    ensures taken { IfErr result (λ e. is_of_child e ≡ true → TakesNext store.old.next store.new.next) }
     ensures carries { (read : Reading) → IsReading read → IsTrue P.tells → IfOk result (λ made. GivesRecord (record_at read (records_folder project.now) (P.world place.old).files unit.now.key) made.begun.awaited) }
     ensures most { MatchResult result (λ made. MatchOption (child_of made.begun) (P.most place.new ≡ P.most place.old) (λ launched. P.most place.new ≡ max (P.most place.old) (length (P.counts place.old).starts.flying + 1))) (λ e. P.most place.new ≡ P.most place.old) }
     ensures takes { Takes Begins (MayBeginUnit store.old.next unit.now.key) result (P.counts place.old) (P.counts place.new) }
@@ -129,6 +130,9 @@ pub fn begin_unit<P: Place>(
     ensures launches { IfOk result (λ made. IfSome (child_of made.begun) (λ launched. (looked : P) × HasLooked P.tells (λ read. looked_at read (records_folder project.now) unit.now.key made.begun.command (P.world place.old)) (P.world place.old) (P.world looked) (P.counts place.old) (P.counts looked) × Launches P.child made.begun.command launched.ticket (P.counts looked) (P.counts place.new))) }
     ensures stops { IsTrue P.tells → IfErr result (λ e. ((read : Reading) → IsReading read → StopsAt e (looked_at read (records_folder project.now) unit.now.key (command_of setup.now project.now unit.now done.now) (P.world place.old)) (P.counts place.old) (P.counts place.new))
         ⊎ ((looked : P) × HasLooked P.tells (λ read. looked_at read (records_folder project.now) unit.now.key (command_of setup.now project.now unit.now done.now) (P.world place.old)) (P.world place.old) (P.world looked) (P.counts place.old) (P.counts looked) × LaunchEnds (place_of (records_folder project.now) unit.now.key) unit.now.out e (P.counts looked) (P.counts place.new))) }
+    ensures differed { (read : Reading) → IsReading read → IsTrue P.tells → HoldsNumbers (record_at read (records_folder project.now) (P.world place.old).files) store.old.numbers
+        → IfErr result (λ e. StopsAt e (looked_at read (records_folder project.now) unit.now.key (command_of setup.now project.now unit.now done.now) (P.world place.old)) (P.counts place.old) (P.counts place.new)
+        ⊎ ((difference : Difference) × FirstDifference read (records_folder project.now) unit.now.key (command_of setup.now project.now unit.now done.now) (P.world place.old) (Some difference))) }
     ensures launch_ends { IfErr result (λ e. is_of_start e ≡ true → (looked : P) × HasLooked P.tells (λ read. looked_at read (records_folder project.now) unit.now.key (command_of setup.now project.now unit.now done.now) (P.world place.old)) (P.world place.old) (P.world looked) (P.counts place.old) (P.counts looked) × LaunchEnds (place_of (records_folder project.now) unit.now.key) unit.now.out e (P.counts looked) (P.counts place.new)) }
 {
     project.is_in_order();
@@ -189,8 +193,9 @@ pub fn begin_unit<P: Place>(
 /// others fly on. The child's end changes only files inside the child's folder, and what comes after it only the unit's
 /// record. Where the child writes into the unit's folder, only that folder and the unit's record change, whatever the
 /// records hold and the child leaves, and where the unit is bad that folder alone: no record of it is kept. Where the
-/// unit has no child in flight and its record has a number, nothing is changed. A run number is taken at most for a
-/// record that has none. A unit that is bad is no fault.
+/// unit has no child in flight and its record has a number, nothing is changed. The next run number is
+/// taken just for a record that has none, where the unit is good; a fault may have taken it too. A unit that is bad is
+/// no fault.
 pub fn answer_unit<P: Place>(
     alloc: Global,
     place: &mut P,
@@ -229,9 +234,14 @@ pub fn answer_unit<P: Place>(
     ensures started { IfOk result (λ ran. ran.started ≡ is_some (child_of begun)) }
     ensures directives { IfOk result (λ ran. directives_in (outcome_by finite.empty ran) ≡ ran.directives) }
     ensures folder { store.new.folder ≡ store.old.folder }
+    ensures others_held { (l : List ℕ) → l ≢ unit.now.key → number_held store.new.numbers l ≡ number_held store.old.numbers l }
     ensures next { TakesNumber store.old.next store.new.next }
     ensures untaken { awaits_number begun.awaited ≡ false → store.new.next ≡ store.old.next }
+    ensures taken { (read : Reading) → IsReading read → IsTrue P.tells → awaits_number begun.awaited ≡ true → lacks_number (record_at read (records_folder project.now) (P.world place.old).files unit.now.key) ≡ true
+        → IfOk result (λ ran. is_some ran.bad ≡ false → TakesNext store.old.next store.new.next) }
     ensures unnumbered { IfErr result (λ e. is_of_look e ≡ true → store.new.next ≡ store.old.next) }
+    ensures used { IfErr result (λ e. is_of_write e ≡ true → child_of begun ≡ None → TakesNext store.old.next store.new.next) }
+    ensures unused { (read : Reading) → IsReading read → IsTrue P.tells → child_of begun ≡ None → lacks_number (record_at read (records_folder project.now) (P.world place.old).files unit.now.key) ≡ false → store.new.next ≡ store.old.next }
     ensures spends { IfErr result (λ e. is_spent e ≡ true → awaits_number begun.awaited ≡ true) }
     ensures spent { child_of begun ≡ None → store.old.next ≡ None → IsTrue P.tells → P.world place.new ≡ P.world place.old }
     ensures cause { (read : Reading) → IsReading read → IsTrue P.tells → IfErr result (λ e. is_spent e ≡ true → lacks_number (record_at read (records_folder project.now) (P.world place.old).files unit.now.key) ≡ true) }
@@ -348,12 +358,22 @@ pub fn run_unit<P: Place>(
     ensures started { IfOk result (λ run. run.ran.started ≡ is_some run.difference) }
     ensures only { IsTrue P.tells → ChangesOnly (is_of (records_folder project.now) unit.now.key) (P.world place.old) (P.world place.new) }
     ensures folder { store.new.folder ≡ store.old.folder }
+    ensures others_held { (l : List ℕ) → l ≢ unit.now.key → number_held store.new.numbers l ≡ number_held store.old.numbers l }
     ensures next { TakesNumber store.old.next store.new.next }
-    ensures number { IfOk result (λ run. IsSome run.difference → (number : ℕ) × (store.old.next ≡ Some number) × (store.new.next ≡ after number)) }
+    ensures number { IfOk result (λ run. IsSome run.difference → TakesNext store.old.next store.new.next) }
+    ensures taken { (read : Reading) → IsReading read → IsTrue P.tells → lacks_number (record_at read (records_folder project.now) (P.world place.old).files unit.now.key) ≡ true → IfOk result (λ run. run.difference ≡ None → is_some run.ran.bad ≡ false → TakesNext store.old.next store.new.next) }
+    ensures bad { IfOk result (λ run. run.difference ≡ None → IsSome run.ran.bad → store.new.next ≡ store.old.next) }
+    ensures stopped { IfErr result (λ e. is_of_child e ≡ true → TakesNext store.old.next store.new.next) }
+    ensures looked { (read : Reading) → IsReading read → IsTrue P.tells → HoldsNumbers (record_at read (records_folder project.now) (P.world place.old).files) store.old.numbers
+        → IfErr result (λ e. is_of_look e ≡ true → (store.new.next ≡ store.old.next) ⊎ (TakesNext store.old.next store.new.next × ((difference : Difference) × FirstDifference read (records_folder project.now) unit.now.key (command_of setup.now project.now unit.now done.now) (P.world place.old) (Some difference)))) }
+    ensures spared { (read : Reading) → IsReading read → IsTrue P.tells → HoldsNumbers (record_at read (records_folder project.now) (P.world place.old).files) store.old.numbers
+        → IfErr result (λ e. (P.world place.new ≡ P.world place.old) ⊎ ((lacks_number (record_at read (records_folder project.now) (P.world place.old).files unit.now.key) ≡ true) ⊎ ((difference : Difference) × FirstDifference read (records_folder project.now) unit.now.key (command_of setup.now project.now unit.now done.now) (P.world place.old) (Some difference)))) }
     ensures untaken { (read : Reading) → IsReading read → IsTrue P.tells → IfOk result (λ run. run.difference ≡ None → lacks_number (record_at read (records_folder project.now) (P.world place.old).files unit.now.key) ≡ false → store.new.next ≡ store.old.next) }
     ensures judged { (read : Reading) → IsReading read → IsTrue P.tells → IfOk result (λ run. run.difference ≡ None → (again : Replayed) × IsReplayed (record_at read (records_folder project.now) (P.world place.old).files unit.now.key) again
         × (run.ran ≡ unstarted (ran_of project.now unit.now (command_of setup.now project.now unit.now done.now) again.ended (P.world place.old).files))) }
     ensures anew { IsTrue P.tells → IfOk result (λ run. IsSome run.difference → RunsAnew project.now unit.now P.child (command_of setup.now project.now unit.now done.now) (P.world place.old) (P.world place.new) run.ran) }
+    ensures kept { (read : Reading) → IsReading read → IsTrue P.tells → HoldsNumbers (record_at read (records_folder project.now) (P.world place.old).files) store.old.numbers
+        → IfOk result (λ run. is_some run.ran.bad ≡ false → KeepsRecord read P.child project.now unit.now (command_of setup.now project.now unit.now done.now) run.difference store.old.next (P.world place.old) (P.world place.new)) }
     ensures spent { store.old.next ≡ None → IsTrue P.tells → P.world place.new ≡ P.world place.old }
     ensures cause { (read : Reading) → IsReading read → IsTrue P.tells → HoldsNumbers (record_at read (records_folder project.now) (P.world place.old).files) store.old.numbers
         → IfErr result (λ e. is_spent e ≡ true → ((difference : Difference) × FirstDifference read (records_folder project.now) unit.now.key (command_of setup.now project.now unit.now done.now) (P.world place.old) (Some difference))

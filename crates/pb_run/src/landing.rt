@@ -1,6 +1,6 @@
 //! A unit that answers: its child's end, or its record again; the judgement; the record kept or renewed.
 
-ghost use Rattle.std.specs.Prelude.{◌≡◌, ◌++◌, ℕ, true, false, List, Option, IsTrue, IsSome, IsOk, IfOk, IfErr, IfSome, MatchResult, OnOk, Ok, Err, Some, None, Result, is_some, map, slice_get, slice_set};
+ghost use Rattle.std.specs.Prelude.{◌≡◌, ◌≢◌, ◌++◌, ℕ, true, false, List, Option, IsTrue, IsSome, IsOk, IfOk, IfErr, IfSome, MatchResult, OnOk, Ok, Err, Some, None, Result, is_some, map, slice_get, slice_set};
 ghost use Rattle.std.specs.FinMap as finite;
 ghost use Rattle.pb_command.specs.Answers.{answered_of};
 ghost use Rattle.pb_command.specs.Judge.{file_at};
@@ -33,10 +33,10 @@ ghost use Rattle.pb_soundness.specs.Inputs.{Judge, input_in};
 ghost use Rattle.pb_soundness.specs.Numbers.{IsAhead, IsBefore};
 ghost use Rattle.pb_soundness.specs.Records.{Reading, is_key, number_of, out_of, place_of, record_at};
 ghost use Rattle.pb_soundness.specs.Sound.{Sound};
-ghost use Rattle.pb_store.specs.Held.{HoldsNumbers};
+ghost use Rattle.pb_store.specs.Held.{HoldsNumbers, number_held};
 ghost use Rattle.pb_store.specs.Keeping.{HasNeeds, IsKept, Leaves, kept_of, numbered};
 ghost use Rattle.pb_store.specs.Looking.{kept_called, migrated_called};
-ghost use Rattle.pb_store.specs.Migrating.{IsMigrated, TakesNumber, lacks_number, migrated};
+ghost use Rattle.pb_store.specs.Migrating.{IsMigrated, TakesNext, TakesNumber, lacks_number, migrated};
 
 use crate::begun::Launched;
 use crate::faults::{childless, storeless};
@@ -174,6 +174,7 @@ fn keep<P: Place>(
     ensures ahead { (read : Reading) → IsReading read → IsTrue P.tells → HoldsNumbers (record_at read store.old.folder (P.world place.old).files) store.old.numbers → IsBefore store.old.next number → HasNeeds (record_at read store.old.folder (P.world place.old).files) store.old.folder command.now.reads (needed_keys project.now unit.now) number → IsAhead (record_at read store.old.folder (P.world place.old).files) store.old.next → IsAhead (record_at read store.old.folder (P.world place.new).files) store.old.next }
     ensures numbers { (read : Reading) → IsReading read → IsTrue P.tells → HoldsNumbers (record_at read store.old.folder (P.world place.old).files) store.old.numbers → OnOk result (HoldsNumbers (record_at read store.old.folder (P.world place.new).files) store.new.numbers) }
     ensures folder { store.new.folder ≡ store.old.folder }
+    ensures others_held { (l : List ℕ) → l ≢ unit.now.key → number_held store.new.numbers l ≡ number_held store.old.numbers l }
     ensures next { store.new.next ≡ store.old.next }
     ensures only { IsTrue P.tells → ChangesOnly (is_at_or_below (place_of store.old.folder unit.now.key)) (P.world place.old) (P.world place.new) }
     ensures most { P.most place.new ≡ P.most place.old }
@@ -222,8 +223,12 @@ fn migrate<P: Place>(
     ensures numbers { (read : Reading) → IsReading read → IsTrue P.tells → HoldsNumbers (record_at read store.old.folder (P.world place.old).files) store.old.numbers → OnOk result (HoldsNumbers (record_at read store.old.folder (P.world place.new).files) store.new.numbers) }
     ensures same { (read : Reading) → IsReading read → IsTrue P.tells → lacks_number (record_at read store.old.folder (P.world place.old).files unit.now.key) ≡ false → P.world place.new ≡ P.world place.old }
     ensures unnumbered { IfErr result (λ e. is_of_look e ≡ true → store.new.next ≡ store.old.next) }
+    ensures used { IfErr result (λ e. is_of_write e ≡ true → TakesNext store.old.next store.new.next) }
+    ensures unused { (read : Reading) → IsReading read → IsTrue P.tells → lacks_number (record_at read store.old.folder (P.world place.old).files unit.now.key) ≡ false → store.new.next ≡ store.old.next }
+    ensures taken { (read : Reading) → IsReading read → IsTrue P.tells → lacks_number (record_at read store.old.folder (P.world place.old).files unit.now.key) ≡ true → OnOk result (TakesNext store.old.next store.new.next) }
     ensures next { TakesNumber store.old.next store.new.next }
     ensures folder { store.new.folder ≡ store.old.folder }
+    ensures others_held { (l : List ℕ) → l ≢ unit.now.key → number_held store.new.numbers l ≡ number_held store.old.numbers l }
     ensures stands { (read : Reading) → IsReading read → IsTrue P.tells → HoldsNumbers (record_at read store.old.folder (P.world place.old).files) store.old.numbers → OnOk result (record_at read store.old.folder (P.world place.new).files unit.now.key ≡ migrated store.old.next (numbered (record_at read store.old.folder (P.world place.old).files) (needed_keys project.now unit.now)) (record_at read store.old.folder (P.world place.old).files unit.now.key)) }
     ensures only { IsTrue P.tells → ChangesOnly (is_at_or_below (place_of store.old.folder unit.now.key)) (P.world place.old) (P.world place.new) }
     ensures most { P.most place.new ≡ P.most place.old }
@@ -299,6 +304,7 @@ pub(crate) fn land<P: Place>(
     ensures started { IfOk result (λ ran. ran.started ≡ true) }
     ensures directives { IfOk result (λ ran. directives_in (outcome_by finite.empty ran) ≡ ran.directives) }
     ensures folder { store.new.folder ≡ store.old.folder }
+    ensures others_held { (l : List ℕ) → l ≢ unit.now.key → number_held store.new.numbers l ≡ number_held store.old.numbers l }
     ensures next { store.new.next ≡ store.old.next }
     ensures most { P.most place.new ≡ P.most place.old }
     ensures still { IsTrue P.tells → WritesTo unit.now.out (Some launched.now) (P.counts place.old).starts.flying → KeepsOthersStill (Some launched.now) (is_of (records_folder project.now) unit.now.key) (P.counts place.old).starts.flying (P.still place.old) (P.still place.new) }
@@ -379,11 +385,16 @@ pub(crate) fn reuse<P: Place>(
     ensures started { IfOk result (λ ran. ran.started ≡ false) }
     ensures directives { IfOk result (λ ran. directives_in (outcome_by finite.empty ran) ≡ ran.directives) }
     ensures folder { store.new.folder ≡ store.old.folder }
+    ensures others_held { (l : List ℕ) → l ≢ unit.now.key → number_held store.new.numbers l ≡ number_held store.old.numbers l }
     ensures next { TakesNumber store.old.next store.new.next }
     ensures most { P.most place.new ≡ P.most place.old }
     ensures still { IsTrue P.tells → KeepsStillOutside (is_of (records_folder project.now) unit.now.key) (P.counts place.old).starts.flying (P.still place.old) (P.still place.new) }
     ensures untaken { again.now.numbered ≡ true → store.new.next ≡ store.old.next }
+    ensures taken { (read : Reading) → IsReading read → IsTrue P.tells → again.now.numbered ≡ false → lacks_number (record_at read (records_folder project.now) (P.world place.old).files unit.now.key) ≡ true
+        → IfOk result (λ ran. is_some ran.bad ≡ false → TakesNext store.old.next store.new.next) }
     ensures unnumbered { IfErr result (λ e. is_of_look e ≡ true → store.new.next ≡ store.old.next) }
+    ensures used { IfErr result (λ e. is_of_write e ≡ true → TakesNext store.old.next store.new.next) }
+    ensures unused { (read : Reading) → IsReading read → IsTrue P.tells → lacks_number (record_at read (records_folder project.now) (P.world place.old).files unit.now.key) ≡ false → store.new.next ≡ store.old.next }
     ensures spends { IfErr result (λ e. is_spent e ≡ true → again.now.numbered ≡ false) }
     ensures spent { store.old.next ≡ None → IsTrue P.tells → P.world place.new ≡ P.world place.old }
     ensures cause { (read : Reading) → IsReading read → IsTrue P.tells → IfErr result (λ e. is_spent e ≡ true → lacks_number (record_at read (records_folder project.now) (P.world place.old).files unit.now.key) ≡ true) }

@@ -1,6 +1,6 @@
 //! A unit that begins: what differs, the record dropped, the folder emptied, the child spawned.
 
-ghost use Rattle.std.specs.Prelude.{◌≡◌, ◌⊎◌, ◌+◌, ℕ, true, false, Option, IsTrue, IfNone, IfOk, IfErr, OnOk, MatchResult, Some, None, max, length};
+ghost use Rattle.std.specs.Prelude.{◌≡◌, ◌≢◌, ◌⊎◌, ◌+◌, ℕ, true, false, List, Option, IsTrue, IfNone, IfOk, IfErr, OnOk, MatchResult, Some, None, max, length};
 ghost use Rattle.pb_place.specs.Children.{child_at, child_spawned, StaysStill};
 ghost use Rattle.pb_place.specs.Paths.{is_path, is_at_or_below};
 ghost use Rattle.pb_place.specs.World.{ChangesOnly, ChangesOnlyInSome};
@@ -16,10 +16,10 @@ ghost use Rattle.pb_soundness.specs.Records.{Reading, is_key, out_of, place_of, 
 ghost use Rattle.pb_soundness.specs.Reuse.{IsSame};
 ghost use Rattle.pb_soundness.specs.Sound.{Sound};
 ghost use Rattle.pb_store.specs.Differences.{FirstDifference, FirstOf};
-ghost use Rattle.pb_store.specs.Held.{HoldsNumbers};
+ghost use Rattle.pb_store.specs.Held.{HoldsNumbers, number_held};
 ghost use Rattle.pb_store.specs.Keeping.{Leaves};
 ghost use Rattle.pb_store.specs.Looking.{looked_at};
-ghost use Rattle.pb_store.specs.Migrating.{TakesNumber};
+ghost use Rattle.pb_store.specs.Migrating.{TakesNext, TakesNumber};
 ghost use Rattle.pb_store.specs.Replaying.{CarriesReplayed, difference_in};
 
 use crate::begun::Launched;
@@ -76,6 +76,7 @@ fn drop_record<P: Place>(
     ensures number { IfOk result (λ number. (store.old.next ≡ Some number) × (store.new.next ≡ after number)) }
     ensures next { TakesNumber store.old.next store.new.next }
     ensures folder { store.new.folder ≡ store.old.folder }
+    ensures others_held { (l : List ℕ) → l ≢ key.now → number_held store.new.numbers l ≡ number_held store.old.numbers l }
     ensures spent { store.old.next ≡ None → IsTrue P.tells → P.world place.new ≡ P.world place.old }
     ensures sound { (read : Reading) (judge : Judge) → IsTrue P.tells → Sound read judge P.child store.old.folder (P.world place.old).files → Sound read judge P.child store.old.folder (P.world place.new).files }
     ensures gone { (read : Reading) → IsTrue P.tells → OnOk result (record_at read store.old.folder (P.world place.new).files key.now ≡ None) }
@@ -163,9 +164,10 @@ pub(crate) fn launch<P: Place>(
     requires key { is_key unit.now.key ≡ true }
     requires path { is_path store.old.folder ≡ true }
     ensures number { IfOk result (λ launched. (store.old.next ≡ Some launched.number) × (store.new.next ≡ after launched.number)) }
-    ensures taken { IfErr result (λ e. is_of_child e ≡ true → (number : ℕ) × (store.old.next ≡ Some number) × (store.new.next ≡ after number)) }
+    ensures taken { IfErr result (λ e. is_of_child e ≡ true → TakesNext store.old.next store.new.next) }
     ensures next { TakesNumber store.old.next store.new.next }
     ensures folder { store.new.folder ≡ store.old.folder }
+    ensures others_held { (l : List ℕ) → l ≢ unit.now.key → number_held store.new.numbers l ≡ number_held store.old.numbers l }
     ensures spent { store.old.next ≡ None → IsTrue P.tells → P.world place.new ≡ P.world place.old }
     ensures sound { (read : Reading) (judge : Judge) → IsTrue P.tells → Sound read judge P.child store.old.folder (P.world place.old).files → Sound read judge P.child store.old.folder (P.world place.new).files }
     ensures gone { (read : Reading) → IsTrue P.tells → OnOk result (record_at read store.old.folder (P.world place.new).files unit.now.key ≡ None) }

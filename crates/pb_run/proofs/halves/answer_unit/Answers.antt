@@ -6,7 +6,7 @@ use Rattle.pb_place.specs.Counts.{Starts}
 use Rattle.pb_place.specs.Paths.{is_at_or_below}
 use Rattle.pb_place.specs.World.{ChangesOnly}
 use Rattle.pb_place.proofs.Folders.{only_same}
-use Rattle.pb_run.specs.Halves.{KeepsOthersStill, WritesTo, basis, child_in, child_of}
+use Rattle.pb_run.specs.Halves.{KeepsOthersStill, WritesTo, awaits_number, basis, child_in, child_of}
 use Rattle.pb_run.specs.Landing.{CallsBehind, EndsBy, IsJudged, answered_called, record_left}
 use Rattle.pb_run.specs.Standing.{records_folder}
 use Rattle.pb_run.specs.declared.begun.Awaited.{Awaited}
@@ -17,7 +17,7 @@ use Rattle.pb_soundness.specs.Records.{record_at}
 use Rattle.pb_run.proofs.Calling.{ended_badly, ended_well}
 use Rattle.pb_run.proofs.Kept.{flying_answer}
 use Rattle.pb_run.proofs.Causing.{land_spares}
-use Rattle.pb_run.proofs.Reusing.{awaited_numberless, can_by_parts, flying_alone, no_child, numbered_awaited}
+use Rattle.pb_run.proofs.Reusing.{awaited_numberless, can_by_parts, flying_alone, no_child, numbered_awaited, unnumbered_awaited}
 use Rattle.pb_run.proofs.Writes.{stays_apart}
 use Rattle.pb_run.proofs.halves.answer_unit.Goals as goal
 
@@ -86,6 +86,30 @@ returns-in-Ok-reuse-clause-untaken g c none = c.in-Ok-reuse.ensures.untaken (num
 
 pub returns-clause-untaken : goal.returns-clause-untaken
 returns-clause-untaken g c none = c.in-Err-reuse.ensures.untaken (numbered_awaited c.args.begun.awaited c.in-Record.again c.in-Record.is none)
+
+pub returns-in-Ok-clause-taken : goal.returns-in-Ok-clause-taken
+returns-in-Ok-clause-taken g c read is told waits lacks good = absurd (false≢true (sym (ap awaits_number c.in-Child.is) ∙ waits))
+
+pub returns-in-Ok-reuse-clause-taken : goal.returns-in-Ok-reuse-clause-taken
+returns-in-Ok-reuse-clause-taken g c read is told waits lacks good = c.in-Ok-reuse.ensures.taken read is told (unnumbered_awaited c.args.begun.awaited c.in-Record.again c.in-Record.is waits) lacks good
+
+pub returns-in-Child-clause-used : goal.returns-in-Child-clause-used
+returns-in-Child-clause-used g c write none = no_child c.in-Child.launched (child_of c.args.begun) _ (ap child_in c.in-Child.is) none
+
+pub returns-clause-used : goal.returns-clause-used
+returns-clause-used g c write none = c.in-Err-reuse.ensures.used write
+
+pub returns-in-Ok-clause-unused : goal.returns-in-Ok-clause-unused
+returns-in-Ok-clause-unused g c read is told none has = c.land.ensures.next
+
+pub returns-in-Child-clause-unused : goal.returns-in-Child-clause-unused
+returns-in-Child-clause-unused g c read is told none has = c.land.ensures.next
+
+pub returns-in-Ok-reuse-clause-unused : goal.returns-in-Ok-reuse-clause-unused
+returns-in-Ok-reuse-clause-unused g c read is told none has = c.reuse.ensures.unused read is told has
+
+pub returns-clause-unused : goal.returns-clause-unused
+returns-clause-unused g c read is told none has = c.reuse.ensures.unused read is told has
 
 pub returns-in-Child-clause-spends : goal.returns-in-Child-clause-spends
 returns-in-Child-clause-spends g c spent =

@@ -152,6 +152,18 @@ returns-in-Err-launch-clause-stops g c told = inr (
   subst (λ (folder : List ℕ). LaunchEnds (place_of folder c.args.unit.now.key) c.args.unit.now.out c.in-Err-launch.fault (g.P.Place.counts c.compare.new.place) (g.P.Place.counts c.launch.new.place)) c.requires.folder c.in-Err-launch.ensures.calls,
 )
 
+pub returns-in-Err-clause-differed : goal.returns-in-Err-clause-differed
+returns-in-Err-clause-differed g c read reading told holds = inl (memory_first _ (g.P.Place.counts c.args.place.now))
+
+pub returns-in-Err-command-clause-differed : goal.returns-in-Err-command-clause-differed
+returns-in-Err-command-clause-differed g c read reading told holds = inl (memory_first _ (g.P.Place.counts c.args.place.now))
+
+pub returns-in-Err-compare-clause-differed : goal.returns-in-Err-compare-clause-differed
+returns-in-Err-compare-clause-differed g c read reading told holds = inl
+    (subst (λ (command : Command). StopsAt c.in-Err-compare.fault (looked_at read (records_folder c.args.project.now) c.args.unit.now.key command (g.P.Place.world c.args.place.now)) (g.P.Place.counts c.args.place.now) (g.P.Place.counts c.compare.new.place)) c.in-Ok-command.ensures
+    (subst (λ (folder : List ℕ). StopsAt c.in-Err-compare.fault (looked_at read folder c.args.unit.now.key c.in-Ok-command.command (g.P.Place.world c.args.place.now)) (g.P.Place.counts c.args.place.now) (g.P.Place.counts c.compare.new.place)) c.requires.folder
+    (c.in-Err-compare.ensures.looked read reading told)))
+
 pub returns-in-Same-clause-looks : goal.returns-in-Same-clause-looks
 returns-in-Same-clause-looks g c read reading told none = c.in-Ok-compare.ensures.looked read reading told ∙ ap (λ (folder : List ℕ). past_calls (looked_at read folder c.args.unit.now.key c.in-Ok-command.command (g.P.Place.world c.args.place.now)) (g.P.Place.counts c.args.place.now)) c.requires.folder
 

@@ -1,4 +1,4 @@
-use Rattle.std.proofs.Common.{◌≡◌, ◌∙◌, inl, inr, Bool, true, false, refl, slice_set, sym, subst, ap}
+use Rattle.std.proofs.Common.{◌≡◌, ◌∙◌, inl, inr, ℕ, Bool, true, false, Option, refl, slice_set, sym, subst, ap}
 use Rattle.std.specs.Prelude.{IsOk}
 use Rattle.pb_flight.specs.declared.flight.State.TheVariants as state
 use Rattle.pb_run.specs.Causes.{RunsBy}
@@ -8,10 +8,13 @@ use Rattle.pb_run.specs.Halves.{basis, child_of}
 use Rattle.pb_run.specs.Outcome.{ran_of, unstarted}
 use Rattle.pb_place.specs.World.{World}
 use Rattle.pb_soundness.specs.Records.{record_at}
-use Rattle.pb_store.specs.Migrating.{lacks_number}
+use Rattle.pb_store.specs.Differences.{FirstDifference}
+use Rattle.pb_store.specs.Migrating.{TakesNext, lacks_number}
+use Rattle.pb_store.specs.declared.difference.Difference.{Difference}
 use Rattle.pb_run.proofs.Anew.{runs_anew}
+use Rattle.pb_run.proofs.RecordStands.{runs_kept}
 use Rattle.pb_run.proofs.Calling.{ended_well}
-use Rattle.pb_run.proofs.Judged.{judged_again, numbered_given, taken_so}
+use Rattle.pb_run.proofs.Judged.{child_answers, either, judged_again, numbered_given, numberless_given, some_difference, taken_so}
 use Rattle.pb_run.proofs.RunsInTurn.{awaits_alone, begins_so, launch_needs, ran_badly, ran_well, spent_starts, stops_so}
 use Rattle.pb_run.proofs.Reusing.{child_numbered}
 use Rattle.pb_run.proofs.InTurn.{no_difference, answer_tells, both_run, both_take, can_answer, keeps_once, lifted_flies, number_kept}
@@ -30,6 +33,16 @@ returns-in-Ok-answer_unit-clause-anew g c told some =
     (g.P.Place.world c.args.place.now) (g.P.Place.world c.begin_unit.new.place) (g.P.Place.world c.answer_unit.new.place) (g.P.Place.counts c.begin_unit.new.place) (g.P.Place.still c.begin_unit.new.place)
     c.in-Ok.made.begun.awaited (c.in-Ok.ensures.spawned ∙ some) (c.in-Ok.ensures.launched told)
     c.in-Ok-answer_unit.ran (IsOk (ended_well c.in-Ok-answer_unit.ran)) (g.P.Place.world left) (g.P.Place.counts left) ended ends is
+    (IsOk (ended_well c.in-Ok-answer_unit.ran)) (g.P.Place.world left') (g.P.Place.counts left') answer ends' refl only
+
+pub returns-in-Ok-answer_unit-clause-kept : goal.returns-in-Ok-answer_unit-clause-kept
+returns-in-Ok-answer_unit-clause-kept g c read reading told holds good =
+    let (left, ended, ends, stands) = c.in-Ok-answer_unit.ensures.kept read reading told (c.in-Ok.ensures.writes told) (c.in-Ok.ensures.numbers read told holds) good in
+    let (left', answer, ends', only, behind) = c.in-Ok-answer_unit.ensures.lands told in
+    runs_kept read g.P.Place.child c.args.setup.now c.args.project.now c.is_in_order.ensures c.args.index c.args.unit.now c.requires.unit c.args.done.now c.in-Ok.made.begun.command c.in-Ok.ensures.asks
+    (g.P.Place.world c.args.place.now) (g.P.Place.world c.begin_unit.new.place) (g.P.Place.world c.answer_unit.new.place) (g.P.Place.counts c.begin_unit.new.place) (g.P.Place.still c.begin_unit.new.place)
+    c.in-Ok.made.difference c.in-Ok.made.begun.awaited c.in-Ok.ensures.spawned (c.in-Ok.ensures.launched told) c.args.store.now.next c.begin_unit.new.store.next c.in-Ok.ensures.number (c.in-Ok.ensures.same told) (c.in-Ok.ensures.carries read reading told)
+    (IsOk (ended_well c.in-Ok-answer_unit.ran)) (g.P.Place.world left) (g.P.Place.counts left) ended ends stands
     (IsOk (ended_well c.in-Ok-answer_unit.ran)) (g.P.Place.world left') (g.P.Place.counts left') answer ends' refl only
 
 pub returns-in-Ok-answer_unit-clause-outcome : goal.returns-in-Ok-answer_unit-clause-outcome
@@ -137,6 +150,60 @@ pub returns-in-Ok-answer_unit-clause-untaken : goal.returns-in-Ok-answer_unit-cl
 returns-in-Ok-answer_unit-clause-untaken g c read reading told none has =
     c.answer_unit.ensures.untaken (numbered_given (record_at read (records_folder c.args.project.now) (g.P.Place.world c.args.place.now).files c.args.unit.now.key) c.in-Ok.made.begun.awaited (c.in-Ok.ensures.carries read reading told) has)
     ∙ number_kept c.args.store.now.next c.begin_unit.new.store.next (child_of c.in-Ok.made.begun) _ c.in-Ok.ensures.number (no_difference (child_of c.in-Ok.made.begun) c.in-Ok.made.difference c.in-Ok.ensures.spawned none)
+
+pub returns-in-Ok-answer_unit-clause-taken : goal.returns-in-Ok-answer_unit-clause-taken
+returns-in-Ok-answer_unit-clause-taken g c read reading told lacks none good =
+    let alone = no_difference (child_of c.in-Ok.made.begun) c.in-Ok.made.difference c.in-Ok.ensures.spawned none in
+    subst (λ (next : Option ℕ). TakesNext next c.answer_unit.new.store.next) (number_kept c.args.store.now.next c.begin_unit.new.store.next (child_of c.in-Ok.made.begun) _ c.in-Ok.ensures.number alone)
+    (c.in-Ok-answer_unit.ensures.taken read reading told
+    (numberless_given (record_at read (records_folder c.args.project.now) (g.P.Place.world c.args.place.now).files c.args.unit.now.key) c.in-Ok.made.begun.awaited alone (c.in-Ok.ensures.carries read reading told) lacks)
+    (ap (λ (w : World). lacks_number (record_at read (records_folder c.args.project.now) w.files c.args.unit.now.key)) (c.in-Ok.ensures.same told alone) ∙ lacks) good)
+
+pub returns-in-Ok-answer_unit-clause-bad : goal.returns-in-Ok-answer_unit-clause-bad
+returns-in-Ok-answer_unit-clause-bad g c none bad =
+    c.in-Ok-answer_unit.ensures.bad bad ∙ number_kept c.args.store.now.next c.begin_unit.new.store.next (child_of c.in-Ok.made.begun) _ c.in-Ok.ensures.number (no_difference (child_of c.in-Ok.made.begun) c.in-Ok.made.difference c.in-Ok.ensures.spawned none)
+
+pub returns-in-Err-answer_unit-clause-stopped : goal.returns-in-Err-answer_unit-clause-stopped
+returns-in-Err-answer_unit-clause-stopped g c child =
+    let has = child_answers c.begin_unit.new.store.next c.args.unit.now.key (child_of c.in-Ok.made.begun) c.in-Err-answer_unit.fault _ _ child c.in-Err-answer_unit.ensures.takes.0 in
+    taken_so c.args.store.now.next c.begin_unit.new.store.next c.answer_unit.new.store.next (child_of c.in-Ok.made.begun) c.in-Ok.made.difference c.in-Ok.ensures.spawned c.in-Ok.ensures.number (λ some. c.answer_unit.ensures.untaken (child_numbered c.in-Ok.made.begun some)) (sym c.in-Ok.ensures.spawned ∙ has)
+
+pub returns-in-Err-clause-looked : goal.returns-in-Err-clause-looked
+returns-in-Err-clause-looked g c read reading told holds look = inl (c.in-Err.ensures.unnumbered look)
+
+pub returns-in-Err-answer_unit-clause-looked : goal.returns-in-Err-answer_unit-clause-looked
+returns-in-Err-answer_unit-clause-looked g c read reading told holds look =
+    elim
+    (some_difference (λ (d : Option Difference). FirstDifference read (records_folder c.args.project.now) c.args.unit.now.key (command_of c.args.setup.now c.args.project.now c.args.unit.now c.args.done.now) (g.P.Place.world c.args.place.now) d)
+    (child_of c.in-Ok.made.begun) c.in-Ok.made.difference c.in-Ok.ensures.spawned
+    (subst (λ (k : Command). FirstDifference read (records_folder c.args.project.now) c.args.unit.now.key k (g.P.Place.world c.args.place.now) c.in-Ok.made.difference) c.in-Ok.ensures.asks (c.in-Ok.ensures.differs read reading told holds))) [
+      | inl none ↦ inl (c.in-Err-answer_unit.ensures.unnumbered look ∙ number_kept c.args.store.now.next c.begin_unit.new.store.next (child_of c.in-Ok.made.begun) _ c.in-Ok.ensures.number none)
+      | inr (some, difference) ↦ inr (
+          taken_so c.args.store.now.next c.begin_unit.new.store.next c.answer_unit.new.store.next (child_of c.in-Ok.made.begun) c.in-Ok.made.difference c.in-Ok.ensures.spawned c.in-Ok.ensures.number (λ has. c.answer_unit.ensures.untaken (child_numbered c.in-Ok.made.begun has)) (sym c.in-Ok.ensures.spawned ∙ some),
+          difference,
+        )
+    ]
+
+pub returns-in-Err-clause-spared : goal.returns-in-Err-clause-spared
+returns-in-Err-clause-spared g c read reading told holds = elim (c.in-Err.ensures.spared read reading told holds) [
+  | inl same ↦ inl same
+  | inr difference ↦ inr (inr difference)
+]
+
+pub returns-in-Err-answer_unit-clause-spared : goal.returns-in-Err-answer_unit-clause-spared
+returns-in-Err-answer_unit-clause-spared g c read reading told holds =
+    elim
+    (some_difference (λ (d : Option Difference). FirstDifference read (records_folder c.args.project.now) c.args.unit.now.key (command_of c.args.setup.now c.args.project.now c.args.unit.now c.args.done.now) (g.P.Place.world c.args.place.now) d)
+    (child_of c.in-Ok.made.begun) c.in-Ok.made.difference c.in-Ok.ensures.spawned
+    (subst (λ (k : Command). FirstDifference read (records_folder c.args.project.now) c.args.unit.now.key k (g.P.Place.world c.args.place.now) c.in-Ok.made.difference) c.in-Ok.ensures.asks (c.in-Ok.ensures.differs read reading told holds))) [
+      | inl none ↦
+          let still = c.in-Ok.ensures.same told none in
+          elim (either (lacks_number (record_at read (records_folder c.args.project.now) (g.P.Place.world c.args.place.now).files c.args.unit.now.key))) [
+            | inl lacks ↦ inr (inl lacks)
+            | inr has ↦ inl (c.answer_unit.ensures.same read reading told none (ap (λ (w : World). lacks_number (record_at read (records_folder c.args.project.now) w.files c.args.unit.now.key)) still ∙ has) ∙ still)
+          ]
+      | inr (some, difference) ↦ inr (inr difference)
+    ]
 
 pub returns-in-Ok-answer_unit-clause-judged : goal.returns-in-Ok-answer_unit-clause-judged
 returns-in-Ok-answer_unit-clause-judged g c read reading told none =

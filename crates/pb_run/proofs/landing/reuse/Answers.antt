@@ -274,6 +274,30 @@ returns-clause-still g c told =
 pub returns-in-Ok-migrate-clause-bad : goal.returns-in-Ok-migrate-clause-bad
 returns-in-Ok-migrate-clause-bad g c bad = absurd (false≢true (sym (sym c.is_some.ensures ∙ c.if-is_some.false) ∙ bad))
 
+pub returns-then-is_some-clause-taken : goal.returns-then-is_some-clause-taken
+returns-then-is_some-clause-taken g c read is told without lacks good = absurd (false≢true (sym good ∙ (sym c.is_some.ensures ∙ c.if-is_some.true)))
+
+pub returns-then-again-clause-taken : goal.returns-then-again-clause-taken
+returns-then-again-clause-taken g c read is told without lacks good = absurd (false≢true (sym without ∙ c.if-again.true))
+
+pub returns-in-Ok-migrate-clause-taken : goal.returns-in-Ok-migrate-clause-taken
+returns-in-Ok-migrate-clause-taken g c read is told without lacks good =
+    c.in-Ok-migrate.ensures.taken read is told
+    (ap (λ (f : List ℕ). lacks_number (record_at read f (g.P.Place.world c.judged_now.new.place).files c.args.unit.now.key)) c.requires.folder
+    ∙ ap (λ (w : World). lacks_number (record_at read (records_folder c.args.project.now) w.files c.args.unit.now.key)) (c.in-Ok.ensures.same told) ∙ lacks)
+
+pub returns-in-Ok-migrate-clause-unused : goal.returns-in-Ok-migrate-clause-unused
+returns-in-Ok-migrate-clause-unused g c read is told lacks =
+    c.migrate.ensures.unused read is told
+    (ap (λ (f : List ℕ). lacks_number (record_at read f (g.P.Place.world c.judged_now.new.place).files c.args.unit.now.key)) c.requires.folder
+    ∙ ap (λ (w : World). lacks_number (record_at read (records_folder c.args.project.now) w.files c.args.unit.now.key)) (c.in-Ok.ensures.same told) ∙ lacks)
+
+pub returns-clause-unused : goal.returns-clause-unused
+returns-clause-unused g c read is told lacks =
+    c.migrate.ensures.unused read is told
+    (ap (λ (f : List ℕ). lacks_number (record_at read f (g.P.Place.world c.judged_now.new.place).files c.args.unit.now.key)) c.requires.folder
+    ∙ ap (λ (w : World). lacks_number (record_at read (records_folder c.args.project.now) w.files c.args.unit.now.key)) (c.in-Ok.ensures.same told) ∙ lacks)
+
 pub returns-then-is_some-clause-kept : goal.returns-then-is_some-clause-kept
 returns-then-is_some-clause-kept g c read is told holds good = absurd (false≢true (sym good ∙ (sym c.is_some.ensures ∙ c.if-is_some.true)))
 
