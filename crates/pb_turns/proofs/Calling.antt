@@ -43,7 +43,9 @@ use Rattle.pb_run.proofs.Calling.{ended_badly, ended_well}
 use Rattle.pb_run.proofs.Halving.{is_command}
 use Rattle.pb_soundness.specs.Apart.{is_of}
 use Rattle.pb_soundness.specs.Records.{Reading, place_of, record_at}
+use Rattle.pb_store.specs.Differences.{FirstDifference}
 use Rattle.pb_store.specs.Looking.{looked_at}
+use Rattle.pb_store.specs.declared.difference.Difference.{Difference}
 use Rattle.pb_turns.specs.Again.{FliesAgain}
 use Rattle.pb_turns.specs.Anew.{FliesAnew}
 use Rattle.pb_turns.specs.Calling.{AnswersCalling, BeginsCalling, CallsCut, CallsCutOnAny, CallsOver, CallsOnAny, CallsToBegin, EndsAsReplied, FliesFor, CallBasis, reply_by, call_basis, call_basis_on_any}
@@ -125,11 +127,19 @@ module _ (tells : Bool) (child : Answers) (first old : UnitCrew) (at now new : M
       begins_calling (OnAny read) unit u there now.world new.world now.counts new.counts begun (asks ∙ ap (command_of old.setup old.project u) same_done) (only t) (same t) (looks read reading t) (λ launched is. launches launched is read reading t),
     )
 
-  -- it could not
+  -- it could not: it stopped at its look, or something had differed
+  abbrev Differed : Reading → Command → BuildFault → Type 0
+  Differed read c fault = StopsAt fault (looked_at read (records_folder old.project) u.key c now.world) now.counts new.counts ⊎ ((difference : Difference) × FirstDifference read (records_folder old.project) u.key c now.world (Some difference))
+
   module _ (spawned : Bool) (fault : BuildFault)
       (stops : IsTrue tells → ((read : Reading) → IsReading read → StopsAt fault (looked_at read (records_folder old.project) u.key (command_of old.setup old.project u done) now.world) now.counts new.counts)
       ⊎ ((looked : Counts) × ((read : Reading) → IsReading read → looked ≡ past_look read old.project u (command_of old.setup old.project u done) now.world now.counts)
-      × LaunchEnds (place_of (records_folder old.project) u.key) u.out fault looked new.counts)) where
+      × LaunchEnds (place_of (records_folder old.project) u.key) u.out fault looked new.counts))
+      (differed : (read : Reading) → IsReading read → IsTrue tells → Differed read (command_of old.setup old.project u done) fault)
+      (only : IsTrue tells → ChangesOnly (is_of (records_folder old.project) u.key) now.world new.world) where
+    differed_by : (read : Reading) (c : Command) → command_of old.setup old.project u done ≡ c → IsReading read → IsTrue tells → Differed read c fault
+    differed_by read c is reading t = subst (λ (d : Command). Differed read d fault) is (differed read reading t)
+
     stops_to_begin : IsTrue tells → (read : Reading) → IsReading read → StopsToBegin read old.project u (command_of old.setup old.project u done) fault now.world now.counts new.counts
     stops_to_begin t read reading = elim (stops t) [
       | inl look ↦ inl (look read reading)
@@ -139,21 +149,21 @@ module _ (tells : Bool) (child : Answers) (first old : UnitCrew) (at now new : M
     stops_beginning : (read : Reading) (c : Command) → command_of old.setup old.project u done ≡ c → IsReading read → IsTrue tells → StopsToBegin read old.project u c fault now.world now.counts new.counts
     stops_beginning read c is reading t = subst (λ (d : Command). StopsToBegin read old.project u d fault now.world now.counts new.counts) is (stops_to_begin t read reading)
 
-    pub calls_unbegun : IsTrue tells → FromFirst child first at old (λ b. CallsCut (call_basis b) fault None (Began unit spawned ∷ es) es at.world at.counts new.counts)
+    pub calls_unbegun : IsTrue tells → FromFirst child first at old (λ b. CallsCut (call_basis b) fault None (Began unit spawned ∷ es) es at.world at.counts new.world new.counts)
     calls_unbegun t f r s reading k = (
       now.world,
       now.counts,
       story.calls t f r s reading k,
-      inr (unit, spawned, refl, record { unit = u; there = there; stops = stops_beginning r (command_in (Of f r s) unit u) (commanded (command_of old.setup old.project u done) refl t f r s reading k) reading t }),
+      inr (unit, spawned, refl, record { unit = u; there = there; only = only t; stops = stops_beginning r (command_in (Of f r s) unit u) (commanded (command_of old.setup old.project u done) refl t f r s reading k) reading t; differed = differed_by r (command_in (Of f r s) unit u) (commanded (command_of old.setup old.project u done) refl t f r s reading k) reading t }),
     )
 
     pub calls_unbegun_on_any : (IsTrue tells → CallsOnAny child old.setup old.project old.done.items es at.world at.counts now.world now.counts)
-        → IsTrue tells → CallsCutOnAny child old.setup old.project old.done.items fault None (Began unit spawned ∷ es) es at.world at.counts new.counts
+        → IsTrue tells → CallsCutOnAny child old.setup old.project old.done.items fault None (Began unit spawned ∷ es) es at.world at.counts new.world new.counts
     calls_unbegun_on_any calls t read reading = (
       now.world,
       now.counts,
       calls t read reading,
-      inr (unit, spawned, refl, record { unit = u; there = there; stops = stops_beginning read (command_of old.setup old.project u old.done.items) (ap (command_of old.setup old.project u) same_done) reading t }),
+      inr (unit, spawned, refl, record { unit = u; there = there; only = only t; stops = stops_beginning read (command_of old.setup old.project u old.done.items) (ap (command_of old.setup old.project u) same_done) reading t; differed = differed_by read (command_of old.setup old.project u old.done.items) (ap (command_of old.setup old.project u) same_done) reading t }),
     )
 
 -- A unit answers.
@@ -284,15 +294,15 @@ module _ {P : Type 0} (world : P → World) (counts : P → Counts) (tells : Boo
 
   -- a fault came in its place
   cut : (fault : BuildFault) (unit : ℕ) → unit ≡ a.unit → IsTrue tells → FromFirst child first at old (λ b. AnswersCalling (call_basis b) a.unit (is_started es a.unit) (Err fault) now.world now.counts new.world new.counts)
-      → FromFirst child first at old (λ b. CallsCut (call_basis b) fault (Some unit) es es at.world at.counts new.counts)
+      → FromFirst child first at old (λ b. CallsCut (call_basis b) fault (Some unit) es es at.world at.counts new.world new.counts)
   cut fault unit its t so f r s reading k =
-      (now.world, now.counts, story.calls t f r s reading k, (new.world, subst (λ n. AnswersCalling (call_basis (On f r s)) n (is_started es n) (Err fault) now.world now.counts new.world new.counts) (sym its) (so f r s reading k)))
+      (now.world, now.counts, story.calls t f r s reading k, subst (λ n. AnswersCalling (call_basis (On f r s)) n (is_started es n) (Err fault) now.world now.counts new.world new.counts) (sym its) (so f r s reading k))
 
-  pub calls_unanswered : (fault : BuildFault) (unit : ℕ) → unit ≡ a.unit → Lands (ended_badly fault) → IsTrue tells → FromFirst child first at old (λ b. CallsCut (call_basis b) fault (Some unit) es es at.world at.counts new.counts)
+  pub calls_unanswered : (fault : BuildFault) (unit : ℕ) → unit ≡ a.unit → Lands (ended_badly fault) → IsTrue tells → FromFirst child first at old (λ b. CallsCut (call_basis b) fault (Some unit) es es at.world at.counts new.world new.counts)
   calls_unanswered fault unit its lands t = cut fault unit its t (answers (Err fault) (ended_badly fault) (λ ok. ok) (λ key by names said old new answered. behind_badly key by names said fault old new) lands t)
 
   -- memory is refused for its lines
-  pub calls_untold : (ran : Ran) (unit : ℕ) → unit ≡ a.unit → Lands (ended_well ran) → IsTrue tells → FromFirst child first at old (λ b. CallsCut (call_basis b) OutOfMemory (Some unit) es es at.world at.counts new.counts)
+  pub calls_untold : (ran : Ran) (unit : ℕ) → unit ≡ a.unit → Lands (ended_well ran) → IsTrue tells → FromFirst child first at old (λ b. CallsCut (call_basis b) OutOfMemory (Some unit) es es at.world at.counts new.world new.counts)
   calls_untold ran unit its lands t = cut OutOfMemory unit its t (answers (Err OutOfMemory) (ended_well ran) (λ none. refl) (λ key by names said old new answered. behind_untold key by names said ran old new (answered refl)) lands t)
 
   -- The same over any records.
@@ -336,19 +346,19 @@ module _ {P : Type 0} (world : P → World) (counts : P → Counts) (tells : Boo
 
     -- a fault came in its place
     cut_on_any : (fault : BuildFault) (unit : ℕ) → unit ≡ a.unit → IsTrue tells → ((read : Reading) → IsReading read → AnswersCalling (call_basis_on_any read child old.setup old.project old.done.items) a.unit (is_started es a.unit) (Err fault) now.world now.counts new.world new.counts)
-        → CallsCutOnAny child old.setup old.project old.done.items fault (Some unit) es es at.world at.counts new.counts
+        → CallsCutOnAny child old.setup old.project old.done.items fault (Some unit) es es at.world at.counts new.world new.counts
     cut_on_any fault unit its t so read reading = (
       now.world,
       now.counts,
       calls t read reading,
-      (new.world, subst (λ n. AnswersCalling (call_basis_on_any read child old.setup old.project old.done.items) n (is_started es n) (Err fault) now.world now.counts new.world new.counts) (sym its) (so read reading)),
+      subst (λ n. AnswersCalling (call_basis_on_any read child old.setup old.project old.done.items) n (is_started es n) (Err fault) now.world now.counts new.world new.counts) (sym its) (so read reading),
     )
 
-    pub calls_unanswered_on_any : (fault : BuildFault) (unit : ℕ) → unit ≡ a.unit → Lands (ended_badly fault) → IsTrue tells → CallsCutOnAny child old.setup old.project old.done.items fault (Some unit) es es at.world at.counts new.counts
+    pub calls_unanswered_on_any : (fault : BuildFault) (unit : ℕ) → unit ≡ a.unit → Lands (ended_badly fault) → IsTrue tells → CallsCutOnAny child old.setup old.project old.done.items fault (Some unit) es es at.world at.counts new.world new.counts
     calls_unanswered_on_any fault unit its lands t =
         cut_on_any fault unit its t (answers_on_any old.done.items refl (Err fault) (ended_badly fault) (λ ok. ok) (λ key by names said old new answered. behind_badly key by names said fault old new) lands t)
 
     -- memory is refused for its lines
-    pub calls_uncall_basis_on_any : (ran : Ran) (unit : ℕ) → unit ≡ a.unit → Lands (ended_well ran) → IsTrue tells → CallsCutOnAny child old.setup old.project old.done.items OutOfMemory (Some unit) es es at.world at.counts new.counts
-    calls_uncall_basis_on_any ran unit its lands t =
+    pub calls_untold_on_any : (ran : Ran) (unit : ℕ) → unit ≡ a.unit → Lands (ended_well ran) → IsTrue tells → CallsCutOnAny child old.setup old.project old.done.items OutOfMemory (Some unit) es es at.world at.counts new.world new.counts
+    calls_untold_on_any ran unit its lands t =
         cut_on_any OutOfMemory unit its t (answers_on_any old.done.items refl (Err OutOfMemory) (ended_well ran) (λ none. refl) (λ key by names said old new answered. behind_untold key by names said ran old new (answered refl)) lands t)

@@ -1,5 +1,5 @@
 -- Counters, lines and lists, after one more step.
-use Rattle.std.proofs.Common.{◌≡◌, ◌≢◌, ◌⊎◌, ◌∙◌, ◌++◌, ◌+◌, inl, inr, Bool, true, false, List, [], ◌∷◌, ℕ, zero, suc, Option, Some, None, IsTrue, max, refl, sym, ap, subst, arith, slice_get, slice_set, is_some, map, length, append_assoc, append-nil, take}
+use Rattle.std.proofs.Common.{◌≡◌, ◌≢◌, ◌⊎◌, ◌∙◌, ◌++◌, ◌+◌, inl, inr, Bool, true, false, List, [], ◌∷◌, ℕ, zero, suc, Option, Some, None, IsTrue, max, refl, sym, ap, subst, arith, slice_get, slice_set, is_some, map, length, append_assoc, append-nil, length-append, take}
 use Rattle.std.proofs.lemmas.Bool.{cases_eq, false≢true}
 use Rattle.std.proofs.lemmas.List.{length-map}
 use Rattle.std.specs.Io.KnownBytes.{Appends}
@@ -17,6 +17,7 @@ use Rattle.pb_flight.proofs.Ending.{due_begun}
 use Rattle.pb_flight.proofs.Handing.{due_split}
 use Rattle.pb_flight.proofs.Lists.{injective, clash, get_set_same}
 use Rattle.pb_place.specs.Counts.{Counts, Starts, up, up_starts}
+use Rattle.pb_place.specs.Sinks.{TakesPart}
 use Rattle.pb_place.specs.declared.place.StartFault.TheVariants as start
 use Rattle.pb_project.specs.Targets.{unit_at}
 use Rattle.pb_answer.specs.declared.bad_unit.BadUnit.{BadUnit}
@@ -46,8 +47,8 @@ appends_none None = tt
 appends_none (Some xs) = sym (append-nil xs)
 
 -- the first bytes of more, after others
-pub appends_part : (a b c : Option (List ℕ)) (xs ys : List ℕ) (n : ℕ) → Appends a b xs → Appends b c (take n ys) → (m : ℕ) × Appends a c (take m (xs ++ ys))
-appends_part a b c xs ys n first then' = (length xs + n, subst (Appends a c) (sym (take_past xs ys n)) (appends_more a b c xs (take n ys) first then'))
+pub appends_part : (a b c : Option (List ℕ)) (xs ys : List ℕ) → Appends a b xs → TakesPart ys b c → TakesPart (xs ++ ys) a c
+appends_part a b c xs ys first (n, less, then') = (length xs + n, omega (arith, less, length-append xs ys), subst (Appends a c) (sym (take_past xs ys n)) (appends_more a b c xs (take n ys) first then'))
   where
     take_past : (xs ys : List ℕ) (n : ℕ) → take (length xs + n) (xs ++ ys) ≡ xs ++ take n ys
     take_past [] ys n = let e : length {A = ℕ} [] + n ≡ n = omega arith in ap (λ k. take k ys) e
@@ -194,7 +195,7 @@ module _ (project : Project) (first now new : Moment) (started : List ℕ) (alof
     set_no_more starts as_before same = ap (λ (s : Starts). s.settings) same ∙ as_before ∙ goes.settings
 
     pub stops_begun : (next : Option ℕ) (e : BuildFault) → MayBeginUnit next u.key e now.counts.starts new.counts.starts → HasCause e now.counts new.counts
-        → (spawned : Bool) × Stops tells e project first new (Began unit spawned ∷ es) × (spawned ≡ true → (is_of_start e ≡ true) ⊎ (new.counts.starts ≢ now.counts.starts)) × ((IsNumbered : ℕ → Type 0) (at_first : Option ℕ) → NumbersGiven IsNumbered es at_first next → Spends IsNumbered e at_first (Began unit spawned ∷ es))
+        → (spawned : Bool) × Stops tells e project first new (Began unit spawned ∷ es) × (spawned ≡ true → (is_of_start e ≡ true) ⊎ (new.counts.starts ≢ now.counts.starts)) × ((Lacks : ℕ → Bool → Type 0) (at_first : Option ℕ) → NumbersGiven Lacks es at_first next → Spends Lacks e at_first (Began unit spawned ∷ es))
         × CameAfter project e es (Began unit spawned ∷ es) × NamesUnit project e None es (Began unit spawned ∷ es)
     stops_begun next (Plan why) may cause = absurd may
     stops_begun next Toolchain may cause = absurd may
@@ -202,7 +203,7 @@ module _ (project : Project) (first now new : Moment) (started : List ℕ) (alof
       true,
       record { by = stops_at key true may.0; cause = cause_from (Child key fault) first.counts now.counts new.counts goes.failures cause; starts = one_started may.2; settings = set_no_more (up_starts now.counts.starts) refl may.2 },
       λ spawned. inl refl,
-      λ IsNumbered at_first numbers. tt,
+      λ Lacks at_first numbers. tt,
       subst (λ f. CameAfter project (Child key f) es (Began unit true ∷ es)) (sym may.1) (unit, its_key key may.0, refl),
       (unit, its_key key may.0, refl),
     )
@@ -210,7 +211,7 @@ module _ (project : Project) (first now new : Moment) (started : List ℕ) (alof
       false,
       record { by = stops_at key false may.0; cause = cause_from (Device key (Place fault)) first.counts now.counts new.counts goes.failures cause; starts = none_started may.2; settings = set_no_more now.counts.starts refl may.2 },
       λ spawned. absurd (false≢true spawned),
-      λ IsNumbered at_first numbers. tt,
+      λ Lacks at_first numbers. tt,
       inr (unit, its_key key may.0, refl),
       (unit, its_key key may.0, refl),
     )
@@ -218,7 +219,7 @@ module _ (project : Project) (first now new : Moment) (started : List ℕ) (alof
       false,
       record { by = stops_at key false may.0; cause = cause_from (Device key NumbersSpent) first.counts now.counts new.counts goes.failures cause; starts = none_started may.2; settings = set_no_more now.counts.starts refl may.2 },
       λ spawned. absurd (false≢true spawned),
-      λ IsNumbered at_first numbers. subst (NumbersGiven IsNumbered es at_first) may.1 numbers,
+      λ Lacks at_first numbers. subst (NumbersGiven Lacks es at_first) may.1 numbers,
       inr (unit, its_key key may.0, refl),
       (unit, its_key key may.0, refl),
     )
@@ -228,7 +229,7 @@ module _ (project : Project) (first now new : Moment) (started : List ℕ) (alof
         false,
         record { by = ((given, lines_begun), faults_begun); cause = cause_from OutOfMemory first.counts now.counts new.counts goes.failures cause; starts = none_started same; settings = set_no_more now.counts.starts refl same },
         λ spawned. absurd (false≢true spawned),
-        λ IsNumbered at_first numbers. tt,
+        λ Lacks at_first numbers. tt,
         inr (unit, false, refl),
         tt,
       )
@@ -236,7 +237,7 @@ module _ (project : Project) (first now new : Moment) (started : List ℕ) (alof
         true,
         record { by = ((given, lines_begun), faults_begun); cause = cause_from OutOfMemory first.counts now.counts new.counts goes.failures cause; starts = one_started more; settings = set_no_more (up_starts now.counts.starts) refl more },
         λ spawned. inr other,
-        λ IsNumbered at_first numbers. tt,
+        λ Lacks at_first numbers. tt,
         inr (unit, true, refl),
         tt,
       )
@@ -348,11 +349,11 @@ module _ (project : Project) (first now new : Moment) (started : List ℕ) (alof
     most = most ∙ goes.most;
   }
 
-  pub stops_sink : (tells : Bool) (n : ℕ) → Appends now.heard.taken new.heard.taken (take n (due_after given (states_in project es))) → new.heard.faults ≡ up now.heard.faults → Stops tells Sink project first new es
-  stops_sink tells n lines faults =
-      let (m, part) = appends_part first.heard.taken now.heard.taken new.heard.taken (due_first given (states_in project es)) (due_after given (states_in project es)) n goes.lines lines in
+  pub stops_sink : (tells : Bool) → TakesPart (due_after given (states_in project es)) now.heard.taken new.heard.taken → new.heard.faults ≡ up now.heard.faults → Stops tells Sink project first new es
+  stops_sink tells lines faults =
+      let part = appends_part first.heard.taken now.heard.taken new.heard.taken (due_first given (states_in project es)) (due_after given (states_in project es)) goes.lines lines in
       record {
-        by = ((m, subst (λ l. Appends first.heard.taken new.heard.taken (take m l)) (due_split given (states_in project es)) part), faults ∙ ap up goes.faults);
+        by = (subst (λ l. TakesPart l first.heard.taken new.heard.taken) (due_split given (states_in project es)) part, faults ∙ ap up goes.faults);
         cause = ap (λ (c : Counts). c.failures) counts ∙ goes.failures;
         starts = ap (λ (c : Counts). c.starts.count) counts ∙ goes.starts;
         settings = ap (λ (c : Counts). c.starts.settings) counts ∙ goes.settings;

@@ -1,5 +1,5 @@
 -- How the units of a project end, from the story of their crew.
-use Rattle.std.proofs.Common.{◌≡◌, ◌∙◌, ◌+◌, ◌<◌, Bool, true, false, List, [], ◌∷◌, ℕ, zero, suc, Option, Some, None, Contains, IsTrue, refl, sym, ap, subst, inl, arith, slice_get, map, take, length, is_none}
+use Rattle.std.proofs.Common.{◌≡◌, ◌∙◌, ◌+◌, ◌<◌, Bool, true, false, List, [], ◌∷◌, ℕ, zero, suc, Option, Some, None, Contains, IsTrue, refl, sym, ap, subst, inl, inr, arith, slice_get, map, take, length, is_none}
 use Rattle.std.proofs.lemmas.List.{length-map}
 use Rattle.std.proofs.lemmas.Bool.{false≢true}
 use Rattle.std.proofs.lemmas.Option.{slice_get_within}
@@ -43,7 +43,7 @@ use Rattle.pb_turns.specs.Ends.{rows_in, nothing_said, Stands, StandsWhole, Stan
 use Rattle.pb_turns.specs.Laws.{SaysFirstRows}
 use Rattle.pb_turns.specs.Moments.{Moment, Heard}
 use Rattle.pb_turns.specs.Rows.{summary_of, started_keys, is_started, messages_in, bad_of, directives_told, Reasons, key_told, said_told, bad_told, differences_of, kept_of, is_success, noted_of, count_told, noted_told}
-use Rattle.pb_turns.specs.Story.{states_in, untouched, AllAnswerAgain, Stops, Changes, Happened, AllBegan, AllBeganFor, AllBeganOnAny, CameAfter, HadDiffered, LacksNoNumber, NamesUnit, NumbersGiven, Spends, StartedOnAny, HasNoRecord, KeepsNoneOfBad, KeepsNoneInFlight, KeepsChildless, HasGiven, Story, StoryEnds, OnlyOf, NotesStarted, AllAnswerAnew, AllLeaveRecords}
+use Rattle.pb_turns.specs.Story.{states_in, untouched, AllAnswerAgain, Stops, Changes, Happened, AllBegan, AllBeganFor, AllBeganOnAny, CameAfter, ChangesInFlight, HadDiffered, LacksNumber, NamesUnit, NumbersGiven, Spends, StartedOnAny, HasNoRecord, KeepsNoneOfBad, KeepsNoneInFlight, KeepsChildless, HasGiven, Story, StoryEnds, OnlyOf, NotesStarted, AllAnswerAnew, AllLeaveRecords}
 use Rattle.pb_turns.specs.Summing.{summary_by, keys_at, differences_at}
 use Rattle.pb_turns.specs.declared.crew.Aloft.{Aloft}
 use Rattle.pb_turns.specs.declared.crew.UnitCrew.{UnitCrew}
@@ -190,9 +190,11 @@ module _ (b : Basis) (done : List (Option (List Directive))) (aloft : List Aloft
         with_bad : Option (List ℕ × BadUnit) → List (List ℕ × List Directive) → Summary
         with_bad bad told = summary_with (is_none bad) bad told
 
-    pub stands_whole : (started : List ℕ) → started ≡ started_by es → (summary : Summary) → summary ≡ summary_by b.project.plan.planned (states_in b.project es) done started reasons (first_bad (states_in b.project es)) → StandsWhole b es reasons summary first w
+    pub stands_whole : (started : List ℕ) → started ≡ started_by es → (summary : Summary) → summary ≡ summary_by b.project.plan.planned (states_in b.project es) done started reasons (first_bad (states_in b.project es)) → StandsWhole b es reasons summary next first w
+    unfolding stands
     stands_whole started same summary is = record {
       stands = stands;
+      next_is = refl;
       all = ended.all;
       answer = is ∙ ap (λ places. summary_by b.project.plan.planned (states_in b.project es) done places reasons (first_bad (states_in b.project es))) same ∙ summary_so;
       began = began;
@@ -218,6 +220,7 @@ module _ {S : Type 0} (tells : Bool) (child : Answers) (Turns : S → List ℕ �
     (unrecorded : (fw : World) (events : List (Event BadUnit)) (place : ℕ) (u : Planned) → IsTrue tells → Changes c.project fw c.aloft.items events mid.world mid.counts.starts.flying → unit_at c.project place ≡ Some u → HasNoRecord c.project u mid.world → HasNoRecord c.project u new.world)
     (stays : (fw : World) (events : List (Event BadUnit)) (place : ℕ) (u : Planned) (q : List ℕ) → IsTrue tells → Changes c.project fw c.aloft.items events mid.world mid.counts.starts.flying → unit_at c.project place ≡ Some u → is_started events place ≡ false
     → is_of (records_folder c.project) u.key q ≡ true → finite.get new.world.files q ≡ finite.get mid.world.files q)
+    (alone : (fw : World) (events : List (Event BadUnit)) → IsTrue tells → Changes c.project fw c.aloft.items events mid.world mid.counts.starts.flying → ChangesInFlight c.project events mid.world new.world)
     (happened : (b : Basis) (events : List (Event BadUnit)) → IsTrue tells → b.project ≡ c.project → Happened b c.done.items c.aloft.items c.store.next events mid.world mid.counts.starts.flying still
     → Happened b d.done.items d.aloft.items d.store.next events new.world new.counts.starts.flying still')
     (begun : (read : Reading) (sources : World) (command : ℕ → Planned → Command) (fault : BuildFault) (events before : List (Event BadUnit)) (reasons : Reasons) (fw : World) → IsTrue tells → IsLawful (needs_of c.project) events → CameAfter c.project fault before events
@@ -273,7 +276,7 @@ module _ {S : Type 0} (tells : Bool) (child : Answers) (Turns : S → List ℕ �
     heard = heard;
     stops = subst (λ (p : Project). Stops tells fault p at mid es) ends.project ends.stops;
     spent = ends.spent;
-    caused = λ t read reading. subst (λ (p : Project). Spends (LacksNoNumber p read at.world) fault first.store.next es) ends.project (ends.caused t read reading);
+    caused = λ t read reading. subst (λ (p : Project). Spends (LacksNumber p read at.world) fault first.store.next es) ends.project (ends.caused t read reading);
     drained = drained;
     landed = landed;
     before = ends.before;
@@ -281,6 +284,7 @@ module _ {S : Type 0} (tells : Bool) (child : Answers) (Turns : S → List ℕ �
     names = subst (λ (p : Project). NamesUnit p fault asked ends.before es) ends.project ends.names;
     most = most ∙ ends.most;
     only = λ t. subst (λ (p : Project). OnlyOf p es at.world new.world) ends.project (changes at.world es t (ends.changes t)).only;
+    dropping = λ t. subst (λ (p : Project). ChangesInFlight p es mid.world new.world) ends.project (alone at.world es t (ends.changes t));
     unkept = λ t. subst (λ (p : Project). KeepsNoneOfBad p es new.world) ends.project (changes at.world es t (ends.changes t)).unkept;
     dropped = λ t. subst (λ (p : Project). KeepsNoneInFlight p ends.before asked new.world) ends.project (λ place u there state apart started. unrecorded at.world es place u t (ends.changes t) there (ends.unrecorded t place u there state apart started));
     childless = λ t. subst (λ (p : Project). KeepsChildless p ends.before asked at.world new.world) ends.project
@@ -302,8 +306,8 @@ module _ {S : Type 0} (tells : Bool) (child : Answers) (Turns : S → List ℕ �
               (began_new fault ends.before c.reasons.items refl (lawful ends.project flies) ends.came ends.changes ends.began t r reading);
           started = started_from_nothing (basis f r child c.setup c.project sources) (ordered ends.project) es c.done.items c.store.next mid.world h.keeps at.world keeps.sources_stay fault ends.before new.world (started_new fault ends.before ends.changes ends.started t r reading);
         });
-    calls = since_first (λ b. CallsCut (call_basis b) fault asked es ends.before at.world at.counts mid.counts) ends.setup ends.project ends.calls;
-    calls_on_any = λ t. on_first (λ s p. CallsCutOnAny child s p c.done.items fault asked es ends.before at.world at.counts mid.counts) ends.setup ends.project (ends.calls_on_any t);
+    calls = since_first (λ b. CallsCut (call_basis b) fault asked es ends.before at.world at.counts mid.world mid.counts) ends.setup ends.project ends.calls;
+    calls_on_any = λ t. on_first (λ s p. CallsCutOnAny child s p c.done.items fault asked es ends.before at.world at.counts mid.world mid.counts) ends.setup ends.project (ends.calls_on_any t);
   }
 
   -- memory is refused for the summary
@@ -327,8 +331,8 @@ module _ {S : Type 0} (tells : Bool) (child : Answers) (Turns : S → List ℕ �
     started = λ t read reading. none_began c.project read _ _ OutOfMemory es at.world mid.world;
     happened = s.happened;
     caused = λ t read reading. tt;
-    calls = λ t f r sources reading keeps. (mid.world, mid.counts, s.calls t f r sources reading keeps, inl refl);
-    calls_on_any = λ t read reading. (mid.world, mid.counts, s.calls_on_any t read reading, inl refl);
+    calls = λ t f r sources reading keeps. (mid.world, mid.counts, s.calls t f r sources reading keeps, inl (inr refl, refl, refl));
+    calls_on_any = λ t read reading. (mid.world, mid.counts, s.calls_on_any t read reading, inl (inr refl, refl, refl));
   }
 
   module _ (table : Table BadUnit) (flying : List ℕ) (flown : IsFlown Turns (needs_of first.project) from es last table flying) (story : Story tells child first at c mid still es table.given) (finished : is_finished table.states ≡ true)
@@ -392,8 +396,10 @@ module _ {S : Type 0} (tells : Bool) (child : Answers) (Turns : S → List ℕ �
       landed = landed;
       most = most ∙ story.goes.most;
       only = λ t. subst (λ (p : Project). OnlyOf p es at.world new.world) story.project (changes at.world es t (story.changes t)).only;
+      last_world = mid.world;
+      dropping = λ t. subst (λ (p : Project). ChangesInFlight p es mid.world new.world) story.project (alone at.world es t (story.changes t));
       numbers = (c.store.next, story.numbers);
-      taken = λ t read reading. subst (λ (p : Project). NumbersGiven (LacksNoNumber p read at.world) es first.store.next c.store.next) story.project (story.taken t read reading);
+      taken = λ t read reading. subst (λ (p : Project). NumbersGiven (LacksNumber p read at.world) es first.store.next c.store.next) story.project (story.taken t read reading);
       unkept = λ t. subst (λ (p : Project). KeepsNoneOfBad p es new.world) story.project (changes at.world es t (story.changes t)).unkept;
       dropped = λ t. subst (λ (p : Project). KeepsNoneInFlight p es None new.world) story.project (λ place u there state apart started. unrecorded at.world es place u t (story.changes t) there (story.unrecorded t place u there state apart started));
       childless = λ t. subst (λ (p : Project). KeepsChildless p es None at.world new.world) story.project
@@ -402,13 +408,14 @@ module _ {S : Type 0} (tells : Bool) (child : Answers) (Turns : S → List ℕ �
       again = λ t. on_first (λ s p. AllAnswerAgain s p es c.done.items at.world) story.setup story.project (story.again t).gave;
       anew = λ t. on_first (λ s p. AllAnswerAnew child s p es c.done.items new.world) story.setup story.project (anew c.setup c.done.items es at.world t (lawful story.project flown.flies) (story.changes t) (story.anew t).gave);
       left = λ t. on_first (λ s p. AllLeaveRecords child s p es c.done.items first.store.next at.world new.world) story.setup story.project (left c.setup c.done.items es first.store.next at.world t (lawful story.project flown.flies) (story.changes t) (story.left t).gave);
-      told = since_first (λ b. StandsWhole b es d.reasons.items summary at.world new.world) story.setup story.project (λ t f r sources reading keeps.
+      told = since_first (λ b. StandsWhole b es d.reasons.items summary c.store.next at.world new.world) story.setup story.project (λ t f r sources reading keeps.
           let h = story.happened t f r sources reading keeps in
-          stands_whole (basis f r child c.setup c.project sources) d.done.items d.aloft.items d.store.next es new.world new.counts.starts.flying still' (happened (basis f r child c.setup c.project sources) es t refl h)
+          subst (λ (n : Option ℕ). StandsWhole (basis f r child c.setup c.project sources) es d.reasons.items summary n at.world new.world) (ap (λ (x : UnitCrew). x.store.next) same)
+          (stands_whole (basis f r child c.setup c.project sources) d.done.items d.aloft.items d.store.next es new.world new.counts.starts.flying still' (happened (basis f r child c.setup c.project sources) es t refl h)
           (ap is_finished (sym states_are) ∙ finished) (length_states (needs_of c.project) es ∙ length-map c.project.plan.planned (λ (u : Planned). u.needs)) d.reasons.items at.world
-          (began_from_nothing (basis f r child c.setup c.project sources) (ordered story.project) es c.done.items c.store.next mid.world h.keeps at.world keeps.sources_stay es d.reasons.items new.world (lawful story.project flown.flies) (inl refl) (began_whole t r reading)) d.started.items started_is summary now_is);
-      calls = since_first (λ b. (w : World) × CallsOver (call_basis b) es at.world at.counts w mid.counts) story.setup story.project (λ t f r sources reading keeps. (mid.world, story.calls t f r sources reading keeps));
-      calls_on_any = λ t. (mid.world, on_first (λ s p. CallsOnAny child s p c.done.items es at.world at.counts mid.world mid.counts) story.setup story.project (story.calls_on_any t));
+          (began_from_nothing (basis f r child c.setup c.project sources) (ordered story.project) es c.done.items c.store.next mid.world h.keeps at.world keeps.sources_stay es d.reasons.items new.world (lawful story.project flown.flies) (inl refl) (began_whole t r reading)) d.started.items started_is summary now_is));
+      calls = since_first (λ b. CallsOver (call_basis b) es at.world at.counts mid.world mid.counts) story.setup story.project story.calls;
+      calls_on_any = λ t. on_first (λ s p. CallsOnAny child s p c.done.items es at.world at.counts mid.world mid.counts) story.setup story.project (story.calls_on_any t);
     }
 
 -- memory is refused before a unit begins
@@ -432,6 +439,7 @@ ends_before tells child Turns setup project next from at none = record {
   names = tt;
   most = omega arith;
   only = λ t. record { variables = refl; files = λ q outside. refl };
+  dropping = λ t. record { variables = refl; files = λ q apart. refl };
   unkept = λ t. none_bad project at.world;
   dropped = λ t. none_in_flight project at.world;
   childless = λ t place u q there state apart started inside. refl;
@@ -452,8 +460,8 @@ ends_before tells child Turns setup project next from at none = record {
     began = λ place has. absurd (none_begun project place has);
     started = none_began project r _ _ OutOfMemory [] at.world at.world;
   };
-  calls = λ t f r sources reading keeps. (at.world, at.counts, (refl, refl), inl refl);
-  calls_on_any = λ t read reading. (at.world, at.counts, (refl, refl), inl refl);
+  calls = λ t f r sources reading keeps. (at.world, at.counts, (refl, refl), inl (inr refl, refl, refl));
+  calls_on_any = λ t read reading. (at.world, at.counts, (refl, refl), inl (inr refl, refl, refl));
 }
 
 pub states_long : {S : Type 0} (Turns : S → List ℕ → List ℕ → Step → S → Type 0) (first c d : UnitCrew) (from last : S) (es : List (Event BadUnit)) (table : Table BadUnit) (flying : List ℕ) → IsFlown Turns (needs_of first.project) from es last table flying

@@ -33,7 +33,7 @@ use Rattle.pb_soundness.specs.Apart.{is_of}
 use Rattle.pb_soundness.specs.Records.{Reading, out_of}
 use Rattle.pb_turns.specs.Crew.{needs_of, IsManned, IsOfPlan}
 use Rattle.pb_turns.specs.Rows.{Reasons, is_started}
-use Rattle.pb_turns.specs.Story.{states_in, AllAnswerAnew, AllBegan, AllLeaveRecords, Changes, FliesIn, Happened, HasNoRecord, CameAfter, HadDiffered}
+use Rattle.pb_turns.specs.Story.{states_in, AllAnswerAnew, AllBegan, AllLeaveRecords, Changes, FliesIn, Happened, HasNoRecord, CameAfter, ChangesInFlight, HadDiffered}
 use Rattle.pb_turns.specs.declared.crew.Aloft.{Aloft}
 use Rattle.pb_turns.specs.declared.crew.UnitCrew.{UnitCrew}
 use Rattle.pb_turns.proofs.Anew.{gave_on}
@@ -43,6 +43,7 @@ use Rattle.pb_turns.proofs.Happening.{none_of}
 use Rattle.pb_turns.proofs.Leaving.{all_left_on}
 use Rattle.pb_turns.proofs.Lists.{all_get}
 use Rattle.pb_turns.proofs.Manning.{flying_of}
+use Rattle.pb_turns.proofs.Numbering.{some_or_none}
 use Rattle.pb_turns.proofs.Reaching.{not_of_two}
 use Rattle.pb_turns.proofs.Staying.{begun_apart, dropped_beside, none_dropped, start_beside}
 use Rattle.pb_turns.proofs.Unkept.{none_still}
@@ -150,6 +151,26 @@ left_dropped c counts manned child setup done es next first w w' index a at lawf
     let of_plan : IsOfPlan c.project a = all_get (IsOfPlan c.project) c.aloft.items index a manned.units at in
     let so : FliesIn c.project es w counts.starts.flying a = all_get (FliesIn c.project es w counts.starts.flying) c.aloft.items index a old.flies at in
     all_left_on c.project manned.order es lawful a.unit of_plan.unit of_plan.there (ap is_good_at so.state) setup child w w' (only_its c counts manned es w w' a of_plan.unit of_plan.there so only) (λ b is. begun_apart b (sym so.state ∙ is)) done next first gave
+
+-- of files only those in its folder change, where it has a child
+pub alone_dropped : (c : UnitCrew) (counts : Counts) (manned : IsManned c counts) (first : World) (es : List (Event BadUnit)) (w w' : World) (index : ℕ) (a : Aloft) (at : slice_get c.aloft.items index ≡ Some a) (old : Changes c.project first c.aloft.items es w counts.starts.flying)
+    → ((out : List ℕ) → WritesTo out (child_of a.begun) counts.starts.flying → ChangesOnly (is_at_or_below out) w w') → ChangesInFlight c.project es w w'
+alone_dropped c counts manned first es w w' index a at old only =
+    let of_plan : IsOfPlan c.project a = all_get (IsOfPlan c.project) c.aloft.items index a manned.units at in
+    let so : FliesIn c.project es w counts.starts.flying a = all_get (FliesIn c.project es w counts.starts.flying) c.aloft.items index a old.flies at in
+    record {
+      variables = (only_its c counts manned es w w' a of_plan.unit of_plan.there so only).variables;
+      files = λ q apart. elim (some_or_none (child_of a.begun)) [
+        | inl some ↦ (only of_plan.unit.out (so.writes of_plan.unit of_plan.there)).files q (apart a.unit of_plan.unit so.state (so.started ∙ some) of_plan.there)
+        | inr none ↦ none_dropped (child_of a.begun) counts.starts.flying w w' none only q
+      ];
+    }
+
+pub in_flight_twice : (project : Project) (es : List (Event BadUnit)) (u v w : World) → ChangesInFlight project es u v → ChangesInFlight project es v w → ChangesInFlight project es u w
+in_flight_twice project es u v w first then' = record {
+  variables = then'.variables ∙ first.variables;
+  files = λ q apart. then'.files q apart ∙ first.files q apart;
+}
 
 -- nothing changes of one for which no child was started
 pub childless_dropped : (c : UnitCrew) (counts : Counts) (manned : IsManned c counts) (first : World) (es : List (Event BadUnit)) (w w' : World) (index : ℕ) (a : Aloft) (at : slice_get c.aloft.items index ≡ Some a) (old : Changes c.project first c.aloft.items es w counts.starts.flying)

@@ -1,40 +1,32 @@
 -- Which records units leave that have answered.
-use Rattle.std.proofs.Common.{◌≡◌, ◌≢◌, ◌∙◌, ◌++◌, inl, inr, Bool, true, false, List, [], ◌∷◌, ℕ, Option, Some, None, Result, Ok, Err, Contains, IsTrue, IsSome, if◌then◌else◌, is_some, map, refl, sym, ap, subst, slice_get, slice_set, eq-eqb}
+use Rattle.std.proofs.Common.{◌≡◌, ◌≢◌, ◌∙◌, ◌++◌, inl, inr, Bool, true, false, List, [], ◌∷◌, ℕ, Option, Some, None, Result, Ok, Err, Contains, IsTrue, IsSome, if◌then◌else◌, is_some, refl, sym, ap, subst, slice_get, slice_set, eq-eqb}
 use Rattle.std.proofs.lemmas.Bool.{ne_eqb, false≢true}
 use Rattle.std.specs.FinMap as finite
 use Rattle.std.specs.List.{AllByRecursion, remove}
 use Rattle.std.specs.Prelude.{IfSome, IsOk, MatchOption}
 use Rattle.pb_answer.specs.declared.bad_unit.BadUnit.{BadUnit}
-use Rattle.pb_command.specs.Answers.{answered_of}
 use Rattle.pb_command.specs.Command.{command_of}
-use Rattle.pb_command.specs.Judge.{ended_by, file_at}
+use Rattle.pb_command.specs.Judge.{ended_by}
 use Rattle.pb_directive.specs.declared.directive.Directive.{Directive}
 use Rattle.pb_flight.specs.declared.flight.Answer.{Answer}
 use Rattle.pb_flight.specs.declared.flight.State.TheVariants.{Untouched, Begun, Answered}
 use Rattle.pb_flight.specs.Events.{Event, Began, Gave, IsLawful, MayBegin}
 use Rattle.pb_flight.specs.Laws.{HasBegun}
 use Rattle.pb_flight.specs.Table.{is_good_at}
-use Rattle.pb_flight.proofs.Lists.{contains_head, contains_tail}
 use Rattle.pb_place.specs.Counts.{Counts}
-use Rattle.pb_place.specs.Folders.{files_in}
 use Rattle.pb_place.specs.Paths.{is_at_or_below}
-use Rattle.pb_place.specs.World.{World, Answers, ChangesOnly, from_nothing, seen_by}
+use Rattle.pb_place.specs.World.{World, Answers, ChangesOnly, seen_by}
 use Rattle.pb_place.specs.declared.child.Reply.{Reply}
 use Rattle.pb_place.specs.declared.command.Command.{Command}
 use Rattle.pb_place.specs.declared.command.Ended.{Ended}
 use Rattle.pb_place.specs.declared.place.StartFault.{StartFault}
-use Rattle.pb_project.specs.Targets.{crate_name_of, dep_info_of, unit_at}
+use Rattle.pb_project.specs.Targets.{unit_at}
 use Rattle.pb_project.specs.declared.project.Project.{Project}
 use Rattle.pb_project.specs.declared.project.Setup.{Setup}
 use Rattle.pb_record.specs.Parts.{IsReading}
-use Rattle.pb_record.specs.declared.record.Input.{Input}
-use Rattle.pb_record.specs.declared.record.Input.TheVariants.{Value}
-use Rattle.pb_record.specs.declared.record.InputName.{InputName}
-use Rattle.pb_record.specs.declared.record.InputName.TheVariants.{Path, Variable}
 use Rattle.pb_record.specs.declared.record.Record.{Record}
 use Rattle.pb_run.specs.Halves.{child_in, child_of, needed_keys}
-use Rattle.pb_run.specs.Landing.{EndsBy, names_of, record_left, record_of}
-use Rattle.pb_run.specs.Outcome.{names_in}
+use Rattle.pb_run.specs.Landing.{EndsBy, record_left, record_of}
 use Rattle.pb_run.specs.Standing.{IsInOrder, records_folder}
 use Rattle.pb_run.specs.declared.begun.Awaited.{Awaited}
 use Rattle.pb_run.specs.declared.begun.Awaited.TheVariants as awaited
@@ -43,26 +35,24 @@ use Rattle.pb_run.specs.declared.begun.Launched.{Launched}
 use Rattle.pb_run.specs.declared.ran.Ran.{Ran}
 use Rattle.pb_run.proofs.Answering.{files_kept}
 use Rattle.pb_run.proofs.Calling.{ended_well}
-use Rattle.pb_run.proofs.Recorded.{files_still, key_needed, record_still, sources_still}
+use Rattle.pb_run.proofs.Recorded.{files_still, record_still}
+use Rattle.pb_run.proofs.RecordStands.{number_stays, numbered_on, record_stands}
 use Rattle.pb_run.proofs.Spawning.{place_within, widen}
-use Rattle.pb_run.proofs.Units.{dep_info_inside, inside_file}
 use Rattle.pb_run.proofs.Views.{is_for}
 use Rattle.pb_soundness.specs.Apart.{is_of}
-use Rattle.pb_soundness.specs.Grounded.{Standing}
-use Rattle.pb_soundness.specs.Inputs.{input_in, path_input, reply_in}
+use Rattle.pb_soundness.specs.Inputs.{reply_in}
 use Rattle.pb_soundness.specs.Numbers.{after}
 use Rattle.pb_soundness.specs.Records.{Reading, number_of, place_of, record_at}
-use Rattle.pb_soundness.specs.Reuse.{number_if}
 use Rattle.pb_soundness.proofs.Places.{place_outside, record_same}
-use Rattle.pb_store.specs.Keeping.{kept_of, numbered, or_zero}
-use Rattle.pb_store.specs.Migrating.{migrated, migrated_by}
+use Rattle.pb_store.specs.Keeping.{numbered}
+use Rattle.pb_store.specs.Migrating.{TakesNext, lacks_number, migrated}
 use Rattle.pb_store.specs.declared.replaying.Replayed.{Replayed}
 use Rattle.pb_turns.specs.Again.{CarriesAgain, FliesAgain}
 use Rattle.pb_turns.specs.Anew.{CarriesAnew, FliesAnew}
 use Rattle.pb_turns.specs.Crew.{needs_of}
 use Rattle.pb_turns.specs.Moments.{Moment}
 use Rattle.pb_turns.specs.Rows.{is_started}
-use Rattle.pb_turns.specs.Story.{states_in, events_before, events_until, record_anew, AllLeaveRecords, CarriesNumber, FliesIn, LacksNoNumber, LeavesRecord, NumbersGiven, Recordings, Story}
+use Rattle.pb_turns.specs.Story.{states_in, events_before, events_until, record_anew, AllLeaveRecords, CarriesNumber, FliesIn, LacksNumber, LeavesRecord, NumbersGiven, Recordings, Story}
 use Rattle.pb_turns.specs.declared.crew.Aloft.{Aloft}
 use Rattle.pb_turns.specs.declared.crew.UnitCrew.{UnitCrew}
 use Rattle.pb_turns.proofs.Again.{command_stays}
@@ -82,59 +72,6 @@ until_other es unit place answer ne = ap (λ b. if b then es else events_until e
 
 until_now : (es : List (Event BadUnit)) (unit : ℕ) (answer : Answer BadUnit) → events_until (Gave unit answer ∷ es) unit ≡ es
 until_now es unit answer = ap (λ b. if b then es else events_until es unit) (eq-eqb unit unit refl)
-
--- What a record rests on.
-
-input_still : (target : List ℕ) (v w : World) (name : InputName) → from_nothing target w ≡ from_nothing target v → input_in target w name ≡ input_in target v name
-input_still target v w (Path path) same = ap (λ (x : World). path_input path x.files (finite.get x.files path)) same
-input_still target v w (Variable name) same = ap (λ (x : World). Value name (finite.get x.variables name)) same
-
-inputs_still : (target : List ℕ) (v w : World) (names : List InputName) → from_nothing target w ≡ from_nothing target v → map (input_in target w) names ≡ map (input_in target v) names
-inputs_still target v w [] same = refl
-inputs_still target v w (name ∷ names) same = ap (λ (i : Input). i ∷ map (input_in target w) names) (input_still target v w name same) ∙ ap (λ (is : List Input). input_in target v name ∷ is) (inputs_still target v w names same)
-
-numbered_still : (old new : Standing) (needs : List (List ℕ)) → ((need : List ℕ) → Contains needs need → new need ≡ old need) → numbered new needs ≡ numbered old needs
-numbered_still old new [] same = refl
-numbered_still old new (need ∷ needs) same =
-    ap (λ (o : Option Record). (need, or_zero (number_if o)) ∷ numbered new needs) (same need (contains_head need needs))
-    ∙ ap (λ (pairs : List (List ℕ × ℕ)). (need, or_zero (number_if (old need))) ∷ pairs) (numbered_still old new needs (λ n has. same n (contains_tail need needs n has)))
-
--- a record with a number stays as it is
-number_stays : (r : Record) (own : Option ℕ) (flag : Bool) (next : Option ℕ) (pairs : List (List ℕ × ℕ)) → flag ≡ is_some own → (if flag then Some r else migrated_by own next pairs r) ≡ migrated_by own next pairs r
-number_stays r (Some n) true next pairs is = refl
-number_stays r (Some n) false next pairs is = refl
-number_stays r None true next pairs is = absurd (false≢true (sym is))
-number_stays r None false next pairs is = refl
-
-module _ (read : Reading) (project : Project) (order : IsInOrder project) (place : ℕ) (u : Planned) (there : unit_at project place ≡ Some u) where
-  abbrev at_in : World → Standing
-  at_in w = record_at read (records_folder project) w.files
-
-  record_on : (c : Command) (number : ℕ) (ended : Ended) (w w' : World) → from_nothing c.target w' ≡ from_nothing c.target w → files_in u.out w'.files ≡ files_in u.out w.files
-      → ((need : List ℕ) → Contains (needed_keys project u) need → at_in w' need ≡ at_in w need) → record_of read project u c number ended w' ≡ record_of read project u c number ended w
-  record_on c number ended w w' sources own needed =
-      let info : file_at (dep_info_of project u) w'.files ≡ file_at (dep_info_of project u) w.files = sym (inside w') ∙ ap (file_at (dep_info_of project u)) own ∙ inside w in
-      let names : names_of project u c ended w'.files ≡ names_of project u c ended w.files = ap (λ (x : Option (List ℕ)). names_in (answered_of project u c ended x)) info in
-      ap (λ (ns : List InputName). kept_of (records_folder project) u.key c (map (input_in c.target w') ns) number (numbered (at_in w') (needed_keys project u)) ended) names
-      ∙ ap (λ (inputs : List Input). kept_of (records_folder project) u.key c inputs number (numbered (at_in w') (needed_keys project u)) ended) (inputs_still c.target w w' (names_of project u c ended w.files) sources)
-      ∙ ap (λ (pairs : List (List ℕ × ℕ)). kept_of (records_folder project) u.key c (map (input_in c.target w) (names_of project u c ended w.files)) number pairs ended) (numbered_still (at_in w) (at_in w') (needed_keys project u) needed)
-    where
-      inside : (x : World) → file_at (dep_info_of project u) (files_in u.out x.files) ≡ file_at (dep_info_of project u) x.files
-      inside x = inside_file u.out (dep_info_of project u) x.files (λ q at. dep_info_inside project u u.unit.what (crate_name_of project u) q at)
-
-  -- a unit does something that this one does not reach, also this one
-  module _ (i : ℕ) (v : Planned) (at : unit_at project i ≡ Some v) (far : (p : ℕ) → Contains u.reaches p → p ≢ i) (w w' : World) (only : ChangesOnly (is_of (records_folder project) v.key) w w') where
-    needed_on : (need : List ℕ) → Contains (needed_keys project u) need → at_in w' need ≡ at_in w need
-    needed_on need has =
-        let (x, its, is) = key_needed project order u need has in
-        subst (λ (key : List ℕ). at_in w' key ≡ at_in w key) (sym is) (record_still project order i v at w w' only read its.place x its.there (far its.place (order.needs_reached place u there its.place its.among)))
-
-    numbered_on : numbered (at_in w') (needed_keys project u) ≡ numbered (at_in w) (needed_keys project u)
-    numbered_on = numbered_still (at_in w) (at_in w') (needed_keys project u) needed_on
-
-    record_stands : (c : Command) → c.target ≡ project.workspace.target → files_in u.out w'.files ≡ files_in u.out w.files → (number : ℕ) (ended : Ended) → record_of read project u c number ended w' ≡ record_of read project u c number ended w
-    record_stands c target own number ended =
-        record_on c number ended w w' (subst (λ (t : List ℕ). from_nothing t w' ≡ from_nothing t w) (sym target) (sources_still project order i v at w w' only)) own needed_on
 
 -- A unit does something that is not good.
 
@@ -162,9 +99,10 @@ module _ (project : Project) (order : IsInOrder project) (es : List (Event BadUn
                   (files_still project order i u there w w' only place g.unit g.there ne) number (ended_by (reply_in child c w')))),
             );
         again = λ none good.
-            let (number, taken, stands) = g.again none good in (
+            let (number, taken, had, stands) = g.again none good in (
               number,
               taken,
+              had,
               stays ∙ stands ∙ ap (λ (pairs : List (List ℕ × ℕ)). migrated number pairs (record_at read (records_folder project) first.files g.unit.key)) (sym (numbered_on read project order place g.unit g.there i u there far w w' only)),
             );
         bad = λ none bad.
@@ -253,7 +191,7 @@ module _ (read : Reading) (child : Answers) (setup : Setup) (project : Project) 
 
 -- its child was launched with the run number that was the next after these events
 abbrev LaunchedAfter : Project → Reading → Option ℕ → World → List (Event BadUnit) → Option Launched → Type 0
-LaunchedAfter project read next first before o = IfSome o (λ launched. NumbersGiven (LacksNoNumber project read first) before next (Some launched.number))
+LaunchedAfter project read next first before o = IfSome o (λ launched. NumbersGiven (LacksNumber project read first) before next (Some launched.number))
 
 -- Nothing has begun.
 
@@ -303,7 +241,7 @@ module _ (tells : Bool) (child : Answers) (first old : UnitCrew) (at now new : M
         own read reading None number = tt
         own read reading (Some launched) number =
             number_on read (Some launched) es (events_before (Began unit (is_some (child_of begun)) ∷ es) unit) (before_now es unit (is_some (child_of begun)))
-            (subst (NumbersGiven (LacksNoNumber old.project read at.world) es first.store.next) number.0 (story.taken t read reading))
+            (subst (NumbersGiven (LacksNumber old.project read at.world) es first.store.next) number.0 (story.taken t read reading))
 
   -- A unit answers.
 
@@ -318,11 +256,12 @@ module _ (tells : Bool) (child : Answers) (first old : UnitCrew) (at now new : M
     pub answered_left : {P : Type 0} (world : P → World) (counts : P → Counts) (ran : Ran) (lines : List ℕ)
         → ((read : Reading) → IsReading read → IsTrue tells → is_some ran.bad ≡ false → (left : P) × (ended : Ended) × EndsBy a.begun.awaited (Ok ended) (IsOk (ended_well ran)) still now.world (world left) now.counts (counts left)
         × (record_at read (records_folder old.project) new.world.files u.key ≡ record_left read old.project u a.begun.command a.begun.awaited ended old.store.next (world left)))
+        → (next : Option ℕ) → (IsTrue tells → (read : Reading) → IsReading read → is_started es a.unit ≡ false → ran.bad ≡ None → lacks_number (record_at read (records_folder old.project) at.world.files u.key) ≡ true → TakesNext old.store.next next)
         → (IsTrue tells → (left : P) × (answer : Result Ended StartFault) × EndsBy a.begun.awaited answer (IsOk (ended_well ran)) still now.world (world left) now.counts (counts left) × ChangesOnly (is_at_or_below (place_of (records_folder old.project) u.key)) (world left) new.world)
         → (IsTrue tells → IsSome ran.bad → ChangesOnly (is_at_or_below u.out) now.world new.world)
         → (aloft' : List Aloft) (done' : List (Option (List Directive))) → aloft' ≡ remove old.aloft.items index → done' ≡ slice_set old.done.items a.unit ran.directives
         → IsTrue tells → Recordings child old.setup old.project done' aloft' (Gave a.unit record { fault = ran.bad; lines = lines } ∷ es) first.store.next at.world new.world
-    answered_left {P} world counts ran lines kept lands unkept aloft' done' is set t = record {
+    answered_left {P} world counts ran lines kept next lacked lands unkept aloft' done' is set t = record {
       carries = λ read reading. subst (AllByRecursion (CarriesNumber old.project read es first.store.next at.world)) (sym is)
           (all_left (CarriesNumber old.project read es first.store.next at.world) (CarriesNumber old.project read es first.store.next at.world) old.aloft.items index (λ j y at_j ne carries. carries) ((story.left t).carries read reading));
       gave = λ read reading place answer state_after. elim (answered_cases (states_in old.project es) a.unit place answer its_answer Begun state state_after) [
@@ -374,13 +313,14 @@ module _ (tells : Bool) (child : Answers) (first old : UnitCrew) (at now new : M
               anew = λ started good.
                   let (left, ended, ends, stands) = kept read reading t (ap is_some good) in
                   anew_by read child old.setup old.project order a.unit u there far old.done.items done' (commands a.unit u has there) a.begun.command now.world new.world now.counts still sees (only t) old.store.next a.begun.awaited
-                  (sym flies.started ∙ started) waits (λ number. NumbersGiven (LacksNoNumber old.project read at.world) (events_before es a.unit) first.store.next (Some number))
+                  (sym flies.started ∙ started) waits (λ number. NumbersGiven (LacksNumber old.project read at.world) (events_before es a.unit) first.store.next (Some number))
                   (all_get (CarriesNumber old.project read es first.store.next at.world) old.aloft.items index a ((story.left t).carries read reading) at_index)
                   (IsOk (ended_well ran)) (world left) (counts left) ended ends stands (IsOk (ended_well ran)) (world left') (counts left') answer' ends' refl behind;
               again = λ none good.
                   let (left, ended, ends, stands) = kept read reading t (ap is_some good) in (
                     old.store.next,
-                    subst (λ (x : List (Event BadUnit)). NumbersGiven (LacksNoNumber old.project read at.world) x first.store.next old.store.next) (sym (until_now es a.unit its_answer)) (story.taken t read reading),
+                    subst (λ (x : List (Event BadUnit)). NumbersGiven (LacksNumber old.project read at.world) x first.store.next old.store.next) (sym (until_now es a.unit its_answer)) (story.taken t read reading),
+                    λ lacks. let (number, is, now_next) = lacked t read reading none good lacks in ap is_some is,
                     again_by read child old.setup old.project order a.unit u there far old.done.items done' (commands a.unit u has there) a.begun.command now.world new.world now.counts still sees (only t) old.store.next at.world a.begun.awaited
                         (sym flies.started ∙ none) (replays read reading) (IsOk (ended_well ran)) (world left) (counts left) ended ends stands,
                   );

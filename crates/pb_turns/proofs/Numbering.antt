@@ -19,28 +19,30 @@ use Rattle.pb_project.specs.Targets.{unit_at}
 use Rattle.pb_record.specs.Parts.{IsReading}
 use Rattle.pb_run.specs.Causes.{MayAnswerUnit}
 use Rattle.pb_run.specs.Halves.{awaits_number, child_of}
+use Rattle.pb_run.specs.Standing.{records_folder}
 use Rattle.pb_run.specs.declared.begun.Launched.{Launched}
+use Rattle.pb_run.specs.declared.ran.Ran.{Ran}
 use Rattle.pb_soundness.specs.Numbers.{after}
-use Rattle.pb_soundness.specs.Records.{Reading}
-use Rattle.pb_store.specs.Migrating.{TakesNumber}
+use Rattle.pb_soundness.specs.Records.{Reading, record_at}
+use Rattle.pb_store.specs.Migrating.{TakesNext, TakesNumber, lacks_number}
 use Rattle.pb_turns.proofs.Lists.{all_get, differs, get_map}
-use Rattle.pb_turns.proofs.Waiting.{carries_number}
-use Rattle.pb_turns.specs.Again.{FliesAgain}
+use Rattle.pb_turns.proofs.Waiting.{carries_none, carries_number}
+use Rattle.pb_turns.specs.Again.{CarriesAgain, FliesAgain}
 use Rattle.pb_turns.specs.Crew.{AreApart, launched_of, place_of_unit, places_of}
 use Rattle.pb_turns.specs.Moments.{Moment}
 use Rattle.pb_turns.specs.Rows.{is_started}
-use Rattle.pb_turns.specs.Story.{LacksNoNumber, NumbersGiven, Spends, Story}
+use Rattle.pb_turns.specs.Story.{LacksNumber, NumbersGiven, Spends, Story}
 use Rattle.pb_turns.specs.declared.crew.Aloft.{Aloft}
 use Rattle.pb_turns.specs.declared.crew.UnitCrew.{UnitCrew}
 use Rattle.pb_unit.specs.declared.plan.Planned.{Planned}
 
 -- a unit has begun
-pub numbers_begun : (IsNumbered : ℕ → Type 0) (es : List (Event BadUnit)) (first now next : Option ℕ) (unit : ℕ) (o : Option Launched) → MatchOption o (next ≡ now) (λ launched. (now ≡ Some launched.number) × (next ≡ after launched.number))
-    → NumbersGiven IsNumbered es first now → NumbersGiven IsNumbered (Began unit (is_some o) ∷ es) first next
-numbers_begun IsNumbered es first now next unit None same numbers = subst (NumbersGiven IsNumbered es first) (sym same) numbers
-numbers_begun IsNumbered es first now next unit (Some l) taken numbers = (l.number, subst (NumbersGiven IsNumbered es first) taken.0 numbers, taken.1)
+pub numbers_begun : (Lacks : ℕ → Bool → Type 0) (es : List (Event BadUnit)) (first now next : Option ℕ) (unit : ℕ) (o : Option Launched) → MatchOption o (next ≡ now) (λ launched. (now ≡ Some launched.number) × (next ≡ after launched.number))
+    → NumbersGiven Lacks es first now → NumbersGiven Lacks (Began unit (is_some o) ∷ es) first next
+numbers_begun Lacks es first now next unit None same numbers = subst (NumbersGiven Lacks es first) (sym same) numbers
+numbers_begun Lacks es first now next unit (Some l) taken numbers = (now, numbers, (l.number, taken.0, taken.1))
 
-some_or_none : (o : Option Launched) → IsSome o ⊎ (o ≡ None)
+pub some_or_none : (o : Option Launched) → IsSome o ⊎ (o ≡ None)
 some_or_none None = inr refl
 some_or_none (Some l) = inl refl
 
@@ -120,35 +122,48 @@ started_flies needs _ unit (lawful.answer es u given before flying gives) begun 
     no_answer : (given : Answer BadUnit) → Answered given ≡ Begun → ⊥
     no_answer given e = cc
 
--- one has answered
-pub numbers_answered : (IsNumbered : ℕ → Type 0) (es : List (Event BadUnit)) (first now next : Option ℕ) (unit : ℕ) (answer : Answer BadUnit) → TakesNumber now next → (is_started es unit ≡ true → next ≡ now) → (IsSome answer.fault → next ≡ now) → (IsNumbered unit → next ≡ now) → NumbersGiven IsNumbered es first now
-    → NumbersGiven IsNumbered (Gave unit answer ∷ es) first next
-numbers_answered IsNumbered es first now next unit answer takes none bad numbered numbers = (now, numbers, takes, none, bad, numbered)
-
 -- a fault came in place of an answer
-pub spends_answered : (IsNumbered : ℕ → Type 0) (es : List (Event BadUnit)) (first now : Option ℕ) (key : List ℕ) (launched : Option Launched) (e : BuildFault) (old new : Starts) → MayAnswerUnit now key launched e old new → NumbersGiven IsNumbered es first now → Spends IsNumbered e first es
-spends_answered IsNumbered es first now key launched (Plan why) old new may numbers = tt
-spends_answered IsNumbered es first now key launched Toolchain old new may numbers = tt
-spends_answered IsNumbered es first now key launched (Child unit fault) old new may numbers = tt
-spends_answered IsNumbered es first now key launched (Device unit (Place fault)) old new may numbers = tt
-spends_answered IsNumbered es first now key launched (Device unit NumbersSpent) old new may numbers = subst (NumbersGiven IsNumbered es first) may.1 numbers
-spends_answered IsNumbered es first now key launched Sink old new may numbers = tt
-spends_answered IsNumbered es first now key launched OutOfMemory old new may numbers = tt
+pub spends_answered : (Lacks : ℕ → Bool → Type 0) (es : List (Event BadUnit)) (first now : Option ℕ) (key : List ℕ) (launched : Option Launched) (e : BuildFault) (old new : Starts) → MayAnswerUnit now key launched e old new → NumbersGiven Lacks es first now → Spends Lacks e first es
+spends_answered Lacks es first now key launched (Plan why) old new may numbers = tt
+spends_answered Lacks es first now key launched Toolchain old new may numbers = tt
+spends_answered Lacks es first now key launched (Child unit fault) old new may numbers = tt
+spends_answered Lacks es first now key launched (Device unit (Place fault)) old new may numbers = tt
+spends_answered Lacks es first now key launched (Device unit NumbersSpent) old new may numbers = subst (NumbersGiven Lacks es first) may.1 numbers
+spends_answered Lacks es first now key launched Sink old new may numbers = tt
+spends_answered Lacks es first now key launched OutOfMemory old new may numbers = tt
 
 -- The numbers along a story, over a place that tells its maps.
 
 pub begun_taken : (tells : Bool) (child : Answers) (first old : UnitCrew) (at now : Moment) (still : ℕ → Type 0) (es : List (Event BadUnit)) (given unit : ℕ) → Story tells child first at old now still es given
     → (next : Option ℕ) (o : Option Launched) → MatchOption o (next ≡ old.store.next) (λ launched. (old.store.next ≡ Some launched.number) × (next ≡ after launched.number))
-    → IsTrue tells → (read : Reading) → IsReading read → NumbersGiven (LacksNoNumber old.project read at.world) (Began unit (is_some o) ∷ es) first.store.next next
+    → IsTrue tells → (read : Reading) → IsReading read → NumbersGiven (LacksNumber old.project read at.world) (Began unit (is_some o) ∷ es) first.store.next next
 begun_taken tells child first old at now still es given unit story next o number t read reading =
-    numbers_begun (LacksNoNumber old.project read at.world) es first.store.next old.store.next next unit o number (story.taken t read reading)
+    numbers_begun (LacksNumber old.project read at.world) es first.store.next old.store.next next unit o number (story.taken t read reading)
 
-pub answered_taken : (tells : Bool) (child : Answers) (first old : UnitCrew) (at now : Moment) (still : ℕ → Type 0) (es : List (Event BadUnit)) (given : ℕ) → Story tells child first at old now still es given
-    → (index : ℕ) (a : Aloft) (u : Planned) → slice_get old.aloft.items index ≡ Some a → unit_at old.project a.unit ≡ Some u → (answer : Answer BadUnit) (next : Option ℕ) → TakesNumber old.store.next next
-    → (is_started es a.unit ≡ true → next ≡ old.store.next) → (IsSome answer.fault → next ≡ old.store.next) → (awaits_number a.begun.awaited ≡ false → next ≡ old.store.next)
-    → IsTrue tells → (read : Reading) → IsReading read → NumbersGiven (LacksNoNumber old.project read at.world) (Gave a.unit answer ∷ es) first.store.next next
-answered_taken tells child first old at now still es given story index a u at_index there answer next takes none bad untaken t read reading =
-    numbers_answered (LacksNoNumber old.project read at.world) es first.store.next old.store.next next a.unit answer takes none bad
-    (λ numbered. untaken (carries_number read old.setup old.project old.done.items at.world now.world u a.begun.command a.begun.awaited
-    (all_get (λ (x : Aloft). FliesAgain read old.setup old.project old.done.items at.world now.world x) old.aloft.items index a ((story.again t).waits read reading) at_index u there) (numbered u there)))
-    (story.taken t read reading)
+module _ (tells : Bool) (child : Answers) (first old : UnitCrew) (at now : Moment) (still : ℕ → Type 0) (es : List (Event BadUnit)) (given : ℕ) (story : Story tells child first at old now still es given)
+    (index : ℕ) (a : Aloft) (u : Planned) (at_index : slice_get old.aloft.items index ≡ Some a) (there : unit_at old.project a.unit ≡ Some u) (started : is_started es a.unit ≡ is_some (child_of a.begun)) where
+  carries_its : IsTrue tells → (read : Reading) → IsReading read → CarriesAgain read old.setup old.project old.done.items at.world now.world u a.begun.command a.begun.awaited
+  carries_its t read reading = all_get (λ (x : Aloft). FliesAgain read old.setup old.project old.done.items at.world now.world x) old.aloft.items index a ((story.again t).waits read reading) at_index u there
+
+  -- one that has no child, and whose record lacked a number, takes the next
+  pub lacked_taken : (ran : Ran) (next : Option ℕ) → ((read : Reading) → IsReading read → IsTrue tells → awaits_number a.begun.awaited ≡ true → lacks_number (record_at read (records_folder old.project) now.world.files u.key) ≡ true → is_some ran.bad ≡ false → TakesNext old.store.next next)
+      → IsTrue tells → (read : Reading) → IsReading read → is_started es a.unit ≡ false → ran.bad ≡ None → lacks_number (record_at read (records_folder old.project) at.world.files u.key) ≡ true → TakesNext old.store.next next
+  lacked_taken ran next taken t read reading none good lacks =
+      let (waits, lacks_now) = carries_none read old.setup old.project old.done.items at.world now.world u a.begun.command a.begun.awaited (sym started ∙ none) (carries_its t read reading) lacks in
+      taken read reading t waits lacks_now (ap is_some good)
+
+  pub answered_taken : (ran : Ran) (lines : List ℕ) (next : Option ℕ) → TakesNumber old.store.next next
+      → (is_started es a.unit ≡ true → next ≡ old.store.next) → (IsSome ran.bad → next ≡ old.store.next) → (awaits_number a.begun.awaited ≡ false → next ≡ old.store.next)
+      → ((read : Reading) → IsReading read → IsTrue tells → awaits_number a.begun.awaited ≡ true → lacks_number (record_at read (records_folder old.project) now.world.files u.key) ≡ true → is_some ran.bad ≡ false → TakesNext old.store.next next)
+      → IsTrue tells → (read : Reading) → IsReading read → NumbersGiven (LacksNumber old.project read at.world) (Gave a.unit record { fault = ran.bad; lines = lines } ∷ es) first.store.next next
+  answered_taken ran lines next takes none bad untaken taken t read reading = (
+    old.store.next,
+    story.taken t read reading,
+    record {
+      at_most = takes;
+      child = none;
+      bad = bad;
+      had = λ had. untaken (carries_number read old.setup old.project old.done.items at.world now.world u a.begun.command a.begun.awaited (carries_its t read reading) (had u there));
+      lacked = λ alone good lacks. lacked_taken ran next taken t read reading alone good (lacks u there);
+    },
+  )

@@ -34,7 +34,7 @@ use Rattle.pb_turns.specs.Crew.{needs_of, ticket_of_child}
 use Rattle.pb_turns.specs.Ends.{Dropped}
 use Rattle.pb_turns.specs.Laws.{EachHasRecord, LeavesRecords, StartsNothing, StartsNoneAgain}
 use Rattle.pb_turns.specs.Rows.{is_started}
-use Rattle.pb_turns.specs.Story.{LacksNoNumber, events_before, states_in, upped}
+use Rattle.pb_turns.specs.Story.{LacksNumber, events_before, states_in, upped}
 use Rattle.pb_turns.proofs.Happening.{before_now, before_other, started_now, started_other}
 use Rattle.pb_turns.proofs.States.{another, begun_more, begun_now}
 use Rattle.pb_unit.specs.declared.plan.Planned.{Planned}
@@ -58,7 +58,7 @@ none_first read folder key c w r n is same =
     }
 
 -- no record lacks a number
-numbered_all : (b : Basis) (w : World) → EachHasRecord b w → (place : ℕ) → LacksNoNumber b.project b.read w place
+numbered_all : (b : Basis) (w : World) → EachHasRecord b w → (place : ℕ) → LacksNumber b.project b.read w place false
 numbered_all b w each place u there =
     let h = each place u there in
     let is : h.unit ≡ u = injective (sym h.there ∙ there) in

@@ -1,6 +1,6 @@
 -- Units in flight for which no child was started wait for what their records gave at first.
-use Rattle.std.proofs.Common.{◌≡◌, ◌≢◌, ◌∙◌, inl, inr, not, Bool, false, true, List, ◌∷◌, ℕ, Option, Some, None, Result, refl, sym, ap, subst, slice_get}
-use Rattle.std.proofs.lemmas.Bool.{cases_eq}
+use Rattle.std.proofs.Common.{◌≡◌, ◌≢◌, ◌∙◌, inl, inr, not, Bool, false, true, List, ◌∷◌, ℕ, Option, Some, None, is_some, Result, refl, sym, ap, subst, slice_get}
+use Rattle.std.proofs.lemmas.Bool.{cases_eq, false≢true}
 use Rattle.std.specs.FinMap as finite
 use Rattle.pb_answer.specs.declared.bad_unit.BadUnit.{BadUnit}
 use Rattle.pb_directive.specs.declared.directive.Directive.{Directive}
@@ -26,7 +26,7 @@ use Rattle.pb_run.specs.declared.begun.Awaited.TheVariants as awaited
 use Rattle.pb_run.specs.declared.begun.Launched.{Launched}
 use Rattle.pb_soundness.specs.Apart.{is_of}
 use Rattle.pb_soundness.specs.Records.{Reading, out_of, place_of, record_at}
-use Rattle.pb_soundness.proofs.Places.{out_place_apart}
+use Rattle.pb_soundness.proofs.Places.{out_place_apart, record_same}
 use Rattle.pb_store.specs.Migrating.{lacks_number}
 use Rattle.pb_store.specs.declared.replaying.Replayed.{Replayed}
 use Rattle.pb_turns.specs.Again.{CarriesAgain}
@@ -35,6 +35,7 @@ use Rattle.pb_turns.specs.Story.{states_in, KeepsChildless, OnlyOf}
 use Rattle.pb_turns.proofs.Happening.{started_now, started_other}
 use Rattle.pb_turns.proofs.Reaching.{not_of_two}
 use Rattle.pb_turns.proofs.States.{another}
+use Rattle.pb_turns.proofs.Staying.{place_its_own}
 use Rattle.pb_unit.specs.declared.plan.Planned.{Planned}
 
 no_child : (l : Launched) → Some l ≡ None → ⊥
@@ -55,6 +56,15 @@ module _ (read : Reading) (setup : Setup) (project : Project) (done : List (Opti
   pub carries_number : (u : Planned) (c : Command) (by : Awaited) → CarriesAgain read setup project done first w u c by → lacks_number (record_at read (records_folder project) first.files u.key) ≡ false → awaits_number by ≡ false
   carries_number u c (awaited.Child launched) carries numbered = refl
   carries_number u c (awaited.Record again) carries numbered = ap (λ (x : Replayed). not x.numbered) carries.gives ∙ (sym (ap lacks_number carries.here) ∙ numbered)
+
+  -- where it lacked one, it waits for one, and its record lacks it still
+  pub carries_none : (u : Planned) (c : Command) (by : Awaited) → is_some (child_in by) ≡ false → CarriesAgain read setup project done first w u c by → lacks_number (record_at read (records_folder project) first.files u.key) ≡ true
+      → (awaits_number by ≡ true) × (lacks_number (record_at read (records_folder project) w.files u.key) ≡ true)
+  carries_none u c (awaited.Child launched) none carries lacks = absurd (false≢true (sym none))
+  carries_none u c (awaited.Record again) none carries lacks = (
+    ap (λ (x : Replayed). not x.numbered) carries.gives ∙ (sym (ap lacks_number carries.here) ∙ lacks),
+    ap lacks_number (record_same read (records_folder project) first.files w.files u.key (carries.stays (place_of (records_folder project) u.key) (place_its_own (records_folder project) u.key))) ∙ lacks,
+  )
 
 -- While they wait, their folders and records stand as at first.
 

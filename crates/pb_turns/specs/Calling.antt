@@ -2,6 +2,7 @@
 use Rattle.std.specs.Prelude.{◌≡◌, ◌⊎◌, ◌∷◌, [], ℕ, Bool, true, false, is_some, List, Option, Some, None, Result, Ok, Err, IsOk, IfOk, IfSome}
 use Rattle.pb_answer.specs.declared.bad_unit.BadUnit.{BadUnit}
 use Rattle.pb_answer.specs.declared.fault.BuildFault.{BuildFault}
+use Rattle.pb_answer.specs.declared.fault.BuildFault.TheVariants.{Sink, OutOfMemory}
 use Rattle.pb_command.specs.Command.{command_of}
 use Rattle.pb_command.specs.Judge.{ended_by, replied_files}
 use Rattle.pb_directive.specs.declared.directive.Directive.{Directive}
@@ -20,6 +21,7 @@ use Rattle.pb_project.specs.Targets.{unit_at}
 use Rattle.pb_project.specs.declared.project.Project.{Project}
 use Rattle.pb_project.specs.declared.project.Setup.{Setup}
 use Rattle.pb_record.specs.Parts.{IsReading}
+use Rattle.pb_run.specs.Causes.{StopsAt}
 use Rattle.pb_run.specs.Halves.{Basis, child_in, command_in, view_in}
 use Rattle.pb_run.specs.Landing.{CallsBehind, EndsBy, GivesRecord, answered_called}
 use Rattle.pb_run.specs.Launching.{Launches}
@@ -29,6 +31,9 @@ use Rattle.pb_run.specs.declared.begun.Awaited.{Awaited}
 use Rattle.pb_run.specs.declared.begun.Launched.{Launched}
 use Rattle.pb_soundness.specs.Apart.{is_of}
 use Rattle.pb_soundness.specs.Records.{Reading, place_of, record_at}
+use Rattle.pb_store.specs.Differences.{FirstDifference}
+use Rattle.pb_store.specs.Looking.{looked_at}
+use Rattle.pb_store.specs.declared.difference.Difference.{Difference}
 use Rattle.pb_turns.specs.Rows.{is_started}
 use Rattle.pb_unit.specs.declared.plan.Planned.{Planned}
 
@@ -68,11 +73,13 @@ pub record BeginsCalling (b : CallBasis) (place : ℕ) (spawned : Bool) (before 
   pub only : ChangesOnly (is_of (records_folder b.project) unit.key) before after
   pub calls : CallsToBegin b.read b.child b.project unit (b.command place unit) spawned before old after new
 
--- it could not begin
-pub record StopsBeginning (b : CallBasis) (place : ℕ) (fault : BuildFault) (w : World) (old new : Counts) : Type 0 where
+-- it could not begin: it stopped at a call of its look, or something had differed of it, and it stopped as its child was launched
+pub record StopsBeginning (b : CallBasis) (place : ℕ) (fault : BuildFault) (w : World) (old : Counts) (after : World) (new : Counts) : Type 0 where
   pub unit : Planned
   pub there : unit_at b.project place ≡ Some unit
+  pub only : ChangesOnly (is_of (records_folder b.project) unit.key) w after
   pub stops : StopsToBegin b.read b.project unit (b.command place unit) fault w old new
+  pub differed : StopsAt fault (looked_at b.read (records_folder b.project) unit.key (b.command place unit) w) old new ⊎ ((difference : Difference) × FirstDifference b.read (records_folder b.project) unit.key (b.command place unit) w (Some difference))
 
 -- A unit answers.
 
@@ -113,19 +120,23 @@ CallsOver b [] first at last now = (last ≡ first) × (now ≡ at)
 CallsOver b (Began place spawned ∷ es) first at last now = (before : World) × (old : Counts) × CallsOver b es first at before old × BeginsCalling b place spawned before old last now
 CallsOver b (Gave place answer ∷ es) first at last now = (before : World) × (old : Counts) × CallsOver b es first at before old × AnswersCalling b place (is_started es place) (Ok tt) before old last now
 
--- where a fault came, these last: as the answer of a unit was taken; as one could not begin; or none
-abbrev pub StopsLast : CallBasis → BuildFault → Option ℕ → List (Event BadUnit) → List (Event BadUnit) → World → Counts → Counts → Type 0
-StopsLast b fault (Some place) es before w old new = (after : World) × AnswersCalling b place (is_started before place) (Err fault) w old after new
-StopsLast b fault None es before w old new = (new ≡ old) ⊎ ((place : ℕ) × (spawned : Bool) × (es ≡ Began place spawned ∷ before) × StopsBeginning b place fault w old new)
+-- a fault that may come of no call: the sink's, and want of memory
+abbrev pub IsCallless : BuildFault → Type 0
+IsCallless fault = (fault ≡ Sink) ⊎ (fault ≡ OutOfMemory)
+
+-- where a fault came, these last: as the answer of a unit was taken; as one could not begin; or none, of a fault that needs none
+abbrev pub StopsLast : CallBasis → BuildFault → Option ℕ → List (Event BadUnit) → List (Event BadUnit) → World → Counts → World → Counts → Type 0
+StopsLast b fault (Some place) es before w old after new = AnswersCalling b place (is_started before place) (Err fault) w old after new
+StopsLast b fault None es before w old after new = (IsCallless fault × (after ≡ w) × (new ≡ old)) ⊎ ((place : ℕ) × (spawned : Bool) × (es ≡ Began place spawned ∷ before) × StopsBeginning b place fault w old after new)
 
 -- just these calls were made over the events before a fault, and these last
-abbrev pub CallsCut : CallBasis → BuildFault → Option ℕ → List (Event BadUnit) → List (Event BadUnit) → World → Counts → Counts → Type 0
-CallsCut b fault asked es before first at new = (w : World) × (old : Counts) × CallsOver b before first at w old × StopsLast b fault asked es before w old new
+abbrev pub CallsCut : CallBasis → BuildFault → Option ℕ → List (Event BadUnit) → List (Event BadUnit) → World → Counts → World → Counts → Type 0
+CallsCut b fault asked es before first at last now = (w : World) × (old : Counts) × CallsOver b before first at w old × StopsLast b fault asked es before w old last now
 
 -- over any records, true or not, and whatever reads their texts: just these calls were made, by the commands that the units have after what is noted of the runs
 abbrev pub CallsOnAny : Answers → Setup → Project → List (Option (List Directive)) → List (Event BadUnit) → World → Counts → World → Counts → Type 0
 CallsOnAny child setup project done es first at last now = (read : Reading) → IsReading read → CallsOver (call_basis_on_any read child setup project done) es first at last now
 
 -- and so where a fault came
-abbrev pub CallsCutOnAny : Answers → Setup → Project → List (Option (List Directive)) → BuildFault → Option ℕ → List (Event BadUnit) → List (Event BadUnit) → World → Counts → Counts → Type 0
-CallsCutOnAny child setup project done fault asked es before first at new = (read : Reading) → IsReading read → CallsCut (call_basis_on_any read child setup project done) fault asked es before first at new
+abbrev pub CallsCutOnAny : Answers → Setup → Project → List (Option (List Directive)) → BuildFault → Option ℕ → List (Event BadUnit) → List (Event BadUnit) → World → Counts → World → Counts → Type 0
+CallsCutOnAny child setup project done fault asked es before first at last now = (read : Reading) → IsReading read → CallsCut (call_basis_on_any read child setup project done) fault asked es before first at last now

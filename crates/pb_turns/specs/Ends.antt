@@ -26,7 +26,7 @@ use Rattle.pb_turns.specs.Calling.{CallsCut, CallsCutOnAny, CallsOver, CallsOnAn
 use Rattle.pb_turns.specs.Crew.{needs_of, ticket_of_child}
 use Rattle.pb_turns.specs.Moments.{Moment}
 use Rattle.pb_turns.specs.Rows.{Reasons, Row, rows_of, said_from, started_keys, is_success, key_told, said_told, bad_told, differences_of, kept_of, noted_told, summary_of}
-use Rattle.pb_turns.specs.Story.{states_in, untouched, upped, AllAnswerAgain, AllAnswerAnew, AllLeaveRecords, Stops, Spends, IsUntold, LacksNoNumber, OnlyOf, AllBeganFor, AllBeganOnAny, StartedFor, StartedOnAny, HasGiven, CameAfter, NamesUnit, NumbersGiven, KeepsNoneOfBad, KeepsNoneInFlight, KeepsChildless, NotesStarted}
+use Rattle.pb_turns.specs.Story.{states_in, untouched, upped, AllAnswerAgain, AllAnswerAnew, AllLeaveRecords, ChangesInFlight, Stops, Spends, IsUntold, LacksNumber, OnlyOf, AllBeganFor, AllBeganOnAny, StartedFor, StartedOnAny, HasGiven, CameAfter, NamesUnit, NumbersGiven, KeepsNoneOfBad, KeepsNoneInFlight, KeepsChildless, NotesStarted}
 use Rattle.pb_unit.specs.declared.plan.Planned.{Planned}
 
 -- the children of these tickets were asked for their ends, each once, their answers were dropped, and nothing else was called; in which order no counter tells where each answers
@@ -60,9 +60,10 @@ pub record Stands (b : Basis) (es : List (Event BadUnit)) (new : World) : Type 0
   pub lines : due (states_in b.project es) ≡ said_from b.project es 0 (take (count_due (states_in b.project es)) (rows_in b))
   pub first_lines : (n : ℕ) → due_first n (states_in b.project es) ≡ said_from b.project es 0 (take n (take (count_due (states_in b.project es)) (rows_in b)))
 
--- all units have answered, or all up to and with the first bad one: the summary is that of the rows, all of which are told, and each unit that began did so for what differed of it
-pub record StandsWhole (b : Basis) (es : List (Event BadUnit)) (reasons : Reasons) (summary : Summary) (old new : World) : Type 0 where
+-- all units have answered, or all up to and with the first bad one, and this is the next run number: the summary is that of the rows, all of which are told, and each unit that began did so for what differed of it
+pub record StandsWhole (b : Basis) (es : List (Event BadUnit)) (reasons : Reasons) (summary : Summary) (next : Option ℕ) (old new : World) : Type 0 where
   pub stands : Stands b es new
+  pub next_is : stands.next ≡ next
   pub all : count_due (states_in b.project es) ≡ length (rows_in b)
   pub answer : summary ≡ summary_of b.project es reasons (rows_in b)
   pub began : AllBeganFor b es reasons old new
@@ -75,7 +76,7 @@ pub record StandsCut (b : Basis) (fault : BuildFault) (es before : List (Event B
   pub started : StartedFor b fault before es old new
 
 -- the units came to their end, and nothing was set to fail; it is a success exactly where no bad unit is told, and then each of them has answered and is good; the bad unit that is told is the first by the answers; nothing is noted of a unit that has not begun, and of each that has what differed first, which is something exactly where a child was started for it.
--- Over a place that tells its maps, whether the records are true or not: each unit that has begun did so for what differed first of it from the record that counted in its place at first, and where nothing did the units which it reaches were, where the record names them, as it names them (what a child in flight has written so far is left open); one for which no child was started answered by that record, and by the files of its folder as they stood at first; one for which a child was started answered what that gives to what the unit's command sees of the last world, and its folder holds just the files of that reply; which record each of them left (`LeavesRecord`); just these calls were made; so many run numbers were given from the next one at first, none to a unit that answered bad, or by a record which had one then; and no record is kept of a unit whose answer was dropped, or was bad where a child was started for it, while of one that has not answered and has no child the folder and the record stand as at first
+-- Over a place that tells its maps, whether the records are true or not: each unit that has begun did so for what differed first of it from the record that counted in its place at first, and where nothing did the units which it reaches were, where the record names them, as it names them (what a child in flight has written so far is left open); one for which no child was started answered by that record, and by the files of its folder as they stood at first; one for which a child was started answered what that gives to what the unit's command sees of the last world, and its folder holds just the files of that reply; which record each of them left (`LeavesRecord`); just these calls were made, and behind them, as the children in flight were dropped, only folders of units changed that have begun with a child and not answered; the run numbers that were given are those of the events (`NumbersGiven`): one that answers takes the next where it is good, has no child, and its record had none at first, and else none; and no record is kept of a unit whose answer was dropped, or was bad where a child was started for it, while of one that has not answered and has no child the folder and the record stand as at first
 pub record EndsWhole {S : Type 0} (tells : Bool) (child : Answers) (Turns : S → List ℕ → List ℕ → Step → S → Type 0) (setup : Setup) (project : Project) (next : Option ℕ) (from last : S) (summary : Summary) (old new : Moment) : Type 0 where
   pub es : List (Event BadUnit)
   pub flies : Flies Turns (needs_of project) Anyhow Anything from es last
@@ -102,8 +103,10 @@ pub record EndsWhole {S : Type 0} (tells : Bool) (child : Answers) (Turns : S �
   pub landed : new.counts.starts.flying ≡ []
   pub most : new.most ≡ max old.most (peak es)
   pub only : IsTrue tells → OnlyOf project es old.world new.world
+  pub last_world : World
+  pub dropping : IsTrue tells → ChangesInFlight project es last_world new.world
   pub numbers : (after : Option ℕ) × NumbersGiven IsUntold es next after
-  pub taken : IsTrue tells → (read : Reading) → IsReading read → NumbersGiven (LacksNoNumber project read old.world) es next numbers.0
+  pub taken : IsTrue tells → (read : Reading) → IsReading read → NumbersGiven (LacksNumber project read old.world) es next numbers.0
   pub unkept : IsTrue tells → KeepsNoneOfBad project es new.world
   pub dropped : IsTrue tells → KeepsNoneInFlight project es None new.world
   pub childless : IsTrue tells → KeepsChildless project es None old.world new.world
@@ -111,9 +114,9 @@ pub record EndsWhole {S : Type 0} (tells : Bool) (child : Answers) (Turns : S �
   pub again : IsTrue tells → AllAnswerAgain setup project es done old.world
   pub anew : IsTrue tells → AllAnswerAnew child setup project es done new.world
   pub left : IsTrue tells → AllLeaveRecords child setup project es done next old.world new.world
-  pub told : IsTrue tells → Grounding child setup project next old.world (λ b. StandsWhole b es reasons summary old.world new.world)
-  pub calls : IsTrue tells → Grounding child setup project next old.world (λ b. (last : World) × CallsOver (call_basis b) es old.world old.counts last mid)
-  pub calls_on_any : IsTrue tells → (last : World) × CallsOnAny child setup project done es old.world old.counts last mid
+  pub told : IsTrue tells → Grounding child setup project next old.world (λ b. StandsWhole b es reasons summary numbers.0 old.world new.world)
+  pub calls : IsTrue tells → Grounding child setup project next old.world (λ b. CallsOver (call_basis b) es old.world old.counts last_world mid)
+  pub calls_on_any : IsTrue tells → CallsOnAny child setup project done es old.world old.counts last_world mid
 
 -- a fault ended them: its cause, and what the sink had heard, are those of the moment before the children in flight were dropped; no more children flew at one time than by the events before it, and the turn was asked no more; where an answer ended in it, or a unit could not begin, units were missing (`HandsBack`, `Flies`).
 -- Over a place that tells its maps the same is said as at a good end, of the units that have begun, of those that have answered and the records that they left, of the calls, of records that are not kept, and of units that wait without a child; of one that could not begin, by a fault of its start or for want of memory as its child was tried, something had differed too; and where no run number was left, all were given, likewise
@@ -127,7 +130,7 @@ pub record EndsCut {S : Type 0} (tells : Bool) (child : Answers) (Turns : S → 
   pub heard : new.heard ≡ mid.heard
   pub stops : Stops tells fault project old mid es
   pub spent : Spends IsUntold fault next es
-  pub caused : IsTrue tells → (read : Reading) → IsReading read → Spends (LacksNoNumber project read old.world) fault next es
+  pub caused : IsTrue tells → (read : Reading) → IsReading read → Spends (LacksNumber project read old.world) fault next es
   pub drained : Drained mid.counts new.counts
   pub landed : new.counts.starts.flying ≡ []
   pub before : List (Event BadUnit)
@@ -135,6 +138,7 @@ pub record EndsCut {S : Type 0} (tells : Bool) (child : Answers) (Turns : S → 
   pub names : NamesUnit project fault asked before es
   pub most : new.most ≡ max old.most (peak before)
   pub only : IsTrue tells → OnlyOf project es old.world new.world
+  pub dropping : IsTrue tells → ChangesInFlight project es mid.world new.world
   pub unkept : IsTrue tells → KeepsNoneOfBad project es new.world
   pub dropped : IsTrue tells → KeepsNoneInFlight project before asked new.world
   pub childless : IsTrue tells → KeepsChildless project before asked old.world new.world
@@ -146,8 +150,8 @@ pub record EndsCut {S : Type 0} (tells : Bool) (child : Answers) (Turns : S → 
   pub anew : IsTrue tells → AllAnswerAnew child setup project es done new.world
   pub left : IsTrue tells → AllLeaveRecords child setup project es done next old.world new.world
   pub told : IsTrue tells → Grounding child setup project next old.world (λ b. StandsCut b fault es before old.world new.world)
-  pub calls : IsTrue tells → Grounding child setup project next old.world (λ b. CallsCut (call_basis b) fault asked es before old.world old.counts mid.counts)
-  pub calls_on_any : IsTrue tells → CallsCutOnAny child setup project done fault asked es before old.world old.counts mid.counts
+  pub calls : IsTrue tells → Grounding child setup project next old.world (λ b. CallsCut (call_basis b) fault asked es before old.world old.counts mid.world mid.counts)
+  pub calls_on_any : IsTrue tells → CallsCutOnAny child setup project done fault asked es before old.world old.counts mid.world mid.counts
 
 -- how they end, by the answer
 abbrev pub TurnsEnd : {S : Type 0} → Bool → Answers → (S → List ℕ → List ℕ → Step → S → Type 0) → Setup → Project → Option ℕ → S → S → Result Summary BuildFault → Moment → Moment → Type 0

@@ -1,5 +1,5 @@
 -- What has happened while the units of a build began and answered.
-use Rattle.std.specs.Prelude.{◌≡◌, ◌≢◌, ◌⊎◌, ◌==◌, ◌∷◌, [], ℕ, zero, suc, max, Bool, true, false, if◌then◌else◌, List, length, take, Option, Some, None, is_some, Contains, IfSome, IsSome, IsTrue, slice_get}
+use Rattle.std.specs.Prelude.{◌≡◌, ◌≢◌, ◌⊎◌, ◌==◌, ◌∷◌, [], ℕ, zero, suc, max, Bool, true, false, if◌then◌else◌, List, length, Option, Some, None, is_some, Contains, IfSome, IsSome, IsTrue, slice_get}
 use Rattle.std.specs.FinMap as finite
 use Rattle.std.specs.Io.KnownBytes.{Appends}
 use Rattle.std.specs.List.{AllByRecursion}
@@ -18,6 +18,7 @@ use Rattle.pb_flight.specs.Table.{due_first, due, are_good}
 use Rattle.pb_place.specs.Children.{child_at}
 use Rattle.pb_place.specs.Counts.{up}
 use Rattle.pb_place.specs.Paths.{is_at_or_below}
+use Rattle.pb_place.specs.Sinks.{TakesPart}
 use Rattle.pb_place.specs.World.{World, Answers, from_nothing}
 use Rattle.pb_place.specs.declared.child_in_flight.ChildInFlight.{ChildInFlight}
 use Rattle.pb_place.specs.declared.command.Command.{Command}
@@ -40,7 +41,7 @@ use Rattle.pb_soundness.specs.Records.{Reading, place_of, record_at}
 use Rattle.pb_store.specs.Differences.{FirstDifference}
 use Rattle.pb_store.specs.Held.{HoldsNumbers}
 use Rattle.pb_store.specs.Keeping.{numbered}
-use Rattle.pb_store.specs.Migrating.{TakesNumber, lacks_number, migrated}
+use Rattle.pb_store.specs.Migrating.{TakesNext, TakesNumber, lacks_number, migrated}
 use Rattle.pb_store.specs.declared.difference.Difference.{Difference}
 use Rattle.pb_turns.specs.Again.{AnswersAgain, FliesAgain}
 use Rattle.pb_soundness.specs.Inputs.{reply_in}
@@ -90,13 +91,13 @@ pub record StopsAt (tells : Bool) (project : Project) (first now : Moment) (key 
   pub lines : Appends first.heard.taken now.heard.taken (due (states_in project es))
   pub faults : now.heard.faults ≡ first.heard.faults
 
--- how a fault ends it: at a unit; at the sink, which took the first of the lines that were due; or for want of memory, with the lines of the first units
+-- how a fault ends it: at a unit; at the sink, which took the first bytes of the lines that were due, those of earlier answers whole, and not all; or for want of memory, with the lines of the first units
 abbrev pub StopsBy : Bool → BuildFault → Project → Moment → Moment → List (Event BadUnit) → Type 0
 StopsBy tells (Plan why) project first now es = ⊥
 StopsBy tells Toolchain project first now es = ⊥
 StopsBy tells (Child key fault) project first now es = StopsAt tells project first now key es
 StopsBy tells (Device key fault) project first now es = StopsAt tells project first now key es
-StopsBy tells Sink project first now es = ((n : ℕ) × Appends first.heard.taken now.heard.taken (take n (due (states_in project es)))) × (now.heard.faults ≡ up first.heard.faults)
+StopsBy tells Sink project first now es = TakesPart (due (states_in project es)) first.heard.taken now.heard.taken × (now.heard.faults ≡ up first.heard.faults)
 StopsBy tells OutOfMemory project first now es = ((n : ℕ) × Appends first.heard.taken now.heard.taken (due_first n (states_in project es))) × (now.heard.faults ≡ first.heard.faults)
 
 -- with its cause, one child for each unit that began with one, and nothing set to fail; of the last of them it may have been tried alone
@@ -106,21 +107,29 @@ pub record Stops (tells : Bool) (fault : BuildFault) (project : Project) (first 
   pub starts : now.counts.starts.count ≡ upped (length (started_by es)) first.counts.starts.count
   pub settings : now.counts.starts.settings ≡ first.counts.starts.settings
 
--- the next run number after these events, by the next one at first: a unit that begins takes a number where a child is started for it, and none where none is; one that answers takes at most one, and none where a child was started for it, where it is bad, or where it is known that its record had one. That a record which is kept or numbered has the number that was taken is said of the records (`HasRecord`, `LeavesRecord`); and where a removal failed as a unit began, the number that was taken for it is not counted here
-abbrev pub NumbersGiven : (ℕ → Type 0) → List (Event BadUnit) → Option ℕ → Option ℕ → Type 0
-NumbersGiven IsNumbered [] first now = now ≡ first
-NumbersGiven IsNumbered (Began unit true ∷ es) first now = (number : ℕ) × NumbersGiven IsNumbered es first (Some number) × (now ≡ after number)
-NumbersGiven IsNumbered (Began unit false ∷ es) first now = NumbersGiven IsNumbered es first now
-NumbersGiven IsNumbered (Gave unit answer ∷ es) first now = (before : Option ℕ) × NumbersGiven IsNumbered es first before × TakesNumber before now × (is_started es unit ≡ true → now ≡ before) × (IsSome answer.fault → now ≡ before) × (IsNumbered unit → now ≡ before)
+-- as a unit answers, for which a child was started or not: none where one was, or where the unit is bad; else the next where it is known that its record lacked a number at first, none where it is known to have had one, and at most one where neither is known
+pub record TakesAsAnswered (Lacks : Bool → Type 0) (started : Bool) (fault : Option BadUnit) (before now : Option ℕ) : Type 0 where
+  pub at_most : TakesNumber before now
+  pub child : started ≡ true → now ≡ before
+  pub bad : IsSome fault → now ≡ before
+  pub had : Lacks false → now ≡ before
+  pub lacked : started ≡ false → fault ≡ None → Lacks true → TakesNext before now
+
+-- the next run number after these events, by the next one at first: a unit that begins takes the next one where a child is started for it, and none where none is. That a record which is kept or numbered has the number that was taken is said of the records (`HasRecord`, `LeavesRecord`); and where a removal failed, or memory was refused, behind the removal of the record of a unit that could not begin, the number that was taken for it is not counted here
+abbrev pub NumbersGiven : (ℕ → Bool → Type 0) → List (Event BadUnit) → Option ℕ → Option ℕ → Type 0
+NumbersGiven Lacks [] first now = now ≡ first
+NumbersGiven Lacks (Began unit true ∷ es) first now = (before : Option ℕ) × NumbersGiven Lacks es first before × TakesNext before now
+NumbersGiven Lacks (Began unit false ∷ es) first now = NumbersGiven Lacks es first now
+NumbersGiven Lacks (Gave unit answer ∷ es) first now = (before : Option ℕ) × NumbersGiven Lacks es first before × TakesAsAnswered (Lacks unit) (is_started es unit) answer.fault before now
 
 -- where a fault says that no run number is left, all were given
-abbrev pub Spends : (ℕ → Type 0) → BuildFault → Option ℕ → List (Event BadUnit) → Type 0
-Spends IsNumbered (Device key NumbersSpent) first es = NumbersGiven IsNumbered es first None
-Spends IsNumbered fault first es = Unit {0}
+abbrev pub Spends : (ℕ → Bool → Type 0) → BuildFault → Option ℕ → List (Event BadUnit) → Type 0
+Spends Lacks (Device key NumbersSpent) first es = NumbersGiven Lacks es first None
+Spends Lacks fault first es = Unit {0}
 
--- over a place that does not tell its maps that is known of no unit
-abbrev pub IsUntold : ℕ → Type 0
-IsUntold unit = ⊥
+-- over a place that does not tell its maps it is known of no unit whether its record lacked a number
+abbrev pub IsUntold : ℕ → Bool → Type 0
+IsUntold unit lacks = ⊥
 
 -- What the place says, where it tells its maps.
 
@@ -149,9 +158,9 @@ pub record OnlyOf (project : Project) (es : List (Event BadUnit)) (old new : Wor
   pub variables : new.variables ≡ old.variables
   pub files : (q : List ℕ) → IsOutside project es q → finite.get new.files q ≡ finite.get old.files q
 
--- the unit at a place has no record without a number
-abbrev pub LacksNoNumber : Project → Reading → World → ℕ → Type 0
-LacksNoNumber project read w place = (u : Planned) → unit_at project place ≡ Some u → lacks_number (record_at read (records_folder project) w.files u.key) ≡ false
+-- whether the unit at a place has a record without a number
+abbrev pub LacksNumber : Project → Reading → World → ℕ → Bool → Type 0
+LacksNumber project read w place lacks = (u : Planned) → unit_at project place ≡ Some u → lacks_number (record_at read (records_folder project) w.files u.key) ≡ lacks
 
 -- no text counts as the record of this unit
 abbrev pub HasNoRecord : Project → Planned → World → Type 0
@@ -186,7 +195,7 @@ pub record BeganFor (project : Project) (read : Reading) (sources : World) (comm
   pub noted : slice_get reasons place ≡ Some (Some difference)
   pub folder_stays : difference ≡ None → (q : List ℕ) → is_at_or_below unit.out q ≡ true → finite.get now.files q ≡ finite.get first.files q
   pub kept_stays : difference ≡ None → lacks_number (record_at read (records_folder project) first.files unit.key) ≡ false → (q : List ℕ) → is_of (records_folder project) unit.key q ≡ true → finite.get now.files q ≡ finite.get first.files q
-  pub unstarted : started_by (events_before es place) ≡ [] → ((p : ℕ) → LacksNoNumber project read first p) → world ≡ first
+  pub unstarted : started_by (events_before es place) ≡ [] → ((p : ℕ) → LacksNumber project read first p false) → world ≡ first
 
 -- each unit that has begun did so for what differed of it
 abbrev pub AllBegan : Project → Reading → World → (ℕ → Planned → Command) → List (Event BadUnit) → Reasons → World → World → Type 0
@@ -224,6 +233,11 @@ pub record FliesIn (project : Project) (es : List (Event BadUnit)) (world : Worl
   pub gone : (u : Planned) → unit_at project a.unit ≡ Some u → IsSome (child_of a.begun) → HasNoRecord project u world
   pub writes : (u : Planned) → unit_at project a.unit ≡ Some u → WritesTo u.out (child_of a.begun) flying
 
+-- only files in the folders of units that have begun with a child, and not answered, were changed
+pub record ChangesInFlight (project : Project) (es : List (Event BadUnit)) (old new : World) : Type 0 where
+  pub variables : new.variables ≡ old.variables
+  pub files : (q : List ℕ) → ((place : ℕ) (u : Planned) → slice_get (states_in project es) place ≡ Some Begun → is_started es place ≡ true → unit_at project place ≡ Some u → is_at_or_below u.out q ≡ false) → finite.get new.files q ≡ finite.get old.files q
+
 -- whatever a build rests on: the units in flight, and what was changed
 pub record Changes (project : Project) (first : World) (aloft : List Aloft) (es : List (Event BadUnit)) (world : World) (flying : List ChildInFlight) : Type 0 where
   pub flies : AllByRecursion (FliesIn project es world flying) aloft
@@ -259,14 +273,14 @@ events_until (Gave unit answer ∷ es) place = if unit == place then es else eve
 abbrev pub record_anew : Reading → Answers → Setup → Project → List (Option (List Directive)) → World → Planned → ℕ → Record
 record_anew read child setup project done now u number = record_of read project u (command_of setup project u done) number (ended_by (reply_in child (command_of setup project u done) now)) now
 
--- which record stands in this world in the place of the unit at a place that has answered, of which it is said whether a child was started for it, and what had happened before it began, and before it answered. Of a good one for which a child was started: its record, with the run number that was the next as it began. Of a good one without a child: the record that stood at first, where that had a number, or none was left as it answered; else that record with the run number that was the next then, and with the numbers that the records of the needed units have. Of a bad one without a child: what stood at first
+-- which record stands in this world in the place of the unit at a place that has answered, of which it is said whether a child was started for it, and what had happened before it began, and before it answered. Of a good one for which a child was started: its record, with the run number that was the next as it began. Of a good one without a child: the record that stood at first, where that had a number; else that record with the run number that was the next as it answered, of which there was one, and with the numbers that the records of the needed units have. Of a bad one without a child: what stood at first
 pub record LeavesRecord (read : Reading) (child : Answers) (setup : Setup) (project : Project) (done : List (Option (List Directive))) (started : Bool) (before until : List (Event BadUnit)) (next : Option ℕ) (first now : World) (place : ℕ) (answer : Answer BadUnit) : Type 0 where
   pub unit : Planned
   pub there : unit_at project place ≡ Some unit
   pub anew : started ≡ true → answer.fault ≡ None
-      → (number : ℕ) × NumbersGiven (LacksNoNumber project read first) before next (Some number) × (record_at read (records_folder project) now.files unit.key ≡ Some (record_anew read child setup project done now unit number))
+      → (number : ℕ) × NumbersGiven (LacksNumber project read first) before next (Some number) × (record_at read (records_folder project) now.files unit.key ≡ Some (record_anew read child setup project done now unit number))
   pub again : started ≡ false → answer.fault ≡ None
-      → (number : Option ℕ) × NumbersGiven (LacksNoNumber project read first) until next number
+      → (number : Option ℕ) × NumbersGiven (LacksNumber project read first) until next number × (lacks_number (record_at read (records_folder project) first.files unit.key) ≡ true → IsSome number)
       × (record_at read (records_folder project) now.files unit.key ≡ migrated number (numbered (record_at read (records_folder project) now.files) (needed_keys project unit)) (record_at read (records_folder project) first.files unit.key))
   pub bad : started ≡ false → IsSome answer.fault → finite.get now.files (place_of (records_folder project) unit.key) ≡ finite.get first.files (place_of (records_folder project) unit.key)
 
@@ -277,7 +291,7 @@ AllLeaveRecords child setup project es done next first now = (read : Reading) �
 
 -- the child of a unit in flight was launched with the run number that was the next as the unit began
 abbrev pub CarriesNumber : Project → Reading → List (Event BadUnit) → Option ℕ → World → Aloft → Type 0
-CarriesNumber project read es next first a = IfSome (child_of a.begun) (λ launched. NumbersGiven (LacksNoNumber project read first) (events_before es a.unit) next (Some launched.number))
+CarriesNumber project read es next first a = IfSome (child_of a.begun) (λ launched. NumbersGiven (LacksNumber project read first) (events_before es a.unit) next (Some launched.number))
 
 -- those that answered, and those in flight
 pub record Recordings (child : Answers) (setup : Setup) (project : Project) (done : List (Option (List Directive))) (aloft : List Aloft) (es : List (Event BadUnit)) (next : Option ℕ) (first now : World) : Type 0 where
@@ -299,7 +313,7 @@ pub record Happened (b : Basis) (done : List (Option (List Directive))) (aloft :
 
 -- as long as no child is started the world is as at first, where no record lacked a number then
 abbrev pub IsQuiet : Project → Reading → List (Event BadUnit) → World → World → Type 0
-IsQuiet project read es first now = started_by es ≡ [] → ((place : ℕ) → LacksNoNumber project read first place) → now ≡ first
+IsQuiet project read es first now = started_by es ≡ [] → ((place : ℕ) → LacksNumber project read first place false) → now ≡ first
 
 -- of a unit that has not begun the same is noted as at first
 abbrev pub NotesUnbegun : Project → List (Event BadUnit) → Reasons → Reasons → Type 0
@@ -338,7 +352,7 @@ pub record Story (tells : Bool) (child : Answers) (first : UnitCrew) (at : Momen
   pub quiet : IsTrue tells → (read : Reading) → IsReading read → IsQuiet c.project read es at.world now.world
   pub held : IsTrue tells → (read : Reading) → IsReading read → HoldsNumbers (record_at read (records_folder c.project) now.world.files) c.store.numbers
   pub happened : IsTrue tells → FromFirst child first at c (λ b. Happened b c.done.items c.aloft.items c.store.next es now.world now.counts.starts.flying still)
-  pub taken : IsTrue tells → (read : Reading) → IsReading read → NumbersGiven (LacksNoNumber c.project read at.world) es first.store.next c.store.next
+  pub taken : IsTrue tells → (read : Reading) → IsReading read → NumbersGiven (LacksNumber c.project read at.world) es first.store.next c.store.next
   pub calls : IsTrue tells → FromFirst child first at c (λ b. CallsOver (call_basis b) es at.world at.counts now.world now.counts)
   pub calls_on_any : IsTrue tells → CallsOnAny child c.setup c.project c.done.items es at.world at.counts now.world now.counts
   pub unnoted : NotesUnbegun c.project es first.reasons.items c.reasons.items
@@ -382,6 +396,6 @@ pub record StoryEnds (tells : Bool) (child : Answers) (fault : BuildFault) (aske
   pub began : IsTrue tells → AllBeganOnAny c.setup c.project c.done.items before c.reasons.items at.world now.world
   pub started : IsTrue tells → StartedOnAny c.setup c.project c.done.items fault before es at.world now.world
   pub happened : IsTrue tells → FromFirst child first at c (λ b. Happened b c.done.items c.aloft.items c.store.next es now.world now.counts.starts.flying still)
-  pub caused : IsTrue tells → (read : Reading) → IsReading read → Spends (LacksNoNumber c.project read at.world) fault first.store.next es
-  pub calls : IsTrue tells → FromFirst child first at c (λ b. CallsCut (call_basis b) fault asked es before at.world at.counts now.counts)
-  pub calls_on_any : IsTrue tells → CallsCutOnAny child c.setup c.project c.done.items fault asked es before at.world at.counts now.counts
+  pub caused : IsTrue tells → (read : Reading) → IsReading read → Spends (LacksNumber c.project read at.world) fault first.store.next es
+  pub calls : IsTrue tells → FromFirst child first at c (λ b. CallsCut (call_basis b) fault asked es before at.world at.counts now.world now.counts)
+  pub calls_on_any : IsTrue tells → CallsCutOnAny child c.setup c.project c.done.items fault asked es before at.world at.counts now.world now.counts

@@ -1,4 +1,4 @@
-use Rattle.std.proofs.Common.{◌≡◌, ◌∙◌, ◌<◌, ◌∷◌, ℕ, true, List, Some, Contains, IsTrue, refl, sym, ap, subst, inl, slice_get, length, map}
+use Rattle.std.proofs.Common.{◌≡◌, ◌∙◌, ◌<◌, ◌∷◌, ℕ, true, List, Some, Contains, IsTrue, is_some, refl, sym, ap, subst, inl, slice_get, length, map}
 use Rattle.std.proofs.lemmas.List.{length-map}
 use Rattle.std.proofs.lemmas.Option.{slice_get_read, slice_get_within}
 use Rattle.pb_flight.specs.declared.flight.Answer.{Answer}
@@ -19,20 +19,20 @@ use Rattle.pb_turns.specs.Anew.{FliesAnew}
 use Rattle.pb_turns.specs.Crew.{IsOfPlan, place_of_unit, places_of, needs_of}
 use Rattle.pb_turns.specs.Moments.{moment}
 use Rattle.pb_turns.specs.Rows.{is_started}
-use Rattle.pb_turns.specs.Story.{IsUntold, KeepsChildless, KeepsNoneInFlight, LacksNoNumber, NamesUnit, NoneWritesTo, Story, states_in}
+use Rattle.pb_turns.specs.Story.{FliesIn, IsUntold, KeepsChildless, KeepsNoneInFlight, LacksNumber, NamesUnit, NoneWritesTo, Story, states_in}
 use Rattle.pb_turns.proofs.Again.{answered_again}
 use Rattle.pb_turns.proofs.Anew.{answered_anew, unanswered_anew}
 use Rattle.pb_turns.proofs.Alone.{apart_removed, none_writes}
 use Rattle.pb_turns.proofs.Answering.{failed_happened, untold_happened, answered_happened}
 use Rattle.pb_turns.proofs.Beginning.{goes_lists}
-use Rattle.pb_turns.proofs.Calling.{calls_answered, calls_answered_on_any, calls_unanswered, calls_unanswered_on_any, calls_untold, calls_uncall_basis_on_any}
+use Rattle.pb_turns.proofs.Calling.{calls_answered, calls_answered_on_any, calls_unanswered, calls_unanswered_on_any, calls_untold, calls_untold_on_any}
 use Rattle.pb_turns.proofs.Changing.{its_writes, changes_less, changes_after}
 use Rattle.pb_turns.proofs.Counting.{came_answering, names_answering, goes_answered, stops_answered, stops_untold}
 use Rattle.pb_turns.proofs.Differing.{answered_began, unanswered_began}
 use Rattle.pb_turns.proofs.Leaving.{answered_left, unanswered_left}
 use Rattle.pb_turns.proofs.Lists.{all_get, get_map, map_removed}
 use Rattle.pb_turns.proofs.Manning.{answer_fault_lands, flying_of, manned_answered}
-use Rattle.pb_turns.proofs.Numbering.{answered_taken, has_child, started_flies, numbers_answered, spends_answered}
+use Rattle.pb_turns.proofs.Numbering.{answered_taken, has_child, lacked_taken, started_flies, spends_answered}
 use Rattle.pb_turns.proofs.Quiet.{answered_quiet}
 use Rattle.pb_turns.proofs.Reaching.{there_of}
 use Rattle.pb_turns.proofs.Staying.{none_began}
@@ -144,7 +144,7 @@ returns-in-Err-clause-story g c = λ first at taken faults es given unit s flyin
           c.requires.manned.units_apart c.requires.manned.tickets_apart c.requires.manned.numbers_apart c.answer_unit.new.store.next (λ footing read setup sources states done other its reading t. c.answer_unit.ensures.others footing read setup sources states done other its reading t (s.held t read reading))
           c.remove-unit.new.self.items c.remove-unit.ensures.items (λ footing read setup sources states done reading t. c.in-Err.ensures.keeps footing read setup sources states done reading t (s.held t read reading));
       caused = λ t read reading.
-          spends_answered (LacksNoNumber c.args.crew.now.project read at.world) es first.store.next c.args.crew.now.store.next c.index-units-unit.result.key (child_of c.remove-unit.result.begun) c.in-Err.fault now.counts.starts new.counts.starts c.in-Err.ensures.takes.0 (s.taken t read reading);
+          spends_answered (LacksNumber c.args.crew.now.project read at.world) es first.store.next c.args.crew.now.store.next c.index-units-unit.result.key (child_of c.remove-unit.result.begun) c.in-Err.fault now.counts.starts new.counts.starts c.in-Err.ensures.takes.0 (s.taken t read reading);
       calls = calls_unanswered g.P.Place.world g.P.Place.counts g.P.Place.tells g.P.Place.child first c.args.crew.now at now new (g.P.Place.still c.args.place.now) es given s c.requires.manned.order c.args.index c.remove-unit.result at_index c.index-units-unit.result there c.in-Err.fault unit its c.in-Err.ensures.lands;
       calls_on_any = calls_unanswered_on_any g.P.Place.world g.P.Place.counts g.P.Place.tells g.P.Place.child first c.args.crew.now at now new (g.P.Place.still c.args.place.now) es given s c.requires.manned.order c.args.index c.remove-unit.result at_index c.index-units-unit.result there lawful s.calls_on_any
           (λ t. all_get (FliesAnew g.P.Place.child c.args.crew.now.setup c.args.crew.now.project c.args.crew.now.done.items now.world now.counts.starts.flying (g.P.Place.still c.args.place.now)) c.args.crew.now.aloft.items c.args.index c.remove-unit.result (s.anew t).waits at_index)
@@ -191,7 +191,7 @@ returns-in-Err-lines_of_unit-clause-story g c = λ first at taken faults es give
           c.in-Ok.ran c.in-Ok.ensures.outcome (λ footing read setup sources states done reading t. c.in-Ok.ensures.keeps footing read setup sources states done reading t (s.held t read reading)) c.in-Ok.ensures.directives c.remove-unit.new.self.items c.remove-unit.ensures.items;
       caused = λ t read reading. tt;
       calls = calls_untold g.P.Place.world g.P.Place.counts g.P.Place.tells g.P.Place.child first c.args.crew.now at now new (g.P.Place.still c.args.place.now) es given s c.requires.manned.order c.args.index c.remove-unit.result at_index c.index-units-unit.result there c.in-Ok.ran unit its c.in-Ok.ensures.lands;
-      calls_on_any = calls_uncall_basis_on_any g.P.Place.world g.P.Place.counts g.P.Place.tells g.P.Place.child first c.args.crew.now at now new (g.P.Place.still c.args.place.now) es given s c.requires.manned.order c.args.index c.remove-unit.result at_index c.index-units-unit.result there lawful s.calls_on_any
+      calls_on_any = calls_untold_on_any g.P.Place.world g.P.Place.counts g.P.Place.tells g.P.Place.child first c.args.crew.now at now new (g.P.Place.still c.args.place.now) es given s c.requires.manned.order c.args.index c.remove-unit.result at_index c.index-units-unit.result there lawful s.calls_on_any
           (λ t. all_get (FliesAnew g.P.Place.child c.args.crew.now.setup c.args.crew.now.project c.args.crew.now.done.items now.world now.counts.starts.flying (g.P.Place.still c.args.place.now)) c.args.crew.now.aloft.items c.args.index c.remove-unit.result (s.anew t).waits at_index)
           c.in-Ok.ran unit its c.in-Ok.ensures.lands;
     }
@@ -212,6 +212,8 @@ returns-clause-story g c = λ first at taken faults es given unit s flying lawfu
     let only : IsTrue g.P.Place.tells → ChangesOnly (is_of (records_folder c.args.crew.now.project) c.index-units-unit.result.key) now.world new.world = λ t. c.answer_unit.ensures.only t (writes t) in
     let crew : UnitCrew = record { setup = c.args.crew.now.setup; project = c.args.crew.now.project; store = c.answer_unit.new.store; done = c.note_answer.new.done; aloft = c.remove-unit.new.self; started = c.args.crew.now.started; reasons = c.args.crew.now.reasons } in
     let answer : Answer BadUnit = record { fault = c.in-Ok.ran.bad; lines = c.in-Ok-lines_of_unit.lines } in
+    let flies_so : IsTrue g.P.Place.tells → is_started es c.remove-unit.result.unit ≡ is_some (child_of c.remove-unit.result.begun) =
+    λ t. (all_get (FliesIn c.args.crew.now.project es now.world now.counts.starts.flying) c.args.crew.now.aloft.items c.args.index c.remove-unit.result (s.changes t).flies at_index).started in
     let childless : is_started es c.remove-unit.result.unit ≡ true → c.answer_unit.new.store.next ≡ c.args.crew.now.store.next =
     λ started. c.answer_unit.ensures.untaken (child_numbered c.remove-unit.result.begun (has_child c.args.crew.now.aloft.items c.args.index c.remove-unit.result c.requires.manned.units_apart at_index
     (subst (λ (l : List ℕ). Contains l c.remove-unit.result.unit) (sym s.goes.launched_are) (started_flies (needs_of c.args.crew.now.project) es c.remove-unit.result.unit lawful begun started)))) in
@@ -222,8 +224,19 @@ returns-clause-story g c = λ first at taken faults es given unit s flying lawfu
       goes = goes_lists c.args.crew.now.project at new c.args.crew.now.started.items c.args.crew.now.started.items _ c.remove-unit.new.self.items (Gave c.remove-unit.result.unit answer ∷ es) given refl c.remove-unit.ensures.items
           (goes_answered c.args.crew.now.project at now new c.args.crew.now.started.items c.args.crew.now.aloft.items es given s.goes is_given c.args.index c.remove-unit.result at_index begun refl c.requires.manned.units_apart answer
           c.in-Ok.ensures.takes.0 c.in-Ok.ensures.takes.1 c.answer_unit.ensures.most);
-      numbers = numbers_answered IsUntold es first.store.next c.args.crew.now.store.next c.answer_unit.new.store.next c.remove-unit.result.unit answer c.answer_unit.ensures.next childless c.in-Ok.ensures.bad (λ untold. absurd untold) s.numbers;
-      taken = answered_taken g.P.Place.tells g.P.Place.child first c.args.crew.now at now (g.P.Place.still c.args.place.now) es given s c.args.index c.remove-unit.result c.index-units-unit.result at_index there answer c.answer_unit.new.store.next c.answer_unit.ensures.next childless c.in-Ok.ensures.bad c.answer_unit.ensures.untaken;
+      numbers = (
+        c.args.crew.now.store.next,
+        s.numbers,
+        record {
+          at_most = c.answer_unit.ensures.next;
+          child = childless;
+          bad = c.in-Ok.ensures.bad;
+          had = λ untold. absurd untold;
+          lacked = λ alone good untold. absurd untold;
+        },
+      );
+      taken = λ t. answered_taken g.P.Place.tells g.P.Place.child first c.args.crew.now at now (g.P.Place.still c.args.place.now) es given s c.args.index c.remove-unit.result c.index-units-unit.result at_index there (flies_so t) c.in-Ok.ran c.in-Ok-lines_of_unit.lines
+          c.answer_unit.new.store.next c.answer_unit.ensures.next childless c.in-Ok.ensures.bad c.answer_unit.ensures.untaken c.in-Ok.ensures.taken t;
       changes = λ t. changes_after c.args.crew.now.project c.requires.manned.order at.world c.args.crew.now.aloft.items es now.world new.world now.counts.starts.flying new.counts.starts.flying (s.changes t) (λ j y at_j. flying_of c.args.crew.now now.counts j y c.requires.manned at_j)
           c.args.index c.remove-unit.result at_index c.index-units-unit.result there c.requires.manned.units_apart c.requires.manned.tickets_apart
           (only t) c.answer_unit.ensures.stay c.remove-unit.new.self.items c.remove-unit.ensures.items answer
@@ -241,7 +254,7 @@ returns-clause-story g c = λ first at taken faults es given unit s flying lawfu
           c.in-Ok.ensures.started c.in-Ok.ensures.judged (λ t. let (left, answer, ends, changed, behind) = c.in-Ok.ensures.lands t in (left, answer, ends, changed))
           c.remove-unit.new.self.items c.note_answer.new.done.items c.remove-unit.ensures.items c.note_answer.ensures.done;
       left = answered_left g.P.Place.tells g.P.Place.child first c.args.crew.now at now new (g.P.Place.still c.args.place.now) es given s c.requires.manned.order lawful c.args.index c.remove-unit.result c.index-units-unit.result there at_index only g.P.Place.world g.P.Place.counts
-          c.in-Ok.ran c.in-Ok-lines_of_unit.lines (λ read reading t. c.in-Ok.ensures.kept read reading t (writes t) (s.held t read reading)) (λ t. let (left, answer, ends, changed, behind) = c.in-Ok.ensures.lands t in (left, answer, ends, changed))
+          c.in-Ok.ran c.in-Ok-lines_of_unit.lines (λ read reading t. c.in-Ok.ensures.kept read reading t (writes t) (s.held t read reading)) c.answer_unit.new.store.next (λ t. lacked_taken g.P.Place.tells g.P.Place.child first c.args.crew.now at now (g.P.Place.still c.args.place.now) es given s c.args.index c.remove-unit.result c.index-units-unit.result at_index there (flies_so t) c.in-Ok.ran c.answer_unit.new.store.next c.in-Ok.ensures.taken t) (λ t. let (left, answer, ends, changed, behind) = c.in-Ok.ensures.lands t in (left, answer, ends, changed))
           (λ t. c.in-Ok.ensures.unkept t (writes t)) c.remove-unit.new.self.items c.note_answer.new.done.items c.remove-unit.ensures.items c.note_answer.ensures.done;
       began = answered_began g.P.Place.tells g.P.Place.child first c.args.crew.now at now new (g.P.Place.still c.args.place.now) es given s c.requires.manned.order lawful c.args.index c.remove-unit.result c.index-units-unit.result there at_index only c.answer_unit.ensures.same
           (λ t none. let (left, ended, ends, behind, calls) = c.in-Ok.ensures.lands t in folder_answered c.args.crew.now.project c.requires.manned.order c.remove-unit.result.unit c.index-units-unit.result there c.remove-unit.result.begun.awaited none ended _ _ now.world (g.P.Place.world left) new.world now.counts (g.P.Place.counts left) ends behind)

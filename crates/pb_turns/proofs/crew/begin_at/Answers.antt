@@ -9,7 +9,7 @@ use Rattle.pb_run.specs.Standing.{records_folder}
 use Rattle.pb_store.specs.Looking.{looked_at}
 use Rattle.pb_turns.specs.Crew.{ticket_of_child}
 use Rattle.pb_turns.specs.Moments.{moment}
-use Rattle.pb_turns.specs.Story.{LacksNoNumber, Story, IsUntold, NoneWritesTo}
+use Rattle.pb_turns.specs.Story.{LacksNumber, Story, IsUntold, NoneWritesTo}
 use Rattle.pb_turns.proofs.Again.{begun_again, gave_begun}
 use Rattle.pb_turns.proofs.Anew.{begun_anew, unbegun_anew}
 use Rattle.pb_turns.proofs.Alone.{none_writes}
@@ -74,8 +74,8 @@ returns-in-Err-clause-story g c = λ first at taken faults es given s flying law
         started = λ t read reading. none_tried c.args.crew.now.project read _ _ OutOfMemory es at.world now.world c.args.unit refl;
         happened = refused_happened g.P.Place.tells g.P.Place.child first c.args.crew.now at now now (g.P.Place.still c.args.place.now) (g.P.Place.still c.args.place.now) es given c.args.unit u c.requires.manned.order there s may c.make_room.new.aloft.items c.make_room.ensures.aloft;
         caused = λ t read reading. tt;
-        calls = λ t f r sources reading keeps. (now.world, now.counts, s.calls t f r sources reading keeps, inl refl);
-        calls_on_any = λ t read reading. (now.world, now.counts, s.calls_on_any t read reading, inl refl);
+        calls = λ t f r sources reading keeps. (now.world, now.counts, s.calls t f r sources reading keeps, inl (inr refl, refl, refl));
+        calls_on_any = λ t read reading. (now.world, now.counts, s.calls_on_any t read reading, inl (inr refl, refl, refl));
       },
     )
 
@@ -121,21 +121,23 @@ returns-in-Err-begin_unit-clause-story g c = λ first at taken faults es given s
             new (g.P.Place.still c.args.place.now) (g.P.Place.still c.begin_unit.new.place)
             es given c.args.unit c.index-units-unit.result c.requires.manned.order there s may c.begin_unit.new.store.next c.as_slice.result.now c.as_slice.ensures.value
             c.begin_unit.ensures.keeps c.begin_unit.ensures.others spawned c.make_room.new.aloft.items c.make_room.ensures.aloft;
-        caused = λ t read reading. spends (LacksNoNumber c.args.crew.now.project read at.world) first.store.next (s.taken t read reading);
+        caused = λ t read reading. spends (LacksNumber c.args.crew.now.project read at.world) first.store.next (s.taken t read reading);
         calls = calls_unbegun g.P.Place.tells g.P.Place.child first c.args.crew.now at now
             new (g.P.Place.still c.args.place.now)
             es given c.args.unit c.index-units-unit.result c.requires.manned.order there s may c.as_slice.result.now c.as_slice.ensures.value spawned c.in-Err-begin_unit.fault
             (λ t. elim (c.in-Err-begin_unit.ensures.stops t) [
               | inl look ↦ inl look
               | inr (looked, has, ends) ↦ inr (g.P.Place.counts looked, λ read reading. has.looks read reading t, ends)
-            ]);
+            ])
+            (λ read reading t. c.in-Err-begin_unit.ensures.differed read reading t (s.held t read reading)) c.begin_unit.ensures.only;
         calls_on_any = calls_unbegun_on_any g.P.Place.tells g.P.Place.child first c.args.crew.now at now
             new (g.P.Place.still c.args.place.now)
             es given c.args.unit c.index-units-unit.result c.requires.manned.order there s may c.as_slice.result.now c.as_slice.ensures.value spawned c.in-Err-begin_unit.fault
             (λ t. elim (c.in-Err-begin_unit.ensures.stops t) [
               | inl look ↦ inl look
               | inr (looked, has, ends) ↦ inr (g.P.Place.counts looked, λ read reading. has.looks read reading t, ends)
-            ]) s.calls_on_any;
+            ])
+            (λ read reading t. c.in-Err-begin_unit.ensures.differed read reading t (s.held t read reading)) c.begin_unit.ensures.only s.calls_on_any;
       },
     )
 

@@ -5,8 +5,9 @@ use Rattle.pb_project.specs.Targets.{unit_at}
 use Rattle.pb_run.specs.Standing.{records_folder}
 use Rattle.pb_soundness.specs.Apart.{is_of}
 use Rattle.pb_turns.specs.Crew.{needs_of}
-use Rattle.pb_turns.specs.Story.{AllAnswerAnew, AllBegan, AllLeaveRecords, CameAfter, Changes, HadDiffered, HasNoRecord}
+use Rattle.pb_turns.specs.Story.{AllAnswerAnew, AllBegan, AllLeaveRecords, CameAfter, Changes, ChangesInFlight, HadDiffered, HasNoRecord}
 use Rattle.pb_turns.specs.declared.crew.UnitCrew.{UnitCrew}
+use Rattle.pb_turns.proofs.Landing.{in_flight_twice}
 use Rattle.pb_turns.proofs.dropping.drain.Goals as goal
 
 pub loop-alloc-preserved : goal.loop-alloc-preserved
@@ -19,6 +20,11 @@ loop-alloc-preserved g c = record {
       subst (λ (p : Project). Changes p first c.drop_first.new.crew.aloft.items es (g.P.Place.world c.drop_first.new.place) (g.P.Place.counts c.drop_first.new.place).starts.flying) (ap (λ (x : UnitCrew). x.project) c.loop-alloc.invariant.same)
       (c.drop_first.ensures.changes first es tells (subst (λ (p : Project). Changes p first c.loop-alloc.crew.aloft.items es (g.P.Place.world c.loop-alloc.place) (g.P.Place.counts c.loop-alloc.place).starts.flying)
       (sym (ap (λ (x : UnitCrew). x.project) c.loop-alloc.invariant.same)) (c.loop-alloc.invariant.changes first es tells old)));
+  alone = λ first es tells old.
+      let same = ap (λ (x : UnitCrew). x.project) c.loop-alloc.invariant.same in
+      in_flight_twice c.args.crew.now.project es (g.P.Place.world c.args.place.now) (g.P.Place.world c.loop-alloc.place) (g.P.Place.world c.drop_first.new.place) (c.loop-alloc.invariant.alone first es tells old)
+      (subst (λ (p : Project). ChangesInFlight p es (g.P.Place.world c.loop-alloc.place) (g.P.Place.world c.drop_first.new.place)) same
+      (c.drop_first.ensures.alone first es tells (subst (λ (p : Project). Changes p first c.loop-alloc.crew.aloft.items es (g.P.Place.world c.loop-alloc.place) (g.P.Place.counts c.loop-alloc.place).starts.flying) (sym same) (c.loop-alloc.invariant.changes first es tells old))));
   unrecorded = λ first es index unit tells old there none.
       let same = ap (λ (x : UnitCrew). x.project) c.loop-alloc.invariant.same in
       subst (λ (p : Project). HasNoRecord p unit (g.P.Place.world c.drop_first.new.place)) same

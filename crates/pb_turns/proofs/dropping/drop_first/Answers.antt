@@ -1,7 +1,7 @@
 use Rattle.std.proofs.Common.{refl, inl, length}
 use Rattle.pb_run.specs.Halves.{child_of}
 use Rattle.std.proofs.lemmas.Option.{slice_get_read}
-use Rattle.pb_turns.proofs.Landing.{anew_dropped, childless_dropped, left_dropped, unrecorded_dropped, drops_land, began_dropped, happened_dropped, changes_dropped, started_dropped}
+use Rattle.pb_turns.proofs.Landing.{alone_dropped, anew_dropped, childless_dropped, left_dropped, unrecorded_dropped, drops_land, began_dropped, happened_dropped, changes_dropped, started_dropped}
 use Rattle.pb_turns.proofs.Manning.{flying_of, manned_answered}
 use Rattle.pb_turns.proofs.dropping.drop_first.Goals as goal
 
@@ -29,6 +29,12 @@ returns-clause-changes g c = λ first es tells old.
     let at = slice_get_read c.args.crew.now.aloft.items (length c.args.crew.now.aloft.items) 0 c.remove-aloft.result refl c.requires.some c.remove-aloft.ensures.value in
     changes_dropped c.args.crew.now (g.P.Place.counts c.args.place.now) c.requires.manned first es (g.P.Place.world c.args.place.now) (g.P.Place.world c.drop_unit.new.place) (g.P.Place.counts c.drop_unit.new.place).starts.flying
     0 c.remove-aloft.result at c.remove-aloft.new.self.items c.remove-aloft.ensures.items old (λ out. c.drop_unit.ensures.only out tells) c.drop_unit.ensures.stay
+
+pub returns-clause-alone : goal.returns-clause-alone
+returns-clause-alone g c = λ first es tells old.
+    let at = slice_get_read c.args.crew.now.aloft.items (length c.args.crew.now.aloft.items) 0 c.remove-aloft.result refl c.requires.some c.remove-aloft.ensures.value in
+    alone_dropped c.args.crew.now (g.P.Place.counts c.args.place.now) c.requires.manned first es (g.P.Place.world c.args.place.now) (g.P.Place.world c.drop_unit.new.place)
+    0 c.remove-aloft.result at old (λ out. c.drop_unit.ensures.only out tells)
 
 pub returns-clause-began : goal.returns-clause-began
 returns-clause-began g c = λ read sources command fault es before reasons first tells lawful came old began.

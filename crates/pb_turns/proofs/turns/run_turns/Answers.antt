@@ -37,7 +37,7 @@ returns-in-Ok-sum_up g c =
     let begins = story_first g.P.Place.tells g.P.Place.child first at (g.P.Place.still c.args.place.now) c.new.ensures.items c.new-2.ensures.items (λ t read reading. c.requires.numbers read reading t) in
     let (es, flown, story) = c.in-Ok-driven.ensures.goes first c.args.place.now c.args.out.now begins in
     ends_whole g.P.Place.tells g.P.Place.child g.T.Turn.turns first c.drive-driven.new.crew c.drain.new.crew c.args.turn.now c.drive-driven.new.turn at mid new (g.P.Place.still c.drive-driven.new.place) (g.P.Place.still c.drain.new.place) es said
-    c.drain.ensures.drained c.drain.ensures.landed refl c.drain.ensures.same c.drain.ensures.changes c.drain.ensures.unrecorded c.drain.ensures.childless c.drain.ensures.happened c.drain.ensures.began c.drain.ensures.started c.drain.ensures.anew c.drain.ensures.left c.is_in_order.ensures
+    c.drain.ensures.drained c.drain.ensures.landed refl c.drain.ensures.same c.drain.ensures.changes c.drain.ensures.unrecorded c.drain.ensures.childless c.drain.ensures.alone c.drain.ensures.happened c.drain.ensures.began c.drain.ensures.started c.drain.ensures.anew c.drain.ensures.left c.is_in_order.ensures
     c.drive-driven.new.flight _ flown story c.in-Ok-driven.ensures.finished c.drain.ensures.most c.in-Ok-sum_up.summary c.in-Ok-sum_up.ensures
     (c.in-Ok-nothing_noted-2.ensures ∙ ap (map (λ (u : Planned). None)) c.units-2.ensures)
 
@@ -51,9 +51,9 @@ returns-in-Err-sum_up g c =
     let begins = story_first g.P.Place.tells g.P.Place.child first at (g.P.Place.still c.args.place.now) c.new.ensures.items c.new-2.ensures.items (λ t read reading. c.requires.numbers read reading t) in
     let (es, flown, story) = c.in-Ok-driven.ensures.goes first c.args.place.now c.args.out.now begins in
     ends_cut g.P.Place.tells g.P.Place.child g.T.Turn.turns first c.drive-driven.new.crew c.drain.new.crew c.args.turn.now c.drive-driven.new.turn at mid new (g.P.Place.still c.drive-driven.new.place) (g.P.Place.still c.drain.new.place) es said
-    c.drain.ensures.drained c.drain.ensures.landed refl c.drain.ensures.same c.drain.ensures.changes c.drain.ensures.unrecorded c.drain.ensures.childless c.drain.ensures.happened c.drain.ensures.began c.drain.ensures.started c.drain.ensures.anew c.drain.ensures.left c.is_in_order.ensures
+    c.drain.ensures.drained c.drain.ensures.landed refl c.drain.ensures.same c.drain.ensures.changes c.drain.ensures.unrecorded c.drain.ensures.childless c.drain.ensures.alone c.drain.ensures.happened c.drain.ensures.began c.drain.ensures.started c.drain.ensures.anew c.drain.ensures.left c.is_in_order.ensures
     c.drain.ensures.most _ None c.drive-driven.new.turn flown.flies refl (untold g.P.Place.tells g.P.Place.child g.T.Turn.turns first c.drive-driven.new.crew c.drain.new.crew c.args.turn.now c.drive-driven.new.turn at mid new (g.P.Place.still c.drive-driven.new.place) (g.P.Place.still c.drain.new.place) es said
-    c.drain.ensures.drained c.drain.ensures.landed refl c.drain.ensures.same c.drain.ensures.changes c.drain.ensures.unrecorded c.drain.ensures.childless c.drain.ensures.happened c.drain.ensures.began c.drain.ensures.started c.drain.ensures.anew c.drain.ensures.left c.is_in_order.ensures c.drive-driven.new.flight.given story)
+    c.drain.ensures.drained c.drain.ensures.landed refl c.drain.ensures.same c.drain.ensures.changes c.drain.ensures.unrecorded c.drain.ensures.childless c.drain.ensures.alone c.drain.ensures.happened c.drain.ensures.began c.drain.ensures.started c.drain.ensures.anew c.drain.ensures.left c.is_in_order.ensures c.drive-driven.new.flight.given story)
 
 pub returns-in-Err-driven : goal.returns-in-Err-driven
 returns-in-Err-driven g c =
@@ -65,5 +65,5 @@ returns-in-Err-driven g c =
     let begins = story_first g.P.Place.tells g.P.Place.child first at (g.P.Place.still c.args.place.now) c.new.ensures.items c.new-2.ensures.items (λ t read reading. c.requires.numbers read reading t) in
     let (last, es, asked, flies, hands, ends) = c.in-Err-driven.ensures.goes first c.args.place.now c.args.out.now begins in
     ends_cut g.P.Place.tells g.P.Place.child g.T.Turn.turns first c.drive-driven.new.crew c.drain.new.crew c.args.turn.now last at mid new (g.P.Place.still c.drive-driven.new.place) (g.P.Place.still c.drain.new.place) es said
-    c.drain.ensures.drained c.drain.ensures.landed refl c.drain.ensures.same c.drain.ensures.changes c.drain.ensures.unrecorded c.drain.ensures.childless c.drain.ensures.happened c.drain.ensures.began c.drain.ensures.started c.drain.ensures.anew c.drain.ensures.left c.is_in_order.ensures
+    c.drain.ensures.drained c.drain.ensures.landed refl c.drain.ensures.same c.drain.ensures.changes c.drain.ensures.unrecorded c.drain.ensures.childless c.drain.ensures.alone c.drain.ensures.happened c.drain.ensures.began c.drain.ensures.started c.drain.ensures.anew c.drain.ensures.left c.is_in_order.ensures
     c.drain.ensures.most c.in-Err-driven.fault asked c.drive-driven.new.turn flies hands ends

@@ -1,4 +1,4 @@
-use Rattle.std.proofs.Common.{refl, inl}
+use Rattle.std.proofs.Common.{inl, inr, refl}
 use Rattle.pb_answer.specs.declared.fault.BuildFault.TheVariants.{OutOfMemory}
 use Rattle.pb_turns.proofs.Counting.{stops_refused}
 use Rattle.pb_turns.proofs.Staying.{none_began}
@@ -24,6 +24,6 @@ returns g c = λ first first_place last_place first_out last_out es given s. rec
   started = λ t read reading. none_began _ read _ _ OutOfMemory es _ _;
   happened = s.happened;
   caused = λ t read reading. tt;
-  calls = λ t f r sources reading keeps. (g.P.Place.world last_place, g.P.Place.counts last_place, s.calls t f r sources reading keeps, inl refl);
-  calls_on_any = λ t read reading. (g.P.Place.world last_place, g.P.Place.counts last_place, s.calls_on_any t read reading, inl refl);
+  calls = λ t f r sources reading keeps. (g.P.Place.world last_place, g.P.Place.counts last_place, s.calls t f r sources reading keeps, inl (inr refl, refl, refl));
+  calls_on_any = λ t read reading. (g.P.Place.world last_place, g.P.Place.counts last_place, s.calls_on_any t read reading, inl (inr refl, refl, refl));
 }

@@ -1,6 +1,7 @@
-use Rattle.std.proofs.Common.{inl, refl, subst, take}
+use Rattle.std.proofs.Common.{inl, refl, subst}
 use Rattle.std.specs.Io.KnownBytes.{Appends}
 use Rattle.pb_answer.specs.declared.fault.BuildFault.TheVariants.{Sink}
+use Rattle.pb_place.specs.Sinks.{TakesPart}
 use Rattle.pb_turns.proofs.Counting.{goes_told, stops_sink}
 use Rattle.pb_turns.proofs.Staying.{none_began}
 use Rattle.pb_turns.proofs.crew.UnitCrewCrewBadUnitBuildFault.tell.Goals as goal
@@ -30,11 +31,10 @@ returns-then-write_all-clause-story g c = λ first first_place first_out es give
 
 pub returns-else-write_all-clause-story : goal.returns-else-write_all-clause-story
 returns-else-write_all-clause-story g c = λ first first_place first_out es given s lawful lines.
-    let (n, part) = c.write_all.ensures.part c.if-write_all.false in
     record {
       setup = s.setup;
       project = s.project;
-      stops = stops_sink _ _ _ _ _ _ _ _ s.goes refl refl g.P.Place.tells n (subst (λ l. Appends (g.O.Out.taken c.args.out.now) (g.O.Out.taken c.write_all.new.out) (take n l)) lines part) (c.write_all.ensures.fault c.if-write_all.false);
+      stops = stops_sink _ _ _ _ _ _ _ _ s.goes refl refl g.P.Place.tells (subst (λ l. TakesPart l (g.O.Out.taken c.args.out.now) (g.O.Out.taken c.write_all.new.out)) lines (c.write_all.ensures.part c.if-write_all.false)) (c.write_all.ensures.fault c.if-write_all.false);
       spent = tt;
       before = es;
       came = refl;
@@ -50,6 +50,6 @@ returns-else-write_all-clause-story g c = λ first first_place first_out es give
       started = λ t read reading. none_began _ read _ _ Sink es _ _;
       happened = s.happened;
       caused = λ t read reading. tt;
-      calls = λ t f r sources reading keeps. (g.P.Place.world c.args.place.now, g.P.Place.counts c.args.place.now, s.calls t f r sources reading keeps, inl refl);
-      calls_on_any = λ t read reading. (g.P.Place.world c.args.place.now, g.P.Place.counts c.args.place.now, s.calls_on_any t read reading, inl refl);
+      calls = λ t f r sources reading keeps. (g.P.Place.world c.args.place.now, g.P.Place.counts c.args.place.now, s.calls t f r sources reading keeps, inl (inl refl, refl, refl));
+      calls_on_any = λ t read reading. (g.P.Place.world c.args.place.now, g.P.Place.counts c.args.place.now, s.calls_on_any t read reading, inl (inl refl, refl, refl));
     }
