@@ -4,6 +4,7 @@ use Rattle.std.proofs.lemmas.Bool.{false≢true}
 use Rattle.std.specs.Io.KnownBytes.{Appends}
 use Rattle.pb_data.specs.Table.{table_of}
 use Rattle.pb_place.specs.Counts.{up}
+use Rattle.pb_place.specs.Sinks.{TakesPart}
 use Rattle.pb_place.specs.World.{World}
 use Rattle.pb_place.specs.declared.child.Reply.{Reply}
 use Rattle.pb_place.specs.declared.place.PlaceFault.{PlaceFault}

@@ -41,6 +41,6 @@ pub record IsMigrated (read : Reading) (judge : Judge) (child : Answers) (folder
 abbrev pub TakesNext : Option ℕ → Option ℕ → Type 0
 TakesNext old new = (number : ℕ) × (old ≡ Some number) × (new ≡ after number)
 
--- it is as it was, or was taken
+-- the next number is as it was, or was taken
 abbrev pub TakesNumber : Option ℕ → Option ℕ → Type 0
 TakesNumber old new = (new ≡ old) ⊎ TakesNext old new
