@@ -39,7 +39,7 @@ use Rattle.pb_turns.specs.Crew.{needs_of, ticket_of_child}
 use Rattle.pb_turns.specs.Ends.{TurnsEnd, Drained, StandsWhole, StandsCut, Stands, nothing_said, rows_in}
 use Rattle.pb_turns.specs.Moments.{Heard, Moment}
 use Rattle.pb_turns.specs.Rows.{Row, to_first_bad, is_bad, fault_in, said_from}
-use Rattle.pb_turns.specs.Story.{states_in, untouched, upped, Stops, StopsAt, AllBeganFor, IsBeginning, LacksNoNumber, NamesUnit, NumbersGiven, Spends}
+use Rattle.pb_turns.specs.Story.{states_in, untouched, upped, Stops, StopsAt, AllBeganFor, IsBeginning, LacksNumber, NamesUnit, NumbersGiven, Spends}
 use Rattle.pb_turns.proofs.Repeating.{dropped_count}
 use Rattle.pb_unit.specs.declared.plan.Planned.{Planned}
 use Rattle.pb_workspace.proofs.Accepted.{target_kept}
@@ -237,7 +237,7 @@ module _ (footing : Footing) (read : Reading) (reading : IsReading read) (child 
         lines_before Toolchain names stops = stops.by
         lines_before (Child key fault) names stops = fails_at key (units_missing key true asked hands (λ none. subst (λ (u : Option ℕ). NamesUnit project (Child key fault) u before es) none names)) stops.by
         lines_before (Device key fault) names stops = fails_at key (units_missing key false asked hands (λ none. subst (λ (u : Option ℕ). NamesUnit project (Device key fault) u before es) none names)) stops.by
-        lines_before Sink names stops = let ((n, taken), faults) = stops.by in (n, first_lines (take n (due (states_in project es))) _ (ap (take n) stands.lines) taken)
+        lines_before Sink names stops = let ((n, less, taken), faults) = stops.by in (n, subst (λ (l : List ℕ). n < length l) stands.lines less, first_lines (take n (due (states_in project es))) _ (ap (take n) stands.lines) taken)
         lines_before OutOfMemory names stops = let ((n, taken), faults) = stops.by in (n, first_lines (due_first n (states_in project es)) _ (stands.first_lines n) taken)
 
       next_is : next ≡ next_in read (records_of options old.world.variables) old.world
@@ -246,14 +246,14 @@ module _ (footing : Footing) (read : Reading) (reading : IsReading read) (child 
       turns_give : (result : Result Summary BuildFault) → TurnsEnd true child Turns setup project next from last result mid new
           → GivesUnits footing read child (ByTurns Turns from) options result old new × LeavesRecords footing read child options old.world new.world
       turns_give (Ok summary) ends =
-          let whole : StandsWhole b ends.es ends.reasons summary mid.world new.world = ends.told refl footing read sources reading (kept_first footing rests) in (
+          let whole : StandsWhole b ends.es ends.reasons summary ends.numbers.0 mid.world new.world = ends.told refl footing read sources reading (kept_first footing rests) in (
             record {
               flown = record { units = units; es = ends.es; flies = (last, ends.flies); gave = gave_so ends.es whole.stands; starts = counted ends.es ends.mid ends.starts ends.drained; reasons = ends.reasons };
               finished = ends.finished;
               numbers = (
                 ends.numbers.0,
-                subst (λ (n : Option ℕ). NumbersGiven (LacksNoNumber project read old.world) ends.es n ends.numbers.0) next_is
-                    (subst (λ (w : World). NumbersGiven (LacksNoNumber project read w) ends.es next ends.numbers.0) stays (ends.taken refl read reading)),
+                subst (λ (n : Option ℕ). NumbersGiven (LacksNumber project read old.world) ends.es n ends.numbers.0) next_is
+                    (subst (λ (w : World). NumbersGiven (LacksNumber project read w) ends.es next ends.numbers.0) stays (ends.taken refl read reading)),
               );
               unnoted = ends.unnoted;
               answer = whole.answer;
@@ -267,7 +267,7 @@ module _ (footing : Footing) (read : Reading) (reading : IsReading read) (child 
           let cut : StandsCut b fault ends.es ends.before mid.world new.world = ends.told refl footing read sources reading (kept_first footing rests) in (
             inr record {
               flown = record { units = units; es = ends.es; flies = (ends.last, ends.flies); gave = gave_so ends.es cut.stands; starts = counted ends.es ends.mid.counts ends.stops.starts ends.drained; reasons = cut.reasons };
-              spent = subst (λ (n : Option ℕ). Spends (LacksNoNumber project read old.world) fault n ends.es) next_is (subst (λ (w : World). Spends (LacksNoNumber project read w) fault next ends.es) stays (ends.caused refl read reading));
+              spent = subst (λ (n : Option ℕ). Spends (LacksNumber project read old.world) fault n ends.es) next_is (subst (λ (w : World). Spends (LacksNumber project read w) fault next ends.es) stays (ends.caused refl read reading));
               lines = lines_before ends.es cut.stands ends.mid ends.heard ends.last ends.flies ends.asked ends.hands ends.before fault ends.names ends.stops;
               before = ends.before;
               came = ends.came;

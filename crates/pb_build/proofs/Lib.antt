@@ -1,5 +1,6 @@
 pub mod Asking
 pub mod Called
+pub mod Closing
 pub mod Opened
 pub mod Preparing
 pub mod Staying

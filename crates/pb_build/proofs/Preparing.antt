@@ -20,7 +20,8 @@ use Rattle.pb_turns.specs.Moments.{Moment}
 use Rattle.pb_build.specs.Ending.{FailsBefore, IsSilent, IsPrepared, PlansFrom}
 use Rattle.pb_build.specs.Environment.{environment_of}
 use Rattle.pb_build.specs.Planning.{IsProject, IsToldRefusal}
-use Rattle.pb_build.specs.Private.{IsReadyFor, IsSilentFault, IsUnrefused, unopened}
+use Rattle.pb_build.specs.AnyPlan.{IsReadyFor, IsSilentFault}
+use Rattle.pb_build.specs.Private.{IsUnrefused, unopened}
 use Rattle.pb_build.specs.Result.{toolchain_of, setup_of}
 use Rattle.pb_build.specs.declared.builder.BuildPlan.{BuildPlan}
 use Rattle.pb_build.specs.declared.builder.Prepared.{Prepared}

@@ -1,6 +1,6 @@
 -- A build leaves its sources as they were, and no child in flight.
 use Rattle.std.proofs.Common.{◌≡◌, ◌∙◌, ◌||◌, Bool, true, false, List, [], ℕ, Option, Result, Ok, Err, inl, inr, ap, subst}
-use Rattle.std.specs.Prelude.{IsTrue}
+use Rattle.std.specs.Prelude.{IsTrue, MatchResult}
 use Rattle.pb_answer.specs.declared.fault.BuildFault.{BuildFault}
 use Rattle.pb_answer.specs.declared.summary.Summary.{Summary}
 use Rattle.pb_flight.specs.Events.{Event}
@@ -21,9 +21,14 @@ use Rattle.pb_turns.specs.Ends.{TurnsEnd}
 use Rattle.pb_turns.specs.Moments.{Moment}
 use Rattle.pb_turns.specs.Story.{OnlyOf}
 use Rattle.pb_workspace.proofs.Accepted.{target_kept}
+use Rattle.pb_build.specs.AnyPlan as plan
+use Rattle.pb_build.specs.AnyPlan.{BuildsOn, Readies, WorksOn}
 use Rattle.pb_build.specs.Ending.{Works, Builds}
 use Rattle.pb_build.specs.Environment.{environment_of}
 use Rattle.pb_build.specs.Kept.{SourcesStay}
+use Rattle.pb_build.specs.declared.builder.BuildPlan.{BuildPlan}
+use Rattle.pb_build.specs.declared.builder.Prepared.{Prepared}
+use Rattle.pb_build.proofs.Preparing.{may_ready_landed}
 
 -- what lies outside the target folder is no path of a unit
 pub none_of : (target folder key q : List ℕ) → is_at_or_below target folder ≡ true → is_key key ≡ true → is_at_or_below target q ≡ false → is_of folder key q ≡ false
@@ -67,3 +72,40 @@ module _ {S : Type 0} (tells : Bool) (child : Answers) (Turns : S → List ℕ �
 
   pub builds_landed : (result : Result Summary BuildFault) (old new : Moment) → Builds tells child Turns options from last result old new → new.counts.starts.flying ≡ []
   builds_landed result old new builds = works_landed builds.inner old record new { heard = builds.heard } builds.works
+
+-- A build of a plan of any moment.
+
+unready_landed : (tells : Bool) (child : Answers) (options : Options) (p : Result BuildPlan BuildFault) (fault : BuildFault) (old new : Moment) → Readies tells child options p (Err fault) old new → old.counts.starts.flying ≡ [] → new.counts.starts.flying ≡ []
+unready_landed tells child options (Err e) fault old new unready none = ap (λ (m : Moment). m.counts.starts.flying) unready.1 ∙ none
+unready_landed tells child options (Ok p) fault old new unready none = may_ready_landed fault old.counts.starts new.counts.starts unready.may none
+
+module _ {S : Type 0} (tells : Bool) (child : Answers) (Turns : S → List ℕ → List ℕ → Step → S → Type 0) (options : Options) (from last : S) where
+  on_landed : (p : Result BuildPlan BuildFault) (last : S) (result : Result Summary BuildFault) (old new : Moment) → old.counts.starts.flying ≡ [] → WorksOn tells child Turns options p from last result old new → new.counts.starts.flying ≡ []
+  on_landed p _ _ _ _ none (plan.stopped fault old new unready) = unready_landed tells child options p fault old new unready none
+  on_landed p _ _ _ _ none (plan.worked prepared last result old mid new ready ends) = turns_landed tells child Turns options from last prepared.setup prepared.project prepared.store.next result mid new ends
+
+  stopped_kept : (p : Result BuildPlan BuildFault) (fault : BuildFault) (old new : Moment) → IsTrue tells → Readies tells child options p (Err fault) old new → MatchResult p (λ x. SourcesStay x.project.workspace.target old.world new.world) (λ e. new.world ≡ old.world)
+  stopped_kept (Err e) fault old new told unready = ap (λ (m : Moment). m.world) unready.1
+  stopped_kept (Ok x) fault old new told unready = ap (from_nothing x.project.workspace.target) (unready.stays told)
+
+  worked_kept : (p : Result BuildPlan BuildFault) (prepared : Prepared) (last : S) (result : Result Summary BuildFault) (old mid new : Moment) → IsTrue tells → Readies tells child options p (Ok prepared) old mid
+      → TurnsEnd tells child Turns prepared.setup prepared.project prepared.store.next from last result mid new → MatchResult p (λ x. SourcesStay x.project.workspace.target old.world new.world) (λ e. new.world ≡ old.world)
+  worked_kept (Err e) prepared last result old mid new told ready ends = let (failed, same) = ready in absurd (no_plan prepared e failed)
+    where
+      no_plan : (prepared : Prepared) (e : BuildFault) → Ok prepared ≡ Err e → ⊥
+      no_plan prepared e is = cc
+  worked_kept (Ok x) prepared last result old mid new told ready ends =
+      subst (λ (p : Project). SourcesStay p.workspace.target old.world new.world) ready.project
+      (turns_stay tells child Turns options from last prepared.setup prepared.project prepared.store.next result mid new told ready.order ends ∙ ap (from_nothing prepared.project.workspace.target) (ready.stays told))
+
+  on_kept : (p : Result BuildPlan BuildFault) (last : S) (result : Result Summary BuildFault) (old new : Moment) → IsTrue tells → WorksOn tells child Turns options p from last result old new
+      → MatchResult p (λ x. SourcesStay x.project.workspace.target old.world new.world) (λ e. new.world ≡ old.world)
+  on_kept p _ _ _ _ told (plan.stopped fault old new unready) = stopped_kept p fault old new told unready
+  on_kept p _ _ _ _ told (plan.worked prepared last result old mid new ready ends) = worked_kept p prepared last result old mid new told ready ends
+
+  pub built_landed : (p : Result BuildPlan BuildFault) (result : Result Summary BuildFault) (old new : Moment) → old.counts.starts.flying ≡ [] → BuildsOn tells child Turns options p from last result old new → new.counts.starts.flying ≡ []
+  built_landed p result old new none builds = on_landed p last builds.inner old record new { heard = builds.heard } none builds.works
+
+  pub built_kept : (p : Result BuildPlan BuildFault) (result : Result Summary BuildFault) (old new : Moment) → IsTrue tells → BuildsOn tells child Turns options p from last result old new
+      → MatchResult p (λ x. SourcesStay x.project.workspace.target old.world new.world) (λ e. new.world ≡ old.world)
+  built_kept p result old new told builds = on_kept p last builds.inner old record new { heard = builds.heard } told builds.works

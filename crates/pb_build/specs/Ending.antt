@@ -1,5 +1,5 @@
 -- How a build ends: a table over its answer.
-use Rattle.std.specs.Prelude.{◌≡◌, ◌⊎◌, ℕ, Bool, false, max, codes, List, [], take, Some, None, IsTrue, IfOk, IfErr, Result, Ok, Err}
+use Rattle.std.specs.Prelude.{◌≡◌, ◌⊎◌, ℕ, Bool, false, max, codes, List, [], Some, None, IsTrue, IfOk, IfErr, Result, Ok, Err}
 use Rattle.std.specs.Io.KnownBytes.{Appends}
 use Rattle.pb_answer.specs.declared.fault.BuildFault.{BuildFault}
 use Rattle.pb_answer.specs.declared.fault.BuildFault.TheVariants.{Plan, Toolchain, Child, Device, Sink, OutOfMemory}
@@ -14,6 +14,7 @@ use Rattle.pb_message.specs.Message.{finish_line}
 use Rattle.pb_package.specs.declared.options.Options.{Options}
 use Rattle.pb_place.specs.CallsInTurn.{past_calls}
 use Rattle.pb_place.specs.Counts.{Counts, named_in, up, up_starts}
+use Rattle.pb_place.specs.Sinks.{TakesPart}
 use Rattle.pb_place.specs.World.{World, Answers, from_nothing}
 use Rattle.pb_place.specs.declared.place.Failure.TheVariants.{Called, Started}
 use Rattle.pb_project.specs.declared.project.Project.{Project}
@@ -118,10 +119,10 @@ Works tells child Turns options from last result old new = StopsEarly tells chil
 
 -- The finish line.
 
--- bytes are written and this is answered; or the sink fails, and that is answered
+-- bytes are written and this is answered; or the sink fails, which took the first of them and not all, and that is answered
 abbrev pub Finishes : List ℕ → Result Summary BuildFault → Result Summary BuildFault → Heard → Heard → Type 0
 Finishes bytes inner result old new =
-    ((result ≡ inner) × Appends old.taken new.taken bytes × (new.faults ≡ old.faults)) ⊎ ((result ≡ Err Sink) × ((n : ℕ) × Appends old.taken new.taken (take n bytes)) × (new.faults ≡ up old.faults))
+    ((result ≡ inner) × Appends old.taken new.taken bytes × (new.faults ≡ old.faults)) ⊎ ((result ≡ Err Sink) × TakesPart bytes old.taken new.taken × (new.faults ≡ up old.faults))
 
 -- the finish line is written, but where the build is refused or the sink has failed
 abbrev pub Closes : Result Summary BuildFault → Result Summary BuildFault → Heard → Heard → Type 0

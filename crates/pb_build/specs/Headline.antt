@@ -23,6 +23,7 @@ use Rattle.pb_place.specs.Counts.{Starts, name_given, up}
 use Rattle.pb_place.specs.declared.call.Call.{Call}
 use Rattle.pb_place.specs.Folders.{files_in}
 use Rattle.pb_place.specs.Paths.{below}
+use Rattle.pb_place.specs.Sinks.{TakesPart}
 use Rattle.pb_place.specs.World.{World, Map, Answers, from_nothing}
 use Rattle.pb_profile.specs.Line.{folder_of}
 use Rattle.pb_answer.specs.declared.bad_unit.BadUnit.{BadUnit}
@@ -37,7 +38,7 @@ use Rattle.pb_store.specs.Opening.{next_in}
 use Rattle.pb_turns.specs.Crew.{needs_of}
 use Rattle.pb_turns.specs.Moments.{Heard, Moment}
 use Rattle.pb_turns.specs.Rows.{Row, Reasons, fault_in, rows_of, said_from, summary_of}
-use Rattle.pb_turns.specs.Story.{states_in, upped, AllBeganFor, CameAfter, LacksNoNumber, NumbersGiven, Spends}
+use Rattle.pb_turns.specs.Story.{states_in, upped, AllBeganFor, CameAfter, LacksNumber, NumbersGiven, Spends}
 use Rattle.pb_unit.specs.declared.plan.Planned.{Planned}
 use Rattle.pb_build.specs.Ending.{NoneBegan, PicksFirstOf, PicksLastOf, Closes}
 use Rattle.pb_build.specs.Environment.{environment_of}
@@ -115,7 +116,7 @@ pub record UnitsFly (child : Answers) (Schedule : Project → List (Event BadUni
 pub record GivesAll (footing : Footing) (read : Reading) (child : Answers) (Schedule : Project → List (Event BadUnit) → Type 0) (options : Options) (summary : Summary) (old new : Moment) : Type 0 where
   pub flown : UnitsFly child Schedule options old new
   pub finished : is_finished (states_in flown.units.project flown.es) ≡ true
-  pub numbers : (after : Option ℕ) × NumbersGiven (LacksNoNumber flown.units.project read old.world) flown.es (next_in read (records_of options old.world.variables) old.world) after
+  pub numbers : (after : Option ℕ) × NumbersGiven (LacksNumber flown.units.project read old.world) flown.es (next_in read (records_of options old.world.variables) old.world) after
   pub unnoted : (place : ℕ) → slice_get (states_in flown.units.project flown.es) place ≡ Some Untouched → slice_get flown.reasons place ≡ Some None
   pub answer : summary ≡ summary_of flown.units.project flown.es flown.reasons (rows_for child options old.world flown.units)
   pub lines : Appends old.heard.taken new.heard.taken (said_from flown.units.project flown.es 0 (rows_for child options old.world flown.units))
@@ -130,18 +131,18 @@ pub record FailsAt (project : Project) (es : List (Event BadUnit)) (rows : List 
   pub missing : is_finished (states_in project es) ≡ false
   pub lines : Appends old new (said_from project es 0 (take (count_due (states_in project es)) rows))
 
--- the lines that were handed out before a fault came: of the bytes of these units the first so many, where the sink failed; of these units the first so many, where memory was refused
+-- the lines that were handed out before a fault came: of the bytes of these units the first, and not all, where the sink failed; of these units the first so many, where memory was refused
 abbrev pub LinesBefore : BuildFault → Project → List (Event BadUnit) → List Row → Option (List ℕ) → Option (List ℕ) → Type 0
 LinesBefore (Child key fault) project es rows old new = FailsAt project es rows key old new
 LinesBefore (Device key fault) project es rows old new = FailsAt project es rows key old new
-LinesBefore Sink project es rows old new = (n : ℕ) × Appends old new (take n (said_from project es 0 (take (count_due (states_in project es)) rows)))
+LinesBefore Sink project es rows old new = TakesPart (said_from project es 0 (take (count_due (states_in project es)) rows)) old new
 LinesBefore OutOfMemory project es rows old new = (n : ℕ) × Appends old new (said_from project es 0 (take n (take (count_due (states_in project es)) rows)))
 LinesBefore fault project es rows old new = ⊥
 
 -- a fault came at a unit, at the sink, or for want of memory; for want of a run number, where from the next one of the records on all were given (what had differed of a unit that could not begin is said of the build's units, `StandsCut`)
 pub record GivesFirst (footing : Footing) (read : Reading) (child : Answers) (Schedule : Project → List (Event BadUnit) → Type 0) (options : Options) (fault : BuildFault) (old new : Moment) : Type 0 where
   pub flown : UnitsFly child Schedule options old new
-  pub spent : Spends (LacksNoNumber flown.units.project read old.world) fault (next_in read (records_of options old.world.variables) old.world) flown.es
+  pub spent : Spends (LacksNumber flown.units.project read old.world) fault (next_in read (records_of options old.world.variables) old.world) flown.es
   pub lines : LinesBefore fault flown.units.project flown.es (rows_for child options old.world flown.units) old.heard.taken new.heard.taken
   pub before : List (Event BadUnit)
   pub came : CameAfter flown.units.project fault before flown.es

@@ -1,3 +1,4 @@
+pub mod AnyPlan
 pub mod Environment
 pub mod Planning
 pub mod Result

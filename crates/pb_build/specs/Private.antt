@@ -1,5 +1,5 @@
 -- What private functions of the build promise to one another. Nothing here is needed to read what a build gives.
-use Rattle.std.specs.Prelude.{◌≡◌, ℕ, List, Some, None, Ok, Err}
+use Rattle.std.specs.Prelude.{◌≡◌, Ok, Err}
 use Rattle.pb_answer.specs.declared.fault.BuildFault.{BuildFault}
 use Rattle.pb_answer.specs.declared.fault.BuildFault.TheVariants.{Plan, Toolchain, Child, Device, Sink, OutOfMemory}
 use Rattle.pb_answer.specs.declared.fault.DeviceFault.TheVariants as device
@@ -13,22 +13,13 @@ use Rattle.pb_package.specs.declared.fault.LoadFault.TheVariants as load
 use Rattle.pb_package.specs.declared.options.Options.{Options}
 use Rattle.pb_package.specs.declared.options.Selection.{Selection}
 use Rattle.pb_package.specs.declared.workspace.Workspace.{Workspace}
-use Rattle.pb_place.specs.World.{World, Answers, from_nothing}
-use Rattle.pb_project.specs.declared.project.Project.{Project}
-use Rattle.pb_record.specs.Parts.{IsReading}
 use Rattle.pb_run.specs.Causes.{device_fault}
-use Rattle.pb_run.specs.Standing.{records_folder}
-use Rattle.pb_soundness.specs.Records.{Reading}
-use Rattle.pb_store.specs.Opening.{next_in}
 use Rattle.pb_store.specs.declared.fault.OpenFault.{OpenFault}
 use Rattle.pb_store.specs.declared.fault.OpenFault.TheVariants as open_fault
 use Rattle.pb_unit.specs.Plan as plan
 use Rattle.pb_unit.specs.declared.fault.PlanFault.{PlanFault}
 use Rattle.pb_workspace.specs.Selected.{selected}
 use Rattle.pb_build.specs.Planning.{IsFeatured}
-use Rattle.pb_build.specs.Result.{toolchain_of, setup_of}
-use Rattle.pb_build.specs.declared.builder.Prepared.{Prepared}
-use Rattle.pb_build.specs.declared.environment.Environment.{Environment}
 
 -- a fault that is no refusal
 abbrev pub IsUnrefused : BuildFault → Type 0
@@ -74,20 +65,3 @@ IsRefusedOf options ws OutOfMemory = Unit {0}
 abbrev pub unopened : OpenFault → BuildFault
 unopened (open_fault.Place path fault) = device_fault path fault
 unopened open_fault.OutOfMemory = OutOfMemory
-
--- the compiler said its version, and the next run number is that of the records
-pub record IsReadyFor (child : Answers) (options : Options) (environment : Environment) (project : Project) (w : World) (prepared : Prepared) : Type 0 where
-  pub toolchain : List ℕ
-  pub says : toolchain_of child environment project (from_nothing project.workspace.target w) ≡ Some toolchain
-  pub setup : prepared.setup ≡ setup_of options environment toolchain
-  pub project_is : prepared.project ≡ project
-  pub next : (read : Reading) → IsReading read → prepared.store.next ≡ next_in read (records_folder project) w
-
--- where the compiler does not say it
-abbrev pub IsSilentFault : Answers → Environment → Project → World → BuildFault → Type 0
-IsSilentFault child environment project w (Plan why) = Unit {0}
-IsSilentFault child environment project w Toolchain = toolchain_of child environment project (from_nothing project.workspace.target w) ≡ None
-IsSilentFault child environment project w (Child unit fault) = Unit {0}
-IsSilentFault child environment project w (Device name fault) = Unit {0}
-IsSilentFault child environment project w Sink = Unit {0}
-IsSilentFault child environment project w OutOfMemory = Unit {0}

@@ -1,15 +1,17 @@
 //! A whole build.
 
-ghost use Rattle.std.specs.Prelude.{◌≡◌, ◌⊎◌, ◌+◌, [], max, length, IsTrue, IfOk, IfErr, OnErr};
+ghost use Rattle.std.specs.Prelude.{◌≡◌, ◌⊎◌, ◌+◌, [], max, length, IsTrue, IfOk, IfErr, MatchResult, OnErr};
 ghost use Rattle.pb_record.specs.Parts.{IsReading};
 ghost use Rattle.pb_build.specs.Causes.{MayPlan, MayReady, NamesCall, PlansInTurn, ReadiesInTurn, StopsBefore, plan_called};
-ghost use Rattle.pb_build.specs.Ending.{FailsBefore, IsPlanOf, PlansFrom, Prepares, Works, Closes, Builds, BuildsBy, BuildsFirst};
+ghost use Rattle.pb_build.specs.Ending.{FailsBefore, Finishes, IsPlanOf, PlansFrom, Prepares, Works, Closes, Builds, BuildsBy, BuildsFirst};
 ghost use Rattle.pb_build.specs.Environment.{environment_of};
 ghost use Rattle.pb_build.specs.Headline.{ByTurns, ByPick, ByFirst, Headline};
 ghost use Rattle.pb_build.specs.Kept.{SourcesStay};
 ghost use Rattle.pb_build.specs.Planning.{IsProject, IsToldRefusal};
-ghost use Rattle.pb_build.specs.Private.{IsReadyFor, IsSilentFault, IsUnrefused, unopened};
+ghost use Rattle.pb_build.specs.AnyPlan.{BuildsOn, BuildsOnFirst, IsReadyFor, IsSilentFault, Readies, WorksOn};
+ghost use Rattle.pb_build.specs.Private.{IsUnrefused, unopened};
 ghost use Rattle.pb_build.specs.Result.{setup_of};
+ghost use Rattle.pb_message.specs.Message.{finish_line};
 ghost use Rattle.pb_run.specs.Causes.{MakesInTurn, Takes, NoStart, OneStart};
 ghost use Rattle.pb_run.specs.Standing.{records_folder};
 ghost use Rattle.pb_project.specs.declared.project.Project.{Project};
@@ -17,7 +19,7 @@ ghost use Rattle.pb_soundness.specs.Records.{Reading, record_at};
 ghost use Rattle.pb_store.specs.Held.{HoldsNumbers};
 ghost use Rattle.pb_store.specs.Looking.{opened_looked};
 ghost use Rattle.pb_store.specs.Opening.{next_in};
-ghost use Rattle.pb_turns.specs.Moments.{Moment, moment};
+ghost use Rattle.pb_turns.specs.Moments.{Heard, Moment, moment};
 
 use crate::environment::{Environment, environment_of};
 use crate::planning::planned;
@@ -129,6 +131,7 @@ fn ready<P: Place>(
     ensures folder { IfOk result (λ prepared. prepared.store.folder ≡ records_folder prepared.project) }
     ensures numbers { (read : Reading) → IsReading read → IsTrue P.tells → IfOk result (λ prepared. HoldsNumbers (record_at read (records_folder prepared.project) (P.world place.new).files) prepared.store.numbers) }
     ensures ready { IsTrue P.tells → IfOk result (IsReadyFor P.child options.now environment project (P.world place.old)) }
+    ensures project { IfOk result (λ prepared. prepared.project ≡ project) }
     ensures silent { IsTrue P.tells → IfErr result (IsSilentFault P.child environment project (P.world place.old)) }
     ensures same { IsTrue P.tells → P.world place.new ≡ P.world place.old }
     ensures most { IfOk result (λ prepared. P.most place.new ≡ max (P.most place.old) (length (P.counts place.old).starts.flying + 1)) }
@@ -216,6 +219,7 @@ fn prepare<P: Place>(
     requires none { (P.counts place.old).starts.flying ≡ [] }
     ensures folder { IfOk result (λ prepared. prepared.store.folder ≡ records_folder prepared.project) }
     ensures numbers { (read : Reading) → IsReading read → IsTrue P.tells → IfOk result (λ prepared. HoldsNumbers (record_at read (records_folder prepared.project) (P.world place.new).files) prepared.store.numbers) }
+    ensures readies { (heard : Heard) → Readies P.tells P.child options.now plan result record { world = P.world place.old; counts = P.counts place.old; most = P.most place.old; heard = heard } record { world = P.world place.new; counts = P.counts place.new; most = P.most place.new; heard = heard } }
     ensures prepares { IfOk result (λ prepared. (from : Moment) → PlansFrom P.tells options.now plan from record { world = P.world place.old; counts = P.counts place.old; most = P.most place.old; heard = from.heard }
         → Prepares P.tells P.child options.now prepared from.world (P.world place.new) from.counts (P.counts place.new) from.most (P.most place.new)) }
     ensures fails { IfErr result (λ e. (from : Moment) → PlansFrom P.tells options.now plan from record { world = P.world place.old; counts = P.counts place.old; most = P.most place.old; heard = from.heard }
@@ -250,7 +254,8 @@ fn work<P: Place, O: Out, T: Turn>(
     turn: &mut T,
 ) -> Result<Summary, BuildFault>
     requires none { (P.counts place.old).starts.flying ≡ [] }
-    ensures { (from : Moment) → PlansFrom P.tells options.now plan from (moment (P.world place.old) (P.counts place.old) (P.most place.old) (O.taken out.old) (O.faults out.old))
+    ensures on { WorksOn P.tells P.child T.turns options.now plan turn.old turn.new result (moment (P.world place.old) (P.counts place.old) (P.most place.old) (O.taken out.old) (O.faults out.old)) (moment (P.world place.new) (P.counts place.new) (P.most place.new) (O.taken out.new) (O.faults out.new)) }
+    ensures works { (from : Moment) → PlansFrom P.tells options.now plan from (moment (P.world place.old) (P.counts place.old) (P.most place.old) (O.taken out.old) (O.faults out.old))
         → Works P.tells P.child T.turns options.now turn.old turn.new result from (moment (P.world place.new) (P.counts place.new) (P.most place.new) (O.taken out.new) (O.faults out.new)) }
 {
     let prepared = match prepare(alloc, place, options, plan) {
@@ -265,30 +270,43 @@ fn work<P: Place, O: Out, T: Turn>(
     run_turns(alloc, place, out, setup, project, store, turn)
 }
 
+/// Writes a finish line, and answers as the build did, or Sink where the sink does not take it.
+#[tactic(auto, using(crate::proofs::Closing::finishing_laws))]
+fn finish<O: Out>(
+    out: &mut O,
+    success: bool,
+    inner: Result<Summary, BuildFault>,
+) -> Result<Summary, BuildFault>
+    ensures { Finishes (finish_line success) inner result record { taken = O.taken out.old; faults = O.faults out.old } record { taken = O.taken out.new; faults = O.faults out.new } }
+{
+    match write_lines(out, finish_line(success)) {
+        Ok(()) => inner,
+        Err(_) => {
+            drop(inner);
+            Err(BuildFault::Sink)
+        }
+    }
+}
+
 /// Writes the finish line, but where the build is refused or the sink has failed.
 fn close<O: Out>(out: &mut O, inner: Result<Summary, BuildFault>) -> Result<Summary, BuildFault>
     ensures { Closes inner result record { taken = O.taken out.old; faults = O.faults out.old } record { taken = O.taken out.new; faults = O.faults out.new } }
 {
     match inner {
-        Ok(summary) => match write_lines(out, finish_line(summary.success)) {
-            Ok(()) => Ok(summary),
-            Err(_) => Err(BuildFault::Sink),
-        },
+        Ok(summary) => finish(out, summary.success, Ok(summary)),
         // A sink that failed is not written to again.
         Err(BuildFault::Sink) => Err(BuildFault::Sink),
         Err(BuildFault::Plan(refusal)) => Err(BuildFault::Plan(refusal)),
-        Err(fault) => match write_lines(out, finish_line(false)) {
-            Ok(()) => Err(fault),
-            Err(_) => Err(BuildFault::Sink),
-        },
+        Err(fault) => finish(out, false, Err(fault)),
     }
 }
 
 /// Builds what was planned, by the steps that a turn says: what `build_turns` does after the plan. A plan that failed
 /// ends the build as it would have ended there.
 ///
-/// What is promised is said of the moment before the planning, where only that came between: no other call of the
-/// place was made, and nothing was written.
+/// Where only the planning came between, with no other call of the place and nothing written, it ends as `build_turns`
+/// says (`builds`), from the moment before it. A plan of another moment, or of other options, is built as it is: its own
+/// project's units are run, by its own environment and by these options, over the records of its own profile's folder.
 pub fn build_plan_turns<P: Place, O: Out, T: Turn>(
     alloc: Global,
     place: &mut P,
@@ -298,7 +316,10 @@ pub fn build_plan_turns<P: Place, O: Out, T: Turn>(
     turn: &mut T,
 ) -> Result<Summary, BuildFault>
     requires none { (P.counts place.old).starts.flying ≡ [] }
-    ensures { (from : Moment) → PlansFrom P.tells options.now plan from (moment (P.world place.old) (P.counts place.old) (P.most place.old) (O.taken out.old) (O.faults out.old))
+    ensures on { BuildsOn P.tells P.child T.turns options.now plan turn.old turn.new result (moment (P.world place.old) (P.counts place.old) (P.most place.old) (O.taken out.old) (O.faults out.old)) (moment (P.world place.new) (P.counts place.new) (P.most place.new) (O.taken out.new) (O.faults out.new)) }
+    ensures kept { IsTrue P.tells → MatchResult plan (λ p. SourcesStay p.project.workspace.target (P.world place.old) (P.world place.new)) (λ e. P.world place.new ≡ P.world place.old) }
+    ensures landed { (P.counts place.new).starts.flying ≡ [] }
+    ensures builds { (from : Moment) → PlansFrom P.tells options.now plan from (moment (P.world place.old) (P.counts place.old) (P.most place.old) (O.taken out.old) (O.faults out.old))
         → Builds P.tells P.child T.turns options.now turn.old turn.new result from (moment (P.world place.new) (P.counts place.new) (P.most place.new) (O.taken out.new) (O.faults out.new)) }
 {
     let inner = work(alloc, place, out, options, plan, turn);
@@ -314,7 +335,10 @@ pub fn build_plan<P: Place, O: Out>(
     plan: Result<BuildPlan, BuildFault>,
 ) -> Result<Summary, BuildFault>
     requires none { (P.counts place.old).starts.flying ≡ [] }
-    ensures { (from : Moment) → PlansFrom P.tells options.now plan from (moment (P.world place.old) (P.counts place.old) (P.most place.old) (O.taken out.old) (O.faults out.old))
+    ensures on { BuildsOnFirst P.tells P.child options.now plan result (moment (P.world place.old) (P.counts place.old) (P.most place.old) (O.taken out.old) (O.faults out.old)) (moment (P.world place.new) (P.counts place.new) (P.most place.new) (O.taken out.new) (O.faults out.new)) }
+    ensures kept { IsTrue P.tells → MatchResult plan (λ p. SourcesStay p.project.workspace.target (P.world place.old) (P.world place.new)) (λ e. P.world place.new ≡ P.world place.old) }
+    ensures landed { (P.counts place.new).starts.flying ≡ [] }
+    ensures builds { (from : Moment) → PlansFrom P.tells options.now plan from (moment (P.world place.old) (P.counts place.old) (P.most place.old) (O.taken out.old) (O.faults out.old))
         → BuildsFirst P.tells P.child options.now result from (moment (P.world place.new) (P.counts place.new) (P.most place.new) (O.taken out.new) (O.faults out.new)) }
 {
     let mut jobs = Jobs {

@@ -6,7 +6,7 @@ use Rattle.pb_build.proofs.builder.build_turns.Goals as goal
 
 pub returns-clause-builds : goal.returns-clause-builds
 returns-clause-builds g c =
-    c.build_plan_turns.ensures (moment (g.P.Place.world c.args.place.now) (g.P.Place.counts c.args.place.now) (g.P.Place.most c.args.place.now) (g.O.Out.taken c.args.out.now) (g.O.Out.faults c.args.out.now)) record {
+    c.build_plan_turns.ensures.builds (moment (g.P.Place.world c.args.place.now) (g.P.Place.counts c.args.place.now) (g.P.Place.most c.args.place.now) (g.O.Out.taken c.args.out.now) (g.O.Out.faults c.args.out.now)) record {
       is = c.plan_build-plan.ensures.plan;
       refused = c.plan_build-plan.ensures.refused;
       stays = c.plan_build-plan.ensures.same;

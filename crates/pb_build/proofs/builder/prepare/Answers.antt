@@ -1,8 +1,12 @@
-use Rattle.std.proofs.Common.{◌∙◌, ◌+◌, List, inl, max, length, ap, sym, subst}
+use Rattle.std.proofs.Common.{◌≡◌, ◌⊎◌, ◌∙◌, ◌+◌, List, Result, Ok, Err, inl, max, length, refl, ap, sym, subst}
+use Rattle.pb_answer.specs.declared.fault.BuildFault.{BuildFault}
 use Rattle.pb_place.specs.Counts.{up_starts}
 use Rattle.pb_place.specs.declared.child_in_flight.ChildInFlight.{ChildInFlight}
+use Rattle.pb_turns.specs.Moments.{Moment}
 use Rattle.pb_turns.proofs.Counting.{cause_from}
+use Rattle.pb_build.specs.AnyPlan.{Readies}
 use Rattle.pb_build.specs.Planning.{IsProject}
+use Rattle.pb_build.specs.declared.builder.BuildPlan.{BuildPlan}
 use Rattle.pb_build.specs.declared.environment.Environment.{Environment}
 use Rattle.pb_build.proofs.Called.{plan_then, plan_then_stops}
 use Rattle.pb_build.proofs.Preparing.{prepared_of, plan_fails, ready_fails, may_ready_from, may_ready_landed, silent_of, plan_at}
@@ -61,3 +65,39 @@ returns-in-Err-ready-clause-stops g c told = λ from planned.
     let p = plan_at g.P.Place.tells c.args.options.now _ _ from _ c.in-Ok.is planned in
     let project = c.in-Ok.plan.project in
     plan_then_stops c.args.options.now project c.in-Err-ready.fault (g.P.Place.world c.args.place.now) from.world from.counts (g.P.Place.counts c.args.place.now) (g.P.Place.counts c.ready.new.place) (p.stays told) (p.is told).1 (p.calls told) (c.in-Err-ready.ensures.calls told)
+
+pub returns-in-Err-clause-readies : goal.returns-in-Err-clause-readies
+returns-in-Err-clause-readies g c = λ heard.
+    let here : Moment = record { world = g.P.Place.world c.args.place.now; counts = g.P.Place.counts c.args.place.now; most = g.P.Place.most c.args.place.now; heard = heard } in
+    subst (λ (p : Result BuildPlan BuildFault). Readies g.P.Place.tells g.P.Place.child c.args.options.now p (Err c.in-Err.fault) here here) (sym c.in-Err.is) (refl, refl)
+
+pub returns-in-Ok-ready-clause-readies : goal.returns-in-Ok-ready-clause-readies
+returns-in-Ok-ready-clause-readies g c = λ heard.
+    let old : Moment = record { world = g.P.Place.world c.args.place.now; counts = g.P.Place.counts c.args.place.now; most = g.P.Place.most c.args.place.now; heard = heard } in
+    let new : Moment = record { world = g.P.Place.world c.ready.new.place; counts = g.P.Place.counts c.ready.new.place; most = g.P.Place.most c.ready.new.place; heard = heard } in
+    subst (λ (p : Result BuildPlan BuildFault). Readies g.P.Place.tells g.P.Place.child c.args.options.now p (Ok c.in-Ok-ready.prepared) old new) (sym c.in-Ok.is) record {
+      ready = c.in-Ok-ready.ensures.ready;
+      project = c.in-Ok-ready.ensures.project;
+      order = c.is_in_order.ensures;
+      stays = c.in-Ok-ready.ensures.same;
+      starts = c.in-Ok-ready.ensures.takes.1;
+      failures = c.in-Ok-ready.ensures.takes.0;
+      calls = c.in-Ok-ready.ensures.calls;
+      most = c.in-Ok-ready.ensures.most ∙ ap (λ (fs : List ChildInFlight). max (g.P.Place.most c.args.place.now) (length fs + 1)) c.requires.none;
+      heard = refl;
+    }
+
+pub returns-in-Err-ready-clause-readies : goal.returns-in-Err-ready-clause-readies
+returns-in-Err-ready-clause-readies g c = λ heard.
+    let old : Moment = record { world = g.P.Place.world c.args.place.now; counts = g.P.Place.counts c.args.place.now; most = g.P.Place.most c.args.place.now; heard = heard } in
+    let new : Moment = record { world = g.P.Place.world c.ready.new.place; counts = g.P.Place.counts c.ready.new.place; most = g.P.Place.most c.ready.new.place; heard = heard } in
+    subst (λ (p : Result BuildPlan BuildFault). Readies g.P.Place.tells g.P.Place.child c.args.options.now p (Err c.in-Err-ready.fault) old new) (sym c.in-Ok.is) record {
+      silent = c.in-Err-ready.ensures.silent;
+      may = c.in-Err-ready.ensures.takes.0;
+      cause = c.in-Err-ready.ensures.takes.1;
+      names = c.in-Err-ready.ensures.names;
+      stays = c.in-Err-ready.ensures.same;
+      calls = c.in-Err-ready.ensures.calls;
+      most = subst (λ (fs : List ChildInFlight). (g.P.Place.most c.ready.new.place ≡ g.P.Place.most c.args.place.now) ⊎ (g.P.Place.most c.ready.new.place ≡ max (g.P.Place.most c.args.place.now) (length fs + 1))) c.requires.none c.in-Err-ready.ensures.most_else;
+      heard = refl;
+    }
