@@ -179,9 +179,9 @@ returns-in-Err-answer_unit-clause-looked g c read reading told holds look =
     (subst (λ (k : Command). FirstDifference read (records_folder c.args.project.now) c.args.unit.now.key k (g.P.Place.world c.args.place.now) c.in-Ok.made.difference) c.in-Ok.ensures.asks (c.in-Ok.ensures.differs read reading told holds))) [
       | inl none ↦ inl (c.in-Err-answer_unit.ensures.unnumbered look ∙ number_kept c.args.store.now.next c.begin_unit.new.store.next (child_of c.in-Ok.made.begun) _ c.in-Ok.ensures.number none)
       | inr (some, difference) ↦ inr (
-          taken_so c.args.store.now.next c.begin_unit.new.store.next c.answer_unit.new.store.next (child_of c.in-Ok.made.begun) c.in-Ok.made.difference c.in-Ok.ensures.spawned c.in-Ok.ensures.number (λ has. c.answer_unit.ensures.untaken (child_numbered c.in-Ok.made.begun has)) (sym c.in-Ok.ensures.spawned ∙ some),
-          difference,
-        )
+        taken_so c.args.store.now.next c.begin_unit.new.store.next c.answer_unit.new.store.next (child_of c.in-Ok.made.begun) c.in-Ok.made.difference c.in-Ok.ensures.spawned c.in-Ok.ensures.number (λ has. c.answer_unit.ensures.untaken (child_numbered c.in-Ok.made.begun has)) (sym c.in-Ok.ensures.spawned ∙ some),
+        difference,
+      )
     ]
 
 pub returns-in-Err-clause-spared : goal.returns-in-Err-clause-spared
