@@ -39,7 +39,7 @@ use Rattle.pb_turns.specs.Crew.{needs_of, ticket_of_child}
 use Rattle.pb_turns.specs.Ends.{TurnsEnd, Drained, StandsWhole, StandsCut, Stands, nothing_said, rows_in}
 use Rattle.pb_turns.specs.Moments.{Heard, Moment}
 use Rattle.pb_turns.specs.Rows.{Row, to_first_bad, is_bad, fault_in, said_from}
-use Rattle.pb_turns.specs.Story.{states_in, untouched, upped, Stops, StopsAt, AllBeganFor, IsBeginning, LacksNumber, NamesUnit, NumbersGiven, Spends}
+use Rattle.pb_turns.specs.Story.{states_in, untouched, upped, Stops, StopsAt, StopsAtSink, AllBeganFor, IsBeginning, LacksNumber, NamesUnit, NumbersGiven, Spends}
 use Rattle.pb_turns.proofs.Repeating.{dropped_count}
 use Rattle.pb_unit.specs.declared.plan.Planned.{Planned}
 use Rattle.pb_workspace.proofs.Accepted.{target_kept}
@@ -237,7 +237,9 @@ module _ (footing : Footing) (read : Reading) (reading : IsReading read) (child 
         lines_before Toolchain names stops = stops.by
         lines_before (Child key fault) names stops = fails_at key (units_missing key true asked hands (λ none. subst (λ (u : Option ℕ). NamesUnit project (Child key fault) u before es) none names)) stops.by
         lines_before (Device key fault) names stops = fails_at key (units_missing key false asked hands (λ none. subst (λ (u : Option ℕ). NamesUnit project (Device key fault) u before es) none names)) stops.by
-        lines_before Sink names stops = let ((n, less, taken), faults) = stops.by in (n, subst (λ (l : List ℕ). n < length l) stands.lines less, first_lines (take n (due (states_in project es))) _ (ap (take n) stands.lines) taken)
+        lines_before Sink names stops =
+            let sink : StopsAtSink project mid stop es = stops.by in
+            (sink.taken, subst (λ (l : List ℕ). sink.taken < length l) stands.lines sink.part, first_lines (take sink.taken (due (states_in project es))) _ (ap (take sink.taken) stands.lines) sink.lines)
         lines_before OutOfMemory names stops = let ((n, taken), faults) = stops.by in (n, first_lines (due_first n (states_in project es)) _ (stands.first_lines n) taken)
 
       next_is : next ≡ next_in read (records_of options old.world.variables) old.world

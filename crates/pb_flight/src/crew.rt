@@ -65,16 +65,16 @@ pub trait Crew<P, O, F, E> {
             → MatchResult result (λ answer. story first first_place first_out self.new place.new out.new (Gave unit answer ∷ es) given)
             (λ e. stops e (Some unit) first first_place first_out self.new place.new out.new es) };
 
-    /// Hands out lines.
+    /// Hands out the lines that the last answer made due.
     fn tell(&mut self, place: &mut P, out: &mut O, lines: &[u8]) -> Result<(), E>
         requires holds { holds self.old place.old out.old }
         ensures holds { holds self.new place.new out.new }
         ensures needs { needs self.new ≡ needs self.old }
         ensures flying { flying self.new ≡ flying self.old }
-        ensures story { (first : Self) (first_place : P) (first_out : O) (es : List (Event F)) (given : ℕ) → story first first_place first_out self.old place.old out.old es given → IsLawful (needs self.old) es
-            → lines.now ≡ due_after given (states_after (needs self.old) es)
-            → MatchResult result (λ _. story first first_place first_out self.new place.new out.new es (count_due (states_after (needs self.old) es)))
-            (λ e. stops e None first first_place first_out self.new place.new out.new es) };
+        ensures story { (first : Self) (first_place : P) (first_out : O) (es : List (Event F)) (given unit : ℕ) (answer : Answer F) → story first first_place first_out self.old place.old out.old (Gave unit answer ∷ es) given → IsLawful (needs self.old) (Gave unit answer ∷ es)
+            → given ≡ count_due (states_after (needs self.old) es) → lines.now ≡ due_after given (states_after (needs self.old) (Gave unit answer ∷ es))
+            → MatchResult result (λ _. story first first_place first_out self.new place.new out.new (Gave unit answer ∷ es) (count_due (states_after (needs self.old) (Gave unit answer ∷ es))))
+            (λ e. stops e None first first_place first_out self.new place.new out.new (Gave unit answer ∷ es)) };
 
     /// The fault of memory that was refused.
     fn refused(&self) -> E

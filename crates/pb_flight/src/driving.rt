@@ -43,7 +43,7 @@ fn begin_one<P, O, F: Drop, E, C: Crew<P, O, F, E>>(
     }
 }
 
-/// Hands out the lines that are due.
+/// Hands out the lines that the last answer made due.
 fn tell<P, O, F: Drop, E, C: Crew<P, O, F, E>>(
     alloc: Global,
     crew: &mut C,
@@ -57,10 +57,10 @@ fn tell<P, O, F: Drop, E, C: Crew<P, O, F, E>>(
     ensures table { (flight.new.needs ≡ flight.old.needs) × (flight.new.states ≡ flight.old.states) }
     ensures given { OnOk result (flight.new.given ≡ count_due flight.new.states) }
     ensures flying { C.flying crew.new ≡ C.flying crew.old }
-    ensures story { (first : C) (first_place : P) (first_out : O) (es : List (Event F)) → C.story first first_place first_out crew.old place.old out.old es flight.old.given → IsLawful (C.needs crew.old) es
-        → flight.old.states ≡ states_after (C.needs crew.old) es
-        → MatchResult result (λ _. C.story first first_place first_out crew.new place.new out.new es flight.new.given)
-        (λ e. C.stops e None first first_place first_out crew.new place.new out.new es) }
+    ensures story { (first : C) (first_place : P) (first_out : O) (es : List (Event F)) (unit : ℕ) (answer : Answer F) → C.story first first_place first_out crew.old place.old out.old (Gave unit answer ∷ es) flight.old.given → IsLawful (C.needs crew.old) (Gave unit answer ∷ es)
+        → flight.old.given ≡ count_due (states_after (C.needs crew.old) es) → flight.old.states ≡ states_after (C.needs crew.old) (Gave unit answer ∷ es)
+        → MatchResult result (λ _. C.story first first_place first_out crew.new place.new out.new (Gave unit answer ∷ es) flight.new.given)
+        (λ e. C.stops e None first first_place first_out crew.new place.new out.new (Gave unit answer ∷ es)) }
 {
     let lines = match flight.emit(alloc) {
         Ok(lines) => lines,

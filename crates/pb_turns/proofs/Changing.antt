@@ -6,7 +6,7 @@ use Rattle.pb_flight.specs.declared.flight.Answer.{Answer}
 use Rattle.pb_flight.specs.declared.flight.State.TheVariants.{Untouched, Begun, Answered}
 use Rattle.pb_flight.specs.Events.{Event, Began, Gave}
 use Rattle.pb_flight.specs.Laws.{HasBegun}
-use Rattle.pb_flight.proofs.Lists.{injective, get_set_same, get_set_other}
+use Rattle.pb_flight.proofs.Lists.{injective, clash, get_set_same, get_set_other}
 use Rattle.pb_place.specs.Children.{child_at, is_flying}
 use Rattle.pb_place.specs.World.{World, ChangesOnly}
 use Rattle.pb_place.specs.declared.child_in_flight.ChildInFlight.{ChildInFlight}
@@ -20,11 +20,11 @@ use Rattle.pb_run.proofs.Writes.{flying_at}
 use Rattle.pb_soundness.specs.Apart.{is_of}
 use Rattle.pb_turns.specs.Crew.{AreApart, places_of, place_of_unit, tickets_of, ticket_in}
 use Rattle.pb_turns.specs.Rows.{is_started}
-use Rattle.pb_turns.specs.Story.{states_in, Changes, FliesIn, HasNoRecord, OnlyOf}
+use Rattle.pb_turns.specs.Story.{states_in, Changes, FliesBeside, FliesIn, HasNoRecord, OnlyOf}
 use Rattle.pb_turns.specs.declared.crew.Aloft.{Aloft}
 use Rattle.pb_turns.proofs.Happening.{started_now, started_other}
 use Rattle.pb_turns.proofs.Unkept.{bad_begun, bad_given, bad_less, none_bad, none_still}
-use Rattle.pb_turns.proofs.Lists.{all_more, all_at_each, all_get, all_left, apart_places, flat_apart, get_map}
+use Rattle.pb_turns.proofs.Lists.{all_as, all_more, all_at_each, all_get, all_left, apart_places, flat_apart, get_map}
 use Rattle.pb_turns.proofs.States.{another, begun_more, begun_now}
 use Rattle.pb_unit.specs.declared.plan.Planned.{Planned}
 
@@ -43,6 +43,25 @@ only_more project es e first w w' unit u there now before only old = record {
   variables = only.variables ∙ old.variables;
   files = λ q outside. only.files q (outside unit u now there) ∙ old.files q (λ place v has at. outside place v (before place has) at);
 }
+
+-- Whose answer was taken is none of those in flight.
+
+-- where none was
+pub beside_none : (project : Project) (first : World) (aloft : List Aloft) (es : List (Event BadUnit)) (w : World) (flying : List ChildInFlight) → Changes project first aloft es w flying → (aloft' : List Aloft) → aloft' ≡ aloft → AllByRecursion (FliesBeside project es None) aloft'
+beside_none project first aloft es w flying old aloft' is =
+    subst (AllByRecursion (FliesBeside project es None)) (sym is)
+    (all_as (FliesIn project es w flying) (FliesBeside project es None) aloft (λ a f. record { state = f.state; started = f.started; other = λ e. clash e }) old.flies)
+
+-- it flies no more
+pub beside_asked : (project : Project) (first : World) (aloft : List Aloft) (es : List (Event BadUnit)) (w : World) (flying : List ChildInFlight) → Changes project first aloft es w flying → (index : ℕ) (a : Aloft) → AreApart (places_of aloft) → slice_get aloft index ≡ Some a
+    → (aloft' : List Aloft) → aloft' ≡ remove aloft index → AllByRecursion (FliesBeside project es (Some a.unit)) aloft'
+beside_asked project first aloft es w flying old index a places at aloft' is =
+    subst (AllByRecursion (FliesBeside project es (Some a.unit))) (sym is)
+    (all_left (FliesIn project es w flying) (FliesBeside project es (Some a.unit)) aloft index (λ j y at_j ne f. record {
+      state = f.state;
+      started = f.started;
+      other = λ e. apart_places (places_of aloft) j index y.unit a.unit places (get_map place_of_unit aloft j y at_j) (get_map place_of_unit aloft index a at) ne (sym (injective e));
+    }) old.flies)
 
 -- Nothing has begun.
 

@@ -1,5 +1,5 @@
 -- Counters, lines and lists, after one more step.
-use Rattle.std.proofs.Common.{◌≡◌, ◌≢◌, ◌⊎◌, ◌∙◌, ◌++◌, ◌+◌, inl, inr, Bool, true, false, List, [], ◌∷◌, ℕ, zero, suc, Option, Some, None, IsTrue, max, refl, sym, ap, subst, arith, slice_get, slice_set, is_some, map, length, append_assoc, append-nil, length-append, take}
+use Rattle.std.proofs.Common.{◌≡◌, ◌≢◌, ◌⊎◌, ◌∙◌, ◌++◌, ◌+◌, ◌<◌, ◌≤◌, inl, inr, Bool, true, false, List, [], ◌∷◌, ℕ, zero, suc, Option, Some, None, IsTrue, max, refl, sym, ap, subst, arith, slice_get, slice_set, is_some, map, length, append_assoc, append-nil, length-append, take}
 use Rattle.std.proofs.lemmas.Bool.{cases_eq, false≢true}
 use Rattle.std.proofs.lemmas.List.{length-map}
 use Rattle.std.specs.Io.KnownBytes.{Appends}
@@ -27,7 +27,7 @@ use Rattle.pb_run.specs.Halves.{child_of, key_at, key_in}
 use Rattle.pb_run.specs.declared.begun.Launched.{Launched}
 use Rattle.pb_turns.specs.Crew.{AreApart, places_of, ticket_of_child, ticket_in, tickets_of, launched_of}
 use Rattle.pb_turns.specs.Moments.{Moment, Heard}
-use Rattle.pb_turns.specs.Story.{states_in, upped, CameAfter, NamesUnit, Goes, NoneWritesTo, NumbersGiven, Spends, Stops, StopsAt, StopsBy}
+use Rattle.pb_turns.specs.Story.{states_in, upped, CameAfter, NamesUnit, Goes, NoneWritesTo, NumbersGiven, Spends, Stops, StopsAt, StopsAtSink, StopsBy}
 use Rattle.pb_turns.specs.declared.crew.Aloft.{Aloft}
 use Rattle.pb_turns.proofs.Lists.{all_get, flat_more, get_map, length_push, without_first, without_other}
 use Rattle.pb_turns.proofs.Manning.{answer_fault_lands}
@@ -46,9 +46,10 @@ pub appends_none : (a : Option (List ℕ)) → Appends a a []
 appends_none None = tt
 appends_none (Some xs) = sym (append-nil xs)
 
--- the first bytes of more, after others
-pub appends_part : (a b c : Option (List ℕ)) (xs ys : List ℕ) → Appends a b xs → TakesPart ys b c → TakesPart (xs ++ ys) a c
-appends_part a b c xs ys first (n, less, then') = (length xs + n, omega (arith, less, length-append xs ys), subst (Appends a c) (sym (take_past xs ys n)) (appends_more a b c xs (take n ys) first then'))
+-- the first bytes of more, after others, which were taken whole
+pub appends_part : (a b c : Option (List ℕ)) (xs ys : List ℕ) → Appends a b xs → TakesPart ys b c → (n : ℕ) × (length xs ≤ n) × (n < length (xs ++ ys)) × Appends a c (take n (xs ++ ys))
+appends_part a b c xs ys first (n, less, then') =
+    (length xs + n, omega arith, omega (arith, less, length-append xs ys), subst (Appends a c) (sym (take_past xs ys n)) (appends_more a b c xs (take n ys) first then'))
   where
     take_past : (xs ys : List ℕ) (n : ℕ) → take (length xs + n) (xs ++ ys) ≡ xs ++ take n ys
     take_past [] ys n = let e : length {A = ℕ} [] + n ≡ n = omega arith in ap (λ k. take k ys) e
@@ -349,11 +350,24 @@ module _ (project : Project) (first now new : Moment) (started : List ℕ) (alof
     most = most ∙ goes.most;
   }
 
-  pub stops_sink : (tells : Bool) → TakesPart (due_after given (states_in project es)) now.heard.taken new.heard.taken → new.heard.faults ≡ up now.heard.faults → Stops tells Sink project first new es
-  stops_sink tells lines faults =
-      let part = appends_part first.heard.taken now.heard.taken new.heard.taken (due_first given (states_in project es)) (due_after given (states_in project es)) goes.lines lines in
+  -- the sink fails behind an answer, before which all lines that were due had been handed out
+  pub stops_sink : (tells : Bool) (before : List (Event BadUnit)) (unit : ℕ) (answer : Answer BadUnit) → es ≡ Gave unit answer ∷ before → given ≡ count_due (states_in project before) → TakesPart (due_after given (states_in project es)) now.heard.taken new.heard.taken
+      → new.heard.faults ≡ up now.heard.faults → Stops tells Sink project first new es
+  stops_sink tells before unit answer last was lines faults =
+      let (n, whole, part, taken) = appends_part first.heard.taken now.heard.taken new.heard.taken (due_first given (states_in project es)) (due_after given (states_in project es)) goes.lines lines in
+      let at_sink : StopsAtSink project first new es = record {
+        before = before;
+        unit = unit;
+        answer = answer;
+        last = last;
+        taken = n;
+        whole = subst (λ (g : ℕ). length (due_first g (states_in project es)) ≤ n) was whole;
+        part = subst (λ (l : List ℕ). n < length l) (due_split given (states_in project es)) part;
+        lines = subst (λ (l : List ℕ). Appends first.heard.taken new.heard.taken (take n l)) (due_split given (states_in project es)) taken;
+        faults = faults ∙ ap up goes.faults;
+      } in
       record {
-        by = (subst (λ l. TakesPart l first.heard.taken new.heard.taken) (due_split given (states_in project es)) part, faults ∙ ap up goes.faults);
+        by = at_sink;
         cause = ap (λ (c : Counts). c.failures) counts ∙ goes.failures;
         starts = ap (λ (c : Counts). c.starts.count) counts ∙ goes.starts;
         settings = ap (λ (c : Counts). c.starts.settings) counts ∙ goes.settings;

@@ -43,13 +43,13 @@ use Rattle.pb_turns.specs.Ends.{rows_in, nothing_said, Stands, StandsWhole, Stan
 use Rattle.pb_turns.specs.Laws.{SaysFirstRows}
 use Rattle.pb_turns.specs.Moments.{Moment, Heard}
 use Rattle.pb_turns.specs.Rows.{summary_of, started_keys, is_started, messages_in, bad_of, directives_told, Reasons, key_told, said_told, bad_told, differences_of, kept_of, is_success, noted_of, count_told, noted_told}
-use Rattle.pb_turns.specs.Story.{states_in, untouched, AllAnswerAgain, Stops, Changes, Happened, AllBegan, AllBeganFor, AllBeganOnAny, CameAfter, ChangesInFlight, HadDiffered, LacksNumber, NamesUnit, NumbersGiven, Spends, StartedOnAny, HasNoRecord, KeepsNoneOfBad, KeepsNoneInFlight, KeepsChildless, HasGiven, Story, StoryEnds, OnlyOf, NotesStarted, AllAnswerAnew, AllLeaveRecords}
+use Rattle.pb_turns.specs.Story.{states_in, untouched, AllAnswerAgain, Stops, Changes, Happened, AllBegan, AllBeganFor, AllBeganOnAny, CameAfter, ChangesInFlight, FliesBeside, HadDiffered, LacksNumber, NamesUnit, NumbersGiven, Spends, StartedOnAny, HasNoRecord, KeepsNoneOfBad, KeepsNoneInFlight, KeepsChildless, HasGiven, Story, StoryEnds, OnlyOf, NotesStarted, AllAnswerAnew, AllLeaveRecords}
 use Rattle.pb_turns.specs.Summing.{summary_by, keys_at, differences_at}
 use Rattle.pb_turns.specs.declared.crew.Aloft.{Aloft}
 use Rattle.pb_turns.specs.declared.crew.UnitCrew.{UnitCrew}
 use Rattle.pb_turns.proofs.Again.{replays_first}
 use Rattle.pb_turns.proofs.Anew.{replies_first}
-use Rattle.pb_turns.proofs.Changing.{changes_first}
+use Rattle.pb_turns.proofs.Changing.{beside_none, changes_first}
 use Rattle.pb_turns.proofs.Counting.{appends_none, stops_refused}
 use Rattle.pb_turns.proofs.Differing.{began_from_nothing, started_from_nothing}
 use Rattle.pb_turns.proofs.Leaving.{recordings_first}
@@ -220,7 +220,8 @@ module _ {S : Type 0} (tells : Bool) (child : Answers) (Turns : S → List ℕ �
     (unrecorded : (fw : World) (events : List (Event BadUnit)) (place : ℕ) (u : Planned) → IsTrue tells → Changes c.project fw c.aloft.items events mid.world mid.counts.starts.flying → unit_at c.project place ≡ Some u → HasNoRecord c.project u mid.world → HasNoRecord c.project u new.world)
     (stays : (fw : World) (events : List (Event BadUnit)) (place : ℕ) (u : Planned) (q : List ℕ) → IsTrue tells → Changes c.project fw c.aloft.items events mid.world mid.counts.starts.flying → unit_at c.project place ≡ Some u → is_started events place ≡ false
     → is_of (records_folder c.project) u.key q ≡ true → finite.get new.world.files q ≡ finite.get mid.world.files q)
-    (alone : (fw : World) (events : List (Event BadUnit)) → IsTrue tells → Changes c.project fw c.aloft.items events mid.world mid.counts.starts.flying → ChangesInFlight c.project events mid.world new.world)
+    (alone : (fw : World) (events before : List (Event BadUnit)) (asked : Option ℕ) → IsTrue tells → Changes c.project fw c.aloft.items events mid.world mid.counts.starts.flying → AllByRecursion (FliesBeside c.project before asked) c.aloft.items
+    → ChangesInFlight c.project before asked mid.world new.world)
     (happened : (b : Basis) (events : List (Event BadUnit)) → IsTrue tells → b.project ≡ c.project → Happened b c.done.items c.aloft.items c.store.next events mid.world mid.counts.starts.flying still
     → Happened b d.done.items d.aloft.items d.store.next events new.world new.counts.starts.flying still')
     (begun : (read : Reading) (sources : World) (command : ℕ → Planned → Command) (fault : BuildFault) (events before : List (Event BadUnit)) (reasons : Reasons) (fw : World) → IsTrue tells → IsLawful (needs_of c.project) events → CameAfter c.project fault before events
@@ -284,7 +285,7 @@ module _ {S : Type 0} (tells : Bool) (child : Answers) (Turns : S → List ℕ �
     names = subst (λ (p : Project). NamesUnit p fault asked ends.before es) ends.project ends.names;
     most = most ∙ ends.most;
     only = λ t. subst (λ (p : Project). OnlyOf p es at.world new.world) ends.project (changes at.world es t (ends.changes t)).only;
-    dropping = λ t. subst (λ (p : Project). ChangesInFlight p es mid.world new.world) ends.project (alone at.world es t (ends.changes t));
+    dropping = λ t. subst (λ (p : Project). ChangesInFlight p ends.before asked mid.world new.world) ends.project (alone at.world es ends.before asked t (ends.changes t) (ends.beside t));
     unkept = λ t. subst (λ (p : Project). KeepsNoneOfBad p es new.world) ends.project (changes at.world es t (ends.changes t)).unkept;
     dropped = λ t. subst (λ (p : Project). KeepsNoneInFlight p ends.before asked new.world) ends.project (λ place u there state apart started. unrecorded at.world es place u t (ends.changes t) there (ends.unrecorded t place u there state apart started));
     childless = λ t. subst (λ (p : Project). KeepsChildless p ends.before asked at.world new.world) ends.project
@@ -322,6 +323,7 @@ module _ {S : Type 0} (tells : Bool) (child : Answers) (Turns : S → List ℕ �
     names = tt;
     most = s.goes.most;
     changes = s.changes;
+    beside = λ t. beside_none c.project at.world c.aloft.items es mid.world mid.counts.starts.flying (s.changes t) c.aloft.items refl;
     unrecorded = s.unrecorded;
     childless = s.childless;
     again = λ t. (s.again t).gave;
@@ -397,7 +399,8 @@ module _ {S : Type 0} (tells : Bool) (child : Answers) (Turns : S → List ℕ �
       most = most ∙ story.goes.most;
       only = λ t. subst (λ (p : Project). OnlyOf p es at.world new.world) story.project (changes at.world es t (story.changes t)).only;
       last_world = mid.world;
-      dropping = λ t. subst (λ (p : Project). ChangesInFlight p es mid.world new.world) story.project (alone at.world es t (story.changes t));
+      dropping = λ t. subst (λ (p : Project). ChangesInFlight p es None mid.world new.world) story.project
+          (alone at.world es es None t (story.changes t) (beside_none c.project at.world c.aloft.items es mid.world mid.counts.starts.flying (story.changes t) c.aloft.items refl));
       numbers = (c.store.next, story.numbers);
       taken = λ t read reading. subst (λ (p : Project). NumbersGiven (LacksNumber p read at.world) es first.store.next c.store.next) story.project (story.taken t read reading);
       unkept = λ t. subst (λ (p : Project). KeepsNoneOfBad p es new.world) story.project (changes at.world es t (story.changes t)).unkept;

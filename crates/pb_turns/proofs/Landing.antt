@@ -1,7 +1,7 @@
 -- What has happened, where the child of a unit in flight is dropped.
 use Rattle.std.proofs.Common.{◌≡◌, ◌≢◌, ◌∙◌, inl, inr, true, false, List, ℕ, Option, Some, None, refl, sym, ap, subst, slice_get}
 use Rattle.std.specs.FinMap as finite
-use Rattle.std.specs.List.{remove}
+use Rattle.std.specs.List.{AllByRecursion, remove}
 use Rattle.std.proofs.lemmas.Bool.{cases_eq}
 use Rattle.std.specs.Prelude.{IfSome}
 use Rattle.pb_directive.specs.declared.directive.Directive.{Directive}
@@ -33,7 +33,7 @@ use Rattle.pb_soundness.specs.Apart.{is_of}
 use Rattle.pb_soundness.specs.Records.{Reading, out_of}
 use Rattle.pb_turns.specs.Crew.{needs_of, IsManned, IsOfPlan}
 use Rattle.pb_turns.specs.Rows.{Reasons, is_started}
-use Rattle.pb_turns.specs.Story.{states_in, AllAnswerAnew, AllBegan, AllLeaveRecords, Changes, FliesIn, Happened, HasNoRecord, CameAfter, ChangesInFlight, HadDiffered}
+use Rattle.pb_turns.specs.Story.{states_in, AllAnswerAnew, AllBegan, AllLeaveRecords, Changes, FliesBeside, FliesIn, Happened, HasNoRecord, CameAfter, ChangesInFlight, HadDiffered}
 use Rattle.pb_turns.specs.declared.crew.Aloft.{Aloft}
 use Rattle.pb_turns.specs.declared.crew.UnitCrew.{UnitCrew}
 use Rattle.pb_turns.proofs.Anew.{gave_on}
@@ -152,22 +152,24 @@ left_dropped c counts manned child setup done es next first w w' index a at lawf
     let so : FliesIn c.project es w counts.starts.flying a = all_get (FliesIn c.project es w counts.starts.flying) c.aloft.items index a old.flies at in
     all_left_on c.project manned.order es lawful a.unit of_plan.unit of_plan.there (ap is_good_at so.state) setup child w w' (only_its c counts manned es w w' a of_plan.unit of_plan.there so only) (λ b is. begun_apart b (sym so.state ∙ is)) done next first gave
 
--- of files only those in its folder change, where it has a child
-pub alone_dropped : (c : UnitCrew) (counts : Counts) (manned : IsManned c counts) (first : World) (es : List (Event BadUnit)) (w w' : World) (index : ℕ) (a : Aloft) (at : slice_get c.aloft.items index ≡ Some a) (old : Changes c.project first c.aloft.items es w counts.starts.flying)
-    → ((out : List ℕ) → WritesTo out (child_of a.begun) counts.starts.flying → ChangesOnly (is_at_or_below out) w w') → ChangesInFlight c.project es w w'
-alone_dropped c counts manned first es w w' index a at old only =
+-- of files only those in its folder change, where it has a child, and it is not the one whose answer was taken
+pub alone_dropped : (c : UnitCrew) (counts : Counts) (manned : IsManned c counts) (first : World) (es before : List (Event BadUnit)) (asked : Option ℕ) (w w' : World) (index : ℕ) (a : Aloft) (at : slice_get c.aloft.items index ≡ Some a)
+    (old : Changes c.project first c.aloft.items es w counts.starts.flying) (beside : AllByRecursion (FliesBeside c.project before asked) c.aloft.items)
+    → ((out : List ℕ) → WritesTo out (child_of a.begun) counts.starts.flying → ChangesOnly (is_at_or_below out) w w') → ChangesInFlight c.project before asked w w'
+alone_dropped c counts manned first es before asked w w' index a at old beside only =
     let of_plan : IsOfPlan c.project a = all_get (IsOfPlan c.project) c.aloft.items index a manned.units at in
     let so : FliesIn c.project es w counts.starts.flying a = all_get (FliesIn c.project es w counts.starts.flying) c.aloft.items index a old.flies at in
+    let own : FliesBeside c.project before asked a = all_get (FliesBeside c.project before asked) c.aloft.items index a beside at in
     record {
       variables = (only_its c counts manned es w w' a of_plan.unit of_plan.there so only).variables;
       files = λ q apart. elim (some_or_none (child_of a.begun)) [
-        | inl some ↦ (only of_plan.unit.out (so.writes of_plan.unit of_plan.there)).files q (apart a.unit of_plan.unit so.state (so.started ∙ some) of_plan.there)
+        | inl some ↦ (only of_plan.unit.out (so.writes of_plan.unit of_plan.there)).files q (apart a.unit of_plan.unit own.state own.other (own.started ∙ some) of_plan.there)
         | inr none ↦ none_dropped (child_of a.begun) counts.starts.flying w w' none only q
       ];
     }
 
-pub in_flight_twice : (project : Project) (es : List (Event BadUnit)) (u v w : World) → ChangesInFlight project es u v → ChangesInFlight project es v w → ChangesInFlight project es u w
-in_flight_twice project es u v w first then' = record {
+pub in_flight_twice : (project : Project) (es : List (Event BadUnit)) (asked : Option ℕ) (u v w : World) → ChangesInFlight project es asked u v → ChangesInFlight project es asked v w → ChangesInFlight project es asked u w
+in_flight_twice project es asked u v w first then' = record {
   variables = then'.variables ∙ first.variables;
   files = λ q apart. then'.files q apart ∙ first.files q apart;
 }

@@ -104,7 +104,7 @@ pub record EndsWhole {S : Type 0} (tells : Bool) (child : Answers) (Turns : S �
   pub most : new.most ≡ max old.most (peak es)
   pub only : IsTrue tells → OnlyOf project es old.world new.world
   pub last_world : World
-  pub dropping : IsTrue tells → ChangesInFlight project es last_world new.world
+  pub dropping : IsTrue tells → ChangesInFlight project es None last_world new.world
   pub numbers : (after : Option ℕ) × NumbersGiven IsUntold es next after
   pub taken : IsTrue tells → (read : Reading) → IsReading read → NumbersGiven (LacksNumber project read old.world) es next numbers.0
   pub unkept : IsTrue tells → KeepsNoneOfBad project es new.world
@@ -119,7 +119,7 @@ pub record EndsWhole {S : Type 0} (tells : Bool) (child : Answers) (Turns : S �
   pub calls_on_any : IsTrue tells → CallsOnAny child setup project done es old.world old.counts last_world mid
 
 -- a fault ended them: its cause, and what the sink had heard, are those of the moment before the children in flight were dropped; no more children flew at one time than by the events before it, and the turn was asked no more; where an answer ended in it, or a unit could not begin, units were missing (`HandsBack`, `Flies`).
--- Over a place that tells its maps the same is said as at a good end, of the units that have begun, of those that have answered and the records that they left, of the calls, of records that are not kept, and of units that wait without a child; of one that could not begin, by a fault of its start or for want of memory as its child was tried, something had differed too; and where no run number was left, all were given, likewise
+-- Over a place that tells its maps the same is said as at a good end, of the units that have begun, of those that have answered and the records that they left, of the calls, of records that are not kept, and of units that wait without a child, and as the children in flight were dropped only folders of other units in flight changed, none of the unit that could not begin, nor of the one whose answer was taken; of one that could not begin, by a fault of its start or for want of memory as its child was tried, something had differed too; and where no run number was left, all were given, likewise
 pub record EndsCut {S : Type 0} (tells : Bool) (child : Answers) (Turns : S → List ℕ → List ℕ → Step → S → Type 0) (setup : Setup) (project : Project) (next : Option ℕ) (from back : S) (fault : BuildFault) (old new : Moment) : Type 0 where
   pub es : List (Event BadUnit)
   pub last : S
@@ -138,7 +138,7 @@ pub record EndsCut {S : Type 0} (tells : Bool) (child : Answers) (Turns : S → 
   pub names : NamesUnit project fault asked before es
   pub most : new.most ≡ max old.most (peak before)
   pub only : IsTrue tells → OnlyOf project es old.world new.world
-  pub dropping : IsTrue tells → ChangesInFlight project es mid.world new.world
+  pub dropping : IsTrue tells → ChangesInFlight project before asked mid.world new.world
   pub unkept : IsTrue tells → KeepsNoneOfBad project es new.world
   pub dropped : IsTrue tells → KeepsNoneInFlight project before asked new.world
   pub childless : IsTrue tells → KeepsChildless project before asked old.world new.world

@@ -1,5 +1,5 @@
 -- What has happened while the units of a build began and answered.
-use Rattle.std.specs.Prelude.{◌≡◌, ◌≢◌, ◌⊎◌, ◌==◌, ◌∷◌, [], ℕ, zero, suc, max, Bool, true, false, if◌then◌else◌, List, length, Option, Some, None, is_some, Contains, IfSome, IsSome, IsTrue, slice_get}
+use Rattle.std.specs.Prelude.{◌≡◌, ◌≢◌, ◌⊎◌, ◌<◌, ◌≤◌, ◌==◌, ◌∷◌, [], ℕ, zero, suc, max, Bool, true, false, if◌then◌else◌, List, length, take, Option, Some, None, is_some, Contains, IfSome, IsSome, IsTrue, slice_get}
 use Rattle.std.specs.FinMap as finite
 use Rattle.std.specs.Io.KnownBytes.{Appends}
 use Rattle.std.specs.List.{AllByRecursion}
@@ -14,11 +14,10 @@ use Rattle.pb_flight.specs.declared.flight.State.{State}
 use Rattle.pb_flight.specs.declared.flight.State.TheVariants.{Untouched, Begun, Answered}
 use Rattle.pb_flight.specs.Events.{Event, Began, Gave, started_by, launched_after, states_after, peak}
 use Rattle.pb_flight.specs.Laws.{HasBegun}
-use Rattle.pb_flight.specs.Table.{due_first, due, are_good}
+use Rattle.pb_flight.specs.Table.{due_first, due, count_due, are_good}
 use Rattle.pb_place.specs.Children.{child_at}
 use Rattle.pb_place.specs.Counts.{up}
 use Rattle.pb_place.specs.Paths.{is_at_or_below}
-use Rattle.pb_place.specs.Sinks.{TakesPart}
 use Rattle.pb_place.specs.World.{World, Answers, from_nothing}
 use Rattle.pb_place.specs.declared.child_in_flight.ChildInFlight.{ChildInFlight}
 use Rattle.pb_place.specs.declared.command.Command.{Command}
@@ -91,13 +90,25 @@ pub record StopsAt (tells : Bool) (project : Project) (first now : Moment) (key 
   pub lines : Appends first.heard.taken now.heard.taken (due (states_in project es))
   pub faults : now.heard.faults ≡ first.heard.faults
 
--- how a fault ends it: at a unit; at the sink, which took the first bytes of the lines that were due, those of earlier answers whole, and not all; or for want of memory, with the lines of the first units
+-- the sink failed behind the last event, an answer: it took whole the lines of all units that were due before that answer, and of all lines that are due since, the first bytes, not all
+pub record StopsAtSink (project : Project) (first now : Moment) (es : List (Event BadUnit)) : Type 0 where
+  pub before : List (Event BadUnit)
+  pub unit : ℕ
+  pub answer : Answer BadUnit
+  pub last : es ≡ Gave unit answer ∷ before
+  pub taken : ℕ
+  pub whole : length (due_first (count_due (states_in project before)) (states_in project es)) ≤ taken
+  pub part : taken < length (due (states_in project es))
+  pub lines : Appends first.heard.taken now.heard.taken (take taken (due (states_in project es)))
+  pub faults : now.heard.faults ≡ up first.heard.faults
+
+-- how a fault ends it: at a unit; at the sink, behind an answer, as its lines were handed out (`StopsAtSink`); or for want of memory, with the lines of the first units
 abbrev pub StopsBy : Bool → BuildFault → Project → Moment → Moment → List (Event BadUnit) → Type 0
 StopsBy tells (Plan why) project first now es = ⊥
 StopsBy tells Toolchain project first now es = ⊥
 StopsBy tells (Child key fault) project first now es = StopsAt tells project first now key es
 StopsBy tells (Device key fault) project first now es = StopsAt tells project first now key es
-StopsBy tells Sink project first now es = TakesPart (due (states_in project es)) first.heard.taken now.heard.taken × (now.heard.faults ≡ up first.heard.faults)
+StopsBy tells Sink project first now es = StopsAtSink project first now es
 StopsBy tells OutOfMemory project first now es = ((n : ℕ) × Appends first.heard.taken now.heard.taken (due_first n (states_in project es))) × (now.heard.faults ≡ first.heard.faults)
 
 -- with its cause, one child for each unit that began with one, and nothing set to fail; of the last of them it may have been tried alone
@@ -233,10 +244,16 @@ pub record FliesIn (project : Project) (es : List (Event BadUnit)) (world : Worl
   pub gone : (u : Planned) → unit_at project a.unit ≡ Some u → IsSome (child_of a.begun) → HasNoRecord project u world
   pub writes : (u : Planned) → unit_at project a.unit ≡ Some u → WritesTo u.out (child_of a.begun) flying
 
--- only files in the folders of units that have begun with a child, and not answered, were changed
-pub record ChangesInFlight (project : Project) (es : List (Event BadUnit)) (old new : World) : Type 0 where
+-- a unit in flight has begun by these events, with a child or without, and it is not this one, whose answer was taken
+pub record FliesBeside (project : Project) (es : List (Event BadUnit)) (asked : Option ℕ) (a : Aloft) : Type 0 where
+  pub state : slice_get (states_in project es) a.unit ≡ Some Begun
+  pub started : is_started es a.unit ≡ is_some (child_of a.begun)
+  pub other : asked ≢ Some a.unit
+
+-- only files in the folders of units that have begun with a child, and not answered, were changed, and none of this one, whose answer was taken
+pub record ChangesInFlight (project : Project) (es : List (Event BadUnit)) (asked : Option ℕ) (old new : World) : Type 0 where
   pub variables : new.variables ≡ old.variables
-  pub files : (q : List ℕ) → ((place : ℕ) (u : Planned) → slice_get (states_in project es) place ≡ Some Begun → is_started es place ≡ true → unit_at project place ≡ Some u → is_at_or_below u.out q ≡ false) → finite.get new.files q ≡ finite.get old.files q
+  pub files : (q : List ℕ) → ((place : ℕ) (u : Planned) → slice_get (states_in project es) place ≡ Some Begun → asked ≢ Some place → is_started es place ≡ true → unit_at project place ≡ Some u → is_at_or_below u.out q ≡ false) → finite.get new.files q ≡ finite.get old.files q
 
 -- whatever a build rests on: the units in flight, and what was changed
 pub record Changes (project : Project) (first : World) (aloft : List Aloft) (es : List (Event BadUnit)) (world : World) (flying : List ChildInFlight) : Type 0 where
@@ -377,7 +394,7 @@ NamesUnit project (Device key fault) None before es = IsBeginning project key fa
 NamesUnit project (Device key fault) (Some unit) before es = (key_at project unit ≡ key ∷ []) × (es ≡ before)
 NamesUnit project fault asked before es = Unit {0}
 
--- and where a fault has ended it, as the answer of this unit was taken, or of none
+-- and where a fault has ended it, as the answer of this unit was taken, or of none: those in flight are in flight by the events before it, and this one is none of them
 pub record StoryEnds (tells : Bool) (child : Answers) (fault : BuildFault) (asked : Option ℕ) (first : UnitCrew) (at : Moment) (c : UnitCrew) (now : Moment) (still : ℕ → Type 0) (es : List (Event BadUnit)) : Type 0 where
   pub setup : c.setup ≡ first.setup
   pub project : c.project ≡ first.project
@@ -388,6 +405,7 @@ pub record StoryEnds (tells : Bool) (child : Answers) (fault : BuildFault) (aske
   pub names : NamesUnit c.project fault asked before es
   pub most : now.most ≡ max at.most (peak before)
   pub changes : IsTrue tells → Changes c.project at.world c.aloft.items es now.world now.counts.starts.flying
+  pub beside : IsTrue tells → AllByRecursion (FliesBeside c.project before asked) c.aloft.items
   pub unrecorded : IsTrue tells → KeepsNoneInFlight c.project before asked now.world
   pub childless : IsTrue tells → KeepsChildless c.project before asked at.world now.world
   pub again : IsTrue tells → AllAnswerAgain c.setup c.project es c.done.items at.world

@@ -2,6 +2,7 @@
 
 ghost use Rattle.std.specs.Prelude.{◌≡◌, ◌<◌, [], ℕ, true, false, List, Option, Some, length, IsTrue};
 ghost use Rattle.std.specs.FinMap as finite;
+ghost use Rattle.std.specs.List.{AllByRecursion, remove};
 ghost use Rattle.pb_directive.specs.declared.directive.Directive.{Directive};
 ghost use Rattle.pb_flight.specs.Events.{Event, IsLawful};
 ghost use Rattle.pb_place.specs.Counts.{Counts};
@@ -16,7 +17,7 @@ ghost use Rattle.pb_soundness.specs.Records.{Reading};
 ghost use Rattle.pb_turns.specs.Crew.{needs_of, tickets_of, IsManned};
 ghost use Rattle.pb_turns.specs.Ends.{Dropped, Drained};
 ghost use Rattle.pb_turns.specs.Rows.{Reasons, is_started};
-ghost use Rattle.pb_turns.specs.Story.{AllAnswerAnew, AllBegan, AllLeaveRecords, CameAfter, Changes, ChangesInFlight, HadDiffered, Happened, HasNoRecord};
+ghost use Rattle.pb_turns.specs.Story.{AllAnswerAnew, AllBegan, AllLeaveRecords, CameAfter, Changes, ChangesInFlight, FliesBeside, HadDiffered, Happened, HasNoRecord};
 ghost use Rattle.pb_project.specs.Targets.{unit_at};
 ghost use Rattle.pb_project.specs.declared.project.Setup.{Setup};
 ghost use Rattle.pb_unit.specs.declared.plan.Planned.{Planned};
@@ -32,13 +33,15 @@ fn drop_first<P: Place>(alloc: Global, crew: &mut UnitCrew, place: &mut P)
     requires some { 0 < length crew.old.aloft.items }
     ensures manned { IsManned crew.new (P.counts place.new) }
     ensures less { length crew.new.aloft.items < length crew.old.aloft.items }
+    ensures aloft { crew.new.aloft.items ≡ remove crew.old.aloft.items 0 }
     ensures same { crew.new ≡ record crew.old { aloft = crew.new.aloft } }
     ensures most { P.most place.new ≡ P.most place.old }
     ensures dropped { (new : Counts) → Dropped (tickets_of crew.new.aloft.items) (P.counts place.new) new → Dropped (tickets_of crew.old.aloft.items) (P.counts place.old) new }
     ensures changes { (first : World) (es : List (Event BadUnit)) → IsTrue P.tells
         → Changes crew.old.project first crew.old.aloft.items es (P.world place.old) (P.counts place.old).starts.flying → Changes crew.old.project first crew.new.aloft.items es (P.world place.new) (P.counts place.new).starts.flying }
-    ensures alone { (first : World) (es : List (Event BadUnit)) → IsTrue P.tells
-        → Changes crew.old.project first crew.old.aloft.items es (P.world place.old) (P.counts place.old).starts.flying → ChangesInFlight crew.old.project es (P.world place.old) (P.world place.new) }
+    ensures alone { (first : World) (es before : List (Event BadUnit)) (asked : Option ℕ) → IsTrue P.tells
+        → Changes crew.old.project first crew.old.aloft.items es (P.world place.old) (P.counts place.old).starts.flying → AllByRecursion (FliesBeside crew.old.project before asked) crew.old.aloft.items
+        → ChangesInFlight crew.old.project before asked (P.world place.old) (P.world place.new) }
     ensures unrecorded { (first : World) (es : List (Event BadUnit)) (index : ℕ) (unit : Planned) → IsTrue P.tells
         → Changes crew.old.project first crew.old.aloft.items es (P.world place.old) (P.counts place.old).starts.flying → unit_at crew.old.project index ≡ Some unit → HasNoRecord crew.old.project unit (P.world place.old) → HasNoRecord crew.old.project unit (P.world place.new) }
     ensures childless { (first : World) (es : List (Event BadUnit)) (index : ℕ) (unit : Planned) (path : List ℕ) → IsTrue P.tells
@@ -73,8 +76,9 @@ pub(crate) fn drain<P: Place>(alloc: Global, crew: &mut UnitCrew, place: &mut P)
     ensures most { P.most place.new ≡ P.most place.old }
     ensures changes { (first : World) (es : List (Event BadUnit)) → IsTrue P.tells
         → Changes crew.old.project first crew.old.aloft.items es (P.world place.old) (P.counts place.old).starts.flying → Changes crew.old.project first crew.new.aloft.items es (P.world place.new) (P.counts place.new).starts.flying }
-    ensures alone { (first : World) (es : List (Event BadUnit)) → IsTrue P.tells
-        → Changes crew.old.project first crew.old.aloft.items es (P.world place.old) (P.counts place.old).starts.flying → ChangesInFlight crew.old.project es (P.world place.old) (P.world place.new) }
+    ensures alone { (first : World) (es before : List (Event BadUnit)) (asked : Option ℕ) → IsTrue P.tells
+        → Changes crew.old.project first crew.old.aloft.items es (P.world place.old) (P.counts place.old).starts.flying → AllByRecursion (FliesBeside crew.old.project before asked) crew.old.aloft.items
+        → ChangesInFlight crew.old.project before asked (P.world place.old) (P.world place.new) }
     ensures unrecorded { (first : World) (es : List (Event BadUnit)) (index : ℕ) (unit : Planned) → IsTrue P.tells
         → Changes crew.old.project first crew.old.aloft.items es (P.world place.old) (P.counts place.old).starts.flying → unit_at crew.old.project index ≡ Some unit → HasNoRecord crew.old.project unit (P.world place.old) → HasNoRecord crew.old.project unit (P.world place.new) }
     ensures childless { (first : World) (es : List (Event BadUnit)) (index : ℕ) (unit : Planned) (path : List ℕ) → IsTrue P.tells

@@ -1,7 +1,7 @@
 use Rattle.std.proofs.Common.{◌≡◌, ◌∙◌, ◌∷◌, inl, inr, Some, sym, ap, subst, slice_get, slice_set}
 use Rattle.std.proofs.lemmas.Option.{slice_get-get_or}
 use Rattle.std.specs.Prelude.{slice_index_or}
-use Rattle.pb_flight.specs.Table.{Table}
+use Rattle.pb_flight.specs.Table.{Table, count_due}
 use Rattle.pb_flight.specs.declared.flight.State.TheVariants.{Answered}
 use Rattle.pb_flight.specs.Events.{Gave, IsLawful, states_after}
 use Rattle.pb_flight.specs.Events as events
@@ -34,9 +34,10 @@ returns-in-Ok-tell-clause-story g c = λ first first_place first_out es unit sto
     let after = ap (λ (t : Table g.row.F.Denot). t.states) c.answer-2.ensures ∙ ap (λ u. slice_set c.args.flight.now.states u (Answered c.in-Ok.answer)) (item_is c.args.flying.now c.args.index unit at) ∙ ap (λ ss. slice_set ss unit (Answered c.in-Ok.answer)) states in (
       c.in-Ok.answer,
       c.tell.ensures.table.1 ∙ after,
-      c.in-Ok-tell.ensures.story first first_place first_out (Gave unit c.in-Ok.answer ∷ es)
+      c.in-Ok-tell.ensures.story first first_place first_out es unit c.in-Ok.answer
           (subst (λ n. g.C.Crew.story first first_place first_out c.answer.new.self c.answer.new.place c.answer.new.out (Gave unit c.in-Ok.answer ∷ es) n) (ap (λ (t : Table g.row.F.Denot). t.given) (sym c.answer-2.ensures)) told)
           (subst (λ ns. IsLawful ns (Gave unit c.in-Ok.answer ∷ es)) (sym same) (events.answer es unit c.in-Ok.answer lawful begun tt))
+          (ap (λ (t : Table g.row.F.Denot). t.given) c.answer-2.ensures ∙ due ∙ ap (λ ns. count_due (states_after ns es)) (sym same))
           (after ∙ ap (λ ns. states_after ns (Gave unit c.in-Ok.answer ∷ es)) (sym same)),
     )
 
@@ -47,8 +48,9 @@ returns-in-Err-tell-clause-story g c = λ first first_place first_out es unit st
     let same = c.in-Ok.ensures.needs in
     let after = ap (λ (t : Table g.row.F.Denot). t.states) c.answer-2.ensures ∙ ap (λ u. slice_set c.args.flight.now.states u (Answered c.in-Ok.answer)) (item_is c.args.flying.now c.args.index unit at) ∙ ap (λ ss. slice_set ss unit (Answered c.in-Ok.answer)) states in inr (
       c.in-Ok.answer,
-      c.in-Err-tell.ensures.story first first_place first_out (Gave unit c.in-Ok.answer ∷ es)
+      c.in-Err-tell.ensures.story first first_place first_out es unit c.in-Ok.answer
           (subst (λ n. g.C.Crew.story first first_place first_out c.answer.new.self c.answer.new.place c.answer.new.out (Gave unit c.in-Ok.answer ∷ es) n) (ap (λ (t : Table g.row.F.Denot). t.given) (sym c.answer-2.ensures)) told)
           (subst (λ ns. IsLawful ns (Gave unit c.in-Ok.answer ∷ es)) (sym same) (events.answer es unit c.in-Ok.answer lawful begun tt))
+          (ap (λ (t : Table g.row.F.Denot). t.given) c.answer-2.ensures ∙ due ∙ ap (λ ns. count_due (states_after ns es)) (sym same))
           (after ∙ ap (λ ns. states_after ns (Gave unit c.in-Ok.answer ∷ es)) (sym same)),
     )

@@ -1,6 +1,7 @@
 use Rattle.std.proofs.Common.{◌≡◌, ◌∙◌, ◌<◌, ◌∷◌, ℕ, true, List, Some, Contains, IsTrue, is_some, refl, sym, ap, subst, inl, slice_get, length, map}
 use Rattle.std.proofs.lemmas.List.{length-map}
 use Rattle.std.proofs.lemmas.Option.{slice_get_read, slice_get_within}
+use Rattle.std.specs.List.{AllByRecursion}
 use Rattle.pb_flight.specs.declared.flight.Answer.{Answer}
 use Rattle.pb_flight.specs.declared.flight.State.TheVariants.{Begun}
 use Rattle.pb_answer.specs.declared.bad_unit.BadUnit.{BadUnit}
@@ -19,14 +20,14 @@ use Rattle.pb_turns.specs.Anew.{FliesAnew}
 use Rattle.pb_turns.specs.Crew.{IsOfPlan, place_of_unit, places_of, needs_of}
 use Rattle.pb_turns.specs.Moments.{moment}
 use Rattle.pb_turns.specs.Rows.{is_started}
-use Rattle.pb_turns.specs.Story.{FliesIn, IsUntold, KeepsChildless, KeepsNoneInFlight, LacksNumber, NamesUnit, NoneWritesTo, Story, states_in}
+use Rattle.pb_turns.specs.Story.{FliesBeside, FliesIn, IsUntold, KeepsChildless, KeepsNoneInFlight, LacksNumber, NamesUnit, NoneWritesTo, Story, states_in}
 use Rattle.pb_turns.proofs.Again.{answered_again}
 use Rattle.pb_turns.proofs.Anew.{answered_anew, unanswered_anew}
 use Rattle.pb_turns.proofs.Alone.{apart_removed, none_writes}
 use Rattle.pb_turns.proofs.Answering.{failed_happened, untold_happened, answered_happened}
 use Rattle.pb_turns.proofs.Beginning.{goes_lists}
 use Rattle.pb_turns.proofs.Calling.{calls_answered, calls_answered_on_any, calls_unanswered, calls_unanswered_on_any, calls_untold, calls_untold_on_any}
-use Rattle.pb_turns.proofs.Changing.{its_writes, changes_less, changes_after}
+use Rattle.pb_turns.proofs.Changing.{beside_asked, its_writes, changes_less, changes_after}
 use Rattle.pb_turns.proofs.Counting.{came_answering, names_answering, goes_answered, stops_answered, stops_untold}
 use Rattle.pb_turns.proofs.Differing.{answered_began, unanswered_began}
 use Rattle.pb_turns.proofs.Leaving.{answered_left, unanswered_left}
@@ -130,6 +131,8 @@ returns-in-Err-clause-story g c = λ first at taken faults es given unit s flyin
       changes = λ t. changes_less c.args.crew.now.project c.requires.manned.order at.world c.args.crew.now.aloft.items es now.world new.world now.counts.starts.flying new.counts.starts.flying (s.changes t) (λ j y at_j. flying_of c.args.crew.now now.counts j y c.requires.manned at_j)
           c.args.index c.remove-unit.result at_index c.index-units-unit.result there c.requires.manned.units_apart c.requires.manned.tickets_apart
           (only t) c.answer_unit.ensures.stay c.remove-unit.new.self.items c.remove-unit.ensures.items;
+      beside = λ t. subst (λ n. AllByRecursion (FliesBeside c.args.crew.now.project es (Some n)) c.remove-unit.new.self.items) (sym its)
+          (beside_asked c.args.crew.now.project at.world c.args.crew.now.aloft.items es now.world now.counts.starts.flying (s.changes t) c.args.index c.remove-unit.result c.requires.manned.units_apart at_index c.remove-unit.new.self.items c.remove-unit.ensures.items);
       unrecorded = λ t. subst (λ n. KeepsNoneInFlight c.args.crew.now.project es (Some n) new.world) (sym its)
           (flight_asked c.args.crew.now.project c.requires.manned.order es now.world new.world c.remove-unit.result.unit c.index-units-unit.result there (only t) (s.unrecorded t));
       childless = λ t. subst (λ n. KeepsChildless c.args.crew.now.project es (Some n) at.world new.world) (sym its)
@@ -176,6 +179,8 @@ returns-in-Err-lines_of_unit-clause-story g c = λ first at taken faults es give
       changes = λ t. changes_less c.args.crew.now.project c.requires.manned.order at.world c.args.crew.now.aloft.items es now.world new.world now.counts.starts.flying new.counts.starts.flying (s.changes t) (λ j y at_j. flying_of c.args.crew.now now.counts j y c.requires.manned at_j)
           c.args.index c.remove-unit.result at_index c.index-units-unit.result there c.requires.manned.units_apart c.requires.manned.tickets_apart
           (only t) c.answer_unit.ensures.stay c.remove-unit.new.self.items c.remove-unit.ensures.items;
+      beside = λ t. subst (λ n. AllByRecursion (FliesBeside c.args.crew.now.project es (Some n)) c.remove-unit.new.self.items) (sym its)
+          (beside_asked c.args.crew.now.project at.world c.args.crew.now.aloft.items es now.world now.counts.starts.flying (s.changes t) c.args.index c.remove-unit.result c.requires.manned.units_apart at_index c.remove-unit.new.self.items c.remove-unit.ensures.items);
       unrecorded = λ t. subst (λ n. KeepsNoneInFlight c.args.crew.now.project es (Some n) new.world) (sym its)
           (flight_asked c.args.crew.now.project c.requires.manned.order es now.world new.world c.remove-unit.result.unit c.index-units-unit.result there (only t) (s.unrecorded t));
       childless = λ t. subst (λ n. KeepsChildless c.args.crew.now.project es (Some n) at.world new.world) (sym its)

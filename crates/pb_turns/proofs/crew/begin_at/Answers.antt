@@ -15,7 +15,7 @@ use Rattle.pb_turns.proofs.Anew.{begun_anew, unbegun_anew}
 use Rattle.pb_turns.proofs.Alone.{none_writes}
 use Rattle.pb_turns.proofs.Beginning.{goes_lists, refused_happened, failed_happened, begun_happened, by_number}
 use Rattle.pb_turns.proofs.Calling.{calls_begun, calls_begun_on_any, calls_unbegun, calls_unbegun_on_any, launched_behind}
-use Rattle.pb_turns.proofs.Changing.{changes_begun, changes_more}
+use Rattle.pb_turns.proofs.Changing.{beside_none, changes_begun, changes_more}
 use Rattle.pb_turns.proofs.Counting.{goes_begun, stops_begun, stops_refused_begun, children_are}
 use Rattle.pb_turns.proofs.Differing.{differed_tried, begun_began, unbegun_began, unbegun_started}
 use Rattle.pb_turns.proofs.Happening.{none_of}
@@ -65,6 +65,7 @@ returns-in-Err-clause-story g c = λ first at taken faults es given s flying law
         most = s.goes.most;
         changes = λ t. changes_begun c.args.crew.now.project c.requires.manned.order at.world c.args.crew.now.aloft.items es now.world now.world now.counts.starts.flying now.counts.starts.flying (s.changes t) (λ index a at. flying_of c.args.crew.now (g.P.Place.counts c.args.place.now) index a c.requires.manned at)
             c.args.unit u there may.untouched (only_same _ now.world) (λ ticket its is. is) false c.make_room.new.aloft.items c.make_room.ensures.aloft;
+        beside = λ t. beside_none c.args.crew.now.project at.world c.args.crew.now.aloft.items es now.world now.counts.starts.flying (s.changes t) c.make_room.new.aloft.items c.make_room.ensures.aloft;
         unrecorded = s.unrecorded;
         childless = s.childless;
         again = λ t. gave_begun c.args.crew.now.setup c.args.crew.now.project c.args.crew.now.done.items es at.world c.args.unit false may.untouched (s.again t).gave;
@@ -108,6 +109,7 @@ returns-in-Err-begin_unit-clause-story g c = λ first at taken faults es given s
         changes = λ t. changes_begun c.args.crew.now.project c.requires.manned.order at.world c.args.crew.now.aloft.items es (g.P.Place.world c.args.place.now) (g.P.Place.world c.begin_unit.new.place) (g.P.Place.counts c.args.place.now).starts.flying (g.P.Place.counts c.begin_unit.new.place).starts.flying
             (s.changes t) (λ index a at. flying_of c.args.crew.now (g.P.Place.counts c.args.place.now) index a c.requires.manned at)
             c.args.unit c.index-units-unit.result there may.untouched (c.begin_unit.ensures.only t) c.begin_unit.ensures.stay spawned c.make_room.new.aloft.items c.make_room.ensures.aloft;
+        beside = λ t. beside_none c.args.crew.now.project at.world c.args.crew.now.aloft.items es now.world now.counts.starts.flying (s.changes t) c.make_room.new.aloft.items c.make_room.ensures.aloft;
         unrecorded = λ t. flight_unbegun c.args.crew.now.project c.requires.manned.order es (g.P.Place.world c.args.place.now) (g.P.Place.world c.begin_unit.new.place) c.args.unit c.index-units-unit.result there (c.begin_unit.ensures.only t) (s.unrecorded t) may.untouched;
         childless = λ t. childless_unbegun c.args.crew.now.project c.requires.manned.order es at.world (g.P.Place.world c.args.place.now) (g.P.Place.world c.begin_unit.new.place) c.args.unit c.index-units-unit.result there (c.begin_unit.ensures.only t) (s.childless t) may.untouched;
         again = λ t. gave_begun c.args.crew.now.setup c.args.crew.now.project c.args.crew.now.done.items es at.world c.args.unit spawned may.untouched (s.again t).gave;

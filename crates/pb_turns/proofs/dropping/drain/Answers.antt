@@ -1,13 +1,15 @@
 use Rattle.std.proofs.Common.{◌≡◌, ◌∙◌, true, Some, sym, ap, subst}
+use Rattle.std.specs.List.{AllByRecursion}
 use Rattle.pb_flight.specs.Events.{IsLawful}
 use Rattle.pb_project.specs.declared.project.Project.{Project}
 use Rattle.pb_project.specs.Targets.{unit_at}
 use Rattle.pb_run.specs.Standing.{records_folder}
 use Rattle.pb_soundness.specs.Apart.{is_of}
 use Rattle.pb_turns.specs.Crew.{needs_of}
-use Rattle.pb_turns.specs.Story.{AllAnswerAnew, AllBegan, AllLeaveRecords, CameAfter, Changes, ChangesInFlight, HadDiffered, HasNoRecord}
+use Rattle.pb_turns.specs.Story.{AllAnswerAnew, AllBegan, AllLeaveRecords, CameAfter, Changes, ChangesInFlight, FliesBeside, HadDiffered, HasNoRecord}
 use Rattle.pb_turns.specs.declared.crew.UnitCrew.{UnitCrew}
 use Rattle.pb_turns.proofs.Landing.{in_flight_twice}
+use Rattle.pb_turns.proofs.Lists.{all_removed}
 use Rattle.pb_turns.proofs.dropping.drain.Goals as goal
 
 pub loop-alloc-preserved : goal.loop-alloc-preserved
@@ -20,11 +22,16 @@ loop-alloc-preserved g c = record {
       subst (λ (p : Project). Changes p first c.drop_first.new.crew.aloft.items es (g.P.Place.world c.drop_first.new.place) (g.P.Place.counts c.drop_first.new.place).starts.flying) (ap (λ (x : UnitCrew). x.project) c.loop-alloc.invariant.same)
       (c.drop_first.ensures.changes first es tells (subst (λ (p : Project). Changes p first c.loop-alloc.crew.aloft.items es (g.P.Place.world c.loop-alloc.place) (g.P.Place.counts c.loop-alloc.place).starts.flying)
       (sym (ap (λ (x : UnitCrew). x.project) c.loop-alloc.invariant.same)) (c.loop-alloc.invariant.changes first es tells old)));
-  alone = λ first es tells old.
+  beside = λ before asked old.
+      subst (AllByRecursion (FliesBeside c.args.crew.now.project before asked)) (sym c.drop_first.ensures.aloft)
+      (all_removed (FliesBeside c.args.crew.now.project before asked) c.loop-alloc.crew.aloft.items 0 (c.loop-alloc.invariant.beside before asked old));
+  alone = λ first es before asked tells old beside.
       let same = ap (λ (x : UnitCrew). x.project) c.loop-alloc.invariant.same in
-      in_flight_twice c.args.crew.now.project es (g.P.Place.world c.args.place.now) (g.P.Place.world c.loop-alloc.place) (g.P.Place.world c.drop_first.new.place) (c.loop-alloc.invariant.alone first es tells old)
-      (subst (λ (p : Project). ChangesInFlight p es (g.P.Place.world c.loop-alloc.place) (g.P.Place.world c.drop_first.new.place)) same
-      (c.drop_first.ensures.alone first es tells (subst (λ (p : Project). Changes p first c.loop-alloc.crew.aloft.items es (g.P.Place.world c.loop-alloc.place) (g.P.Place.counts c.loop-alloc.place).starts.flying) (sym same) (c.loop-alloc.invariant.changes first es tells old))));
+      in_flight_twice c.args.crew.now.project before asked (g.P.Place.world c.args.place.now) (g.P.Place.world c.loop-alloc.place) (g.P.Place.world c.drop_first.new.place) (c.loop-alloc.invariant.alone first es before asked tells old beside)
+      (subst (λ (p : Project). ChangesInFlight p before asked (g.P.Place.world c.loop-alloc.place) (g.P.Place.world c.drop_first.new.place)) same
+      (c.drop_first.ensures.alone first es before asked tells
+      (subst (λ (p : Project). Changes p first c.loop-alloc.crew.aloft.items es (g.P.Place.world c.loop-alloc.place) (g.P.Place.counts c.loop-alloc.place).starts.flying) (sym same) (c.loop-alloc.invariant.changes first es tells old))
+      (subst (λ (p : Project). AllByRecursion (FliesBeside p before asked) c.loop-alloc.crew.aloft.items) (sym same) (c.loop-alloc.invariant.beside before asked beside))));
   unrecorded = λ first es index unit tells old there none.
       let same = ap (λ (x : UnitCrew). x.project) c.loop-alloc.invariant.same in
       subst (λ (p : Project). HasNoRecord p unit (g.P.Place.world c.drop_first.new.place)) same

@@ -1,5 +1,6 @@
 use Rattle.std.proofs.Common.{◌≡◌, ℕ, true, false, List, Option, Some, IsTrue, length}
 use Rattle.std.specs.FinMap as finite
+use Rattle.std.specs.List.{AllByRecursion}
 use Rattle.pb_directive.specs.declared.directive.Directive.{Directive}
 use Rattle.pb_flight.specs.Events.{Event, IsLawful}
 use Rattle.pb_place.specs.Counts.{Counts}
@@ -16,7 +17,7 @@ use Rattle.pb_turns.specs.Ends.{Dropped}
 use Rattle.pb_turns.specs.Rows.{Reasons, is_started}
 use Rattle.pb_project.specs.Targets.{unit_at}
 use Rattle.pb_project.specs.declared.project.Setup.{Setup}
-use Rattle.pb_turns.specs.Story.{AllAnswerAnew, AllBegan, AllLeaveRecords, Changes, ChangesInFlight, HadDiffered, Happened, HasNoRecord, CameAfter}
+use Rattle.pb_turns.specs.Story.{AllAnswerAnew, AllBegan, AllLeaveRecords, Changes, ChangesInFlight, FliesBeside, HadDiffered, Happened, HasNoRecord, CameAfter}
 use Rattle.pb_unit.specs.declared.plan.Planned.{Planned}
 use Rattle.pb_turns.proofs.dropping.drain.Given as goal
 
@@ -28,8 +29,10 @@ invariant-loop-alloc g l = record {
   dropped : (new : Counts) → Dropped (tickets_of l.crew.aloft.items) (g.P.Place.counts l.place) new → Dropped (tickets_of l.fn.crew.aloft.items) (g.P.Place.counts l.fn.place) new;
   changes : (first : World) (es : List (Event BadUnit)) → IsTrue g.P.Place.tells
       → Changes l.fn.crew.project first l.fn.crew.aloft.items es (g.P.Place.world l.fn.place) (g.P.Place.counts l.fn.place).starts.flying → Changes l.fn.crew.project first l.crew.aloft.items es (g.P.Place.world l.place) (g.P.Place.counts l.place).starts.flying;
-  alone : (first : World) (es : List (Event BadUnit)) → IsTrue g.P.Place.tells
-      → Changes l.fn.crew.project first l.fn.crew.aloft.items es (g.P.Place.world l.fn.place) (g.P.Place.counts l.fn.place).starts.flying → ChangesInFlight l.fn.crew.project es (g.P.Place.world l.fn.place) (g.P.Place.world l.place);
+  beside : (before : List (Event BadUnit)) (asked : Option ℕ) → AllByRecursion (FliesBeside l.fn.crew.project before asked) l.fn.crew.aloft.items → AllByRecursion (FliesBeside l.fn.crew.project before asked) l.crew.aloft.items;
+  alone : (first : World) (es before : List (Event BadUnit)) (asked : Option ℕ) → IsTrue g.P.Place.tells
+      → Changes l.fn.crew.project first l.fn.crew.aloft.items es (g.P.Place.world l.fn.place) (g.P.Place.counts l.fn.place).starts.flying → AllByRecursion (FliesBeside l.fn.crew.project before asked) l.fn.crew.aloft.items
+      → ChangesInFlight l.fn.crew.project before asked (g.P.Place.world l.fn.place) (g.P.Place.world l.place);
   unrecorded : (first : World) (es : List (Event BadUnit)) (index : ℕ) (unit : Planned) → IsTrue g.P.Place.tells
       → Changes l.fn.crew.project first l.fn.crew.aloft.items es (g.P.Place.world l.fn.place) (g.P.Place.counts l.fn.place).starts.flying → unit_at l.fn.crew.project index ≡ Some unit → HasNoRecord l.fn.crew.project unit (g.P.Place.world l.fn.place) → HasNoRecord l.fn.crew.project unit (g.P.Place.world l.place);
   childless : (first : World) (es : List (Event BadUnit)) (index : ℕ) (unit : Planned) (path : List ℕ) → IsTrue g.P.Place.tells

@@ -31,10 +31,10 @@ returns-clause-changes g c = λ first es tells old.
     0 c.remove-aloft.result at c.remove-aloft.new.self.items c.remove-aloft.ensures.items old (λ out. c.drop_unit.ensures.only out tells) c.drop_unit.ensures.stay
 
 pub returns-clause-alone : goal.returns-clause-alone
-returns-clause-alone g c = λ first es tells old.
+returns-clause-alone g c = λ first es before asked tells old beside.
     let at = slice_get_read c.args.crew.now.aloft.items (length c.args.crew.now.aloft.items) 0 c.remove-aloft.result refl c.requires.some c.remove-aloft.ensures.value in
-    alone_dropped c.args.crew.now (g.P.Place.counts c.args.place.now) c.requires.manned first es (g.P.Place.world c.args.place.now) (g.P.Place.world c.drop_unit.new.place)
-    0 c.remove-aloft.result at old (λ out. c.drop_unit.ensures.only out tells)
+    alone_dropped c.args.crew.now (g.P.Place.counts c.args.place.now) c.requires.manned first es before asked (g.P.Place.world c.args.place.now) (g.P.Place.world c.drop_unit.new.place)
+    0 c.remove-aloft.result at old beside (λ out. c.drop_unit.ensures.only out tells)
 
 pub returns-clause-began : goal.returns-clause-began
 returns-clause-began g c = λ read sources command fault es before reasons first tells lawful came old began.

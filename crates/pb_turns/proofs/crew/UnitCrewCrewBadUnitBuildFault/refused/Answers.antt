@@ -1,5 +1,6 @@
 use Rattle.std.proofs.Common.{inl, inr, refl}
 use Rattle.pb_answer.specs.declared.fault.BuildFault.TheVariants.{OutOfMemory}
+use Rattle.pb_turns.proofs.Changing.{beside_none}
 use Rattle.pb_turns.proofs.Counting.{stops_refused}
 use Rattle.pb_turns.proofs.Staying.{none_began}
 use Rattle.pb_turns.proofs.crew.UnitCrewCrewBadUnitBuildFault.refused.Goals as goal
@@ -15,6 +16,7 @@ returns g c = λ first first_place last_place first_out last_out es given s. rec
   names = tt;
   most = s.goes.most;
   changes = s.changes;
+  beside = λ t. beside_none _ _ _ es _ _ (s.changes t) _ refl;
   unrecorded = s.unrecorded;
   childless = s.childless;
   again = λ t. (s.again t).gave;

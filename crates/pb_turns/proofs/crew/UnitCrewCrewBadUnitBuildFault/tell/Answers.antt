@@ -1,13 +1,15 @@
-use Rattle.std.proofs.Common.{inl, refl, subst}
+use Rattle.std.proofs.Common.{◌∷◌, inl, refl, subst}
 use Rattle.std.specs.Io.KnownBytes.{Appends}
 use Rattle.pb_answer.specs.declared.fault.BuildFault.TheVariants.{Sink}
+use Rattle.pb_flight.specs.Events.{Gave}
 use Rattle.pb_place.specs.Sinks.{TakesPart}
+use Rattle.pb_turns.proofs.Changing.{beside_none}
 use Rattle.pb_turns.proofs.Counting.{goes_told, stops_sink}
 use Rattle.pb_turns.proofs.Staying.{none_began}
 use Rattle.pb_turns.proofs.crew.UnitCrewCrewBadUnitBuildFault.tell.Goals as goal
 
 pub returns-then-write_all-clause-story : goal.returns-then-write_all-clause-story
-returns-then-write_all-clause-story g c = λ first first_place first_out es given s lawful lines. record {
+returns-then-write_all-clause-story g c = λ first first_place first_out es given unit answer s lawful was lines. record {
   setup = s.setup;
   project = s.project;
   goes = goes_told _ _ _ _ _ _ _ _ s.goes refl refl (subst (Appends (g.O.Out.taken c.args.out.now) (g.O.Out.taken c.write_all.new.out)) lines (c.write_all.ensures.all c.if-write_all.true)) (c.write_all.ensures.whole c.if-write_all.true);
@@ -30,24 +32,26 @@ returns-then-write_all-clause-story g c = λ first first_place first_out es give
 }
 
 pub returns-else-write_all-clause-story : goal.returns-else-write_all-clause-story
-returns-else-write_all-clause-story g c = λ first first_place first_out es given s lawful lines.
+returns-else-write_all-clause-story g c = λ first first_place first_out es given unit answer s lawful was lines.
     record {
       setup = s.setup;
       project = s.project;
-      stops = stops_sink _ _ _ _ _ _ _ _ s.goes refl refl g.P.Place.tells (subst (λ l. TakesPart l (g.O.Out.taken c.args.out.now) (g.O.Out.taken c.write_all.new.out)) lines (c.write_all.ensures.part c.if-write_all.false)) (c.write_all.ensures.fault c.if-write_all.false);
+      stops = stops_sink _ _ _ _ _ _ _ _ s.goes refl refl g.P.Place.tells es unit answer refl was (subst (λ l. TakesPart l (g.O.Out.taken c.args.out.now) (g.O.Out.taken c.write_all.new.out)) lines (c.write_all.ensures.part c.if-write_all.false))
+          (c.write_all.ensures.fault c.if-write_all.false);
       spent = tt;
-      before = es;
+      before = Gave unit answer ∷ es;
       came = refl;
       names = tt;
       most = s.goes.most;
       changes = s.changes;
+      beside = λ t. beside_none _ _ _ (Gave unit answer ∷ es) _ _ (s.changes t) _ refl;
       unrecorded = s.unrecorded;
       childless = s.childless;
       again = λ t. (s.again t).gave;
       anew = λ t. (s.anew t).gave;
       left = λ t. (s.left t).gave;
       began = s.began;
-      started = λ t read reading. none_began _ read _ _ Sink es _ _;
+      started = λ t read reading. none_began _ read _ _ Sink (Gave unit answer ∷ es) _ _;
       happened = s.happened;
       caused = λ t read reading. tt;
       calls = λ t f r sources reading keeps. (g.P.Place.world c.args.place.now, g.P.Place.counts c.args.place.now, s.calls t f r sources reading keeps, inl (inl refl, refl, refl));
