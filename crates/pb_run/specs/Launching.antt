@@ -1,5 +1,5 @@
 -- How the child of a unit of which something differs is launched, call by call, and what is known of it from the moment when it is spawned.
-use Rattle.std.specs.Prelude.{◌≡◌, ◌⊎◌, ℕ, Bool, IsTrue, List, Some, Result, Ok, MatchResult}
+use Rattle.std.specs.Prelude.{◌≡◌, ◌⊎◌, ℕ, Bool, IsTrue, List, Option, Some, Result, Ok, MatchResult}
 use Rattle.std.specs.FinMap as finite
 use Rattle.pb_answer.specs.declared.fault.BuildFault.{BuildFault}
 use Rattle.pb_answer.specs.declared.fault.BuildFault.TheVariants.{Child, Device, OutOfMemory}
@@ -14,6 +14,7 @@ use Rattle.pb_place.specs.declared.child_in_flight.ChildInFlight.{ChildInFlight}
 use Rattle.pb_place.specs.declared.command.Command.{Command}
 use Rattle.pb_record.specs.Parts.{IsReading}
 use Rattle.pb_soundness.specs.Records.{Reading}
+use Rattle.pb_store.specs.Migrating.{TakesNext}
 
 -- a child was spawned where since the first world only such paths had changed and its folder was empty; it flies, and what it sees stands still
 pub record IsSpawned (inside : List ℕ → Bool) (child : Answers) (c : Command) (old : World) (ticket : ℕ) (flying : List ChildInFlight) (still : ℕ → Type 0) : Type 0 where
@@ -76,6 +77,10 @@ AnewEnds folder e old new = RemovalEnds folder e old new ⊎ SpawnEnds e (past_c
 -- the removal of the record at this path ended it, or after it that of the folder, or after both the spawn
 abbrev pub LaunchEnds : List ℕ → List ℕ → BuildFault → Counts → Counts → Type 0
 LaunchEnds path folder e old new = DropEnds path e old new ⊎ AnewEnds folder e (past_call old) new
+
+-- the same, by the next run number before and after: where the removal of the record ended it, none was taken; where that of the folder did, or the spawn, the next one was
+abbrev pub LaunchTakes : List ℕ → List ℕ → BuildFault → Option ℕ → Option ℕ → Counts → Counts → Type 0
+LaunchTakes path folder e next after old new = (DropEnds path e old new × (after ≡ next)) ⊎ (AnewEnds folder e (past_call old) new × TakesNext next after)
 
 -- what a comparison leaves as it was: the world, where it is told, how many calls failed, and the starts; and, where it is told, just these calls were made, in this order
 pub record HasLooked (tells : Bool) (calls : Reading → List Call) (before after : World) (old new : Counts) : Type 0 where

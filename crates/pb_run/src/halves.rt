@@ -20,7 +20,7 @@ ghost use Rattle.pb_record.specs.Parts.{IsReading};
 ghost use Rattle.pb_run.specs.Causes.{Takes, Begins, Lands, Drops, Runs, MayBeginUnit, MayAnswerUnit, MayRunUnit, StopsAt, is_of_child, is_of_look, is_of_start, is_of_write, is_spent};
 ghost use Rattle.pb_run.specs.Halves.{Footing, Basis, basis, outcomes_in, Keeps, IsBegun, CanBegin, CanAnswer, BeginsApart, KeepsOthersStill, WritesTo, awaits_number, child_of};
 ghost use Rattle.pb_run.specs.Landing.{EndsBy, CallsBehind, GivesRecord, IsJudged, answered_called, record_left};
-ghost use Rattle.pb_run.specs.Launching.{HasLooked, IsSpawned, LaunchEnds, Launches};
+ghost use Rattle.pb_run.specs.Launching.{HasLooked, IsSpawned, LaunchEnds, LaunchTakes, Launches};
 ghost use Rattle.pb_run.specs.Outcome.{outcome_by, directives_in, ran_of, unstarted};
 ghost use Rattle.pb_run.specs.Running.{KeepsRecord, RunsAnew, RunsCalling};
 ghost use Rattle.pb_run.specs.Standing.{IsCommandOf, IsInOrder, records_folder};
@@ -70,8 +70,9 @@ fn command(
 /// holds what their runs said. Looks for what differs from the unit's record. Where something does, a run number is
 /// taken, the record is removed, the output folder is emptied and the unit's child is spawned, in this order, by one
 /// call each and no other: no text counts as the unit's record then; where nothing does, or the look fails, or no run
-/// number is left, nothing is changed. The records of needed units are not read: what differs is told by the numbers of
-/// records that the store holds, where they are those of its folder. They are so too after a call that goes well.
+/// number is left, nothing is changed, and where the record cannot be removed, no number is taken. The records of needed
+/// units are not read: what differs is told by the numbers of records that the store holds, where they are those of its
+/// folder. They are so too after a call that goes well.
 ///
 /// Faults: Device, where a file, a folder or a variable cannot be read; where something differs, Child too, where the
 /// child cannot be spawned, and Device, where the record or the folder cannot be removed, or no run number is left;
@@ -133,7 +134,7 @@ pub fn begin_unit<P: Place>(
     ensures differed { (read : Reading) → IsReading read → IsTrue P.tells → HoldsNumbers (record_at read (records_folder project.now) (P.world place.old).files) store.old.numbers
         → IfErr result (λ e. StopsAt e (looked_at read (records_folder project.now) unit.now.key (command_of setup.now project.now unit.now done.now) (P.world place.old)) (P.counts place.old) (P.counts place.new)
         ⊎ ((difference : Difference) × FirstDifference read (records_folder project.now) unit.now.key (command_of setup.now project.now unit.now done.now) (P.world place.old) (Some difference))) }
-    ensures launch_ends { IfErr result (λ e. is_of_start e ≡ true → (looked : P) × HasLooked P.tells (λ read. looked_at read (records_folder project.now) unit.now.key (command_of setup.now project.now unit.now done.now) (P.world place.old)) (P.world place.old) (P.world looked) (P.counts place.old) (P.counts looked) × LaunchEnds (place_of (records_folder project.now) unit.now.key) unit.now.out e (P.counts looked) (P.counts place.new)) }
+    ensures launch_ends { IfErr result (λ e. is_of_start e ≡ true → (looked : P) × HasLooked P.tells (λ read. looked_at read (records_folder project.now) unit.now.key (command_of setup.now project.now unit.now done.now) (P.world place.old)) (P.world place.old) (P.world looked) (P.counts place.old) (P.counts looked) × LaunchTakes (place_of (records_folder project.now) unit.now.key) unit.now.out e store.old.next store.new.next (P.counts looked) (P.counts place.new)) }
 {
     project.is_in_order();
     // Every growth before the first call: a child that is in flight has its name.

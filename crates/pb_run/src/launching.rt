@@ -1,13 +1,13 @@
 //! A unit that begins: what differs, the record dropped, the folder emptied, the child spawned.
 
-ghost use Rattle.std.specs.Prelude.{◌≡◌, ◌≢◌, ◌⊎◌, ◌+◌, ℕ, true, false, List, Option, IsTrue, IfNone, IfOk, IfErr, OnOk, MatchResult, Some, None, max, length};
+ghost use Rattle.std.specs.Prelude.{◌≡◌, ◌≢◌, ◌⊎◌, ◌+◌, ℕ, true, false, List, Option, IsTrue, IfNone, IfOk, IfErr, OnOk, OnErr, MatchResult, Some, None, max, length};
 ghost use Rattle.pb_place.specs.Children.{child_at, child_spawned, StaysStill};
 ghost use Rattle.pb_place.specs.Paths.{is_path, is_at_or_below};
 ghost use Rattle.pb_place.specs.World.{ChangesOnly, ChangesOnlyInSome};
 ghost use Rattle.pb_record.specs.Parts.{IsReading};
 ghost use Rattle.pb_record.specs.declared.record.Record.{Record};
 ghost use Rattle.pb_run.specs.Causes.{Takes, NoStart, IsLifted, MayBeginUnit, MakesInTurn, is_of_child, is_of_start};
-ghost use Rattle.pb_run.specs.Launching.{IsSpawned, Calls, OneCall, DropEnds, Spawns, SpawnEnds, SpawnsAnew, AnewEnds, Launches, LaunchEnds};
+ghost use Rattle.pb_run.specs.Launching.{IsSpawned, Calls, OneCall, DropEnds, Spawns, SpawnEnds, SpawnsAnew, AnewEnds, Launches, LaunchEnds, LaunchTakes};
 ghost use Rattle.pb_soundness.specs.Apart.{is_of, KeepsStill, KeepsStillOutside};
 ghost use Rattle.pb_soundness.specs.Grounded.{Standing};
 ghost use Rattle.pb_soundness.specs.Inputs.{Judge};
@@ -74,6 +74,7 @@ fn drop_record<P: Place>(
 ) -> Result<u64, BuildFault>
     requires { is_key key.now ≡ true }
     ensures number { IfOk result (λ number. (store.old.next ≡ Some number) × (store.new.next ≡ after number)) }
+    ensures kept { OnErr result (store.new.next ≡ store.old.next) }
     ensures next { TakesNumber store.old.next store.new.next }
     ensures folder { store.new.folder ≡ store.old.folder }
     ensures others_held { (l : List ℕ) → l ≢ key.now → number_held store.new.numbers l ≡ number_held store.old.numbers l }
@@ -180,6 +181,7 @@ pub(crate) fn launch<P: Place>(
     ensures still { IsTrue P.tells → KeepsStillOutside (is_of store.old.folder unit.now.key) (P.counts place.old).starts.flying (P.still place.old) (P.still place.new) }
     ensures takes { Takes (λ launched. IsLifted launched.ticket) (MayBeginUnit store.old.next unit.now.key) result (P.counts place.old) (P.counts place.new) }
     ensures calls { Calls (λ launched. Launches P.child command.now launched.ticket) (LaunchEnds (place_of store.old.folder unit.now.key) unit.now.out) result (P.counts place.old) (P.counts place.new) }
+    ensures ends { IfErr result (λ e. LaunchTakes (place_of store.old.folder unit.now.key) unit.now.out e store.old.next store.new.next (P.counts place.old) (P.counts place.new)) }
 {
     // The record goes before the folder is emptied: a build that ends between leaves no record that lies.
     let number = drop_record(alloc, place, store, &unit.key)?;

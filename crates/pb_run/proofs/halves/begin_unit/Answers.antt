@@ -7,7 +7,7 @@ use Rattle.pb_place.specs.World.{World, ChangesOnly}
 use Rattle.pb_place.specs.declared.command.Command.{Command}
 use Rattle.pb_run.specs.Causes.{StopsAt}
 use Rattle.pb_run.specs.Halves.{CanBegin, basis}
-use Rattle.pb_run.specs.Launching.{IsSpawned, LaunchEnds}
+use Rattle.pb_run.specs.Launching.{IsSpawned, LaunchEnds, LaunchTakes}
 use Rattle.pb_run.specs.Standing.{records_folder}
 use Rattle.pb_run.proofs.Judged.{child_starts}
 use Rattle.pb_run.proofs.Calling.{launch_no_look, memory_first}
@@ -130,7 +130,7 @@ pub returns-in-Err-launch-clause-launch_ends : goal.returns-in-Err-launch-clause
 returns-in-Err-launch-clause-launch_ends g c of_start = (
   c.compare.new.place,
   record { same = c.in-Ok-compare.ensures.same; failures = c.in-Ok-compare.ensures.takes.0; starts = c.in-Ok-compare.ensures.takes.1; looks = λ read reading told. c.in-Ok-compare.ensures.looked read reading told ∙ ap (λ (folder : List ℕ). past_calls (looked_at read folder c.args.unit.now.key c.in-Ok-command.command (g.P.Place.world c.args.place.now)) (g.P.Place.counts c.args.place.now)) c.requires.folder ∙ ap (λ (command : Command). past_calls (looked_at read (records_folder c.args.project.now) c.args.unit.now.key command (g.P.Place.world c.args.place.now)) (g.P.Place.counts c.args.place.now)) c.in-Ok-command.ensures },
-  subst (λ (folder : List ℕ). LaunchEnds (place_of folder c.args.unit.now.key) c.args.unit.now.out c.in-Err-launch.fault (g.P.Place.counts c.compare.new.place) (g.P.Place.counts c.launch.new.place)) c.requires.folder c.in-Err-launch.ensures.calls,
+  subst (λ (folder : List ℕ). LaunchTakes (place_of folder c.args.unit.now.key) c.args.unit.now.out c.in-Err-launch.fault c.args.store.now.next c.launch.new.store.next (g.P.Place.counts c.compare.new.place) (g.P.Place.counts c.launch.new.place)) c.requires.folder c.in-Err-launch.ensures.ends,
 )
 
 pub returns-in-Err-clause-stops : goal.returns-in-Err-clause-stops
