@@ -1,6 +1,6 @@
 //! Reading real files and variables.
 
-ghost use Rattle.std.specs.Prelude.{◌≡◌, ◌≢◌};
+ghost use Rattle.std.specs.Prelude.{◌≡◌, ◌≢◌, ◌⊎◌, ◌↔◌, IsTrue, None, Ok, Err};
 ghost use Rattle.std.specs.IoError.{error_kind};
 ghost use Rattle.pb_place.specs.declared.child.ViewFault.TheVariants as view_fault;
 
@@ -38,7 +38,9 @@ fn fault_of(error: io::Error) -> ViewFault
 
 /// Whether an error says that nothing stands at a path: there is no such name, a file stands where a folder should,
 /// or the links lead in a circle.
-pub(crate) fn says_absent(error: &io::Error) -> bool {
+pub(crate) fn says_absent(error: &io::Error) -> bool
+    ensures { IsTrue result ↔ ((error_kind error.now ≡ ErrorKind.NotFound) ⊎ (error_kind error.now ≡ ErrorKind.NotADirectory) ⊎ (error_kind error.now ≡ ErrorKind.FilesystemLoop)) }
+{
     matches!(
         error.kind(),
         ErrorKind::NotFound | ErrorKind::NotADirectory | ErrorKind::FilesystemLoop
@@ -91,6 +93,19 @@ pub(crate) fn file_at<R: Files + AllocGlobal>(
     }
 }
 
+/// What is told of a variable that has no value to give: none where it is not set, and else the fault.
+fn unread(error: VarError) -> Result<Option<Text>, ViewFault>
+    ensures absent { error ≡ VarError.NotPresent → result ≡ Ok None }
+    ensures failed { error ≡ VarError.NotUnicode → result ≡ Err view_fault.Failed }
+    ensures memory { error ≡ VarError.OutOfMemory → result ≡ Err view_fault.OutOfMemory }
+{
+    match error {
+        VarError::NotPresent => Ok(None),
+        VarError::NotUnicode => Err(ViewFault::Failed),
+        VarError::OutOfMemory => Err(ViewFault::OutOfMemory),
+    }
+}
+
 /// The value of a variable, or none where it is not set. Failed where the value is not UTF-8.
 pub(crate) fn variable_of<R: Env + AllocGlobal>(
     runtime: &R,
@@ -98,8 +113,6 @@ pub(crate) fn variable_of<R: Env + AllocGlobal>(
 ) -> Result<Option<Text>, ViewFault> {
     match env::var(runtime, name) {
         Ok(value) => Ok(Some(Text::new(value))),
-        Err(VarError::NotPresent) => Ok(None),
-        Err(VarError::NotUnicode) => Err(ViewFault::Failed),
-        Err(VarError::OutOfMemory) => Err(ViewFault::OutOfMemory),
+        Err(error) => unread(error),
     }
 }

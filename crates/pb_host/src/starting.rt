@@ -1,8 +1,8 @@
 //! Starting real children, and waiting for their end.
 
-ghost use Rattle.std.specs.Prelude.{◌≡◌, ◌≢◌, ◌⊎◌, ◌++◌, ℕ, List, Some, if◌then◌else◌, OnOk, IfOk, IfErr};
+ghost use Rattle.std.specs.Prelude.{◌≡◌, ◌≢◌, ◌⊎◌, ◌++◌, ℕ, List, Some, None, if◌then◌else◌, OnOk, IfOk, IfErr};
 ghost use Rattle.std.specs.Str.{bytes_eq};
-ghost use Rattle.std.specs.Process.{command_program, command_args, command_var, command_dir, clears_env, SameEnv, SameDir, SameProgramAndArgs};
+ghost use Rattle.std.specs.Process.{command_program, command_args, command_var, command_dir, clears_env, exit_code, SameEnv, SameDir, SameProgramAndArgs};
 ghost use Rattle.std.specs.IoError.{error_kind};
 ghost use Rattle.pb_place.specs.declared.place.StartFault.TheVariants as start_fault;
 ghost use Rattle.pb_host.specs.Starting.{value_over, IsProcessOf};
@@ -141,9 +141,10 @@ pub(crate) fn finish<S: OpenProcess + Drop>(
     }
 }
 
-/// How a child ended. Died where it has no status code.
+/// How a child ended: with its status code and both its streams, as they were written. Died where it has no status code.
 fn ended(output: Output) -> Result<Ended, StartFault>
-    ensures fault { IfErr result (λ e. e ≡ StartFault.Died) }
+    ensures ended { IfOk result (λ e. (exit_code output.status ≡ Some e.status) × (e.stdout ≡ output.stdout.items) × (e.stderr ≡ output.stderr.items)) }
+    ensures fault { IfErr result (λ e. (exit_code output.status ≡ None) × (e ≡ StartFault.Died)) }
 {
     match output.status.code() {
         Some(status) => Ok(Ended {
