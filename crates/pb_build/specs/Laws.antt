@@ -1,10 +1,15 @@
 -- Laws of what a build gives, in the words of the rules.
-use Rattle.std.specs.Prelude.{◌≡◌}
+use Rattle.std.specs.Prelude.{◌≡◌, ℕ, Bool, List, Result}
+use Rattle.pb_answer.specs.declared.fault.BuildFault.{BuildFault}
+use Rattle.pb_answer.specs.declared.summary.Summary.{Summary}
+use Rattle.pb_flight.specs.declared.turn.Step.{Step}
 use Rattle.pb_place.specs.World.{World, Answers, from_nothing}
 use Rattle.pb_package.specs.declared.options.Options.{Options}
+use Rattle.pb_build.specs.Ending.{Builds, BuildsFirst}
 use Rattle.pb_build.specs.Environment.{environment_of}
-use Rattle.pb_build.specs.Headline.{UnitsOf, rows_for}
+use Rattle.pb_build.specs.Headline.{ByFirst, ByTurns, Headline, UnitsOf, rows_for}
 use Rattle.pb_build.specs.Result.{BuildResult, Refused, NoToolchain, Finished, IsResult}
+use Rattle.pb_turns.specs.Moments.{Moment}
 
 -- two worlds with the same variables and the same files outside the target folder give the same results
 abbrev pub LooksAtSources : Type 0
@@ -29,3 +34,12 @@ HasOneResult = (child : Answers) (options : Options) (w : World) (r s : BuildRes
 -- the units that a build has given are those of the result of its world
 abbrev pub UnitsAreOfResult : Type 0
 UnitsAreOfResult = (child : Answers) (options : Options) (w : World) (units : UnitsOf child options w) → IsResult child options w (Finished units.project (rows_for child options w units))
+
+-- a build by turns, of which it is known how its work ended and what was then written, keeps the headline; so one of which just that is told does too, as that of the program
+abbrev pub BuildsKeepHeadline : {S : Type 0} → (S → List ℕ → List ℕ → Step → S → Type 0) → Type 0
+BuildsKeepHeadline {S} Turns = (tells : Bool) (child : Answers) (options : Options) (from last : S) (result : Result Summary BuildFault) (old new : Moment) → Builds tells child Turns options from last result old new
+    → Headline tells child (ByTurns Turns from) options result old new
+
+-- and so does one in plan order
+abbrev pub FirstBuildsKeepHeadline : Type 0
+FirstBuildsKeepHeadline = (tells : Bool) (child : Answers) (options : Options) (result : Result Summary BuildFault) (old new : Moment) → BuildsFirst tells child options result old new → Headline tells child (ByFirst options) options result old new

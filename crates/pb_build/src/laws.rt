@@ -2,7 +2,7 @@
 
 ghost use Rattle.pb_build.specs.Again.{SameBuildStartsNone};
 ghost use Rattle.pb_build.specs.Lasting.{AnyBuildGives, NothingIsSound, RecordsStayTrue};
-ghost use Rattle.pb_build.specs.Laws.{LooksAtSources, GivesFromNothing, HasOneResult, UnitsAreOfResult};
+ghost use Rattle.pb_build.specs.Laws.{LooksAtSources, GivesFromNothing, HasOneResult, UnitsAreOfResult, BuildsKeepHeadline, FirstBuildsKeepHeadline};
 ghost use Rattle.pb_build.specs.Session.{Unaffected};
 
 use pb_flight::Turn;
@@ -49,4 +49,11 @@ pub fn any_build_gives()
 /// unit as started.
 pub fn same_build_starts_none<T: Turn, U: Turn>()
     ensures { SameBuildStartsNone T.turns U.turns }
+{}
+
+/// Whoever is promised of a build no more than how its work ended and what was then written, as the caller of the
+/// program is, is promised the headline.
+pub fn builds_keep_the_headline<T: Turn>()
+    ensures turns { BuildsKeepHeadline T.turns }
+    ensures first { FirstBuildsKeepHeadline }
 {}

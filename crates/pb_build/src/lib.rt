@@ -15,8 +15,9 @@ pub use builder::{
 };
 pub use environment::Environment;
 pub use laws::{
-    any_build_gives, builds_look_at_sources, earlier_builds_change_nothing, records_stay_true,
-    same_build_starts_none, units_are_of_the_result, worlds_have_one_result,
+    any_build_gives, builds_keep_the_headline, builds_look_at_sources,
+    earlier_builds_change_nothing, records_stay_true, same_build_starts_none,
+    units_are_of_the_result, worlds_have_one_result,
 };
 pub use pb_answer::{BuildFault, Refusal, Summary, result_line};
 pub use pb_package::Options;
