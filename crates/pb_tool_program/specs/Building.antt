@@ -5,9 +5,9 @@ use Rattle.pb_place.specs.World.{Answers}
 use Rattle.pb_answer.specs.Explanation.{explanation, said_by_bad}
 use Rattle.pb_answer.specs.ResultLine.{result_line}
 use Rattle.pb_answer.specs.declared.fault.BuildFault.{BuildFault}
-use Rattle.pb_answer.specs.declared.fault.BuildFault.TheVariants.{OutOfMemory}
 use Rattle.pb_answer.specs.declared.summary.Summary.{Summary}
 use Rattle.pb_package.specs.declared.options.Options.{Options}
+use Rattle.pb_build.specs.AnyPlan.{BuildsOnFirst}
 use Rattle.pb_build.specs.Ending.{BuildsFirst, PlansFrom}
 use Rattle.pb_build.specs.declared.builder.BuildPlan.{BuildPlan}
 use Rattle.pb_turns.specs.Moments.{Heard, Moment}
@@ -31,12 +31,10 @@ notes_of (name ∷ names) = codes "note: " ++ name ++ codes " has no library\n" 
 abbrev pub error_of : Result Summary BuildFault → List ℕ
 error_of answer = codes "error: " ++ result_line answer ++ codes "\n"
 
--- what is told behind a build: nothing where all its units are good; else why it failed, or, where memory is refused for that, want of memory
-abbrev pub TellsWhy : ℕ → Result Summary BuildFault → Heard → Heard → Type 0
-TellsWhy zero answer old new = new ≡ old
-TellsWhy (suc status) answer old new = Tells (error_of answer) old new ⊎ Tells (error_of (Err OutOfMemory)) old new
+-- what is told where memory is refused for why a build failed, for notes, for reasons, or for what a child said
+abbrev pub why_lost : List ℕ
+why_lost = codes "error: out of memory for why the build failed\n"
 
--- what is told where memory is refused for notes, for reasons, or for what a child said
 abbrev pub notes_lost : List ℕ
 notes_lost = codes "note: out of memory for notes of packages without a library\n"
 
@@ -45,6 +43,11 @@ reasons_lost = codes "note: out of memory for the reasons\n"
 
 abbrev pub said_lost : List ℕ
 said_lost = codes "note: out of memory for what a child said\n"
+
+-- what is told behind a build: nothing where all its units are good; else why it failed, or that memory was refused for that
+abbrev pub TellsWhy : ℕ → Result Summary BuildFault → Heard → Heard → Type 0
+TellsWhy zero answer old new = new ≡ old
+TellsWhy (suc status) answer old new = Tells (error_of answer) old new ⊎ Tells why_lost old new
 
 -- where a build came to its end and it is asked for: why it started what it started, or that memory was refused for that; else nothing
 abbrev pub TellsReasons : Bool → Result Summary BuildFault → Heard → Heard → Type 0
@@ -76,7 +79,7 @@ abbrev pub folder_of : Result BuildPlan BuildFault → Option (List ℕ)
 folder_of (Ok plan) = Some plan.environment.target
 folder_of (Err fault) = None
 
--- A build was planned and carried out, and the place was asked for nothing else; its target folder was guarded once its packages without a library were noted, while the place's counters stood as the plan had left them: no child was started yet. What is written beside the output are the notes before it, that it waits, and what is told behind it.
+-- A build was planned, and that plan carried out, and the place was asked for nothing else; its target folder was guarded once its packages without a library were noted, while the place's counters stood as the plan had left them: no child was started yet. What is written beside the output are the notes before it, that it waits, and what is told behind it.
 pub record BuildsTold (tells : Bool) (child : Answers) (Guards : Option (List ℕ) → Counts → Heard → Heard → Type 0) (options : Options) (explain : Bool) (status : ℕ) (old new : Moment) (said_before said_after : Heard) : Type 0 where
   pub plan : Result BuildPlan BuildFault
   pub planned : Moment
@@ -86,5 +89,6 @@ pub record BuildsTold (tells : Bool) (child : Answers) (Guards : Option (List �
   pub held : Heard
   pub guards : Guards (folder_of plan) planned.counts noted held
   pub answer : Result Summary BuildFault
+  pub on : BuildsOnFirst tells child options plan answer planned new
   pub builds : BuildsFirst tells child options answer old new
   pub concluded : Concludes explain answer status held said_after

@@ -115,8 +115,8 @@ fn hold<P: Place, G: Guard<P, E>, E: Out>(
     }
 }
 
-/// Tells why a build failed, where its status says so. Where memory is refused for that, want of memory is told, which
-/// takes none.
+/// Tells why a build failed, where its status says so. Where memory is refused for that, so much is told, which takes
+/// none.
 fn tell<E: Out>(alloc: Global, err: &mut E, status: u8, answer: &Result<Summary, BuildFault>)
     ensures { TellsWhy status answer.now record { taken = E.taken err.old; faults = E.faults err.old } record { taken = E.taken err.new; faults = E.faults err.new } }
 {
@@ -125,7 +125,7 @@ fn tell<E: Out>(alloc: Global, err: &mut E, status: u8, answer: &Result<Summary,
     }
     match error_of(alloc, answer) {
         Ok(line) => write_all(err, line.as_bytes()),
-        Err(_) => write_all(err, b"error: fault memory OutOfMemory\n"),
+        Err(_) => write_all(err, b"error: out of memory for why the build failed\n"),
     };
 }
 

@@ -26,6 +26,7 @@ returns g c =
       held = record { taken = g.E.Out.taken c.hold.new.err; faults = g.E.Out.faults c.hold.new.err };
       guards = c.hold.ensures;
       answer = c.build_plan-answer.result;
+      on = c.build_plan-answer.ensures.on;
       builds = c.build_plan-answer.ensures.builds before plans;
       concluded = c.conclude.ensures;
     }
