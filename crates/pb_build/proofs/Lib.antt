@@ -20,3 +20,4 @@ pub mod SamePlan
 pub mod SameOutcomes
 pub mod Naming
 pub mod OneResult
+pub mod Flightless

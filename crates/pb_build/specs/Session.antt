@@ -52,13 +52,14 @@ ByPicked Last options = ByLast options
 abbrev pub set_anew : Moment → Moment
 set_anew m = record m { counts = one_setting m.counts }
 
--- a build: it kept the headline and added its answer; it was set once in all which calls are to fail, which the starts count, and none is to fail any more
+-- a build: it kept the headline and added its answer; where nothing was set to fail, and nothing had failed before, no call of it failed; it was set once in all which calls are to fail, which the starts count, and none is to fail any more
 pub record CarriesBuild (child : Answers) (options : Options) (pick : PickBy) (before after : Point) : Type 0 where
   pub answer : Answer
   pub ended : Moment
   pub picked : Picked child options pick answer.result before.moment ended
   pub kept : SourcesStay (environment_of options before.moment.world.variables).target before.moment.world ended.world
   pub headline : Headline true child (ByPicked pick options) options answer.result before.moment ended
+  pub unfailing : before.fuse ≡ 0 → before.deaths ≡ [] → before.moment.counts.failures ≡ 0 → ended.counts.failures ≡ 0
   pub behind : after.moment ≡ set_anew ended
   pub answers : after.answers ≡ before.answers ++ answer ∷ []
   pub fuse : after.fuse ≡ 0

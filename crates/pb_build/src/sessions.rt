@@ -1,13 +1,13 @@
 //! Sessions in memory: edits and builds, one after another.
 
-ghost use Rattle.std.specs.Prelude.{◌≡◌, List, [], true, IfOk, OnOk, OnErr};
+ghost use Rattle.std.specs.Prelude.{◌≡◌, List, [], true, false, IfOk, OnOk, OnErr};
 ghost use Rattle.pb_session.specs.declared.step.SessionStep.TheVariants.{Build};
 ghost use Rattle.pb_build.specs.declared.sessions.Answer as declared;
 ghost use Rattle.pb_build.specs.Environment.{environment_of};
 ghost use Rattle.pb_build.specs.Headline.{Headline};
 ghost use Rattle.pb_build.specs.Kept.{SourcesStay};
 ghost use Rattle.pb_build.specs.Session.{Picked, ByPicked, Carries, Course, Loses, Breaks, point};
-ghost use Rattle.pb_memory.specs.Memory.{counts_in};
+ghost use Rattle.pb_memory.specs.Memory.{counts_in, may_fail};
 ghost use Rattle.pb_memory.specs.Tallies.{one_setting};
 ghost use Rattle.pb_turns.specs.Moments.{moment};
 
@@ -15,7 +15,7 @@ use crate::builder::{build, build_with};
 use pb_answer::{BuildFault, Summary};
 use pb_data::Items;
 use pb_flight::Last;
-use pb_memory::Memory;
+use pb_memory::{Memory, Unfailing};
 use pb_package::Options;
 use pb_place::{Child, Out};
 use pb_session::{PickBy, SessionStep};
@@ -28,8 +28,55 @@ pub struct Answer {
     pub result: Result<Summary, BuildFault>,
 }
 
-/// Builds, and begins those units first that the session picks.
-fn built<C: Child, O: Out>(
+/// Builds over a place of which no call fails, and begins those units first that the session picks. None has failed then.
+fn built_unfailing<C: Child + Copy, O: Out>(
+    alloc: Global,
+    memory: &mut Memory<C>,
+    out: &mut O,
+    options: &Options,
+    pick: PickBy,
+) -> Result<Summary, BuildFault>
+    requires none { (counts_in memory.old).starts.flying ≡ [] }
+    requires quiet { may_fail memory.old ≡ false }
+    requires unfailed { (counts_in memory.old).failures ≡ 0 }
+    ensures picked { Picked C.answers options.now pick result
+        (moment memory.old.world (counts_in memory.old) memory.old.most (O.taken out.old) (O.faults out.old)) (moment memory.new.world (counts_in memory.new) memory.new.most (O.taken out.new) (O.faults out.new)) }
+    ensures headline { Headline true C.answers (ByPicked pick options.now) options.now result
+        (moment memory.old.world (counts_in memory.old) memory.old.most (O.taken out.old) (O.faults out.old)) (moment memory.new.world (counts_in memory.new) memory.new.most (O.taken out.new) (O.faults out.new)) }
+    ensures kept { SourcesStay (environment_of options.now memory.old.world.variables).target memory.old.world memory.new.world }
+    ensures landed { (counts_in memory.new).starts.flying ≡ [] }
+    ensures unfailed { (counts_in memory.new).failures ≡ 0 }
+{
+    let mut unfailing = Unfailing::new(memory.take(alloc));
+    let result = build_picked(alloc, &mut unfailing, out, options, pick);
+    *memory = unfailing.into_memory();
+    result
+}
+
+/// Builds over a place of which no call fails, and begins those units first that are picked.
+fn build_picked<C: Child, O: Out>(
+    alloc: Global,
+    unfailing: &mut Unfailing<C>,
+    out: &mut O,
+    options: &Options,
+    pick: PickBy,
+) -> Result<Summary, BuildFault>
+    requires none { (counts_in unfailing.old).starts.flying ≡ [] }
+    ensures picked { Picked C.answers options.now pick result
+        (moment unfailing.old.world (counts_in unfailing.old) unfailing.old.most (O.taken out.old) (O.faults out.old)) (moment unfailing.new.world (counts_in unfailing.new) unfailing.new.most (O.taken out.new) (O.faults out.new)) }
+    ensures headline { Headline true C.answers (ByPicked pick options.now) options.now result
+        (moment unfailing.old.world (counts_in unfailing.old) unfailing.old.most (O.taken out.old) (O.faults out.old)) (moment unfailing.new.world (counts_in unfailing.new) unfailing.new.most (O.taken out.new) (O.faults out.new)) }
+    ensures kept { SourcesStay (environment_of options.now unfailing.old.world.variables).target unfailing.old.world unfailing.new.world }
+    ensures landed { (counts_in unfailing.new).starts.flying ≡ [] }
+{
+    match pick {
+        PickBy::First => build(alloc, unfailing, out, options),
+        PickBy::Last => build_with(alloc, unfailing, out, options, Last {}),
+    }
+}
+
+/// Builds over a place of which calls may fail, and begins those units first that the session picks.
+fn built_anyhow<C: Child, O: Out>(
     alloc: Global,
     memory: &mut Memory<C>,
     out: &mut O,
@@ -50,8 +97,33 @@ fn built<C: Child, O: Out>(
     }
 }
 
+/// Builds, and begins those units first that the session picks. Where nothing is set to fail, and nothing has failed, no
+/// call fails.
+fn built<C: Child + Copy, O: Out>(
+    alloc: Global,
+    memory: &mut Memory<C>,
+    out: &mut O,
+    options: &Options,
+    pick: PickBy,
+) -> Result<Summary, BuildFault>
+    requires none { (counts_in memory.old).starts.flying ≡ [] }
+    ensures picked { Picked C.answers options.now pick result
+        (moment memory.old.world (counts_in memory.old) memory.old.most (O.taken out.old) (O.faults out.old)) (moment memory.new.world (counts_in memory.new) memory.new.most (O.taken out.new) (O.faults out.new)) }
+    ensures headline { Headline true C.answers (ByPicked pick options.now) options.now result
+        (moment memory.old.world (counts_in memory.old) memory.old.most (O.taken out.old) (O.faults out.old)) (moment memory.new.world (counts_in memory.new) memory.new.most (O.taken out.new) (O.faults out.new)) }
+    ensures kept { SourcesStay (environment_of options.now memory.old.world.variables).target memory.old.world memory.new.world }
+    ensures landed { (counts_in memory.new).starts.flying ≡ [] }
+    ensures unfailing { memory.old.fuse ≡ 0 → memory.old.deaths ≡ [] → (counts_in memory.old).failures ≡ 0 → (counts_in memory.new).failures ≡ 0 }
+{
+    if memory.is_unfailing() {
+        built_unfailing(alloc, memory, out, options, pick)
+    } else {
+        built_anyhow(alloc, memory, out, options, pick)
+    }
+}
+
 /// Builds, and adds the answer to those of the builds before it. A fuse that the build did not reach is gone then.
-fn add_build<C: Child, O: Out>(
+fn add_build<C: Child + Copy, O: Out>(
     alloc: Global,
     memory: &mut Memory<C>,
     out: &mut O,
@@ -71,7 +143,7 @@ fn add_build<C: Child, O: Out>(
 }
 
 /// Takes a step. A build adds its answer to those of the builds before it; another step has none.
-fn take_step<C: Child, O: Out>(
+fn take_step<C: Child + Copy, O: Out>(
     alloc: Global,
     memory: &mut Memory<C>,
     out: &mut O,
@@ -107,8 +179,9 @@ fn light<C: Child>(memory: &mut Memory<C>, number: u64) -> Result<(), AllocError
 /// to one sink. The one fault is want of memory outside a build; within one it is that build's answer. Where memory is
 /// refused at a step, those before it were taken; of a build its end stands, and nothing came of another step.
 ///
-/// Each build ends as `build` says, in the world that the steps before it have left, and its cause is told with it.
-pub fn session<C: Child, O: Out>(
+/// Each build ends as `build` says, in the world that the steps before it have left, and its cause is told with it. Where
+/// nothing was set to fail, and nothing has failed, no call of a build fails but for want of memory.
+pub fn session<C: Child + Copy, O: Out>(
     alloc: Global,
     memory: &mut Memory<C>,
     out: &mut O,

@@ -7,7 +7,9 @@ mod memory;
 mod seen;
 mod sight;
 mod tally;
+mod unfailing;
 
 pub use memory::Memory;
 pub use seen::Seen;
 pub use tally::Tally;
+pub use unfailing::Unfailing;

@@ -1,11 +1,11 @@
 //! A place of maps, for tests and sessions in memory: what it holds, and its own calls.
 
-ghost use Rattle.std.specs.Prelude.{◌≡◌, ◌≢◌, ◌++◌, ◌∷◌, [], IfOk, OnOk, OnErr};
+ghost use Rattle.std.specs.Prelude.{◌≡◌, ◌≢◌, ◌++◌, ◌∷◌, [], IsTrue, true, false, IfOk, OnOk, OnErr};
 ghost use Rattle.std.specs.FinMap as map;
 ghost use Rattle.pb_place.specs.World.{written, removed};
 ghost use Rattle.pb_place.specs.Children.{is_flying};
 ghost use Rattle.pb_memory.specs.InFlight.{children_in};
-ghost use Rattle.pb_memory.specs.Memory.{set, unset, no_held};
+ghost use Rattle.pb_memory.specs.Memory.{counts_in, may_fail, set, unset, no_held};
 ghost use Rattle.pb_memory.specs.Tallies.{one_setting};
 
 mod calls;
@@ -18,6 +18,7 @@ use pb_data::{Bytes, Text};
 use pb_place::{FileMap, PathText, StartFault, TextMap};
 use std::alloc::{AllocError, Global};
 use std::marker::Model;
+use std::mem;
 
 /// A place of maps over a child. Contracts see what it holds: its world and its counters.
 ///
@@ -110,6 +111,18 @@ impl<C> Memory<C> {
         flies(self.flying.as_slice(), ticket)
     }
 
+    /// Whether none of its calls can fail but for want of memory, and none has failed: the fuse is out, no death waits, and
+    /// no child is in flight. It is no call of the place and takes no memory.
+    pub fn is_unfailing(&self) -> bool
+        ensures quiet { IsTrue result → (may_fail self.now ≡ false) × ((counts_in self.now).failures ≡ 0) }
+        ensures told { self.now.fuse ≡ 0 → self.now.deaths ≡ [] → self.now.flying ≡ [] → (counts_in self.now).failures ≡ 0 → result ≡ true }
+    {
+        self.fuse == 0
+            && self.deaths.is_empty()
+            && self.flying.is_empty()
+            && self.tally.failures() == 0
+    }
+
     /// Lets the call of this number, from 1 on, fail; 0 lets none. It takes the place of what was set before, and stays
     /// until so many calls came. `spawn` and `finish` are calls, and `start` is both; `failures`, `starts`, `late` and
     /// `most` are none.
@@ -136,5 +149,16 @@ impl<C> Memory<C> {
         self.deaths.push(Death { key, kind })?;
         self.tally.set();
         Ok(())
+    }
+}
+
+impl<C: Copy> Memory<C> {
+    /// The place as it is. In its stead an empty one is left, over the same child.
+    pub fn take(&mut self, alloc: Global) -> Memory<C>
+        ensures taken { result ≡ self.old }
+        ensures left { self.new ≡ no_held }
+    {
+        let hollow = Memory::new(alloc, self.child);
+        mem::replace(self, hollow)
     }
 }

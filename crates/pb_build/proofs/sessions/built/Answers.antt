@@ -1,16 +1,12 @@
-use Rattle.std.proofs.Common.{true, sym, subst}
-use Rattle.pb_memory.specs.Memory.{counts_in}
-use Rattle.pb_session.specs.declared.pick.PickBy.{PickBy}
-use Rattle.pb_turns.specs.Moments.{moment}
-use Rattle.pb_build.specs.Headline.{Headline}
-use Rattle.pb_build.specs.Session.{ByPicked}
+use Rattle.std.proofs.Common.{◌≡◌, ◌∙◌, true, false, sym}
+use Rattle.pb_build.proofs.Flightless.{no_entries}
 use Rattle.pb_build.proofs.sessions.built.Goals as goal
 
-pub returns-in-Last-clause-headline : goal.returns-in-Last-clause-headline
-returns-in-Last-clause-headline g c =
-    let options = c.args.options.now in
-    let before = c.args.memory.now in
-    let after = c.build_with.new.place in
-    let old = moment before.world (counts_in before) before.most (g.O.Out.taken c.args.out.now) (g.O.Out.faults c.args.out.now) in
-    let new = moment after.world (counts_in after) after.most (g.O.Out.taken c.build_with.new.out) (g.O.Out.faults c.build_with.new.out) in
-    subst (λ (p : PickBy). Headline true g.C.Child.answers (ByPicked p options) options c.build_with.result old new) (sym c.in-Last.is) c.build_with.ensures.headline
+pub returns-then-is_unfailing-clause-unfailing : goal.returns-then-is_unfailing-clause-unfailing
+returns-then-is_unfailing-clause-unfailing g c = λ fuse deaths failures. c.built_unfailing.ensures.unfailed
+
+pub returns-else-is_unfailing-clause-unfailing : goal.returns-else-is_unfailing-clause-unfailing
+returns-else-is_unfailing-clause-unfailing g c = λ fuse deaths failures. absurd (clash (sym c.if-is_unfailing.false ∙ c.is_unfailing.ensures.told fuse deaths (no_entries _ c.requires.none) failures))
+  where
+    clash : false ≡ true → ⊥
+    clash e = cc

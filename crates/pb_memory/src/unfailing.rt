@@ -1,0 +1,130 @@
+//! A place in memory of which no call fails.
+
+use crate::memory::Memory;
+use pb_data::{Bytes, Items, Text};
+use pb_place::{Child, Command, Ended, PathText, Place, PlaceFault, StartFault};
+use std::alloc::Global;
+use std::marker::Model;
+
+/// A place in memory of which no call has failed, and none fails but for want of memory. What is built over it so ends
+/// without a failing call. Contracts see the place in memory.
+#[derive(Drop)]
+pub struct Unfailing<C> {
+    inside: Memory<C>,
+}
+
+impl<C> Model for Unfailing<C> {
+    ghost use Rattle.std.specs.Prelude.{◌≡◌, false};
+    ghost use Rattle.pb_memory.specs.Memory.{Held, counts_in, held_code, may_fail};
+
+    ghost Value = { Held };
+
+    ghost coded = { held_code };
+
+    ghost view = { λ u. u.inside };
+
+    ghost invariant = { λ u. (may_fail u.inside ≡ false) × ((counts_in u.inside).failures ≡ 0) };
+}
+
+impl<C> Unfailing<C> {
+    ghost use Rattle.std.specs.Prelude.{◌≡◌, false};
+    ghost use Rattle.pb_memory.specs.Memory.{counts_in, may_fail};
+
+    /// A place in memory where nothing is set to fail, and nothing has failed.
+    pub fn new(inside: Memory<C>) -> Unfailing<C>
+        requires quiet { may_fail inside ≡ false }
+        requires none { (counts_in inside).failures ≡ 0 }
+        ensures { result ≡ inside }
+    {
+        Unfailing { inside }
+    }
+
+    /// The place in memory itself.
+    pub fn into_memory(self) -> Memory<C>
+        ensures same { result ≡ self }
+        ensures quiet { may_fail result ≡ false }
+        ensures none { (counts_in result).failures ≡ 0 }
+    {
+        self.inside
+    }
+}
+
+impl<C: Child> Place for Unfailing<C> {
+    ghost use Rattle.std.specs.Prelude.{true};
+    ghost use Rattle.pb_memory.specs.Memory.{counts_in};
+
+    ghost tells = { true };
+
+    ghost world = { λ u. u.world };
+
+    ghost child = { C.answers };
+
+    ghost counts = { counts_in };
+
+    ghost most = { λ u. u.most };
+
+    ghost still = { λ _ _. Unit {0} };
+
+    ghost fails = { λ _. ⊥ };
+
+    fn read(&mut self, alloc: Global, path: &PathText) -> Result<Option<Bytes>, PlaceFault> {
+        self.inside.read(alloc, path)
+    }
+
+    fn list(&mut self, alloc: Global, folder: &PathText) -> Result<Items<PathText>, PlaceFault> {
+        self.inside.list(alloc, folder)
+    }
+
+    fn list_outside(
+        &mut self,
+        alloc: Global,
+        folder: &PathText,
+        left_out: &PathText,
+    ) -> Result<Items<PathText>, PlaceFault> {
+        self.inside.list_outside(alloc, folder, left_out)
+    }
+
+    fn list_directly(
+        &mut self,
+        alloc: Global,
+        folder: &PathText,
+    ) -> Result<Items<PathText>, PlaceFault> {
+        self.inside.list_directly(alloc, folder)
+    }
+
+    fn write(&mut self, alloc: Global, path: &PathText, bytes: &[u8]) -> Result<(), PlaceFault> {
+        self.inside.write(alloc, path, bytes)
+    }
+
+    fn remove_tree(&mut self, alloc: Global, path: &PathText) -> Result<(), PlaceFault> {
+        self.inside.remove_tree(alloc, path)
+    }
+
+    fn variable(&mut self, alloc: Global, name: &str) -> Result<Option<Text>, PlaceFault> {
+        self.inside.variable(alloc, name)
+    }
+
+    fn spawn(&mut self, alloc: Global, command: &Command) -> Result<u64, StartFault> {
+        self.inside.spawn(alloc, command)
+    }
+
+    fn finish(&mut self, alloc: Global, ticket: u64) -> Result<Ended, StartFault> {
+        self.inside.finish(alloc, ticket)
+    }
+
+    fn failures(&self) -> u64 {
+        self.inside.failures()
+    }
+
+    fn starts(&self) -> u64 {
+        self.inside.starts()
+    }
+
+    fn late(&self) -> u64 {
+        self.inside.late()
+    }
+
+    fn most(&self) -> u64 {
+        self.inside.most()
+    }
+}
