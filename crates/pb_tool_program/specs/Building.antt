@@ -11,6 +11,7 @@ use Rattle.pb_build.specs.AnyPlan.{BuildsOnFirst}
 use Rattle.pb_build.specs.Ending.{BuildsFirst, PlansFrom}
 use Rattle.pb_build.specs.declared.builder.BuildPlan.{BuildPlan}
 use Rattle.pb_turns.specs.Moments.{Heard, Moment}
+use Rattle.pb_tool_program.specs.Details.{detail}
 use Rattle.pb_tool_program.specs.Writing.{Tells, TellsOr}
 
 abbrev pub success_status : Bool → ℕ
@@ -31,7 +32,7 @@ notes_of (name ∷ names) = codes "note: " ++ name ++ codes " has no library\n" 
 abbrev pub error_of : Result Summary BuildFault → List ℕ
 error_of answer = codes "error: " ++ result_line answer ++ codes "\n"
 
--- what is told where memory is refused for why a build failed, for notes, for reasons, or for what a child said
+-- what is told where memory is refused for why a build failed, for notes, for reasons, for what a child said, or for what a fault is about
 abbrev pub why_lost : List ℕ
 why_lost = codes "error: out of memory for why the build failed\n"
 
@@ -43,6 +44,9 @@ reasons_lost = codes "note: out of memory for the reasons\n"
 
 abbrev pub said_lost : List ℕ
 said_lost = codes "note: out of memory for what a child said\n"
+
+abbrev pub detail_lost : List ℕ
+detail_lost = codes "note: out of memory for what the fault is about\n"
 
 -- what is told behind a build: nothing where all its units are good; else why it failed, or that memory was refused for that
 abbrev pub TellsWhy : ℕ → Result Summary BuildFault → Heard → Heard → Type 0
@@ -60,14 +64,20 @@ abbrev pub TellsSaid : Result Summary BuildFault → Heard → Heard → Type 0
 TellsSaid (Err fault) old new = new ≡ old
 TellsSaid (Ok summary) old new = TellsOr said_lost (said_by_bad summary.bad summary.said) old new
 
--- what a build that gave this ends with: its status; and beside the output why children were started, where that is asked for, what a failing child said, and why the build failed
+-- what the fault of a build is about, or that memory was refused for that; where there is none, or it has nothing but its name, nothing
+abbrev pub TellsDetail : Result Summary BuildFault → Heard → Heard → Type 0
+TellsDetail answer old new = TellsOr detail_lost (detail answer) old new
+
+-- what a build that gave this ends with: its status; and beside the output why children were started, where that is asked for, what a failing child said, what the fault is about, and why the build failed
 pub record Concludes (explain : Bool) (answer : Result Summary BuildFault) (status : ℕ) (old new : Heard) : Type 0 where
   pub told : status ≡ status_of answer
   pub explained : Heard
   pub reasons : TellsReasons explain answer old explained
   pub repeated : Heard
   pub said : TellsSaid answer explained repeated
-  pub reason : TellsWhy status answer repeated new
+  pub detailed : Heard
+  pub detail : TellsDetail answer repeated detailed
+  pub reason : TellsWhy status answer detailed new
 
 -- what is written before a build: notes of the packages that its plan names, or that memory was refused for them; nothing where it names none, or there is no plan
 abbrev pub NotesOf : Result BuildPlan BuildFault → Heard → Heard → Type 0

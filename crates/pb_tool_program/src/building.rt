@@ -7,10 +7,11 @@ ghost use Rattle.pb_turns.specs.Moments.{Moment, moment};
 ghost use Rattle.pb_answer.specs.ResultLine.{result_line};
 ghost use Rattle.pb_answer.specs.declared.fault.BuildFault.{BuildFault};
 ghost use Rattle.pb_answer.specs.declared.summary.Summary.{Summary};
-ghost use Rattle.pb_tool_program.specs.Building.{status_of, notes_of, error_of, folder_of, NotesOf, TellsReasons, TellsSaid, TellsWhy, Concludes, BuildsTold};
+ghost use Rattle.pb_tool_program.specs.Building.{status_of, notes_of, error_of, folder_of, NotesOf, TellsDetail, TellsReasons, TellsSaid, TellsWhy, Concludes, BuildsTold};
 ghost use Rattle.pb_tool_program.specs.Guarding.{Guarded, waiting};
 ghost use Rattle.pb_tool_program.specs.Writing.{Tells};
 
+use crate::details::detail;
 use crate::guard::Guard;
 use pb_answer::{BuildFault, Summary, explanation, result_line, said};
 use pb_build::{BuildPlan, build_plan, plan_build};
@@ -170,6 +171,18 @@ fn repeat_to<E: Out>(alloc: Global, err: &mut E, answer: &Result<Summary, BuildF
     };
 }
 
+/// Tells what the fault of a build is about, where it says more than its name. Where memory is refused for that, so much
+/// is told, which takes none.
+fn tell_detail<E: Out>(alloc: Global, err: &mut E, answer: &Result<Summary, BuildFault>)
+    ensures { TellsDetail answer.now record { taken = E.taken err.old; faults = E.faults err.old } record { taken = E.taken err.new; faults = E.faults err.new } }
+{
+    match detail(alloc, answer) {
+        Ok(about) if about.is_empty() => true,
+        Ok(about) => write_all(err, about.as_bytes()),
+        Err(_) => write_all(err, b"note: out of memory for what the fault is about\n"),
+    };
+}
+
 /// Tells what there is to tell behind a build, and gives its status.
 fn conclude<E: Out>(
     alloc: Global,
@@ -181,6 +194,7 @@ fn conclude<E: Out>(
 {
     explain_to(alloc, err, explain, answer);
     repeat_to(alloc, err, answer);
+    tell_detail(alloc, err, answer);
     let status = status_of(answer);
     tell(alloc, err, status, answer);
     status
@@ -189,8 +203,8 @@ fn conclude<E: Out>(
 /// Builds, and gives the status: 0 for success, 101 for a build that failed or was refused, with `error: ` and its
 /// result line on `err`. Message lines go to `out` in plan order, as they are due. Before the build a line `note: NAME has no library`
 /// goes to `err` for each package to which an enabled dependency leads and that has no library; behind it, where that
-/// is asked for, why each child was started; and what the child of a bad unit wrote that no message line holds. Between
-/// the plan and the compiler's query the guard is asked for the target folder; where another build has it, a line on
+/// is asked for, why each child was started; what the child of a bad unit wrote that no message line holds; and what
+/// the fault is about, as the path of a manifest, where it says more than its name. Between the plan and the compiler's query the guard is asked for the target folder; where another build has it, a line on
 /// `err` says so, and this one waits.
 pub fn build_options<P: Place, G: Guard<P, E>, O: Out, E: Out>(
     alloc: Global,

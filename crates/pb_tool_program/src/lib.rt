@@ -3,6 +3,7 @@
 #![tactic(auto)]
 
 mod building;
+mod details;
 mod folder_lock;
 mod guard;
 mod machine;
