@@ -84,6 +84,9 @@ def made_up(dice):
                 overrides[of] = {"opt-level": dice.choice(["0", "1", "2"])} | ({"debug": "true"} if chance(dice, 0.3) else {})
         profiles[profile] = (keys, overrides)
     root = names[-1] if chance(dice, 0.3) and not packages[names[-1]]["outside"] else None
+    # (below the root package lie the others, which are inputs of a script that names none for pb_tool alone)
+    if root and packages[root]["script"] == "nothing":
+        packages[root]["script"] = "changed"
     return {"packages": packages, "profiles": profiles, "root": root, "defaults": [it for it in names if chance(dice, 0.5) and not packages[it]["outside"]] if chance(dice, 0.3) else []}
 
 
@@ -244,10 +247,14 @@ def built(words, top, target, said, is_cargo):
     for line in ran.stdout.split("\n"):
         it = json.loads(line) if line.startswith("{") else {"reason": ""}
         if it["reason"] == "compiler-artifact":
-            profile = {key: it["profile"][key] for key in ("opt_level", "debuginfo", "debug_assertions", "overflow_checks")}
-            what = json.dumps([it["package_id"], it["target"]["kind"], it["target"]["name"], it["target"]["crate_types"], it["target"]["edition"], it["target"].get("required-features", []), sorted(it["features"]), profile, it["executable"] is not None])
-            artifacts[what] += 1
-            fresh[what] += it["fresh"]
+            # (what is told of debug information on the host's side goes by `--target` with cargo: `rustc.sh` compares that)
+            is_host = it["target"]["kind"] == ["custom-build"] or (f"/{HOST}/" not in it["filenames"][0] if is_cargo else ".host." in it["filenames"][0])
+            profile = {key: it["profile"][key] for key in ("opt_level", "debuginfo", "debug_assertions", "overflow_checks") if not (is_host and key == "debuginfo")}
+            what = json.dumps([it["package_id"], it["target"]["kind"], it["target"]["name"], it["target"]["crate_types"], it["target"]["edition"], it["target"].get("required-features", []), sorted(it["features"]), profile, it["executable"] is not None, "host" if is_host else "target"])
+            # (a build script is compiled for each side by pb_tool, and once by cargo where that comes to the same)
+            is_told = it["target"]["kind"] == ["custom-build"] and what in artifacts
+            artifacts[what] += not is_told
+            fresh[what] += it["fresh"] and not is_told
         elif it["reason"] == "build-script-executed":
             scripts[json.dumps([it["package_id"], it["linked_libs"], it["linked_paths"], it["cfgs"], it["env"]])] += 1
     return Built(ran.returncode, artifacts, fresh, scripts, ran.stderr[-1500:])
