@@ -1,6 +1,6 @@
 #!/usr/bin/env python3
 """Tries the wrong bodies of `bench/edits/CRATE/`: see `edits.sh`, which calls this."""
-import datetime, glob, os, re, shutil, subprocess, sys, tempfile
+import datetime, glob, hashlib, os, re, shutil, subprocess, sys, tempfile
 
 TOP = os.path.dirname(os.path.dirname(os.path.abspath(__file__)))
 HEAD = """# When the wrong bodies outside the gate were last tried
@@ -12,6 +12,10 @@ HEAD = """# When the wrong bodies outside the gate were last tried
 """
 # As many processors for one check as `RT_JOBS` says.
 JOBS = ["--jobs", os.environ["RT_JOBS"]] if os.environ.get("RT_JOBS") else []
+# Outputs of earlier runs: what they tell as refused, over the same text, is not tried again.
+TRIED = os.environ.get("TRIED", "").split()
+# Which edits are tried, as 2/3 is every third from the second on; the others count as not tried, and no row is written.
+PART = [int(it) for it in os.environ["PART"].split("/")] if os.environ.get("PART") else None
 # What a proof file says that names what an edit took away: that alone says little of a contract.
 NAMES = re.compile(r"(note: )?(\./)?proofs/.*(has no field|is not in scope|has no `|was not admitted)")
 
@@ -27,6 +31,40 @@ def write(path, text):
         os.unlink(path)
     with open(path, "w", encoding="utf-8") as it:
         it.write(text)
+
+
+def below(crate):
+    """A crate and those of the repository that it stands on."""
+    lines = dict(it.split(":", 1) for it in read(f"{TOP}/crates.txt").split("\n") if ":" in it and not it.startswith("#"))
+    found, left = set(), [crate]
+    while left:
+        name = left.pop()
+        if name in lines and name not in found:
+            found.add(name)
+            left += lines[name].split()
+    return sorted(found)
+
+
+def text_of(crate):
+    """All that the prover's answers about a crate hang on but its toolchain: code, definitions and proofs, of the crates below too."""
+    files = [it for name in below(crate) for part in ("src", "specs", "proofs") for it in glob.glob(f"{TOP}/crates/{name}/{part}/**", recursive=True) if os.path.isfile(it)]
+    return "".join(f"{os.path.relpath(it, TOP)}\n{read(it)}\n" for it in sorted(files))
+
+
+def digest(text, edit):
+    """What tells an edit over a text from any other."""
+    return hashlib.sha256((text + edit.name + read(edit.path)).encode()).hexdigest()[:12]
+
+
+def told_before(crate, marks):
+    """What earlier runs told as refused over the same text, with their words."""
+    found = {}
+    for path in TRIED:
+        for line in read(path).split("\n"):
+            it = re.match(rf"{crate}/(\S+\.edit): (refused, as it must be.*) \((\w{{12}})\)$", line)
+            if it and marks.get(it[1]) == it[3]:
+                found[it[1]] = it[2]
+    return found
 
 
 def owner(line):
@@ -191,8 +229,13 @@ def copied(folder, to):
 
 def tried(crate, work):
     """Tries the edits of a crate, prints a line for each, and returns how many there are and which were not refused."""
-    edits, refused = edits_of(crate), {}
-    alone, left = [it for it in edits if it.inside is None], [it for it in edits if it.inside is not None]
+    edits, text = edits_of(crate), text_of(crate)
+    marks = {it.name: digest(text, it) for it in edits}
+    refused = told_before(crate, marks)
+    for name, words in refused.items():
+        print(f"{crate}/{name}: {words} ({marks[name]})", flush=True)
+    wanted = [it for at, it in enumerate(edits) if it.name not in refused and (PART is None or at % PART[1] == PART[0] - 1)]
+    alone, left = [it for it in wanted if it.inside is None], [it for it in wanted if it.inside is not None]
     while left:
         # (a function that calls one which is refused is judged in the next round, without that one)
         waiting = []
@@ -202,7 +245,7 @@ def tried(crate, work):
                 words = answers.get(edit.name)
                 if words:
                     refused[edit.name] = words
-                    print(f"{crate}/{edit.name}: refused, as it must be: {words[:160]}", flush=True)
+                    print(f"{crate}/{edit.name}: refused, as it must be: {words[:160]} ({marks[edit.name]})", flush=True)
                 elif words == "" and len(batch) > 1:
                     waiting.append(edit)
                 else:
@@ -212,7 +255,7 @@ def tried(crate, work):
         left = waiting
     if alone:
         for name, (is_refused, words) in tried_alone(crate, alone, work).items():
-            print(f"{crate}/{name}: {words[:260]}", flush=True)
+            print(f"{crate}/{name}: {words[:260]}{f' ({marks[name]})' if is_refused else ''}", flush=True)
             if is_refused:
                 refused[name] = words
     return len(edits), [it.name for it in edits if it.name not in refused]
@@ -274,7 +317,8 @@ def main():
                 count, left = tried(crate, work)
                 # The crates above stand on it as it is.
                 afresh(crate, work)
-                noted(crate, count, left)
+                if PART is None:
+                    noted(crate, count, left)
                 wrong += [crate] if left else []
     print(f"\nnot all were refused: {' '.join(wrong)}" if wrong else "\nall were refused")
     sys.exit(1 if wrong else 0)

@@ -6,6 +6,11 @@
 # which not all were refused, or says that there are none, and then the status is 0, else 1. `TRY` may hold a command to
 # put before `rt`, as one that waits for its turn, and `RT_JOBS` the number of processors.
 #
+# A run that was stopped goes on with `TRIED=FILE`, the output that it left: what this tells as refused, over the same
+# text, is not tried again. So the edits of a crate can be tried in parts beside each other, each in a checkout of its
+# own: `PART=2/3` tries every third from the second on and writes no row; a last run with `TRIED="FILE FILE .."` of all
+# parts writes it.
+#
 # Edits of bodies are tried together, as many as change no function twice: each function is proved by its own body and
 # by the contracts of what it calls, and the prover says of each function whether it is proved; an edit counts as refused
 # where it says so of the function that the edit changes, for another reason than that a function which it calls is not
