@@ -154,7 +154,9 @@ def own_words(crate, said, place):
     file, name = place
     last = name.split("::")[-1]
     module = "::".join([crate, *[it for it in file[len("src/") : -len(".rt")].split("/") if it != "lib"]])
-    its = [it for it in said if re.match(rf"fn {module}::(?:{name}|fn::{last}::\S+): ", it)]
+    # (a method bears the name of its type, wherever that stands)
+    whole = rf"{crate}::(?:\w+::)*{name}" if "::" in name else f"{module}::{name}"
+    its = [it for it in said if re.match(rf"fn (?:{whole}|{module}::fn::{last}::\S+): ", it)]
     # (a body that the prover's borrow checker does not cover is judged by no clause)
     verdict = next((it for it in its if re.search(r": (?:not proved|no proof: (?!it calls|it passes))", it) and "does not cover" not in it), None)
     if verdict is None:
