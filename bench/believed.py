@@ -14,7 +14,7 @@ LAWS = """
 --but=pb_workspace.Loaded.workspace_of=WorkspacesAreRead,WorkspacesAreOne
 --but=pb_workspace.Globs.matches=DecidesGlobs
 --but=pb_command.Command.command_of=CompilesOfPlans,RunsOfPlans
---but=pb_command.Answers.answered_of=AnswersSay
+--but=pb_judging.Answers.answered_of=AnswersSay
 --but=pb_command.Judge.judge=InputsAreJudged
 --but=pb_directive.Directives.line_directives=LinesSay
 --but=pb_directive.DepInfo.line_info=InfosSay
@@ -41,10 +41,10 @@ LAWS = """
 --but=pb_store.Asking.IsFirstName=FirstNameIsLeast
 --but=pb_turns.Rows.summary_of=SummariesSay
 --but=pb_build.Headline.ByFirst=BuildsGoInTurn
---but=pb_run.Telling.unit_lines=LinesAreTold
---but=pb_run.Telling.good_messages=GoodUnitsTell
---but=pb_run.Telling.bad_messages=BadUnitsTell
---but=pb_run.Telling.said_by=BadUnitsTell
+--but=pb_unit_messages.Telling.unit_lines=LinesAreTold
+--but=pb_unit_messages.Telling.good_messages=GoodUnitsTell
+--but=pb_unit_messages.Telling.bad_messages=BadUnitsTell
+--but=pb_unit_messages.Telling.said_by=BadUnitsTell
 --but=pb_run.Outcome.outcomes=OutcomesAreThese
 --but=pb_profile.Settings.settings_along=SettingsAreThese
 --but=pb_feature.Faults.package_fault=PackagesAreAtFault
@@ -60,7 +60,7 @@ LAWS = """
 --but=pb_unit.Plan.level_at=LevelsAreThese
 --but=pb_directive.Directives.directives_of=OutputsAreRead
 --but=pb_directive.DepInfo.dep_info_of=InfosAreRead
---but=pb_command.Pairs.triple_of=HostsComeFirst
+--but=pb_variables.Pairs.triple_of=HostsComeFirst
 --but=pb_build.Environment.environment_of=EnvironmentsAreThese
 --but=pb_build.Result.toolchain_of=ToolchainsAreSaid
 --but=pb_flight.Table.is_untouched=StatesAreThese
@@ -72,7 +72,7 @@ LAWS = """
 --but=pb_place.CallsInTurn.own_fault=CallsAreTold
 --but=pb_place.Counts.name_given=CallsAreTold
 --but=pb_place.Counts.named_in=CallsAreTold
---but=pb_workspace.Between.text_between=TextsLeadBetween
+--but=pb_draft.Between.text_between=TextsLeadBetween
 --but=pb_workspace.MemberFolders.folders_meant=TextsMeanFolders
 --but=pb_workspace.Members.parts_match=PartsMatchNames
 --but=pb_store.Opening.next_in=NextIsAbove

@@ -11,7 +11,7 @@
 # to grow as the words, and of an answer as the files, and no faster than these times the units that are reached, 1,442.
 # What is measured and how is said in `measured.sh`.
 set -euo pipefail
-crates="pb_closure pb_command pb_data pb_directive pb_resolved pb_feature pb_manifest pb_manifest_reader pb_memory pb_order pb_package pb_place pb_profile pb_project pb_record pb_unit pb_workspace"
+crates="pb_closure pb_command pb_data pb_directive pb_draft pb_judging pb_resolved pb_feature pb_manifest pb_manifest_reader pb_memory pb_order pb_package pb_place pb_profile pb_project pb_record pb_unit pb_variables pb_words pb_workspace"
 uses="pb_command pb_data pb_directive pb_feature pb_memory pb_package pb_place pb_project pb_unit pb_workspace"
 . "$(dirname "$0")/measured.sh"
 program <<'PROGRAM'

@@ -4,11 +4,13 @@ on two and on four processors, in the table's minutes. It models how `rt ci` han
 crate, which are its proof, its tests and its edits; a proof and tests wait for the proofs of all crates below, edits for
 their own crate's; the task with the most lines of code waiting behind it comes first; each has one job.
 
-    python3 bench/gate.py [FACTOR]
+    python3 bench/gate.py [FACTOR] [--stood COMMIT]
 
-FACTOR is how much slower a machine is than the table's: the time of `pb_data`'s own proof there, divided by the table's."""
+FACTOR is how much slower a machine is than the table's: the time of `pb_data`'s own proof there, divided by the table's.
+With `--stood` each row counts by the share of its functions, or of its wrong bodies, that stood at that commit under the
+same name, in whatever crate, and tests by how many there were: what the gate takes for what was there then."""
 
-import os, re, sys
+import collections, os, re, subprocess, sys
 
 TOP = os.path.dirname(os.path.dirname(os.path.abspath(__file__)))
 
@@ -55,15 +57,42 @@ def all_below(name, below, known):
     return known[name]
 
 
-def tasks():
+def names(commit):
+    """Of each crate at a commit the names of its functions and of the wrong bodies that the gate tries, as pairs of a kind and a name."""
+    told = lambda *words: subprocess.run(["git", "-C", TOP, *words], capture_output=True, text=True, check=False).stdout.split("\n")
+    found = collections.defaultdict(list)
+    for line in told("grep", "-o", "-E", r"^ *(pub(\([a-z ]+\))? )?(const )?fn [a-z_0-9]+", commit, "--", "crates/*.rt"):
+        it = re.match(r"[^:]*:crates/(\w+)/src/\S*:.*fn (\w+)$", line)
+        if it:
+            found[it[1]].append(("tests" if it[1].startswith("pb_checks_") else "proof", it[2]))
+    for line in told("ls-tree", "-r", "--name-only", commit, "crates"):
+        it = re.match(r"crates/(\w+)/must-fail/(\S+)\.edit$", line)
+        if it:
+            found[it[1]].append(("edits", it[2]))
+    return found
+
+
+def shares(commit):
+    """Which share of each crate's functions and wrong bodies stood at a commit; of tests, whose names change as they are put together, how many there were of all."""
+    before, now = names(commit), names("HEAD")
+    then = {it for of_crate in before.values() for it in of_crate}
+    every = {(crate, part): [it in then for it in of_crate if it[0] == part] for crate, of_crate in now.items() for part in ("proof", "edits")}
+    tests = [sum(part == "tests" for of_crate in at.values() for part, _ in of_crate) for at in (before, now)]
+    return {**{key: sum(stood) / len(stood) for key, stood in every.items() if stood}, **{(crate, "tests"): min(1.0, tests[0] / tests[1]) for crate in now}}
+
+
+def tasks(stood=None):
     """What each task waits for, and its weight and its minutes; lower crates first."""
     below, table, known, made = crates(), minutes(), {}, {}
+    share = shares(stood) if stood else {}
     missing = sorted(set(below) ^ set(table))
     if missing:
         sys.exit(f"in `crates.txt` or in the table of `docs/GATE.md` alone: {', '.join(missing)}")
     for name in sorted(below, key=lambda it: len(all_below(it, below, known))):
         proof, tests, edits = table[name]
         weight, lower = lines(name), [(it, "proof") for it in known[name]]
+        if stood:
+            proof, tests, edits = (share.get((name, part), 0.0) * time for part, time in (("proof", proof), ("tests", tests), ("edits", edits)))
         made[name, "proof"] = lower, weight, proof
         if tests:
             made[name, "tests"] = lower, weight, tests
@@ -100,8 +129,10 @@ def clock(made, lanes):
 
 
 def main():
-    factor = float(sys.argv[1]) if len(sys.argv) > 1 else 1.0
-    made = tasks()
+    words = sys.argv[1:]
+    stood = words.pop(words.index("--stood") + 1) if "--stood" in words else None
+    factor = next((float(it) for it in words if it != "--stood"), 1.0)
+    made = tasks(stood)
     parts = {part: sum(time for (_, it), (_, _, time) in made.items() if it == part) for part in ("proof", "tests", "edits")}
     long, names = chain(made)
     print(f"proofs {parts['proof']:.1f}, tests {parts['tests']:.1f}, edits {parts['edits']:.1f}: {sum(parts.values()):.1f} processor minutes")
@@ -110,4 +141,5 @@ def main():
         print(f"on {lanes} processors {factor * clock(made, lanes):.1f} minutes of the clock")
 
 
-main()
+if __name__ == "__main__":
+    main()

@@ -8,7 +8,7 @@
 # Prints a line a size with how many places the plan keeps, of what each unit needs and reaches: time and memory are to
 # grow no faster than these. What is measured and how is said in `measured.sh`.
 set -euo pipefail
-crates="pb_closure pb_data pb_resolved pb_feature pb_manifest pb_manifest_reader pb_order pb_package pb_memory pb_place pb_profile pb_unit pb_workspace"
+crates="pb_closure pb_data pb_draft pb_resolved pb_feature pb_manifest pb_manifest_reader pb_order pb_package pb_memory pb_place pb_profile pb_unit pb_workspace"
 uses="pb_data pb_feature pb_package pb_memory pb_place pb_unit pb_workspace"
 . "$(dirname "$0")/measured.sh"
 program <<'PROGRAM'

@@ -9,7 +9,7 @@
 #
 # Prints a line a size, and the exponents. What is measured and how is said in `measured.sh`.
 set -euo pipefail
-crates="pb_closure pb_data pb_manifest pb_manifest_reader pb_package pb_memory pb_place pb_workspace"
+crates="pb_closure pb_data pb_draft pb_manifest pb_manifest_reader pb_package pb_memory pb_place pb_workspace"
 uses="pb_data pb_manifest_reader pb_memory pb_place pb_workspace"
 . "$(dirname "$0")/measured.sh"
 program <<'PROGRAM'

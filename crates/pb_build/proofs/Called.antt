@@ -21,8 +21,8 @@ use Rattle.pb_run.specs.Launching.{SpawnEnds}
 use Rattle.pb_run.specs.Standing.{records_folder}
 use Rattle.pb_run.proofs.Calling.{memory_last, stops_first, stops_then}
 use Rattle.pb_store.specs.Looking.{opened_looked}
-use Rattle.pb_workspace.specs.Causes.{is_failure, is_outside}
-use Rattle.pb_workspace.specs.LookedAt.{FailsOn}
+use Rattle.pb_draft.specs.Causes.{is_failure, is_outside}
+use Rattle.pb_draft.specs.Looks.{FailsOn}
 
 -- a fault at a variable, and behind all of them
 abbrev RUSTC : Call

@@ -8,7 +8,7 @@ use Rattle.std.specs.Prelude.{AllPairs, Contains}
 use Rattle.std.specs.List.{AllByRecursion, list_any}
 use Rattle.std.proofs.lemmas.List.{take-append-drop}
 use Rattle.std.proofs.lemmas.Slice.Eq.{bytes_eq-Decides}
-use Rattle.pb_command.specs.Externs.{folder_in, read_at, reads_of}
+use Rattle.pb_words.specs.Externs.{folder_in, read_at, reads_of}
 use Rattle.pb_flight.proofs.Lists.{contains_none, contains_head, contains_cases}
 use Rattle.pb_package.specs.Settled.{IsSettled}
 use Rattle.pb_run.proofs.Recorded.{flat_at, flat_of}

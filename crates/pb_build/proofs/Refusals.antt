@@ -10,7 +10,7 @@ use Rattle.pb_answer.specs.declared.fault.Refusal.{Refusal}
 use Rattle.pb_answer.specs.declared.fault.Refusal.TheVariants as refusal
 use Rattle.pb_unit.specs.Plan as plan
 use Rattle.pb_unit.specs.declared.fault.PlanFault.{PlanFault}
-use Rattle.pb_workspace.specs.Causes.{is_outside}
+use Rattle.pb_draft.specs.Causes.{is_outside}
 use Rattle.pb_workspace.specs.Loaded.{workspace_of}
 use Rattle.pb_workspace.specs.Selected.{selected}
 use Rattle.pb_package.specs.declared.fault.LoadFault.{LoadFault}

@@ -4,7 +4,7 @@ use Rattle.std.specs.List.{list_any, starts_with}
 use Rattle.pb_directive.specs.Lines.{lines_of, text_of}
 use Rattle.pb_place.specs.World.{World, Answers, from_nothing}
 use Rattle.pb_place.specs.declared.command.Ended.{Ended}
-use Rattle.pb_command.specs.Answers.{ended_fault}
+use Rattle.pb_judging.specs.Answers.{ended_fault}
 use Rattle.pb_command.specs.Command.{query_of}
 use Rattle.pb_project.specs.declared.project.Project.{Project}
 use Rattle.pb_project.specs.declared.project.Setup.{Setup}

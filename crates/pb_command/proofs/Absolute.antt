@@ -12,7 +12,7 @@ use Rattle.pb_package.specs.declared.package.Package.{Package}
 use Rattle.pb_project.specs.declared.project.Project.{Project}
 use Rattle.pb_project.specs.declared.project.Setup.{Setup}
 use Rattle.pb_command.specs.Command.{command_by, command_for}
-use Rattle.pb_command.specs.Externs.{folder_in, read_at}
+use Rattle.pb_words.specs.Externs.{folder_in, read_at}
 use Rattle.pb_command.specs.Laws.{HasPaths, IsAbsolute, CommandsAreAbsolute}
 use Rattle.pb_project.specs.Targets.{package_of, unit_at}
 

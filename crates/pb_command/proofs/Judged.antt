@@ -15,9 +15,9 @@ use Rattle.pb_unit.specs.declared.unit.What.TheVariants.{Lib, Bin, Script, Run}
 use Rattle.pb_project.specs.Targets.{package_of, package_folder, dep_info_of, dep_info_by, crate_name_of, folder_of}
 use Rattle.pb_project.specs.declared.project.Project.{Project}
 use Rattle.pb_project.specs.declared.project.Setup.{Setup}
-use Rattle.pb_command.specs.Answers.{compile_answered, run_answered, unless_fault, ended_fault, answered_by, answered_of}
+use Rattle.pb_judging.specs.Answers.{compile_answered, run_answered, unless_fault, ended_fault, answered_by, answered_of}
 use Rattle.pb_command.specs.Command.{command_for, command_by, compile_of, run_of}
-use Rattle.pb_command.specs.Words.{name_words, option}
+use Rattle.pb_words.specs.Words.{name_words, option}
 use Rattle.pb_command.specs.Judge.{ended_by, replied_files, file_at, is_of_run, crate_in, inputs_if, judge, JudgesAsAnswered}
 
 run_or_not : (out : List ℕ) (word : List ℕ) (b : Bool) → last_word out ≡ word → bytes_eq word (codes "run") ≡ b → is_of_run out ≡ b

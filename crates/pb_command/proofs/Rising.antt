@@ -22,9 +22,9 @@ use Rattle.pb_package.specs.declared.package.Package.{Package}
 use Rattle.pb_project.specs.declared.project.Project.{Project}
 use Rattle.pb_project.specs.declared.project.Setup.{Setup}
 use Rattle.pb_command.specs.Command.{command_by, command_for}
-use Rattle.pb_command.specs.Externs.{all_set, in_order}
+use Rattle.pb_project.specs.NamedTexts.{all_set, in_order}
 use Rattle.pb_command.specs.Laws.{PairsRise}
-use Rattle.pb_command.specs.Pairs.{composed}
+use Rattle.pb_variables.specs.Pairs.{composed}
 use Rattle.pb_project.specs.Targets.{package_of}
 
 -- Names rise.

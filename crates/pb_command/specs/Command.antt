@@ -9,10 +9,10 @@ use Rattle.pb_package.specs.declared.package.Package.{Package}
 use Rattle.pb_project.specs.declared.project.Project.{Project}
 use Rattle.pb_project.specs.declared.project.Setup.{Setup}
 use Rattle.pb_project.specs.Targets.{package_of, script_file, script_source}
-use Rattle.pb_command.specs.Words.{crate_words, output_words, settings_words, feature_words}
-use Rattle.pb_command.specs.Externs.{library_words, reads_of}
-use Rattle.pb_command.specs.Said.{said_words}
-use Rattle.pb_command.specs.Pairs.{pairs_of}
+use Rattle.pb_words.specs.Words.{crate_words, output_words, settings_words, feature_words}
+use Rattle.pb_words.specs.Externs.{library_words, reads_of}
+use Rattle.pb_words.specs.Said.{said_words}
+use Rattle.pb_variables.specs.Pairs.{pairs_of}
 
 -- the query of a compiler's version, by the compiler, the workspace's root and the target folder
 abbrev pub query_of : List ℕ → List ℕ → List ℕ → Command

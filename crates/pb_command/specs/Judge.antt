@@ -19,7 +19,7 @@ use Rattle.pb_record.specs.declared.record.InputName.{InputName}
 use Rattle.pb_project.specs.declared.fault.UnitFault.{UnitFault}
 use Rattle.pb_project.specs.declared.project.Project.{Project}
 use Rattle.pb_project.specs.declared.project.Setup.{Setup}
-use Rattle.pb_command.specs.Answers.{compile_answered, run_answered, unless_fault, ended_fault, answered_of}
+use Rattle.pb_judging.specs.Answers.{compile_answered, run_answered, unless_fault, ended_fault, answered_of}
 use Rattle.pb_command.specs.Command.{command_of}
 
 -- how a child ended that replied so

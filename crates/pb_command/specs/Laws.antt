@@ -12,8 +12,8 @@ use Rattle.pb_package.specs.declared.package.Package.{Package}
 use Rattle.pb_project.specs.declared.project.Project.{Project}
 use Rattle.pb_project.specs.declared.project.Setup.{Setup}
 use Rattle.pb_command.specs.Command.{command_of}
-use Rattle.pb_command.specs.Externs.{extern_key}
-use Rattle.pb_command.specs.Pairs.{composed, pairs_of}
+use Rattle.pb_words.specs.Externs.{extern_key}
+use Rattle.pb_variables.specs.Pairs.{composed, pairs_of}
 
 -- the names of the variables rise in byte order, so each stands once
 abbrev pub PairsRise : Type 0

@@ -3,22 +3,13 @@
 #![tactic(auto)]
 
 mod commands;
-mod externs;
-mod input_names;
-mod judging;
 mod laws;
-mod pairs;
-mod platform;
-mod run_pairs;
-mod said;
-mod settings;
-mod words;
 
 pub use commands::{command, query};
-pub use judging::{answered, ended_fault, inputs};
 pub use laws::{
     commands_are_absolute, judges_as_answered, last_values_count, libraries_in_order, pairs_rise,
 };
+pub use pb_judging::{answered, ended_fault, inputs};
 pub use pb_project::{
     Answered, Project, Setup, UnitFault, crate_name_of, dep_info_path, made_file,
 };

@@ -16,9 +16,10 @@ use Rattle.pb_project.specs.Targets.{package_of, crate_name_of, crate_types, sou
 use Rattle.pb_project.specs.declared.project.Project.{Project}
 use Rattle.pb_project.specs.declared.project.Setup.{Setup}
 use Rattle.pb_command.specs.Command.{crate_part, words_of, command_by, command_for}
-use Rattle.pb_command.specs.Externs.{dependency_words, extern_words, externs, in_order, library_words}
-use Rattle.pb_command.specs.Said.{search_words, own_words, said_words}
-use Rattle.pb_command.specs.Words.{crate_words, output_words, settings_words, feature_words}
+use Rattle.pb_project.specs.NamedTexts.{in_order}
+use Rattle.pb_words.specs.Externs.{dependency_words, extern_words, externs, library_words}
+use Rattle.pb_words.specs.Said.{search_words, own_words, said_words}
+use Rattle.pb_words.specs.Words.{crate_words, output_words, settings_words, feature_words}
 use Rattle.pb_command_laws.specs.Compiles.{CompileSays, CompilesSay, is_binary, settings_table, heard, feature_is_on, features_there_are, libraries_at}
 use Rattle.pb_command_laws.specs.Libraries.{assigned, IsLibrary}
 use Rattle.pb_command_laws.specs.Reading.{said_by}

@@ -30,9 +30,9 @@ use Rattle.pb_package.specs.declared.package.Library.{Library}
 use Rattle.pb_package.specs.declared.package.Package.{Package}
 use Rattle.pb_project.specs.Targets.{unit_at, crate_name_of, crate_types, source_by, is_library, said_at}
 use Rattle.pb_project.specs.declared.project.Project.{Project}
-use Rattle.pb_command.specs.Externs.{folder_words, folder_words_in, folder_words_at, extern_word}
-use Rattle.pb_command.specs.Said.{search_word, link_word, condition_word, check_word, argument_word, binaries_word, binary_word, searched_words, condition_words, argument_words, binary_link_words, own_words}
-use Rattle.pb_command.specs.Words.{option, name_words, edition_word, format_words, crate_words, type_word, type_words, emit_words, out_words, output_words, setting, rpath_words, strip_words, lto_text_words, lto_words, level_words, debug_words, assertion_words, overflow_words, codegen_words, panic_words, common_settings, settings_words, feature_text, feature_word, expected_text, active_words, expected_words, feature_words, quoted, switch, debug_info_text, panic_text}
+use Rattle.pb_words.specs.Externs.{folder_words, folder_words_in, folder_words_at, extern_word}
+use Rattle.pb_words.specs.Said.{search_word, link_word, condition_word, check_word, argument_word, binaries_word, binary_word, searched_words, condition_words, argument_words, binary_link_words, own_words}
+use Rattle.pb_words.specs.Words.{option, name_words, edition_word, format_words, crate_words, type_word, type_words, emit_words, out_words, output_words, setting, rpath_words, strip_words, lto_text_words, lto_words, level_words, debug_words, assertion_words, overflow_words, codegen_words, panic_words, common_settings, settings_words, feature_text, feature_word, expected_text, active_words, expected_words, feature_words, quoted, switch, debug_info_text, panic_text}
 use Rattle.pb_mini.specs.CommandLine.{takes_value}
 use Rattle.pb_command_laws.specs.Libraries.{assigned}
 use Rattle.pb_command_laws.specs.Compiles.{is_binary, hears, strip_value, lto_value, row, settings_table, linker_flags, feature_is_on, features_there_are, libraries_at}

@@ -17,7 +17,7 @@ use Rattle.pb_project.specs.declared.project.Project.{Project}
 use Rattle.pb_project.specs.declared.project.Setup.{Setup}
 use Rattle.pb_command.proofs.Rising.{last_counts}
 use Rattle.pb_command.specs.Command.{command_by, command_for, command_of}
-use Rattle.pb_command.specs.Pairs.{package_pairs, about_pairs, numbers_in, version_pairs, version_texts, env_pair, out_pairs, run_there, own_pairs, composed, pairs_of}
+use Rattle.pb_variables.specs.Pairs.{package_pairs, about_pairs, numbers_in, version_pairs, version_texts, env_pair, out_pairs, run_there, own_pairs, composed, pairs_of}
 use Rattle.pb_command_laws.specs.Compiles.{binary_name, heard, row, hears}
 use Rattle.pb_command_laws.specs.Variables.{compile_table, package_table, variable_set, folder_at, CompilesHave}
 use Rattle.pb_command_laws.proofs.Lasting.{from_behind}

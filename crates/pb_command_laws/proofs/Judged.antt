@@ -8,7 +8,7 @@ use Rattle.std.specs.Option.{option_to_list}
 use Rattle.std.specs.Ordering.{int_eq}
 use Rattle.std.specs.Result.{result_ok}
 use Rattle.pb_command.proofs.Ordered.{first_off, second_off}
-use Rattle.pb_command.specs.Answers.{answered_by, compile_answered, ended_fault, info_in, info_inputs, inherited, inputs_of, is_covered, is_error, is_foreign, is_source, is_too_long, path_or_none, path_said, paths_from, read_info, read_or_none, rerun_inputs, run_answered, said_in, said_inputs, unless_error, unless_fault, unless_foreign}
+use Rattle.pb_judging.specs.Answers.{answered_by, compile_answered, ended_fault, info_in, info_inputs, inherited, inputs_of, is_covered, is_error, is_foreign, is_source, is_too_long, path_or_none, path_said, paths_from, read_info, read_or_none, rerun_inputs, run_answered, said_in, said_inputs, unless_error, unless_fault, unless_foreign}
 use Rattle.pb_data.specs.Gives.{◌>>=◌, lifted}
 use Rattle.pb_data.specs.Mentions.{once}
 use Rattle.pb_directive.specs.DepInfo.{dep_info_of}

@@ -12,7 +12,8 @@ use Rattle.pb_closure.proofs.Placed.{placed_to, placed_from}
 use Rattle.pb_closure.specs.Placed.{placed}
 use Rattle.pb_command.proofs.Ordered.{by_name_then_path, first_off, second_off}
 use Rattle.pb_command.proofs.Rising.{rising}
-use Rattle.pb_command.specs.Externs.{leads, library_name_at, entry_name, extern_key, extern_text, extern, entry_extern, own_extern, externs, in_order}
+use Rattle.pb_project.specs.NamedTexts.{in_order}
+use Rattle.pb_words.specs.Externs.{leads, library_name_at, entry_name, extern_key, extern_text, extern, entry_extern, own_extern, externs}
 use Rattle.pb_data.specs.Table.{names_of}
 use Rattle.pb_resolved.specs.Features.{is_enabled}
 use Rattle.pb_manifest.specs.Letters.{is_name, is_name_byte, is_crate_name, is_crate_name_byte, underscored, underscored_byte}

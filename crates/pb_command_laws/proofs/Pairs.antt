@@ -11,7 +11,7 @@ use Rattle.std.specs.Str.{bytes_eq}
 use Rattle.std.specs.declared.cmp.Ordering.TheVariants.{Less}
 use Rattle.pb_closure.proofs.Membership.{none, head, tail, cases}
 use Rattle.pb_command.proofs.Rising.{rising, last_counts}
-use Rattle.pb_command.specs.Externs.{in_order}
+use Rattle.pb_project.specs.NamedTexts.{in_order}
 use Rattle.pb_data.proofs.MentionLemmas.{bytes_eq_comm, bytes_eq_same}
 use Rattle.pb_data.specs.Table.{value_at, names_of, last_value}
 

@@ -24,7 +24,7 @@ use Rattle.pb_unit.specs.declared.unit.What.TheVariants.{Lib, Bin, Script, Run}
 use Rattle.pb_project.specs.Targets.{package_of, unit_at, is_run, said_at}
 use Rattle.pb_project.specs.declared.project.Project.{Project}
 use Rattle.pb_project.specs.declared.project.Setup.{Setup}
-use Rattle.pb_command.specs.Pairs.{links_pairs, feature_name, feature_pair, triple_of, is_debugged, truth_text, released_text, platform_pairs, compiler_pairs, linked_pairs, links_in, passed_by, passed_at, passed_pairs, run_pairs, own_pairs}
+use Rattle.pb_variables.specs.Pairs.{links_pairs, feature_name, feature_pair, triple_of, is_debugged, truth_text, released_text, platform_pairs, compiler_pairs, linked_pairs, links_in, passed_by, passed_at, passed_pairs, run_pairs, own_pairs}
 use Rattle.pb_command_laws.specs.Compiles.{row}
 use Rattle.pb_command_laws.specs.Variables.{package_table, debug_text, links_of_run, handed_on, run_table, RunsHave}
 use Rattle.pb_command_laws.proofs.Having.{value_is}

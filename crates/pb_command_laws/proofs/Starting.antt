@@ -10,7 +10,7 @@ use Rattle.pb_project.specs.Targets.{unit_at, is_run, script_source, script_file
 use Rattle.pb_project.specs.declared.project.Project.{Project}
 use Rattle.pb_project.specs.declared.project.Setup.{Setup}
 use Rattle.pb_command.specs.Command.{run_program, run_words, compile_of, run_of, command_by, command_for}
-use Rattle.pb_command.specs.Externs.{folder_in, read_at}
+use Rattle.pb_words.specs.Externs.{folder_in, read_at}
 use Rattle.pb_command_laws.specs.Starts.{StartsCompiler, StartsScript, CompilesStart, RunsStart}
 
 abbrev Lines : Type 0

@@ -25,7 +25,7 @@ use Rattle.pb_project.specs.Targets.{package_of, unit_at, crate_name_of, crate_t
 use Rattle.pb_project.specs.declared.project.Project.{Project}
 use Rattle.pb_project.specs.declared.project.Setup.{Setup}
 use Rattle.pb_command.specs.Command.{command_of}
-use Rattle.pb_command.specs.Words.{switch, debug_info_text, panic_text}
+use Rattle.pb_words.specs.Words.{switch, debug_info_text, panic_text}
 use Rattle.pb_command_laws.specs.Libraries.{AreLibraries, IsLibrary, assigned}
 use Rattle.pb_command_laws.specs.Reading.{said_by, values}
 

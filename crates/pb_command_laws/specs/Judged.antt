@@ -3,7 +3,7 @@ use Rattle.std.specs.Prelude.{◌≡◌, ◌≢◌, ◌≤◌, ◌↔◌, ℕ, B
 use Rattle.std.specs.List.{find, flat_map, list_any}
 use Rattle.std.specs.Option.{option_to_list}
 use Rattle.std.specs.Result.{result_ok}
-use Rattle.pb_command.specs.Answers.{answered_of, inherited}
+use Rattle.pb_judging.specs.Answers.{answered_of, inherited}
 use Rattle.pb_data.specs.Mentions.{once}
 use Rattle.pb_directive.specs.DepInfo.{dep_info_of}
 use Rattle.pb_directive.specs.Directives.{directives_of}

@@ -22,7 +22,7 @@ use Rattle.pb_project.specs.Targets.{package_of, unit_at, crate_name_of, is_run,
 use Rattle.pb_project.specs.declared.project.Project.{Project}
 use Rattle.pb_project.specs.declared.project.Setup.{Setup}
 use Rattle.pb_command.specs.Command.{command_of}
-use Rattle.pb_command.specs.Pairs.{triple_of}
+use Rattle.pb_variables.specs.Pairs.{triple_of}
 use Rattle.pb_command_laws.specs.Compiles.{binary_name, row, hears, heard}
 
 -- a command has the variables of a table: each name has the value that stands last there, the first from behind, and no other name is set

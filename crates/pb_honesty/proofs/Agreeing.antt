@@ -12,7 +12,7 @@ use Rattle.pb_place.specs.Paths.{is_path, is_relative, is_absolute, joined, pars
 use Rattle.pb_place.specs.World.{World}
 use Rattle.pb_place.specs.declared.command.Command.{Command}
 use Rattle.pb_place.proofs.PathLemmas.{parsed_path}
-use Rattle.pb_command.specs.Answers.{path_or_none, path_said, paths_from, is_foreign, is_source, unless_foreign, sources_in, inputs_of, inherited}
+use Rattle.pb_judging.specs.Answers.{path_or_none, path_said, paths_from, is_foreign, is_source, unless_foreign, sources_in, inputs_of, inherited}
 use Rattle.pb_record.specs.declared.record.InputName.{InputName}
 use Rattle.pb_record.specs.declared.record.InputName.TheVariants.{Path, Variable}
 use Rattle.pb_mini.specs.Honesty.{SameFile}

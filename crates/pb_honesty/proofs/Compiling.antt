@@ -21,12 +21,12 @@ use Rattle.pb_unit.specs.declared.plan.Planned.{Planned}
 use Rattle.pb_package.specs.declared.package.Entry.{Entry}
 use Rattle.pb_package.specs.declared.package.Package.{Package}
 use Rattle.pb_manifest.specs.Letters.{is_name}
-use Rattle.pb_command.specs.Answers.{is_too_long, read_or_none, info_in, read_info, info_inputs, paths_from, inherited, compile_answered, unless_fault}
+use Rattle.pb_judging.specs.Answers.{is_too_long, read_or_none, info_in, read_info, info_inputs, paths_from, inherited, compile_answered, unless_fault}
 use Rattle.pb_command.specs.Command.{crate_part, asked_part, words_of, compile_of}
 use Rattle.pb_project.specs.Targets.{crate_name_of, dep_info_of, file_in, source_by}
-use Rattle.pb_command.specs.Externs.{library_words}
-use Rattle.pb_command.specs.Said.{said_words}
-use Rattle.pb_command.specs.Words.{option, name_words, edition_word, format_words, output_words, settings_words, feature_words}
+use Rattle.pb_words.specs.Externs.{library_words}
+use Rattle.pb_words.specs.Said.{said_words}
+use Rattle.pb_words.specs.Words.{option, name_words, edition_word, format_words, output_words, settings_words, feature_words}
 use Rattle.pb_project.specs.declared.answer.Answered.{Answered}
 use Rattle.pb_project.specs.declared.fault.UnitFault.{UnitFault}
 use Rattle.pb_project.specs.declared.fault.UnitFault.TheVariants.{NoDepInfo}

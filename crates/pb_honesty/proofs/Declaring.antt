@@ -18,7 +18,7 @@ use Rattle.pb_directive.specs.declared.directive.Directive.TheVariants.{RerunIfC
 use Rattle.pb_place.specs.Paths.{is_absolute}
 use Rattle.pb_place.specs.World.{World}
 use Rattle.pb_place.specs.declared.child.Reply.{Reply}
-use Rattle.pb_command.specs.Answers.{changed_path, changed_variable}
+use Rattle.pb_judging.specs.Answers.{changed_path, changed_variable}
 use Rattle.pb_mini.specs.Effects.{no_names, joined_names}
 use Rattle.pb_mini.specs.Honesty.{path_read, variable_read, base_read, names_by, names_in, names_after, names_of_lines}
 use Rattle.pb_mini.specs.Lines.{word_in, rest_of, ended}

@@ -20,8 +20,8 @@ use Rattle.pb_unit.specs.declared.plan.Planned.{Planned}
 use Rattle.pb_unit.specs.declared.unit.What.TheVariants.{Run}
 use Rattle.pb_package.specs.declared.package.Package.{Package}
 use Rattle.pb_command.proofs.Rising.{rising, last_counts}
-use Rattle.pb_command.specs.Externs.{in_order}
-use Rattle.pb_command.specs.Pairs.{package_pairs, about_pairs, version_pairs, links_pairs, feature_pair, feature_name, described_pairs, building_pairs, linked_pairs, links_in, passed_by, passed_at, passed_pairs, run_pairs, own_pairs, composed}
+use Rattle.pb_project.specs.NamedTexts.{in_order}
+use Rattle.pb_variables.specs.Pairs.{package_pairs, about_pairs, version_pairs, links_pairs, feature_pair, feature_name, described_pairs, building_pairs, linked_pairs, links_in, passed_by, passed_at, passed_pairs, run_pairs, own_pairs, composed}
 use Rattle.pb_project.specs.Targets.{package_of, unit_at, is_run, said_at}
 use Rattle.pb_project.specs.declared.project.Project.{Project}
 use Rattle.pb_project.specs.declared.project.Setup.{Setup}

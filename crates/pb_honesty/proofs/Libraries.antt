@@ -22,7 +22,8 @@ use Rattle.pb_package.specs.Settled.{IsPackage}
 use Rattle.pb_package.specs.declared.package.Entry.{Entry}
 use Rattle.pb_package.specs.declared.package.Library.{Library}
 use Rattle.pb_package.specs.declared.package.Package.{Package}
-use Rattle.pb_command.specs.Externs.{folder_in, read_at, reads_of, leads, library_name_at, entry_name, extern_text, extern, entry_extern, own_extern, externs, all_set, in_order}
+use Rattle.pb_project.specs.NamedTexts.{all_set, in_order}
+use Rattle.pb_words.specs.Externs.{folder_in, read_at, reads_of, leads, library_name_at, entry_name, extern_text, extern, entry_extern, own_extern, externs}
 use Rattle.pb_project.specs.Targets.{unit_at, library_in, library_name, file_in, file_by, crate_name_of, is_library, is_one_of, needed, file_there, file_at, library_file}
 use Rattle.pb_project.specs.declared.project.Project.{Project}
 use Rattle.pb_mini.specs.Honesty.{is_below_some}

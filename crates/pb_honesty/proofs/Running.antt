@@ -22,9 +22,9 @@ use Rattle.pb_unit.specs.declared.unit.What.TheVariants as what
 use Rattle.pb_package.specs.Settled.{IsPackage}
 use Rattle.pb_package.specs.declared.package.Entry.{Entry}
 use Rattle.pb_package.specs.declared.package.Package.{Package}
-use Rattle.pb_command.specs.Answers.{ended_fault, path_or_none, path_said, paths_from, changed_path, changed_variable, is_error, unless_error, said_in, marked_inputs, rerun_inputs, said_inputs, run_answered, answered_by, answered_of}
+use Rattle.pb_judging.specs.Answers.{ended_fault, path_or_none, path_said, paths_from, changed_path, changed_variable, is_error, unless_error, said_in, marked_inputs, rerun_inputs, said_inputs, run_answered, answered_by, answered_of}
 use Rattle.pb_command.specs.Command.{script_path, run_words, run_of, command_by, command_for}
-use Rattle.pb_command.specs.Pairs.{composed}
+use Rattle.pb_variables.specs.Pairs.{composed}
 use Rattle.pb_project.specs.Targets.{package_of, package_folder, folder_of, script_source, script_file, needed, is_run, is_script, dep_info_by, dep_info_of, source_by, crate_name_of}
 use Rattle.pb_project.specs.declared.answer.Answered.{Answered}
 use Rattle.pb_project.specs.declared.fault.UnitFault.{UnitFault}

@@ -13,7 +13,7 @@ use Rattle.pb_project.specs.declared.answer.Answered.{Answered}
 use Rattle.pb_record.specs.declared.record.InputName.{InputName}
 use Rattle.pb_record.specs.declared.record.InputName.TheVariants.{Path, Variable}
 use Rattle.pb_project.specs.declared.fault.UnitFault.{UnitFault}
-use Rattle.pb_command.specs.Answers.{answered_of}
+use Rattle.pb_judging.specs.Answers.{answered_of}
 use Rattle.pb_command.specs.Command.{command_of}
 use Rattle.pb_command.specs.Judge.{ended_by, replied_files, file_at, inputs_if}
 use Rattle.pb_command.proofs.Judged.{judges_as_answered}

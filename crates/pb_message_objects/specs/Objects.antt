@@ -3,7 +3,7 @@ use Rattle.std.specs.Prelude.{◌≡◌, ℕ, Bool, false, if◌then◌else◌, 
 use Rattle.std.specs.List.{flat_map, position}
 use Rattle.std.specs.Option.{option_map_or}
 use Rattle.std.specs.Str.{bytes_eq}
-use Rattle.pb_command.specs.Words.{debug_info_text}
+use Rattle.pb_words.specs.Words.{debug_info_text}
 use Rattle.pb_manifest.specs.Package.{edition_text}
 use Rattle.pb_manifest.specs.declared.profile.DebugInfo.{DebugInfo}
 use Rattle.pb_message.specs.Message.{package_id, level_text, line_of, lines_of, finish_line}

@@ -11,11 +11,11 @@ use Rattle.pb_manifest.specs.declared.target.Binary.{Binary as WrittenBinary}
 use Rattle.pb_package.specs.declared.package.Binary.{Binary}
 use Rattle.pb_place.specs.Paths.{below}
 use Rattle.pb_place.specs.World.{World, FilesHavePaths}
-use Rattle.pb_workspace.specs.Binaries.{main_source, first_some, looked_for, binary_source, written_binary, with_binaries, binary_of, binaries_of}
-use Rattle.pb_workspace.specs.FoundBinaries.{found_binaries}
-use Rattle.pb_workspace.specs.Settling.{discovered, has_same_binaries}
+use Rattle.pb_draft.specs.Binaries.{main_source, first_some, looked_for, binary_source, written_binary, with_binaries, binary_of, binaries_of}
+use Rattle.pb_draft.specs.FoundBinaries.{found_binaries}
+use Rattle.pb_draft.specs.Settling.{discovered, has_same_binaries}
 use Rattle.pb_workspace.proofs.Keeping.{none_again}
-use Rattle.pb_workspace.proofs.Puttings.{map_twice}
+use Rattle.pb_draft.proofs.Puttings.{map_twice}
 use Rattle.pb_workspace.proofs.WholeWorkspace.{map_only, map_each}
 use Rattle.pb_package_laws.specs.Binaries.{in_bin, places, source_of, IsBinary, written, found}
 use Rattle.pb_package_laws.specs.Files.{is_file, first_file}

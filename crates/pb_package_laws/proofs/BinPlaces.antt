@@ -19,9 +19,8 @@ use Rattle.pb_place.proofs.PathLemmas.{and_right, parts_joined, slashed_parts}
 use Rattle.pb_place.proofs.TakenApart.{joins_again, found_inside, parts_lone}
 use Rattle.pb_place.specs.Paths.{below, stem, inside, is_below, is_name, is_path, is_relative, parts_of, slashed}
 use Rattle.pb_place.specs.World.{World, listed, is_same_path, FilesHavePaths}
-use Rattle.pb_workspace.specs.Between.{names_in}
-use Rattle.pb_workspace.specs.FoundBinaries.{stem_in, flat_name, nested_name, name_by, name_inside, found_at, binary_at, bin_folder}
-use Rattle.pb_workspace.specs.Selected.{is_word}
+use Rattle.pb_draft.specs.Between.{names_in, is_word}
+use Rattle.pb_draft.specs.FoundBinaries.{stem_in, flat_name, nested_name, name_by, name_inside, found_at, binary_at, bin_folder}
 use Rattle.pb_package_laws.specs.Files.{is_file}
 
 -- paths among some

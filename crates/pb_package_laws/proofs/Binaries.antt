@@ -8,9 +8,9 @@ use Rattle.pb_manifest.specs.Letters as letters
 use Rattle.pb_package.specs.declared.package.Binary.{Binary}
 use Rattle.pb_place.specs.Paths.{below}
 use Rattle.pb_place.specs.World.{World, FilesHavePaths}
-use Rattle.pb_workspace.specs.Binaries.{main_source, with_binaries}
-use Rattle.pb_workspace.specs.FoundBinaries.{main_binary, found_binaries}
-use Rattle.pb_workspace.specs.Sources.{own_source}
+use Rattle.pb_draft.specs.Binaries.{main_source, with_binaries}
+use Rattle.pb_draft.specs.FoundBinaries.{main_binary, found_binaries}
+use Rattle.pb_draft.specs.Sources.{own_source}
 use Rattle.pb_package_laws.specs.Binaries.{in_bin, places}
 use Rattle.pb_package_laws.specs.Files.{is_file, first_file}
 use Rattle.pb_package_laws.proofs.BinPlaces.{place_in, list_in, found_to, found_from}

@@ -12,9 +12,9 @@ use Rattle.pb_manifest.specs.declared.feature.Feature.{Feature}
 use Rattle.pb_manifest.specs.declared.feature.FeatureItem.{FeatureItem}
 use Rattle.pb_manifest.specs.declared.feature.FeatureItem.TheVariants as item
 use Rattle.pb_manifest.specs.declared.manifest.Manifest.{Manifest}
-use Rattle.pb_workspace.specs.Features.{enables, is_enabled_by_name, makes_feature, with_made, with_written, feature_of, features_of}
+use Rattle.pb_draft.specs.Features.{enables, is_enabled_by_name, makes_feature, with_made, with_written, feature_of, features_of}
 use Rattle.pb_workspace.proofs.WholeWorkspace.{map_only, map_each}
-use Rattle.pb_workspace.proofs.Puttings.{map_twice}
+use Rattle.pb_draft.proofs.Puttings.{map_twice}
 use Rattle.pb_package_laws.specs.Packages.{IsFeature, written, made}
 use Rattle.pb_package_laws.proofs.Sorting.{Name, Rises, names, put, put_rises, put_new, put_old, put_from, below_apart, cmp}
 use Rattle.pb_place.proofs.PathLemmas.{and_left}

@@ -4,7 +4,7 @@ use Rattle.std.specs.List.{list_any}
 use Rattle.pb_manifest.specs.Versions.{matches}
 use Rattle.pb_package.specs.declared.fault.LoadFault.TheVariants.{SameName, NameMismatch, VersionMismatch, LinksTwice, LinksWithoutScript, SameBinary}
 use Rattle.pb_workspace.specs.Checks.{fault_of, has_same_names, some_leads, has_other_name, has_other_version, links_twice, links_without_script, matches_if}
-use Rattle.pb_workspace.specs.declared.draft.Draft.{Draft}
+use Rattle.pb_draft.specs.declared.draft.Draft.{Draft}
 
 -- nothing is wrong with any package
 pub record AreFine (drafts : List Draft) : Type 0 where

@@ -21,11 +21,11 @@ use Rattle.pb_workspace.specs.Frames.{frame_of, given_to, is_member}
 use Rattle.pb_workspace.specs.MemberFolders.{member_folders}
 use Rattle.pb_workspace.specs.PackageFolders as drafts
 use Rattle.pb_workspace.specs.Rounds.{standing_in}
-use Rattle.pb_workspace.specs.Sources.{resolved}
-use Rattle.pb_workspace.specs.declared.draft.Draft.{Draft}
+use Rattle.pb_draft.specs.Sources.{resolved}
+use Rattle.pb_draft.specs.declared.draft.Draft.{Draft}
 use Rattle.pb_workspace.specs.declared.frame.Frame.{Frame}
 use Rattle.pb_workspace.specs.declared.rounds.Reading.{Reading}
-use Rattle.pb_workspace.specs.declared.wanted.Wanted.{Wanted}
+use Rattle.pb_draft.specs.declared.wanted.Wanted.{Wanted}
 use Rattle.pb_workspace.proofs.WholeWorkspace.{map_only, map_each}
 use Rattle.pb_package_laws.specs.Folders.{IsFirst, LeadsTo, IsPackageFolder, root, member}
 use Rattle.pb_package_laws.specs.Packages.{Asks, path, workspace}

@@ -25,11 +25,11 @@ use Rattle.pb_package.specs.declared.package.Library.{Library}
 use Rattle.pb_place.specs.Paths.{below, joined}
 use Rattle.pb_place.specs.declared.path.PathFault.{PathFault}
 use Rattle.pb_place.specs.World.{World}
-use Rattle.pb_workspace.specs.Between.{text_between}
-use Rattle.pb_workspace.specs.Settling.{readme_found}
-use Rattle.pb_workspace.specs.Sources.{has_own_file, own_source, found_readme, library_of, library_source, resolved, served_types, script_of}
-use Rattle.pb_workspace.specs.Taken as taken
-use Rattle.pb_workspace.specs.Taken.{own_or_given, text_of, authors_of, between_or, further_authors, joined_authors, license_file_of, readme_of, readme_text, given_readme, about_of}
+use Rattle.pb_draft.specs.Between.{text_between}
+use Rattle.pb_draft.specs.Settling.{readme_found}
+use Rattle.pb_draft.specs.Sources.{has_own_file, own_source, found_readme, library_of, library_source, resolved, served_types, script_of}
+use Rattle.pb_draft.specs.Taken as taken
+use Rattle.pb_draft.specs.Taken.{own_or_given, text_of, authors_of, between_or, further_authors, joined_authors, license_file_of, readme_of, readme_text, given_readme, about_of}
 use Rattle.pb_workspace.proofs.FoldersPut.{opened}
 use Rattle.pb_package_laws.specs.Files.{is_file, first_file, first_path}
 use Rattle.pb_package_laws.specs.Packages.{IsOwnOrTaken, IsText, IsPlainText, from_member, readme_path, with_colons, kinds_or_lib, library, script}

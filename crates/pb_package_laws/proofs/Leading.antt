@@ -4,7 +4,7 @@ use Rattle.std.proofs.lemmas.Bool.Decides.{nat_tests}
 use Rattle.std.specs.List.{common_prefix_len, flat_map, join_by}
 use Rattle.std.specs.Str.{bytes_eq}
 use Rattle.pb_place.specs.Paths.{slashed}
-use Rattle.pb_workspace.specs.Between.{names_in, spelled, steps_between, upward}
+use Rattle.pb_draft.specs.Between.{names_in, spelled, steps_between, upward}
 use Rattle.pb_package_laws.specs.Ways.{PathsAreSpelled, TextsLeadBetween}
 
 -- the way from a folder

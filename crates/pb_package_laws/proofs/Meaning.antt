@@ -14,14 +14,13 @@ use Rattle.pb_place.specs.Paths.{below, folder_of, has_byte_0, is_at_or_below, i
 use Rattle.pb_place.specs.World.{FilesHavePaths, World, listed}
 use Rattle.pb_workspace.proofs.GlobRelation.{says}
 use Rattle.pb_workspace.proofs.WholeWorkspace.{map_each, map_only}
-use Rattle.pb_workspace.specs.Between.{names_in}
+use Rattle.pb_draft.specs.Between.{names_in, is_word}
 use Rattle.pb_workspace.specs.GlobWords as glob
 use Rattle.pb_workspace.specs.GlobWords.{Matches}
 use Rattle.pb_workspace.specs.Globs.{is_glob, matches}
 use Rattle.pb_workspace.specs.MemberFolders.{base_of, fixed_text, folders_meant, folders_taken, is_fixed, is_manifest, is_taken}
 use Rattle.pb_workspace.specs.Members.{is_excluded, means, part_matches, parts_match, parts_meant}
-use Rattle.pb_workspace.specs.Selected.{is_word}
-use Rattle.pb_workspace.specs.Sources.{resolved}
+use Rattle.pb_draft.specs.Sources.{resolved}
 use Rattle.pb_workspace.specs.declared.frame.Frame.{Frame}
 use Rattle.pb_workspace.specs.declared.member.Part.{Part}
 use Rattle.pb_package_laws.proofs.BinPlaces.{listed_from, listed_to}

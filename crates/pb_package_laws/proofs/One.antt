@@ -31,7 +31,7 @@ use Rattle.pb_place.specs.World.{World, FilesHavePaths}
 use Rattle.pb_workspace.specs.Assembled.{default_members_of}
 use Rattle.pb_workspace.specs.Frames.{given_to}
 use Rattle.pb_workspace.specs.declared.frame.Frame.{Frame}
-use Rattle.pb_workspace.specs.declared.settling.Given.{Given}
+use Rattle.pb_draft.specs.declared.settling.Given.{Given}
 use Rattle.pb_package_laws.specs.Binaries.{IsBinary, HasBinaries}
 use Rattle.pb_package_laws.specs.Files.{first_file, IsManifestAt}
 use Rattle.pb_package_laws.specs.Laws.{frame_in, IsWorkspaceOf, WorkspacesAreOne}

@@ -8,12 +8,12 @@ use Rattle.pb_package.specs.declared.fault.LoadFault.{LoadFault}
 use Rattle.pb_package.specs.declared.fault.LoadFault.TheVariants.{TooMany}
 use Rattle.pb_place.specs.World.{World}
 use Rattle.pb_workspace.specs.ByFolder.{folders_of, has}
-use Rattle.pb_workspace.specs.Drafts.{draft_of}
+use Rattle.pb_draft.specs.Drafts.{draft_of}
 use Rattle.pb_workspace.specs.Loaded.{at_root, nothing_read, others_read, packages_read, root_read}
 use Rattle.pb_workspace.specs.MemberFolders.{member_folders}
 use Rattle.pb_workspace.specs.Rounds.{all_read, draft_at, one_read, round, rounds, with_draft}
-use Rattle.pb_workspace.specs.declared.draft.Draft.{Draft}
-use Rattle.pb_workspace.specs.declared.draft.Tables.{Tables}
+use Rattle.pb_draft.specs.declared.draft.Draft.{Draft}
+use Rattle.pb_draft.specs.declared.draft.Tables.{Tables}
 use Rattle.pb_workspace.specs.declared.frame.Frame.{Frame}
 use Rattle.pb_workspace.specs.declared.rounds.Reading.{Reading}
 use Rattle.pb_workspace.proofs.FoldersPut.{opened}

@@ -11,22 +11,22 @@ use Rattle.pb_package.specs.declared.fault.LoadFault.TheVariants.{Manifest as In
 use Rattle.pb_package.specs.declared.package.DependencyKind.TheVariants.{Normal, Build as ForScript}
 use Rattle.pb_place.specs.Paths.{below}
 use Rattle.pb_place.specs.World.{World}
-use Rattle.pb_workspace.specs.Drafts.{draft_from, draft_of, draft_with, lists_of}
-use Rattle.pb_workspace.specs.Features.{features_of}
+use Rattle.pb_draft.specs.Drafts.{draft_from, draft_of, draft_with, lists_of}
+use Rattle.pb_draft.specs.Features.{features_of}
 use Rattle.pb_workspace.specs.Frames.{given_to, is_member}
-use Rattle.pb_workspace.specs.Keys.{keys_of}
+use Rattle.pb_draft.specs.Keys.{keys_of}
 use Rattle.pb_workspace.specs.MemberFolders.{member_folders}
 use Rattle.pb_workspace.specs.PackageFolders.{package_in}
 use Rattle.pb_workspace.specs.Rounds.{draft_if, draft_in_file, manifest_at, parts_at, parts_in, read_found, standing_in, tables_in}
-use Rattle.pb_workspace.specs.Settling.{has_same_binaries, targets_of, wanted_in}
-use Rattle.pb_workspace.specs.Wanted.{each_wanted, wanted_of}
-use Rattle.pb_workspace.specs.declared.draft.Draft.{Draft}
-use Rattle.pb_workspace.specs.declared.draft.Lists.{Lists}
+use Rattle.pb_draft.specs.Settling.{has_same_binaries, targets_of, wanted_in}
+use Rattle.pb_draft.specs.Wanted.{each_wanted, wanted_of}
+use Rattle.pb_draft.specs.declared.draft.Draft.{Draft}
+use Rattle.pb_draft.specs.declared.draft.Lists.{Lists}
 use Rattle.pb_workspace.specs.declared.frame.Frame.{Frame}
 use Rattle.pb_workspace.specs.declared.rounds.Parts.{Parts}
-use Rattle.pb_workspace.specs.declared.settling.Given.{Given}
-use Rattle.pb_workspace.specs.declared.wanted.Standing.{Standing}
-use Rattle.pb_workspace.specs.declared.wanted.Wanted.{Wanted}
+use Rattle.pb_draft.specs.declared.settling.Given.{Given}
+use Rattle.pb_draft.specs.declared.wanted.Standing.{Standing}
+use Rattle.pb_draft.specs.declared.wanted.Wanted.{Wanted}
 use Rattle.pb_workspace.proofs.FoldersPut.{opened}
 use Rattle.pb_package_laws.specs.Files.{IsManifestAt}
 

@@ -13,20 +13,20 @@ use Rattle.pb_manifest.specs.declared.target.CrateType.TheVariants.{Lib}
 use Rattle.pb_manifest.specs.declared.target.Library.{Library as WrittenLibrary}
 use Rattle.pb_place.specs.Paths.{below}
 use Rattle.pb_place.specs.World.{World}
-use Rattle.pb_workspace.proofs.Keeping.{binaries_kept, features_kept}
-use Rattle.pb_workspace.proofs.Naming.{found_named, library_named}
+use Rattle.pb_draft.proofs.KeptByName.{binaries_kept, features_kept}
+use Rattle.pb_draft.proofs.Naming.{found_named, library_named}
 use Rattle.pb_workspace.proofs.Promised.{build_dependencies_promised, dependencies_promised, features_promised, library_promised}
-use Rattle.pb_workspace.proofs.Puttings.{all_map, map_twice}
-use Rattle.pb_workspace.proofs.WantedOrder.{wanted_named}
-use Rattle.pb_workspace.specs.Binaries.{binaries_of, main_source, written_binary}
-use Rattle.pb_workspace.specs.Drafted.{AreBinaries, AreFeatures, IsBinaryNamed, IsDraft, IsLibraryNamed, IsWrittenLibrary}
-use Rattle.pb_workspace.specs.Features.{feature_of, features_of, with_made, with_written}
-use Rattle.pb_workspace.specs.FoundBinaries.{bin_folder, found_binaries}
-use Rattle.pb_workspace.specs.Settling.{discovered}
-use Rattle.pb_workspace.specs.Sources.{has_own_file, library_of, own_source}
-use Rattle.pb_workspace.specs.declared.draft.Draft.{Draft}
-use Rattle.pb_workspace.specs.declared.settling.Given.{Given}
-use Rattle.pb_workspace.specs.declared.wanted.Standing.{Standing}
+use Rattle.pb_draft.proofs.Puttings.{all_map, map_twice}
+use Rattle.pb_draft.proofs.WantedOrder.{wanted_named}
+use Rattle.pb_draft.specs.Binaries.{binaries_of, main_source, written_binary}
+use Rattle.pb_draft.specs.Drafted.{AreBinaries, AreFeatures, IsBinaryNamed, IsDraft, IsLibraryNamed, IsWrittenLibrary}
+use Rattle.pb_draft.specs.Features.{feature_of, features_of, with_made, with_written}
+use Rattle.pb_draft.specs.FoundBinaries.{bin_folder, found_binaries}
+use Rattle.pb_draft.specs.Settling.{discovered}
+use Rattle.pb_draft.specs.Sources.{has_own_file, library_of, own_source}
+use Rattle.pb_draft.specs.declared.draft.Draft.{Draft}
+use Rattle.pb_draft.specs.declared.settling.Given.{Given}
+use Rattle.pb_draft.specs.declared.wanted.Standing.{Standing}
 use Rattle.pb_package_laws.proofs.Binaries.{nothing_rises, rises_on}
 use Rattle.pb_package_laws.proofs.Features.{features_rise}
 use Rattle.pb_package_laws.proofs.Reading.{AreWanted}

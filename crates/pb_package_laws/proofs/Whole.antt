@@ -27,34 +27,34 @@ use Rattle.pb_place.specs.World.{World, from_nothing, FilesHavePaths}
 use Rattle.pb_workspace.specs.Assembled.{assembled, default_members_of, entry_at, package_at, packages_of}
 use Rattle.pb_workspace.specs.ByFolder.{folders_of, value_of, values_of}
 use Rattle.pb_workspace.specs.Checks.{fault_of, has_other_name, has_other_version, matches_if}
-use Rattle.pb_workspace.specs.Drafts.{draft_from, draft_of, draft_with, lists_of}
-use Rattle.pb_workspace.specs.Features.{features_of}
+use Rattle.pb_draft.specs.Drafts.{draft_from, draft_of, draft_with, lists_of}
+use Rattle.pb_draft.specs.Features.{features_of}
 use Rattle.pb_workspace.specs.Frames.{frame_of, given_to, is_member}
-use Rattle.pb_workspace.specs.Keys.{keys_of}
+use Rattle.pb_draft.specs.Keys.{keys_of}
 use Rattle.pb_workspace.specs.Loaded.{others_read, packages_read, root_parts, root_read, unless, workspace_from, workspace_in, workspace_of}
 use Rattle.pb_workspace.specs.MemberFolders.{member_folders}
 use Rattle.pb_workspace.specs.PackageFolders.{package_in, LeadsTo, IsPackageFolder, frame_at}
 use Rattle.pb_workspace.specs.Places.{at_place, draft_in, places_of}
 use Rattle.pb_workspace.specs.Rounds.{all_read, draft_at, parts_at, parts_in, rounds, standing_in, tables_in}
-use Rattle.pb_workspace.specs.Settling.{discovered, has_same_binaries, readme_found, targets_of, wanted_in}
-use Rattle.pb_workspace.specs.Sources.{library_of}
-use Rattle.pb_workspace.specs.Taken.{about_of, own_or_given}
-use Rattle.pb_workspace.specs.Wanted.{each_wanted, wanted_of}
-use Rattle.pb_workspace.specs.declared.draft.Draft.{Draft}
-use Rattle.pb_workspace.specs.declared.draft.Lists.{Lists}
+use Rattle.pb_draft.specs.Settling.{discovered, has_same_binaries, readme_found, targets_of, wanted_in}
+use Rattle.pb_draft.specs.Sources.{library_of}
+use Rattle.pb_draft.specs.Taken.{about_of, own_or_given}
+use Rattle.pb_draft.specs.Wanted.{each_wanted, wanted_of}
+use Rattle.pb_draft.specs.declared.draft.Draft.{Draft}
+use Rattle.pb_draft.specs.declared.draft.Lists.{Lists}
 use Rattle.pb_workspace.specs.declared.frame.Frame.{Frame}
-use Rattle.pb_workspace.specs.declared.keys.Keys.{Keys}
+use Rattle.pb_draft.specs.declared.keys.Keys.{Keys}
 use Rattle.pb_workspace.specs.declared.rounds.Parts.{Parts}
 use Rattle.pb_workspace.specs.declared.rounds.Reading.{Reading}
-use Rattle.pb_workspace.specs.declared.settling.Given.{Given}
-use Rattle.pb_workspace.specs.declared.wanted.Standing.{Standing}
-use Rattle.pb_workspace.specs.declared.wanted.Wanted.{Wanted}
+use Rattle.pb_draft.specs.declared.settling.Given.{Given}
+use Rattle.pb_draft.specs.declared.wanted.Standing.{Standing}
+use Rattle.pb_draft.specs.declared.wanted.Wanted.{Wanted}
 use Rattle.pb_workspace.proofs.Accepted.{root_kept, target_kept}
 use Rattle.pb_workspace.proofs.FoldersPlaced.{place_there, places_are}
 use Rattle.pb_workspace.proofs.FoldersPut.{opened}
 use Rattle.pb_workspace.proofs.Fuel.{all_grow, ends_or_grows}
 use Rattle.pb_workspace.proofs.Keeping.{assembled_settled}
-use Rattle.pb_workspace.proofs.Puttings.{map_twice}
+use Rattle.pb_draft.proofs.Puttings.{map_twice}
 use Rattle.pb_workspace.proofs.WholeWorkspace.{map_only, map_each, manifest_there, all_found, begun, own_folders}
 use Rattle.pb_package_laws.specs.Files.{IsManifestAt}
 use Rattle.pb_package_laws.specs.Folders as Folders
@@ -63,10 +63,10 @@ use Rattle.pb_package_laws.specs.Members.{IsMember}
 use Rattle.pb_package_laws.proofs.Members.{member_is}
 use Rattle.pb_package_laws.specs.Binaries.{IsBinary, HasBinaries}
 use Rattle.pb_package_laws.proofs.AllBinaries.{all_rise, all_are}
-use Rattle.pb_workspace.specs.Binaries.{binaries_of, written_binary}
+use Rattle.pb_draft.specs.Binaries.{binaries_of, written_binary}
 use Rattle.pb_package.specs.declared.package.Binary.{Binary}
 use Rattle.pb_package.specs.Settled.{IsAscending, IsSettled}
-use Rattle.pb_workspace.specs.Drafted.{IsPut}
+use Rattle.pb_workspace.specs.Readings.{IsPut}
 use Rattle.pb_manifest.specs.Letters.{is_name}
 use Rattle.pb_package_laws.specs.Packages.{IsOwnOrTaken, library, script, IsEntry, IsPackageOf}
 use Rattle.pb_package_laws.proofs.Fine.{AreFine, fine_so, not_off, matched}

@@ -11,7 +11,7 @@ use Rattle.pb_package.specs.declared.package.Binary.{Binary}
 use Rattle.pb_package.specs.declared.package.Package.{Package}
 use Rattle.pb_place.specs.Paths.{below}
 use Rattle.pb_place.specs.World.{World}
-use Rattle.pb_workspace.specs.Sources.{resolved}
+use Rattle.pb_draft.specs.Sources.{resolved}
 use Rattle.pb_package_laws.specs.Files.{first_file}
 
 -- `src/bin/NAME.rs`, `src/bin/NAME/main.rs`

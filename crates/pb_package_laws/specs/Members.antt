@@ -6,7 +6,7 @@ use Rattle.pb_place.specs.World.{FilesHavePaths, World}
 use Rattle.pb_workspace.specs.Globs.{is_glob}
 use Rattle.pb_workspace.specs.MemberFolders.{folders_meant}
 use Rattle.pb_workspace.specs.Members.{is_excluded, means, part_matches, parts_match}
-use Rattle.pb_workspace.specs.Sources.{resolved}
+use Rattle.pb_draft.specs.Sources.{resolved}
 use Rattle.pb_workspace.specs.declared.frame.Frame.{Frame}
 use Rattle.pb_workspace.specs.declared.member.Part.{Part}
 use Rattle.pb_package_laws.specs.Files.{is_file}

@@ -35,9 +35,9 @@ use Rattle.pb_package.specs.declared.package.Package.{Package}
 use Rattle.pb_package.specs.declared.workspace.Workspace.{Workspace}
 use Rattle.pb_place.specs.Paths.{below, joined}
 use Rattle.pb_place.specs.World.{World}
-use Rattle.pb_workspace.specs.Sources.{resolved}
-use Rattle.pb_workspace.specs.Between.{text_between}
-use Rattle.pb_workspace.specs.declared.settling.Given.{Given}
+use Rattle.pb_draft.specs.Sources.{resolved}
+use Rattle.pb_draft.specs.Between.{text_between}
+use Rattle.pb_draft.specs.declared.settling.Given.{Given}
 use Rattle.pb_package_laws.specs.Files.{first_file, first_path}
 
 -- Keys.

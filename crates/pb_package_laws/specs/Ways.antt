@@ -3,7 +3,7 @@ use Rattle.std.specs.Prelude.{◌≡◌, ◌++◌, ◌∷◌, ◌-◌, ◌==◌,
 use Rattle.std.specs.List.{common_prefix_len, flat_map, join_by}
 use Rattle.std.specs.Str.{bytes_eq}
 use Rattle.pb_place.specs.Paths.{path_of}
-use Rattle.pb_workspace.specs.Between.{names_in, text_between}
+use Rattle.pb_draft.specs.Between.{names_in, text_between}
 
 -- The way from a folder to a path goes up to where the two part, and then down.
 abbrev pub TextsLeadBetween : Type 0

@@ -1,1 +1,2 @@
+pub mod NamedTexts
 pub mod Targets

@@ -4,7 +4,7 @@ use Rattle.std.specs.Prelude.{IfSome}
 use Rattle.std.specs.Cmp.Lexicographic.{slice_cmp, nat_list_cmp_total}
 use Rattle.std.specs.FinMap.{get, insert, empty, retain_keys, get-empty, get-insert}
 use Rattle.std.specs.Ordering.{nat_cmp, eq_by_cmp}
-use Rattle.pb_command.specs.Answers.{answered_of}
+use Rattle.pb_judging.specs.Answers.{answered_of}
 use Rattle.pb_command.specs.Judge.{ended_by, file_at, replied_files}
 use Rattle.pb_directive.specs.declared.directive.Directive.{Directive}
 use Rattle.pb_flight.specs.declared.flight.State.{State}

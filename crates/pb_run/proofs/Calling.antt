@@ -14,7 +14,7 @@ use Rattle.pb_place.specs.World.{World}
 use Rattle.pb_place.specs.declared.command.Command.{Command}
 use Rattle.pb_place.specs.declared.command.Ended.{Ended}
 use Rattle.pb_place.proofs.CallsInTurn.{fails_left, fails_right, made_both, some_all, some_left, some_none, some_right}
-use Rattle.pb_command.specs.Answers.{answered_of}
+use Rattle.pb_judging.specs.Answers.{answered_of}
 use Rattle.pb_command.specs.Judge.{file_at}
 use Rattle.pb_project.specs.Targets.{dep_info_of}
 use Rattle.pb_project.specs.declared.project.Project.{Project}

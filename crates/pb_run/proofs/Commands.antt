@@ -10,9 +10,10 @@ use Rattle.pb_unit.specs.declared.plan.Planned.{Planned}
 use Rattle.pb_unit.specs.declared.unit.What.{What}
 use Rattle.pb_unit.specs.declared.unit.What.TheVariants.{Lib, Bin, Script, Run}
 use Rattle.pb_command.specs.Command.{command_by, command_for, command_of, compile_of, run_of, words_of, asked_part, crate_part}
-use Rattle.pb_command.specs.Externs.{in_order, library_words}
-use Rattle.pb_command.specs.Pairs.{about_pairs, binary_pairs, building_pairs, crate_pairs, described_pairs, env_pair, out_pairs, own_pairs, package_pairs, pairs_of, passed_at, passed_by, passed_pairs, run_there, version_pairs}
-use Rattle.pb_command.specs.Said.{own_words, said_words, search_word, search_words, searched_words}
+use Rattle.pb_project.specs.NamedTexts.{in_order}
+use Rattle.pb_words.specs.Externs.{library_words}
+use Rattle.pb_variables.specs.Pairs.{about_pairs, binary_pairs, building_pairs, crate_pairs, described_pairs, env_pair, out_pairs, own_pairs, package_pairs, pairs_of, passed_at, passed_by, passed_pairs, run_there, version_pairs}
+use Rattle.pb_words.specs.Said.{own_words, said_words, search_word, search_words, searched_words}
 use Rattle.pb_soundness.proofs.Flying.{contains_head, contains_tail}
 
 flat_same : {A B : Type 0} (f g : A → List B) (xs : List A) → ((x : A) → Contains xs x → f x ≡ g x) → flat_map f xs ≡ flat_map g xs

@@ -3,7 +3,7 @@ use Rattle.std.proofs.Common.{◌≡◌, ◌≢◌, ◌∙◌, Bool, true, false
 use Rattle.std.proofs.lemmas.Bool.{false≢true}
 use Rattle.std.specs.FinMap as finite
 use Rattle.std.specs.Prelude.{IfSome, MatchOption}
-use Rattle.pb_command.specs.Answers.{answered_of}
+use Rattle.pb_judging.specs.Answers.{answered_of}
 use Rattle.pb_command.specs.Command.{command_of}
 use Rattle.pb_command.specs.Judge.{ended_by, file_at}
 use Rattle.pb_directive.specs.declared.directive.Directive.{Directive}

@@ -2,7 +2,7 @@
 use Rattle.std.proofs.Common.{◌≡◌, ◌≢◌, ◌⊎◌, ◌∙◌, ◌++◌, ◌&&◌, ◌||◌, ℕ, Bool, true, false, List, [], ◌∷◌, Option, Some, None, Contains, refl, sym, ap, subst, inl, inr}
 use Rattle.std.proofs.lemmas.Bool.{cases_eq, false≢true}
 use Rattle.std.specs.List.{list_all, flat_map}
-use Rattle.pb_command.specs.Externs.{folder_in, read_at, reads_of}
+use Rattle.pb_words.specs.Externs.{folder_in, read_at, reads_of}
 use Rattle.pb_flight.proofs.Lists.{contains_none, contains_head, contains_tail, contains_cases}
 use Rattle.pb_place.specs.Folders.{files_in}
 use Rattle.pb_place.specs.Paths.{is_at_or_below}

@@ -5,7 +5,7 @@ use Rattle.std.proofs.lemmas.Bool.Decides.{Decides-int_eq}
 use Rattle.std.proofs.lemmas.Option.{slice_get_within}
 use Rattle.std.specs.Ordering.{int_eq}
 use Rattle.std.specs.Prelude.{slice_set}
-use Rattle.pb_command.specs.Answers.{ended_fault, unless_fault, is_too_long}
+use Rattle.pb_judging.specs.Answers.{ended_fault, unless_fault, is_too_long}
 use Rattle.pb_command.specs.Judge.{judge, judge_in, inputs_if, ended_by}
 use Rattle.pb_directive.specs.declared.directive.Directive.{Directive}
 use Rattle.pb_flight.specs.declared.flight.Answer.{Answer}

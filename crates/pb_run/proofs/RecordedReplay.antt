@@ -1,7 +1,7 @@
 -- A unit whose record gives its answer again, and gets a run number where it has none.
 use Rattle.std.proofs.Common.{◌≡◌, ◌≢◌, ◌<◌, ◌∙◌, ℕ, true, List, is_some, Option, Some, None, refl, sym, ap, subst, inl, inr, arith}
 use Rattle.std.proofs.lemmas.Bool.{false≢true}
-use Rattle.pb_command.specs.Externs.{reads_of}
+use Rattle.pb_words.specs.Externs.{reads_of}
 use Rattle.pb_command.specs.Judge.{judge}
 use Rattle.pb_directive.specs.declared.directive.Directive.{Directive}
 use Rattle.pb_flight.specs.declared.flight.State.{State}

@@ -3,7 +3,7 @@ use Rattle.std.proofs.Common.{◌≡◌, ◌≢◌, ◌∙◌, ℕ, true, false,
 use Rattle.std.proofs.lemmas.Bool.{false≢true}
 use Rattle.std.specs.Prelude.{IfSome}
 use Rattle.std.specs.Option.{is_some}
-use Rattle.pb_command.specs.Answers.{answered_of}
+use Rattle.pb_judging.specs.Answers.{answered_of}
 use Rattle.pb_command.specs.Judge.{ended_by, file_at, inputs_if, judge, replied_files}
 use Rattle.pb_command.proofs.Judged.{judges_as_answered}
 use Rattle.pb_directive.specs.declared.directive.Directive.{Directive}

@@ -4,7 +4,7 @@ use Rattle.std.proofs.lemmas.Option.{slice_get-map}
 use Rattle.std.specs.List.{list_all, flat_map, AllByRecursion}
 use Rattle.std.specs.Option.{option_map}
 use Rattle.pb_command.specs.Command.{command_of}
-use Rattle.pb_command.specs.Externs.{folder_in, reads_of}
+use Rattle.pb_words.specs.Externs.{folder_in, reads_of}
 use Rattle.pb_directive.specs.declared.directive.Directive.{Directive}
 use Rattle.pb_message.specs.declared.message.Message.{Message}
 use Rattle.pb_place.specs.Folders.{over, folders_over}

@@ -9,7 +9,7 @@ use Rattle.pb_directive.specs.declared.directive.Directive.{Directive}
 use Rattle.pb_project.specs.declared.project.Project.{Project}
 use Rattle.pb_project.specs.declared.project.Setup.{Setup}
 use Rattle.pb_command.specs.Command.{command_of, command_by, command_for}
-use Rattle.pb_command.specs.Externs.{reads_of}
+use Rattle.pb_words.specs.Externs.{reads_of}
 use Rattle.pb_run.specs.Standing.{HasPackage}
 
 -- what a command is for: it writes into the unit's folder, and reads the folders of the units that this one reaches

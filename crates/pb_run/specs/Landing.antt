@@ -1,7 +1,7 @@
 -- What comes of a unit that has begun: what the end of its child left, where it has one, and which calls come behind it.
 use Rattle.std.specs.Prelude.{◌≡◌, ◌++◌, ◌∷◌, ℕ, if◌then◌else◌, is_some, List, [], map, Option, Some, None, Result, Ok, Err, IsOk, IfOk, IfErr, IfSome}
 use Rattle.pb_answer.specs.declared.fault.BuildFault.{BuildFault}
-use Rattle.pb_command.specs.Answers.{answered_of}
+use Rattle.pb_judging.specs.Answers.{answered_of}
 use Rattle.pb_command.specs.Judge.{file_at}
 use Rattle.pb_place.specs.declared.call.Call.{Call}
 use Rattle.pb_place.specs.declared.call.Call.TheVariants as call

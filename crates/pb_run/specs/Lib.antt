@@ -1,4 +1,3 @@
-pub mod Telling
 pub mod Outcome
 pub mod Standing
 pub mod Causes

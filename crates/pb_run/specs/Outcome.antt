@@ -17,9 +17,9 @@ use Rattle.pb_project.specs.declared.fault.UnitFault.{UnitFault}
 use Rattle.pb_answer.specs.declared.bad_unit.BadUnit.{BadUnit}
 use Rattle.pb_command.specs.Command.{command_of}
 use Rattle.pb_project.specs.Targets.{dep_info_of}
-use Rattle.pb_command.specs.Answers.{answered_of}
+use Rattle.pb_judging.specs.Answers.{answered_of}
 use Rattle.pb_command.specs.Judge.{ended_by, replied_files, file_at}
-use Rattle.pb_run.specs.Telling.{good_messages, bad_messages, said_by}
+use Rattle.pb_unit_messages.specs.Telling.{good_messages, bad_messages, said_by}
 use Rattle.pb_record.specs.declared.record.InputName.{InputName}
 use Rattle.pb_run.specs.declared.ran.Judgement.{Judgement}
 use Rattle.pb_run.specs.declared.ran.Ran.{Ran}

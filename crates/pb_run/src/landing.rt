@@ -2,7 +2,7 @@
 
 ghost use Rattle.std.specs.Prelude.{◌≡◌, ◌≢◌, ◌++◌, ℕ, true, false, List, Option, IsTrue, IsSome, IsOk, IfOk, IfErr, IfSome, MatchResult, OnOk, Ok, Err, Some, None, Result, is_some, map, slice_get, slice_set};
 ghost use Rattle.std.specs.FinMap as finite;
-ghost use Rattle.pb_command.specs.Answers.{answered_of};
+ghost use Rattle.pb_judging.specs.Answers.{answered_of};
 ghost use Rattle.pb_command.specs.Judge.{file_at};
 ghost use Rattle.pb_place.specs.declared.call.Call.TheVariants as call;
 ghost use Rattle.pb_place.specs.Children.{is_flying, child_at, LandsAs, StaysStillBut};

@@ -1,13 +1,12 @@
 //! What came of a unit, by the answer of its child.
 
 ghost use Rattle.std.specs.Prelude.{◌≡◌, ◌≢◌, IfOk, Result, Ok, Err, true};
-ghost use Rattle.pb_command.specs.Answers.{answered_of};
+ghost use Rattle.pb_judging.specs.Answers.{answered_of};
 ghost use Rattle.pb_project.specs.declared.answer.Answered.{Answered};
 ghost use Rattle.pb_project.specs.declared.fault.UnitFault.TheVariants as unit_fault;
 ghost use Rattle.std.specs.FinMap as finite;
 ghost use Rattle.pb_run.specs.Outcome.{judgement_by, outcome_by, directives_in};
 
-use crate::messages::{bad_messages, good_messages, said_by};
 use pb_answer::BadUnit;
 use pb_command::answered;
 use pb_data::{Bytes, Items};
@@ -17,6 +16,7 @@ use pb_place::{Command, Ended};
 use pb_project::{Answered, Project, UnitFault};
 use pb_record::InputName;
 use pb_unit::Planned;
+use pb_unit_messages::{bad_messages, good_messages, said_by};
 use std::alloc::{AllocError, Global};
 
 /// What came of a unit.

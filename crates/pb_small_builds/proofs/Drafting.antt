@@ -24,31 +24,31 @@ use Rattle.pb_package.specs.declared.package.DependencyKind.TheVariants.{Normal,
 use Rattle.pb_place.specs.Paths.{below, is_path}
 use Rattle.pb_place.specs.World.{World, FilesHavePaths}
 use Rattle.pb_workspace.proofs.FoldersPut.{opened}
-use Rattle.pb_workspace.proofs.Keeping.{binaries_kept, features_kept}
-use Rattle.pb_workspace.proofs.Naming.{found_named, library_named}
+use Rattle.pb_draft.proofs.KeptByName.{binaries_kept, features_kept}
+use Rattle.pb_draft.proofs.Naming.{found_named, library_named}
 use Rattle.pb_workspace.proofs.Promised.{is_promised, build_dependencies_promised, dependencies_promised, features_promised, library_promised}
-use Rattle.pb_workspace.proofs.Puttings.{all_map}
-use Rattle.pb_workspace.proofs.WantedOrder.{wanted_named}
-use Rattle.pb_workspace.specs.Binaries.{binaries_of, main_source, with_binaries, written_binary}
-use Rattle.pb_workspace.specs.Drafted.{AreBinaries, AreFeatures, IsBinaryNamed, IsDraft, IsLibraryNamed, IsWantedKeyed, IsWrittenLibrary}
-use Rattle.pb_workspace.specs.Drafts.{draft_of, draft_with, lists_of}
-use Rattle.pb_workspace.specs.Features.{features_of, makes_feature, with_made, with_written}
-use Rattle.pb_workspace.specs.FoundBinaries.{bin_folder, found_binaries}
+use Rattle.pb_draft.proofs.Puttings.{all_map}
+use Rattle.pb_draft.proofs.WantedOrder.{wanted_named}
+use Rattle.pb_draft.specs.Binaries.{binaries_of, main_source, with_binaries, written_binary}
+use Rattle.pb_draft.specs.Drafted.{AreBinaries, AreFeatures, IsBinaryNamed, IsDraft, IsLibraryNamed, IsWantedKeyed, IsWrittenLibrary}
+use Rattle.pb_draft.specs.Drafts.{draft_of, draft_with, lists_of}
+use Rattle.pb_draft.specs.Features.{features_of, makes_feature, with_made, with_written}
+use Rattle.pb_draft.specs.FoundBinaries.{bin_folder, found_binaries}
 use Rattle.pb_workspace.specs.Frames.{given_to}
-use Rattle.pb_workspace.specs.Keys.{keys_of}
+use Rattle.pb_draft.specs.Keys.{keys_of}
 use Rattle.pb_workspace.specs.Rounds.{draft_if, draft_in_file, manifest_at, parts_at, parts_in, read_found, tables_in}
-use Rattle.pb_workspace.specs.Settling.{discovered, readme_found, wanted_in}
-use Rattle.pb_workspace.specs.Sorted.{with_entry}
-use Rattle.pb_workspace.specs.Sources.{has_own_file, library_of, own_source}
-use Rattle.pb_workspace.specs.Taken.{about_of, own_or_given}
-use Rattle.pb_workspace.specs.Wanted.{each_wanted, wanted_of}
-use Rattle.pb_workspace.specs.declared.draft.Draft.{Draft}
-use Rattle.pb_workspace.specs.declared.draft.Lists.{Lists}
+use Rattle.pb_draft.specs.Settling.{discovered, readme_found, wanted_in}
+use Rattle.pb_draft.specs.Sorted.{with_entry}
+use Rattle.pb_draft.specs.Sources.{has_own_file, library_of, own_source}
+use Rattle.pb_draft.specs.Taken.{about_of, own_or_given}
+use Rattle.pb_draft.specs.Wanted.{each_wanted, wanted_of}
+use Rattle.pb_draft.specs.declared.draft.Draft.{Draft}
+use Rattle.pb_draft.specs.declared.draft.Lists.{Lists}
 use Rattle.pb_workspace.specs.declared.frame.Frame.{Frame}
-use Rattle.pb_workspace.specs.declared.keys.Keys.{Keys}
-use Rattle.pb_workspace.specs.declared.settling.Given.{Given}
-use Rattle.pb_workspace.specs.declared.wanted.Standing.{Standing}
-use Rattle.pb_workspace.specs.declared.wanted.Wanted.{Wanted}
+use Rattle.pb_draft.specs.declared.keys.Keys.{Keys}
+use Rattle.pb_draft.specs.declared.settling.Given.{Given}
+use Rattle.pb_draft.specs.declared.wanted.Standing.{Standing}
+use Rattle.pb_draft.specs.declared.wanted.Wanted.{Wanted}
 use Rattle.pb_manifest.specs.Library.{library_name}
 use Rattle.pb_manifest.specs.declared.target.Library.{Library as WrittenLibrary}
 use Rattle.pb_package.specs.declared.package.Library.{Library}

@@ -17,8 +17,8 @@ use Rattle.pb_place.specs.Paths.{below, folder_of, is_path}
 use Rattle.pb_place.specs.World.{World, from_nothing, listed, FilesHavePaths}
 use Rattle.pb_place.proofs.PathLemmas.{folder_is_path}
 use Rattle.pb_workspace.specs.ByFolder.{folders_of, values_of}
-use Rattle.pb_workspace.specs.Drafted.{IsPut}
-use Rattle.pb_workspace.specs.Drafts.{draft_of}
+use Rattle.pb_workspace.specs.Readings.{IsPut}
+use Rattle.pb_draft.specs.Drafts.{draft_of}
 use Rattle.pb_workspace.specs.Frames.{frame_of, is_member}
 use Rattle.pb_workspace.specs.Globs.{is_glob}
 use Rattle.pb_workspace.specs.Loaded.{at_root, nothing_read, others_read, packages_read, root_parts, root_read, workspace_from, workspace_in, workspace_of}
@@ -26,8 +26,8 @@ use Rattle.pb_workspace.specs.MemberFolders.{base_of, folders_meant, folders_tak
 use Rattle.pb_workspace.specs.Members.{parts_meant}
 use Rattle.pb_workspace.specs.PackageFolders.{frame_at, IsPackageFolder, IsRootOrMember, LeadsTo, package_in, root, member}
 use Rattle.pb_workspace.specs.Rounds.{all_read, draft_at, manifest_at, parts_at, parts_in, rounds, standing_in, with_draft}
-use Rattle.pb_workspace.specs.Sources.{resolved}
-use Rattle.pb_workspace.specs.declared.draft.Draft.{Draft}
+use Rattle.pb_draft.specs.Sources.{resolved}
+use Rattle.pb_draft.specs.declared.draft.Draft.{Draft}
 use Rattle.pb_workspace.specs.declared.frame.Frame.{Frame}
 use Rattle.pb_workspace.specs.declared.rounds.Parts.{Parts}
 use Rattle.pb_workspace.specs.declared.rounds.Reading.{Reading}

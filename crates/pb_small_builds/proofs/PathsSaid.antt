@@ -4,7 +4,7 @@ use Rattle.std.proofs.lemmas.List.Folds.{list_any-append}
 use Rattle.pb_manifest.specs.Letters.{has_zero}
 use Rattle.pb_place.specs.Paths.{below, has_byte_0, is_absolute, is_path, is_relative}
 use Rattle.pb_place.proofs.PathLemmas.{below_is_path, parsed_is_path, path_clean}
-use Rattle.pb_workspace.specs.Sources.{resolved}
+use Rattle.pb_draft.specs.Sources.{resolved}
 
 pub below_is : (folder relative : List ℕ) → is_path folder ≡ true → is_relative relative ≡ true → is_path (below folder relative) ≡ true
 below_is folder relative is named = below_is_path folder relative (below folder relative) is named refl

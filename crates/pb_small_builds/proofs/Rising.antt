@@ -12,11 +12,11 @@ use Rattle.pb_package.specs.Settled.{IsAscending}
 use Rattle.pb_package.specs.declared.fault.LoadFault.{LoadFault}
 use Rattle.pb_package.specs.declared.fault.LoadFault.TheVariants.{TooMany}
 use Rattle.pb_workspace.proofs.FoldersPut.{opened}
-use Rattle.pb_workspace.proofs.Puttings.{all_given}
+use Rattle.pb_draft.proofs.Puttings.{all_given}
 use Rattle.pb_workspace.specs.ByFolder.{folders_of, has}
 use Rattle.pb_workspace.specs.Rounds.{all_read, one_read, round, rounds, with_draft}
-use Rattle.pb_workspace.specs.Sorted.{with_entry}
-use Rattle.pb_workspace.specs.declared.draft.Draft.{Draft}
+use Rattle.pb_draft.specs.Sorted.{with_entry}
+use Rattle.pb_draft.specs.declared.draft.Draft.{Draft}
 use Rattle.pb_workspace.specs.declared.rounds.Reading.{Reading}
 
 abbrev cmp : List ℕ → List ℕ → Ordering

@@ -18,14 +18,14 @@ use Rattle.pb_place.specs.Paths.{below, inside, is_below, is_path, is_relative}
 use Rattle.pb_place.specs.World.{World, is_same_path, listed, FilesHavePaths}
 use Rattle.pb_place.proofs.MapLemmas.{among_keys, get-kept, same_bytes}
 use Rattle.pb_place.proofs.Within.{or_second}
-use Rattle.pb_workspace.specs.Binaries.{binaries_of, binary_of, binary_source, first_some, flat_source, looked_for, looked_in_bin, main_source, nested_source, with_binaries, written_binary}
-use Rattle.pb_workspace.specs.FoundBinaries.{bin_folder, binary_at, found_at, found_binaries, main_binary, name_inside}
-use Rattle.pb_workspace.specs.Settling.{discovered}
-use Rattle.pb_workspace.specs.Sorted.{with_entry}
-use Rattle.pb_workspace.specs.Sources.{has_own_file, library_of, library_source, own_source, script_of}
-use Rattle.pb_workspace.proofs.BinPaths.{flat_is_relative, nested_is_relative}
-use Rattle.pb_workspace.proofs.Naming.{both_all}
-use Rattle.pb_workspace.proofs.Puttings.{all_map, with_entry_all}
+use Rattle.pb_draft.specs.Binaries.{binaries_of, binary_of, binary_source, first_some, flat_source, looked_for, looked_in_bin, main_source, nested_source, with_binaries, written_binary}
+use Rattle.pb_draft.specs.FoundBinaries.{bin_folder, binary_at, found_at, found_binaries, main_binary, name_inside}
+use Rattle.pb_draft.specs.Settling.{discovered}
+use Rattle.pb_draft.specs.Sorted.{with_entry}
+use Rattle.pb_draft.specs.Sources.{has_own_file, library_of, library_source, own_source, script_of}
+use Rattle.pb_draft.proofs.BinPaths.{flat_is_relative, nested_is_relative}
+use Rattle.pb_draft.proofs.Naming.{both_all}
+use Rattle.pb_draft.proofs.Puttings.{all_map, with_entry_all}
 use Rattle.pb_small_builds.proofs.PathsSaid.{below_is, resolved_is}
 
 abbrev pub At : List ℕ → Type 0

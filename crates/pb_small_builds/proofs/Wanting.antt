@@ -14,8 +14,8 @@ use Rattle.pb_package.specs.declared.fault.LoadFault.{LoadFault}
 use Rattle.pb_package.specs.declared.fault.LoadFault.TheVariants.{NoInherited}
 use Rattle.pb_package.specs.declared.package.DependencyKind.{DependencyKind}
 use Rattle.pb_place.specs.Paths.{is_path}
-use Rattle.pb_workspace.specs.Wanted.{each_wanted, shared_at, taken_from, wanted_by, wanted_of}
-use Rattle.pb_workspace.specs.declared.wanted.Wanted.{Wanted}
+use Rattle.pb_draft.specs.Wanted.{each_wanted, shared_at, taken_from, wanted_by, wanted_of}
+use Rattle.pb_draft.specs.declared.wanted.Wanted.{Wanted}
 use Rattle.pb_workspace.proofs.FoldersPut.{opened}
 use Rattle.pb_small_builds.proofs.PathsSaid.{resolved_is}
 

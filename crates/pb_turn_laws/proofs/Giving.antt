@@ -4,7 +4,7 @@ use Rattle.std.specs.Prelude.{IsOkAnd, option_and_then}
 use Rattle.std.specs.FinMap as finite
 use Rattle.std.specs.List.{list_all}
 use Rattle.pb_command.proofs.Judged.{judges_as_answered}
-use Rattle.pb_command.specs.Answers.{answered_of}
+use Rattle.pb_judging.specs.Answers.{answered_of}
 use Rattle.pb_command.specs.Command.{command_of}
 use Rattle.pb_command.specs.Judge.{ended_by, file_at, inputs_if, judge, replied_files}
 use Rattle.pb_message.specs.declared.message.Message.{Message}

@@ -12,11 +12,11 @@ use Rattle.std.specs.Result.{result_ok}
 use Rattle.std.specs.Str.{is_utf8}
 use Rattle.pb_build.specs.Environment.{flags_of, path_or, rustc_of, set_text, target_of, told_or}
 use Rattle.pb_build.specs.Result.{is_host, toolchain_in}
-use Rattle.pb_command.specs.Answers.{is_too_long}
+use Rattle.pb_judging.specs.Answers.{is_too_long}
 use Rattle.pb_command.specs.Command.{query_of}
 use Rattle.pb_command.specs.Judge.{ended_by}
-use Rattle.pb_command.specs.Pairs as pairs
-use Rattle.pb_command.specs.Pairs.{first_host, host_in_text, or_else, unless_empty}
+use Rattle.pb_variables.specs.Pairs as pairs
+use Rattle.pb_variables.specs.Pairs.{first_host, host_in_text, or_else, unless_empty}
 use Rattle.pb_command_laws.proofs.Judged.{both_so, so_both}
 use Rattle.pb_command_laws.specs.Judged.{path_said}
 use Rattle.pb_directive.specs.Directives.{is_empty, words_of}

@@ -25,8 +25,8 @@ use Rattle.pb_package.specs.declared.package.Package.{Package}
 use Rattle.pb_project.specs.Targets.{made_file_of, package_of}
 use Rattle.pb_project.specs.declared.fault.UnitFault.TheVariants as fault
 use Rattle.pb_project.specs.declared.project.Project.{Project}
-use Rattle.pb_run.specs.Telling as telling
-use Rattle.pb_run.specs.Telling.{artifact, artifacts, binary_of, compiler_messages, condition_in, library_in, library_of, lines_by, note_in, notes_in, script_of, search_in, subject_in, subject_of, subject_with, target_of, variable_in}
+use Rattle.pb_unit_messages.specs.Telling as telling
+use Rattle.pb_unit_messages.specs.Telling.{artifact, artifacts, binary_of, compiler_messages, condition_in, library_in, library_of, lines_by, note_in, notes_in, script_of, search_in, subject_in, subject_of, subject_with, target_of, variable_in}
 use Rattle.pb_unit.specs.declared.plan.Planned.{Planned}
 use Rattle.pb_unit.specs.declared.unit.What.{What}
 use Rattle.pb_unit.specs.declared.unit.What.TheVariants.{Lib, Bin, Script, Run}

@@ -9,7 +9,7 @@ use Rattle.pb_build.specs.Result.{is_host, toolchain_of}
 use Rattle.pb_build.specs.declared.environment.Environment.{Environment}
 use Rattle.pb_command.specs.Command.{query_of}
 use Rattle.pb_command.specs.Judge.{ended_by}
-use Rattle.pb_command.specs.Pairs.{triple_of}
+use Rattle.pb_variables.specs.Pairs.{triple_of}
 use Rattle.pb_command_laws.specs.Judged.{EndedWell, path_said}
 use Rattle.pb_directive.specs.Directives.{is_empty, words_of}
 use Rattle.pb_directive.specs.Lines.{lines_of}

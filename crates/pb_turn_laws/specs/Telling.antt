@@ -24,7 +24,7 @@ use Rattle.pb_project.specs.Targets.{made_file_of, package_of}
 use Rattle.pb_project.specs.declared.fault.UnitFault.{UnitFault}
 use Rattle.pb_project.specs.declared.fault.UnitFault.TheVariants as fault
 use Rattle.pb_project.specs.declared.project.Project.{Project}
-use Rattle.pb_run.specs.Telling.{unit_lines, good_messages, bad_messages, said_by, note_in}
+use Rattle.pb_unit_messages.specs.Telling.{unit_lines, good_messages, bad_messages, said_by, note_in}
 use Rattle.pb_unit.specs.declared.plan.Planned.{Planned}
 use Rattle.pb_unit.specs.declared.unit.What.{What}
 use Rattle.pb_unit.specs.declared.unit.What.TheVariants.{Lib, Bin, Run}

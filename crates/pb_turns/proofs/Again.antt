@@ -5,7 +5,7 @@ use Rattle.std.proofs.lemmas.Option.{slice_get_within}
 use Rattle.std.specs.FinMap as finite
 use Rattle.std.specs.List.{AllByRecursion, remove}
 use Rattle.pb_answer.specs.declared.bad_unit.BadUnit.{BadUnit}
-use Rattle.pb_command.specs.Answers.{answered_of}
+use Rattle.pb_judging.specs.Answers.{answered_of}
 use Rattle.pb_command.specs.Command.{command_of}
 use Rattle.pb_command.specs.Judge.{file_at}
 use Rattle.pb_directive.specs.declared.directive.Directive.{Directive}
@@ -34,7 +34,7 @@ use Rattle.pb_run.specs.Halves.{child_in, child_of}
 use Rattle.pb_run.specs.Landing.{EndsBy, GivesRecord, IsJudged}
 use Rattle.pb_run.specs.Outcome.{ran_by, ran_of, unstarted}
 use Rattle.pb_run.specs.Standing.{IsInOrder, records_folder}
-use Rattle.pb_run.specs.Telling.{unit_lines}
+use Rattle.pb_unit_messages.specs.Telling.{unit_lines}
 use Rattle.pb_run.specs.declared.begun.Awaited.{Awaited}
 use Rattle.pb_run.specs.declared.begun.Awaited.TheVariants as awaited
 use Rattle.pb_run.specs.declared.begun.Begun.{Begun as unit_begun}

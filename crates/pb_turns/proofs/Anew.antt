@@ -5,7 +5,7 @@ use Rattle.std.proofs.lemmas.Option.{slice_get_within}
 use Rattle.std.specs.List.{AllByRecursion, remove}
 use Rattle.std.specs.Prelude.{IfSome, IsOk}
 use Rattle.pb_answer.specs.declared.bad_unit.BadUnit.{BadUnit}
-use Rattle.pb_command.specs.Answers.{answered_of}
+use Rattle.pb_judging.specs.Answers.{answered_of}
 use Rattle.pb_command.specs.Command.{command_of}
 use Rattle.pb_command.specs.Judge.{file_at, replied_files}
 use Rattle.pb_directive.specs.declared.directive.Directive.{Directive}
@@ -34,7 +34,7 @@ use Rattle.pb_run.specs.Landing.{EndsBy, HasEnded, IsJudged}
 use Rattle.pb_run.specs.Launching.{IsSpawned}
 use Rattle.pb_run.specs.Outcome.{ran_by, ran_of}
 use Rattle.pb_run.specs.Standing.{IsInOrder, records_folder}
-use Rattle.pb_run.specs.Telling.{unit_lines}
+use Rattle.pb_unit_messages.specs.Telling.{unit_lines}
 use Rattle.pb_run.specs.declared.begun.Awaited.{Awaited}
 use Rattle.pb_run.specs.declared.begun.Awaited.TheVariants as awaited
 use Rattle.pb_run.specs.declared.begun.Begun.{Begun as unit_begun}

@@ -16,7 +16,7 @@ use Rattle.pb_project.specs.Targets.{unit_at}
 use Rattle.pb_answer.specs.declared.bad_unit.BadUnit.{BadUnit}
 use Rattle.pb_run.specs.Halves.{Footing, OnRecords, OnNothing, Basis, HoldsBy, Keeps, StandsGood, IsBegun, CanAnswer, BeginsApart, outcomes_in, child_of}
 use Rattle.pb_run.specs.Outcome.{Outcome, directives_in}
-use Rattle.pb_run.specs.Telling.{unit_lines}
+use Rattle.pb_unit_messages.specs.Telling.{unit_lines}
 use Rattle.pb_run.specs.declared.begun.Begun.{Begun as unit_begun}
 use Rattle.pb_turns.specs.Crew.{places_of, place_of_unit, ticket_in, number_in, tickets_of, numbers_of, AreApart}
 use Rattle.pb_turns.specs.Rows.{is_started, fault_in, messages_in}

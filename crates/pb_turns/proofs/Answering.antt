@@ -15,7 +15,7 @@ use Rattle.pb_project.specs.declared.project.Setup.{Setup}
 use Rattle.pb_record.specs.Parts.{IsReading}
 use Rattle.pb_run.specs.Halves.{Footing, Basis, basis, Keeps, IsBegun, CanAnswer, BeginsApart, outcomes_in, child_of}
 use Rattle.pb_run.specs.Outcome.{outcome_from, outcome_by, directives_in}
-use Rattle.pb_run.specs.Telling.{unit_lines}
+use Rattle.pb_unit_messages.specs.Telling.{unit_lines}
 use Rattle.pb_run.specs.declared.begun.Begun.{Begun as unit_begun}
 use Rattle.pb_run.specs.declared.ran.Ran.{Ran}
 use Rattle.pb_soundness.specs.Records.{Reading}

@@ -13,7 +13,7 @@ use Rattle.pb_flight.proofs.Lists.{injective, clash}
 use Rattle.pb_answer.specs.declared.bad_unit.BadUnit.{BadUnit}
 use Rattle.pb_project.specs.declared.project.Project.{Project}
 use Rattle.pb_run.specs.Outcome.{Outcome, Waiting, Good, Bad, directives_in}
-use Rattle.pb_run.specs.Telling.{unit_lines}
+use Rattle.pb_unit_messages.specs.Telling.{unit_lines}
 use Rattle.pb_turns.specs.Rows.{to_first_bad, is_bad, is_started, fault_in, messages_in, said_from, keyed, directives_told, bad_of, bad_or, bad_told, with_key, is_success, noted_of, count_told}
 use Rattle.pb_unit.specs.declared.plan.Planned.{Planned}
 

@@ -14,7 +14,7 @@ use Rattle.pb_record.specs.Commands.{command_of as asked_command}
 use Rattle.pb_record.specs.declared.record.Record.{Record}
 use Rattle.pb_run.specs.Outcome.{ran_of, unstarted}
 use Rattle.pb_run.specs.Standing.{records_folder}
-use Rattle.pb_run.specs.Telling.{unit_lines}
+use Rattle.pb_unit_messages.specs.Telling.{unit_lines}
 use Rattle.pb_run.specs.declared.begun.Awaited.{Awaited}
 use Rattle.pb_run.specs.declared.begun.Awaited.TheVariants as awaited
 use Rattle.pb_run.specs.declared.ran.Ran.{Ran}

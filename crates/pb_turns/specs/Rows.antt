@@ -15,7 +15,7 @@ use Rattle.pb_project.specs.declared.project.Setup.{Setup}
 use Rattle.pb_project.specs.declared.fault.UnitFault.{UnitFault}
 use Rattle.pb_run.specs.Halves.{key_in}
 use Rattle.pb_run.specs.Outcome.{Outcome, Waiting, Good, Bad, outcomes, directives_in}
-use Rattle.pb_run.specs.Telling.{unit_lines}
+use Rattle.pb_unit_messages.specs.Telling.{unit_lines}
 use Rattle.pb_store.specs.declared.difference.Difference.{Difference}
 use Rattle.pb_unit.specs.declared.plan.Planned.{Planned}
 

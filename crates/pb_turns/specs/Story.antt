@@ -33,7 +33,7 @@ use Rattle.pb_run.specs.Halves.{Footing, Basis, basis, outcomes_in, command_in, 
 use Rattle.pb_run.specs.Landing.{record_of}
 use Rattle.pb_run.specs.Outcome.{Outcome, directives_in}
 use Rattle.pb_run.specs.Standing.{records_folder}
-use Rattle.pb_run.specs.Telling.{unit_lines}
+use Rattle.pb_unit_messages.specs.Telling.{unit_lines}
 use Rattle.pb_soundness.specs.Apart.{is_of}
 use Rattle.pb_soundness.specs.Records.{Reading, place_of, record_at}
 use Rattle.pb_store.specs.Differences.{FirstDifference}

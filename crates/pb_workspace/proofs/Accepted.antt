@@ -8,7 +8,7 @@ use Rattle.pb_manifest.specs.declared.profile.Profile.{Profile}
 use Rattle.pb_place.specs.Paths.{folder_of}
 use Rattle.pb_place.specs.World.{World, from_nothing}
 use Rattle.pb_workspace.proofs.Keeping.{none_again}
-use Rattle.pb_workspace.proofs.Puttings.{map_twice}
+use Rattle.pb_draft.proofs.Puttings.{map_twice}
 use Rattle.pb_workspace.specs.Assembled.{assembled, package_at}
 use Rattle.pb_workspace.specs.ByFolder.{values_of}
 use Rattle.pb_workspace.specs.Checks.{fault_of, has_same_names}
@@ -16,7 +16,7 @@ use Rattle.pb_workspace.specs.Frames.{frame_of}
 use Rattle.pb_workspace.specs.Laws.{NamesDiffer, HasTarget, HasRoot, LooksAtSources}
 use Rattle.pb_workspace.specs.Loaded.{packages_read, root_parts, unless, workspace_from, workspace_in, workspace_of}
 use Rattle.pb_workspace.specs.Places.{places_of}
-use Rattle.pb_workspace.specs.declared.draft.Draft.{Draft}
+use Rattle.pb_draft.specs.declared.draft.Draft.{Draft}
 use Rattle.pb_package.specs.declared.fault.LoadFault.{LoadFault}
 use Rattle.pb_package.specs.declared.fault.LoadFault.TheVariants.{SameName}
 use Rattle.pb_workspace.specs.declared.frame.Frame.{Frame}

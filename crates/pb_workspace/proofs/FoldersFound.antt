@@ -5,13 +5,13 @@ use Rattle.std.specs.List.{AllByRecursion}
 use Rattle.pb_closure.specs.Closure.{Reached, start, onward}
 use Rattle.pb_closure.proofs.Membership.{none, head, tail, cases}
 use Rattle.pb_data.specs.Gives.{◌>>=◌}
-use Rattle.pb_workspace.specs.declared.draft.Draft.{Draft}
+use Rattle.pb_draft.specs.declared.draft.Draft.{Draft}
 use Rattle.pb_package.specs.declared.fault.LoadFault.{LoadFault}
 use Rattle.pb_package.specs.declared.fault.LoadFault.TheVariants.{TooMany}
 use Rattle.pb_workspace.specs.declared.rounds.Reading.{Reading}
 use Rattle.pb_workspace.specs.ByFolder.{folders_of, has}
 use Rattle.pb_workspace.specs.Rounds.{all_read, leads_to, one_read, round, rounds, with_draft}
-use Rattle.pb_workspace.proofs.Puttings.{with_entry_all}
+use Rattle.pb_draft.proofs.Puttings.{with_entry_all}
 use Rattle.pb_workspace.proofs.FoldersPut.{Path, opened, has_there, put_only, put_old, put_new, with_only, with_old, with_new}
 
 -- a folder whose package was read, that is still to be read in this round, or that is read in the next

@@ -8,7 +8,7 @@ use Rattle.pb_closure.proofs.Membership.{none, head, tail, cases}
 use Rattle.pb_data.specs.Gives.{◌>>=◌}
 use Rattle.pb_place.proofs.MapLemmas.{exact}
 use Rattle.pb_workspace.specs.ByFolder.{folders_of, has, with_folders}
-use Rattle.pb_workspace.specs.Sorted.{with_entry}
+use Rattle.pb_draft.specs.Sorted.{with_entry}
 
 abbrev pub Path : Type 0
 Path = List ℕ

@@ -1,19 +1,9 @@
-pub mod EnabledNames
-pub mod WantedOrder
 pub mod RowLemmas
-pub mod Resolving
-pub mod SourceLemmas
-pub mod Listed
-pub mod BinPaths
 pub mod Promised
-pub mod Steps
 pub mod EachOne
-pub mod Looking
-pub mod Failed
 pub mod Leading
 pub mod LookingOver
-pub mod Puttings
-pub mod Naming
+pub mod RoundSteps
 pub mod Keeping
 pub mod FoldersPut
 pub mod FoldersFound
@@ -23,4 +13,3 @@ pub mod WholeWorkspace
 pub mod GlobRelation
 pub mod Chosen
 pub mod Accepted
-pub mod FoundSources

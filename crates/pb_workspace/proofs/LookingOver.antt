@@ -11,11 +11,12 @@ use Rattle.pb_package.specs.declared.fault.LoadFault.{LoadFault}
 use Rattle.pb_workspace.specs.declared.frame.Frame.{Frame}
 use Rattle.pb_workspace.specs.declared.rounds.Reading.{Reading}
 use Rattle.pb_workspace.specs.ByFolder.{folders_of}
-use Rattle.pb_workspace.specs.Causes.{is_failure, is_outside}
+use Rattle.pb_draft.specs.Causes.{is_failure, is_outside}
 use Rattle.pb_workspace.specs.MemberFolders.{member_folders}
-use Rattle.pb_workspace.specs.LookedAt.{after, Looks, folder_looked, one_looked, all_looked, round_looked, rounds_looked, members_looked, others_looked}
+use Rattle.pb_draft.specs.Looks.{after, Looks}
+use Rattle.pb_workspace.specs.LookedAt.{folder_looked, one_looked, all_looked, round_looked, rounds_looked, members_looked, others_looked}
 use Rattle.pb_workspace.specs.Rounds.{all_read, draft_at, one_read, round}
-use Rattle.pb_workspace.proofs.Looking.{Ends, ends_both, looks_both, looks_first, looks_no_further, looks_none, looks_then}
+use Rattle.pb_draft.proofs.Looking.{Ends, ends_both, looks_both, looks_first, looks_no_further, looks_none, looks_then}
 
 -- a step that looks at the world, and one after it that looks at the same
 pub looks_step : {A B : Type 0} (result : Result B LoadFault) (next : World → A → List Call) (answer : World → Result A LoadFault) (look : World → List Call) (x : A) (w first now : World) (old mid new : Counts)

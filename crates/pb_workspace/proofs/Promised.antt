@@ -12,7 +12,8 @@ use Rattle.pb_manifest.specs.declared.feature.Feature.{Feature}
 use Rattle.pb_manifest.specs.declared.package.Package.{Package}
 use Rattle.pb_manifest.specs.declared.target.Binary.{Binary}
 use Rattle.pb_manifest.specs.declared.target.Library.{Library}
-use Rattle.pb_workspace.specs.Drafted.{HasSharedInOrder, IsKeyed, IsWrittenFeature, IsWrittenLibrary}
+use Rattle.pb_workspace.specs.Readings.{HasSharedInOrder}
+use Rattle.pb_draft.specs.Drafted.{IsKeyed, IsWrittenFeature, IsWrittenLibrary}
 use Rattle.pb_package.specs.Settled.{IsAscending}
 use Rattle.pb_manifest_reader.proofs.Manifests.{manifest_is}
 

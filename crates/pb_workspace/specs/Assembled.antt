@@ -2,11 +2,11 @@
 use Rattle.std.specs.Prelude.{ℕ, Bool, ◌&&◌, ◌||◌, if◌then◌else◌, List, map, Option, Some, None, unwrap_or}
 use Rattle.std.specs.List.{list_all, list_any}
 use Rattle.pb_manifest.specs.declared.profile.Profile.{Profile}
-use Rattle.pb_workspace.specs.declared.draft.Draft.{Draft}
+use Rattle.pb_draft.specs.declared.draft.Draft.{Draft}
 use Rattle.pb_workspace.specs.declared.frame.Frame.{Frame}
 use Rattle.pb_package.specs.declared.package.Entry.{Entry}
 use Rattle.pb_package.specs.declared.package.Package.{Package}
-use Rattle.pb_workspace.specs.declared.wanted.Wanted.{Wanted}
+use Rattle.pb_draft.specs.declared.wanted.Wanted.{Wanted}
 use Rattle.pb_package.specs.declared.workspace.DefaultMembers.{DefaultMembers}
 use Rattle.pb_package.specs.declared.workspace.DefaultMembers.TheVariants.{Unwritten, Named, Unknown}
 use Rattle.pb_package.specs.declared.workspace.Workspace.{Workspace}

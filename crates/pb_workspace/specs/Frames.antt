@@ -5,7 +5,7 @@ use Rattle.pb_place.specs.Paths.{is_at_or_below}
 use Rattle.pb_manifest.specs.declared.manifest.WorkspacePackage.{WorkspacePackage}
 use Rattle.pb_manifest.specs.declared.manifest.WorkspaceTable.{WorkspaceTable}
 use Rattle.pb_workspace.specs.declared.frame.Frame.{Frame}
-use Rattle.pb_workspace.specs.declared.settling.Given.{Given}
+use Rattle.pb_draft.specs.declared.settling.Given.{Given}
 use Rattle.pb_workspace.specs.ByFolder.{has}
 use Rattle.pb_workspace.specs.Members.{is_excluded}
 

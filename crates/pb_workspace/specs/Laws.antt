@@ -1,14 +1,11 @@
--- What is so of every workspace that is accepted, and of the binaries that are found.
-use Rattle.std.specs.Prelude.{◌≡◌, ◌≢◌, ℕ, true, List, ◌∷◌, ◌++◌, Contains, map, None, Ok}
+-- What is so of every workspace that is accepted.
+use Rattle.std.specs.Prelude.{◌≡◌, ℕ, List, map, Ok}
 use Rattle.std.specs.List.{IsDistinct}
 use Rattle.std.specs.Str.{bytes_eq}
-use Rattle.pb_place.specs.Paths.{folder_of, is_path}
-use Rattle.pb_place.specs.World.{World, from_nothing, FilesHavePaths}
-use Rattle.pb_package.specs.declared.package.Binary.{Binary}
+use Rattle.pb_place.specs.Paths.{folder_of}
+use Rattle.pb_place.specs.World.{World, from_nothing}
 use Rattle.pb_package.specs.declared.package.Package.{Package}
 use Rattle.pb_package.specs.declared.workspace.Workspace.{Workspace}
-use Rattle.pb_workspace.specs.Binaries.{binary_source}
-use Rattle.pb_workspace.specs.FoundBinaries.{found_binaries}
 use Rattle.pb_workspace.specs.Loaded.{workspace_of}
 
 -- No two packages have one name.
@@ -25,8 +22,3 @@ HasRoot = (manifest target : List ℕ) (w : World) (ws : Workspace) → workspac
 -- Worlds of the same sources have the same workspace, or the same refusal.
 abbrev pub LooksAtSources : Type 0
 LooksAtSources = (manifest target : List ℕ) (v w : World) → from_nothing target v ≡ from_nothing target w → workspace_of manifest target v ≡ workspace_of manifest target w
-
--- Of the binaries that are found in the folder of a package, the last of a name, which counts, has the source that a `[[bin]]` of this name would have that writes no path.
-abbrev pub FoundAsLookedFor : Type 0
-FoundAsLookedFor = (folder : List ℕ) (sources : World) (owner : List ℕ) (before later : List Binary) (b : Binary) → is_path folder ≡ true → FilesHavePaths sources
-    → found_binaries folder sources owner ≡ before ++ b ∷ later → ((other : Binary) → Contains later other → other.name ≢ b.name) → b.source ≡ binary_source folder sources owner b.name None

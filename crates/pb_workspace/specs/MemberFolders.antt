@@ -6,11 +6,11 @@ use Rattle.pb_place.specs.Paths.{folder_of, last_part, names_of, path_of}
 use Rattle.pb_place.specs.World.{World, listed}
 use Rattle.pb_workspace.specs.declared.frame.Frame.{Frame}
 use Rattle.pb_workspace.specs.declared.member.Part.{Part}
-use Rattle.pb_workspace.specs.Between.{names_in}
+use Rattle.pb_draft.specs.Between.{names_in}
 use Rattle.pb_workspace.specs.ByFolder.{with_folders}
 use Rattle.pb_workspace.specs.Globs.{is_glob}
 use Rattle.pb_workspace.specs.Members.{is_excluded, parts_match, parts_meant}
-use Rattle.pb_workspace.specs.Sources.{resolved}
+use Rattle.pb_draft.specs.Sources.{resolved}
 
 -- a part that only one name matches
 abbrev pub is_fixed : Part → Bool

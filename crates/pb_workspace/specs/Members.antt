@@ -4,9 +4,9 @@ use Rattle.std.specs.List.{fold, list_any}
 use Rattle.std.specs.Str.{bytes_eq}
 use Rattle.pb_place.specs.Paths.{is_absolute, is_at_or_below, leads_up, parts_of, stays}
 use Rattle.pb_workspace.specs.declared.member.Part.{Part}
-use Rattle.pb_workspace.specs.Between.{names_in}
+use Rattle.pb_draft.specs.Between.{names_in}
 use Rattle.pb_workspace.specs.Globs.{matches}
-use Rattle.pb_workspace.specs.Sources.{resolved}
+use Rattle.pb_draft.specs.Sources.{resolved}
 
 -- at or below a folder that `exclude` writes out, from the root
 abbrev pub is_excluded : List ℕ → List (List ℕ) → List ℕ → Bool

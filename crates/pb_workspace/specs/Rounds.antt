@@ -10,19 +10,19 @@ use Rattle.pb_manifest.specs.declared.fault.ManifestFault.TheVariants.{BadKind}
 use Rattle.pb_manifest.specs.declared.key.Key.TheVariants as key
 use Rattle.pb_manifest.specs.declared.manifest.Manifest.{Manifest as ManifestRead}
 use Rattle.pb_manifest.specs.declared.package.Package.{Package}
-use Rattle.pb_workspace.specs.declared.draft.Draft.{Draft}
-use Rattle.pb_workspace.specs.declared.draft.Tables.{Tables}
+use Rattle.pb_draft.specs.declared.draft.Draft.{Draft}
+use Rattle.pb_draft.specs.declared.draft.Tables.{Tables}
 use Rattle.pb_package.specs.declared.fault.LoadFault.{LoadFault}
 use Rattle.pb_package.specs.declared.fault.LoadFault.TheVariants.{NoManifest, Manifest, TooMany}
 use Rattle.pb_workspace.specs.declared.frame.Frame.{Frame}
 use Rattle.pb_workspace.specs.declared.rounds.Parts.{Parts}
 use Rattle.pb_workspace.specs.declared.rounds.Reading.{Reading}
-use Rattle.pb_workspace.specs.declared.wanted.Standing.{Standing}
-use Rattle.pb_workspace.specs.declared.wanted.Wanted.{Wanted}
+use Rattle.pb_draft.specs.declared.wanted.Standing.{Standing}
+use Rattle.pb_draft.specs.declared.wanted.Wanted.{Wanted}
 use Rattle.pb_workspace.specs.ByFolder.{folders_of, has, with_folders}
-use Rattle.pb_workspace.specs.Drafts.{draft_of}
+use Rattle.pb_draft.specs.Drafts.{draft_of}
 use Rattle.pb_workspace.specs.Frames.{given_to, is_member}
-use Rattle.pb_workspace.specs.Sorted.{with_entry}
+use Rattle.pb_draft.specs.Sorted.{with_entry}
 
 -- what the file at a manifest's path says
 abbrev pub read_found : List ℕ → Option (List ℕ) → Result ManifestRead LoadFault

@@ -4,6 +4,7 @@ use Rattle.std.specs.List.{flat_map, list_any, list_all, slice_split}
 use Rattle.std.specs.Str.{bytes_eq}
 use Rattle.pb_data.specs.Gives.{◌>>=◌}
 use Rattle.pb_data.specs.Mentions.{is_mentioned}
+use Rattle.pb_draft.specs.Between.{is_word}
 use Rattle.pb_package.specs.declared.fault.LoadFault.{LoadFault}
 use Rattle.pb_package.specs.declared.fault.LoadFault.TheVariants.{NoSuchPackage}
 use Rattle.pb_package.specs.declared.options.Options.{Options}
@@ -57,9 +58,6 @@ abbrev pub selected_packages : Workspace → Bool → List (List ℕ) → Result
 selected_packages ws all names =
     if all then Ok (members_of ws.packages)
     else (if not (length names == 0) then named_members names ws.packages else by_default ws.default_members ws.root_package ws.packages)
-
-abbrev pub is_word : List ℕ → Bool
-is_word part = not (length part == 0)
 
 -- the words of a part, between its spaces
 abbrev pub spaced_words : List ℕ → List (List ℕ)

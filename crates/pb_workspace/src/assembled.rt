@@ -4,19 +4,17 @@ ghost use Rattle.std.specs.Prelude.{◌≡◌, ◌++◌, Bool, IfOk, OnOk, map, 
 ghost use Rattle.std.specs.List.{list_all, list_any};
 ghost use Rattle.pb_workspace.specs.Assembled.{entry_at, package_at, packages_of, is_meant_member, is_known, is_default, default_members_of, assembled};
 ghost use Rattle.pb_workspace.specs.Members.{means, parts_match, parts_meant};
-ghost use Rattle.pb_workspace.specs.Between.{names_in};
+ghost use Rattle.pb_draft.specs.Between.{names_in};
 ghost use Rattle.pb_workspace.specs.ByFolder.{value_of};
 ghost use Rattle.pb_workspace.specs.Places.{places_of};
 ghost use Rattle.pb_workspace.specs.Selected.{places_where};
 
 use crate::by_folder::ByFolder;
-use crate::by_key::WantedByKey;
-use crate::draft::Draft;
 use crate::frame::Frame;
 use crate::glob::is_glob;
 use crate::member::{is_meant, parts_meant};
-use crate::wanted::Wanted;
 use pb_data::{Items, TryCopy};
+use pb_draft::{Draft, Wanted, WantedByKey};
 use pb_manifest::{Profile, WrittenPath};
 use pb_package::{DefaultMembers, EntriesByKey, Entry, Package, Workspace};
 use pb_place::PathText;

@@ -2,19 +2,17 @@
 
 ghost use Rattle.std.specs.Prelude.{◌≡◌, IfOk, IfSome, false, map};
 ghost use Rattle.std.specs.List.{filter_map, list_any};
-ghost use Rattle.pb_workspace.specs.Causes.{is_failure};
-ghost use Rattle.pb_workspace.specs.declared.draft.Draft.{Draft};
+ghost use Rattle.pb_draft.specs.Causes.{is_failure};
+ghost use Rattle.pb_draft.specs.declared.draft.Draft.{Draft};
 ghost use Rattle.pb_workspace.specs.Checks.{has_same_names, has_other_name, matches_if, has_other_version, some_leads, links_twice, links_without_script, fault_of};
 ghost use Rattle.pb_workspace.specs.Places.{places_of, draft_in};
-ghost use Rattle.pb_workspace.specs.Settling.{comes_again};
-ghost use Rattle.pb_workspace.specs.declared.wanted.Wanted.{Wanted};
+ghost use Rattle.pb_draft.specs.Settling.{comes_again};
+ghost use Rattle.pb_draft.specs.declared.wanted.Wanted.{Wanted};
 
-use crate::again::was_mentioned;
 use crate::by_folder::ByFolder;
-use crate::draft::Draft;
 use crate::places::draft_in;
-use crate::wanted::Wanted;
 use pb_data::Mentions;
+use pb_draft::{Draft, Wanted, was_mentioned};
 use pb_manifest::{Requirement, Version};
 use pb_package::LoadFault;
 use std::alloc::{AllocError, Global};

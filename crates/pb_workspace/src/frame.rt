@@ -1,14 +1,13 @@
 //! What a root manifest says of its workspace.
 
 ghost use Rattle.std.specs.Prelude.{◌≡◌, IfOk, IfSome};
-ghost use Rattle.pb_workspace.specs.Drafted.{HasSharedInOrder};
+ghost use Rattle.pb_workspace.specs.Readings.{HasSharedInOrder};
 ghost use Rattle.pb_workspace.specs.Frames.{no_keys, nothing, keys_or_none, frame_of, is_member};
 
 use crate::by_folder::ByFolder;
-use crate::by_key::SharedByKey;
 use crate::member::is_excluded;
-use crate::settling::Given;
 use pb_data::Items;
+use pb_draft::{Given, SharedByKey};
 use pb_manifest::{WorkspacePackage, WorkspaceTable, WrittenPath};
 use pb_place::PathText;
 use std::alloc::{AllocError, Global};

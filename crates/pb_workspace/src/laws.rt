@@ -1,7 +1,7 @@
 //! Laws of workspaces. Each function does nothing; its contract is the law.
 
 ghost use Rattle.pb_workspace.specs.GlobWords.{DecidesGlobs};
-ghost use Rattle.pb_workspace.specs.Laws.{NamesDiffer, HasTarget, HasRoot, LooksAtSources, FoundAsLookedFor};
+ghost use Rattle.pb_workspace.specs.Laws.{NamesDiffer, HasTarget, HasRoot, LooksAtSources};
 ghost use Rattle.pb_workspace.specs.PackageFolders.{FuelIsEnough};
 
 /// The number of rounds never ends the reading of a workspace: no more than 256 packages are read, and then 257 rounds
@@ -28,10 +28,4 @@ pub fn workspaces_are_settled()
 /// same refusal.
 pub fn workspaces_look_at_sources()
     ensures { LooksAtSources }
-{}
-
-/// A binary that is found has the source that a `[[bin]]` of its name would have that writes no path (The Cargo Book,
-/// Cargo Targets): what is found and what is looked for are told in opposite orders, and agree.
-pub fn found_binaries_are_looked_for()
-    ensures { FoundAsLookedFor }
 {}

@@ -3,22 +3,12 @@
 //! Specifying Dependencies).
 #![tactic(auto)]
 
-mod again;
 mod assembled;
-mod between;
-mod binaries;
 mod by_folder;
-mod by_key;
 mod checks;
-pub mod draft;
-mod features;
-mod found;
-mod found_binaries;
 pub mod frame;
 mod glob;
-pub mod keys;
 mod laws;
-mod listings;
 mod loading;
 mod member;
 mod member_folders;
@@ -26,18 +16,13 @@ mod normal_paths;
 mod places;
 pub mod rounds;
 mod selecting;
-pub mod settling;
-mod sorted;
-mod source;
-mod taken;
-pub mod wanted;
 
 pub use laws::{
-    found_binaries_are_looked_for, globs_stand_for_names, rounds_are_enough,
-    workspaces_are_settled, workspaces_look_at_sources,
+    globs_stand_for_names, rounds_are_enough, workspaces_are_settled, workspaces_look_at_sources,
 };
 pub use loading::load;
 pub use normal_paths::workspace_has_paths;
+pub use pb_draft::found_binaries_are_looked_for;
 pub use pb_package::{
     About, BinariesByName, Binary, DefaultMembers, DependencyKind, EntriesByKey, Entry,
     FeaturesByName, Library, LoadFault, Options, Package, SelectedWorkspace, Selection,

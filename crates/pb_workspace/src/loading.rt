@@ -8,17 +8,18 @@ ghost use Rattle.pb_manifest.specs.Letters.{is_name};
 ghost use Rattle.pb_workspace.specs.ByFolder.{values_of};
 ghost use Rattle.pb_data.specs.Gives.{Gives};
 ghost use Rattle.pb_package.specs.declared.fault.LoadFault.TheVariants as load_fault;
-ghost use Rattle.pb_workspace.specs.LookedAt.{Looks, listings_at, package_looked, root_looked, others_looked, packages_looked, looked_at};
-ghost use Rattle.pb_workspace.specs.Causes.{is_failure, Told, Reads};
+ghost use Rattle.pb_draft.specs.Looks.{Looks, listings_at};
+ghost use Rattle.pb_workspace.specs.LookedAt.{package_looked, root_looked, others_looked, packages_looked, looked_at};
+ghost use Rattle.pb_draft.specs.Causes.{is_failure, Told, Reads};
 ghost use Rattle.pb_workspace.specs.Frames.{frame_of};
 ghost use Rattle.pb_workspace.specs.Loaded.{root_parts, at_root, nothing_read, root_read, others_read, packages_read, workspace_from, workspace_in, workspace_of};
-ghost use Rattle.pb_workspace.specs.Drafted.{ArePromised, HasSharedInOrder, IsReading};
+ghost use Rattle.pb_draft.specs.Drafted.{ArePromised};
+ghost use Rattle.pb_workspace.specs.Readings.{HasSharedInOrder, IsReading};
 ghost use Rattle.pb_workspace.specs.NormalPaths.{HasNormalPaths};
 
 use crate::assembled::assembled;
 use crate::by_folder::ByFolder;
 use crate::checks::fault_of;
-use crate::draft::{Draft, Tables, draft_of};
 use crate::frame::{Frame, frame_of};
 use crate::member_folders::{is_manifest, member_folders};
 use crate::normal_paths::workspace_has_paths;
@@ -26,8 +27,8 @@ use crate::places::places_of;
 use crate::rounds::{
     ENOUGH_ROUNDS, Parts, Reading, all_read, no_manifest, parts_at, rounds, with_draft,
 };
-use crate::wanted::Standing;
 use pb_data::{Items, TryCopy, with_next};
+use pb_draft::{Draft, Standing, Tables, draft_of};
 use pb_manifest::{Package, Profile, WorkspaceTable};
 use pb_package::{LoadFault, SettledWorkspace, Workspace};
 use pb_place::{PathText, Place};

@@ -3,14 +3,14 @@
 ghost use Rattle.std.specs.Prelude.{◌≡◌, ◌++◌, IfOk, OnOk, map};
 ghost use Rattle.std.specs.List.{fold, list_any};
 ghost use Rattle.pb_place.specs.Paths.{is_absolute, is_at_or_below, leads_up, parts_of, stays};
-ghost use Rattle.pb_workspace.specs.Between.{names_in};
+ghost use Rattle.pb_draft.specs.Between.{names_in};
 ghost use Rattle.pb_workspace.specs.Members.{is_excluded, plain_parts, further, start_of, parts_meant, part_matches, parts_match, means};
-ghost use Rattle.pb_workspace.specs.Sources.{resolved};
+ghost use Rattle.pb_draft.specs.Sources.{resolved};
 
-use crate::between::{cut_at_slashes, names_in};
 use crate::glob::matches;
-use crate::source::resolved;
 use pb_data::Text;
+use pb_draft::source::resolved;
+use pb_draft::{cut_at_slashes, names_in};
 use pb_manifest::WrittenPath;
 use pb_place::PathText;
 use std::alloc::{AllocError, Global};

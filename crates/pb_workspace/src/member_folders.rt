@@ -5,17 +5,18 @@ ghost use Rattle.std.specs.List.{flat_map};
 ghost use Rattle.pb_place.specs.declared.call.Call.TheVariants as call;
 ghost use Rattle.pb_place.specs.Paths.{folder_of};
 ghost use Rattle.pb_place.specs.World.{from_nothing, listed};
-ghost use Rattle.pb_workspace.specs.LookedAt.{Looks, looked, text_looked, members_looked};
-ghost use Rattle.pb_workspace.specs.Causes.{is_outside, Reads};
-ghost use Rattle.pb_workspace.specs.Sources.{resolved};
+ghost use Rattle.pb_draft.specs.Looks.{Looks, looked};
+ghost use Rattle.pb_workspace.specs.LookedAt.{text_looked, members_looked};
+ghost use Rattle.pb_draft.specs.Causes.{is_outside, Reads};
+ghost use Rattle.pb_draft.specs.Sources.{resolved};
 ghost use Rattle.pb_workspace.specs.MemberFolders.{is_fixed, fixed_text, base_of, is_manifest, is_taken, folders_taken, folders_meant, member_folders};
 
 use crate::by_folder::{ByFolder, put_folders};
 use crate::frame::Frame;
 use crate::glob::is_glob;
 use crate::member::{Part, is_excluded, is_meant, parts_meant};
-use crate::source::{listed_sources, resolved};
 use pb_data::Items;
+use pb_draft::source::{listed_sources, resolved};
 use pb_manifest::WrittenPath;
 use pb_package::LoadFault;
 use pb_place::{PathText, Place};
@@ -44,7 +45,7 @@ fn fixed_text(alloc: Global, parts: &[Part]) -> Result<String, AllocError>
 }
 
 /// The folder at or below which all folders lie that these parts mean. Its text holds no byte 0, so it is one.
-#[tactic(auto, using(crate::proofs::Resolving::parsing_laws))]
+#[tactic(auto, using(pb_draft::proofs::Resolving::parsing_laws))]
 fn base_of(alloc: Global, parts: &[Part]) -> Result<PathText, AllocError>
     ensures { IfOk result (λ base. base ≡ base_of parts.now) }
 {

@@ -5,8 +5,8 @@ ghost use Rattle.std.specs.Option.{option_copied};
 ghost use Rattle.pb_workspace.specs.Places.{places_of, draft_in};
 
 use crate::by_folder::ByFolder;
-use crate::draft::Draft;
 use pb_data::TryCopy;
+use pb_draft::Draft;
 use pb_place::PathText;
 use std::alloc::{AllocError, Global};
 

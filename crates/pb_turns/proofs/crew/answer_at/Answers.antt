@@ -12,7 +12,7 @@ use Rattle.pb_flight.proofs.Lists.{injective, length_set}
 use Rattle.pb_place.specs.World.{ChangesOnly}
 use Rattle.pb_run.specs.Halves.{WritesTo, child_of}
 use Rattle.pb_run.specs.Standing.{IsCommandOf, records_folder}
-use Rattle.pb_run.specs.Telling.{unit_lines}
+use Rattle.pb_unit_messages.specs.Telling.{unit_lines}
 use Rattle.pb_run.proofs.Reusing.{child_numbered}
 use Rattle.pb_run.proofs.Spawning.{launched_gone}
 use Rattle.pb_soundness.specs.Apart.{is_of}

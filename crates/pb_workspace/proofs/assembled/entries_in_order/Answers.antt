@@ -3,7 +3,7 @@ use Rattle.pb_workspace.specs.Assembled.{entry_at}
 use Rattle.pb_package.specs.ByKey.{table_key}
 use Rattle.pb_package.specs.Settled.{IsAscending}
 use Rattle.pb_package.specs.declared.package.Entry.{Entry}
-use Rattle.pb_workspace.proofs.Puttings.{map_twice}
+use Rattle.pb_draft.proofs.Puttings.{map_twice}
 use Rattle.pb_workspace.proofs.assembled.entries_in_order.Goals as goal
 
 pub from_items-requires : goal.from_items-requires

@@ -3,7 +3,8 @@ use Rattle.std.specs.List.{flat_map}
 use Rattle.pb_place.specs.World.{from_nothing}
 use Rattle.pb_package.specs.declared.fault.LoadFault.TheVariants.{OutOfMemory}
 use Rattle.pb_workspace.proofs.LookingOver.{texts_end, texts_looks, texts_made, texts_none, texts_stop}
-use Rattle.pb_workspace.specs.LookedAt.{Looks, text_looked}
+use Rattle.pb_draft.specs.Looks.{Looks}
+use Rattle.pb_workspace.specs.LookedAt.{text_looked}
 use Rattle.pb_workspace.specs.MemberFolders.{folders_meant}
 use Rattle.pb_workspace.proofs.member_folders.folders_of_texts.Goals as goal
 

@@ -2,7 +2,8 @@ use Rattle.std.proofs.Common.{◌≡◌, ◌++◌, drop, List, ℕ, Result}
 use Rattle.std.specs.Prelude.{IsTrue}
 use Rattle.pb_package.specs.declared.fault.LoadFault.{LoadFault}
 use Rattle.pb_place.specs.Counts.{Counts}
-use Rattle.pb_workspace.specs.LookedAt.{Looks, text_looked}
+use Rattle.pb_draft.specs.Looks.{Looks}
+use Rattle.pb_workspace.specs.LookedAt.{text_looked}
 use Rattle.pb_place.specs.World.{from_nothing}
 use Rattle.std.specs.List.{flat_map}
 use Rattle.pb_workspace.specs.MemberFolders.{folders_meant}

@@ -2,7 +2,7 @@ use Rattle.std.proofs.Common.{ap, refl, rules, ◌∙◌}
 use Rattle.std.specs.List.{flat_map}
 use Rattle.pb_place.specs.CallsInTurn.{past_calls}
 use Rattle.pb_package.specs.declared.fault.LoadFault.TheVariants.{OutOfMemory}
-use Rattle.pb_workspace.proofs.Looking.{looks_all}
+use Rattle.pb_draft.proofs.Looking.{looks_all}
 use Rattle.pb_workspace.specs.LookedAt.{members_looked, text_looked}
 use Rattle.pb_workspace.proofs.member_folders.member_folders.Goals as goal
 

@@ -5,8 +5,9 @@ use Rattle.pb_place.specs.World.{from_nothing}
 use Rattle.pb_place.specs.Counts.{Counts}
 use Rattle.pb_package.specs.declared.fault.LoadFault.{LoadFault}
 use Rattle.pb_workspace.specs.declared.rounds.Reading.{Reading}
-use Rattle.pb_workspace.specs.Drafted.{IsReading}
-use Rattle.pb_workspace.specs.LookedAt.{folder_looked, Looks, all_looked}
+use Rattle.pb_workspace.specs.Readings.{IsReading}
+use Rattle.pb_workspace.specs.LookedAt.{folder_looked, all_looked}
+use Rattle.pb_draft.specs.Looks.{Looks}
 use Rattle.pb_workspace.specs.Rounds.{all_read, draft_at}
 use Rattle.pb_workspace.proofs.rounds.all_read.Given as goal
 

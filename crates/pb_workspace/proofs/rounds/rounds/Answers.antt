@@ -1,6 +1,6 @@
 use Rattle.std.proofs.Common.{◌∙◌, Ok, Err}
 use Rattle.pb_workspace.proofs.LookingOver.{round_looks, round_stop, rounds_end}
-use Rattle.pb_workspace.proofs.Steps.{round_gives, round_fails}
+use Rattle.pb_workspace.proofs.RoundSteps.{round_gives, round_fails}
 use Rattle.pb_workspace.proofs.rounds.rounds.Goals as goal
 
 pub returns-in-Err-clause-ok : goal.returns-in-Err-clause-ok

@@ -1,0 +1,13 @@
+pub mod EnabledNames
+pub mod WantedOrder
+pub mod Resolving
+pub mod SourceLemmas
+pub mod Listed
+pub mod BinPaths
+pub mod Steps
+pub mod Looking
+pub mod Failed
+pub mod Puttings
+pub mod Naming
+pub mod KeptByName
+pub mod FoundSources

@@ -1,0 +1,17 @@
+pub mod Between
+pub mod Taken
+pub mod Causes
+pub mod Looks
+pub mod Sources
+pub mod Wanted
+pub mod Sorted
+pub mod Features
+pub mod Enabling
+pub mod Binaries
+pub mod FoundBinaries
+pub mod Listings
+pub mod Settling
+pub mod Keys
+pub mod Drafts
+pub mod Drafted
+pub mod Laws

@@ -1,0 +1,166 @@
+//! What is found in the folder of a package: its README, its library and its build script.
+
+ghost use Rattle.std.specs.Prelude.{◌≡◌, IfOk, true, [], IfSome};
+ghost use Rattle.pb_place.specs.World.{World};
+ghost use Rattle.pb_draft.specs.Listings.{AreListingsOf};
+ghost use Rattle.pb_draft.specs.Sources.{found_readme, script_of, library_source, served_types, written_library, found_library, library_of};
+ghost use Rattle.pb_manifest.specs.Letters.{is_crate_name, is_name};
+ghost use Rattle.pb_draft.specs.Drafted.{IsWrittenLibrary, IsLibraryNamed};
+
+use crate::listings::{Listings, has_own_file, own_source};
+use crate::source::{own_path, resolved};
+use pb_data::{Items, Text, with_next};
+use pb_manifest::{Build, CrateType, WrittenPath, library_name};
+use pb_package::Library;
+use pb_place::PathText;
+use std::alloc::{AllocError, Global};
+
+/// The README of a package that names none: the first of `README.md`, `README.txt` and `README` that is a
+/// file of its folder (The Cargo Book, Manifest Format).
+#[tactic(auto, using(crate::proofs::Listed::listed_laws))]
+pub fn found_readme(
+    alloc: Global,
+    listings: &Listings,
+    folder: &PathText,
+) -> Result<Text, AllocError>
+    ensures ok { (sources : World) → AreListingsOf folder.now sources listings.now → IfOk result (λ text. text ≡ found_readme folder.now sources) }
+{
+    if has_own_file(alloc, listings, folder, "README.md")? {
+        return Text::from_str(alloc, "README.md");
+    }
+    if has_own_file(alloc, listings, folder, "README.txt")? {
+        return Text::from_str(alloc, "README.txt");
+    }
+    if has_own_file(alloc, listings, folder, "README")? {
+        return Text::from_str(alloc, "README");
+    }
+    Text::from_str(alloc, "")
+}
+
+/// The source of a package's build script, where it has one (The Cargo Book, Build Scripts): `build.rs` where
+/// that is a file, unless `build` says otherwise. A path that `build` writes is taken as it is.
+#[tactic(auto, using(crate::proofs::Listed::listed_laws))]
+pub fn script_of(
+    alloc: Global,
+    listings: &Listings,
+    folder: &PathText,
+    build: &Build,
+) -> Result<Option<PathText>, AllocError>
+    ensures ok { (sources : World) → AreListingsOf folder.now sources listings.now → IfOk result (λ script. script ≡ script_of folder.now sources build.now) }
+{
+    match build {
+        Build::Discovered => own_source(alloc, listings, folder, "build.rs"),
+        Build::Standard => {
+            let script = own_path(alloc, folder, "build.rs")?;
+            Ok(Some(script))
+        }
+        Build::Never => Ok(None),
+        Build::At(path) => {
+            let script = resolved(alloc, folder, path)?;
+            Ok(Some(script))
+        }
+    }
+}
+
+/// The source of a library: the path that `[lib]` writes, else `src/lib.rs`.
+fn library_source(
+    alloc: Global,
+    folder: &PathText,
+    path: &Option<WrittenPath>,
+) -> Result<PathText, AllocError>
+    ensures { IfOk result (λ source. source ≡ library_source folder.now path.now) }
+{
+    match path {
+        Some(path) => resolved(alloc, folder, path),
+        None => own_path(alloc, folder, "src/lib.rs"),
+    }
+}
+
+/// `lib` alone.
+fn standard_types(alloc: Global) -> Result<Items<CrateType>, AllocError>
+    ensures { IfOk result (λ types. types ≡ served_types []) }
+{
+    let mut types = Items::new(alloc);
+    types.push(CrateType::Lib)?;
+    Ok(types)
+}
+
+/// The crate types of a library: `lib` alone where none is written.
+fn served_types(alloc: Global, types: Items<CrateType>) -> Result<Items<CrateType>, AllocError>
+    ensures { IfOk result (λ served. served ≡ served_types types) }
+{
+    if types.is_empty() {
+        return standard_types(alloc);
+    }
+    Ok(types)
+}
+
+/// The library of a `[lib]` table.
+fn written_library(
+    alloc: Global,
+    folder: &PathText,
+    name: Text,
+    written: pb_manifest::Library,
+) -> Result<Library, AllocError>
+    ensures { IfOk result (λ library. library ≡ written_library folder.now name written) }
+{
+    let source = library_source(alloc, folder, &written.path);
+    let crate_types = served_types(alloc, written.crate_types);
+    drop((written.name, written.path));
+    let (name, source) = with_next(name, source)?;
+    let ((name, source), crate_types) = with_next((name, source), crate_types)?;
+    Ok(Library {
+        name,
+        crate_types,
+        source,
+    })
+}
+
+/// The library of a package without a `[lib]` table: `src/lib.rs` where that is a file.
+#[tactic(auto, using(crate::proofs::Listed::listed_laws))]
+fn found_library(
+    alloc: Global,
+    listings: &Listings,
+    folder: &PathText,
+    name: Text,
+) -> Result<Option<Library>, AllocError>
+    requires { is_crate_name name ≡ true }
+    ensures ok { (sources : World) → AreListingsOf folder.now sources listings.now → IfOk result (λ library. library ≡ found_library folder.now sources name) }
+    ensures named { IfOk result (λ library. IfSome library IsLibraryNamed) }
+{
+    let source = match own_source(alloc, listings, folder, "src/lib.rs")? {
+        Some(source) => source,
+        None => return Ok(None),
+    };
+    let crate_types = standard_types(alloc)?;
+    Ok(Some(Library {
+        name,
+        crate_types,
+        source,
+    }))
+}
+
+/// The library of a package of this name, where it has one (The Cargo Book, Cargo Targets): that of `[lib]`,
+/// else `src/lib.rs` where that is a file.
+#[tactic(auto, using(crate::proofs::Naming::library_laws))]
+pub fn library_of(
+    alloc: Global,
+    listings: &Listings,
+    folder: &PathText,
+    package_name: &str,
+    written: Option<pb_manifest::Library>,
+) -> Result<Option<Library>, AllocError>
+    requires name { is_name package_name.now ≡ true }
+    requires library { IfSome written IsWrittenLibrary }
+    ensures ok { (sources : World) → AreListingsOf folder.now sources listings.now → IfOk result (λ library. library ≡ library_of folder.now sources package_name.now written) }
+    ensures named { IfOk result (λ library. IfSome library IsLibraryNamed) }
+{
+    let name = library_name(alloc, package_name, &written)?;
+    match written {
+        Some(written) => {
+            let library = written_library(alloc, folder, name, written)?;
+            Ok(Some(library))
+        }
+        None => found_library(alloc, listings, folder, name),
+    }
+}

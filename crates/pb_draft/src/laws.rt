@@ -1,0 +1,9 @@
+//! A law of the binaries that are found. The function does nothing; its contract is the law.
+
+ghost use Rattle.pb_draft.specs.Laws.{FoundAsLookedFor};
+
+/// A binary that is found has the source that a `[[bin]]` of its name would have that writes no path (The Cargo Book,
+/// Cargo Targets): what is found and what is looked for are told in opposite orders, and agree.
+pub fn found_binaries_are_looked_for()
+    ensures { FoundAsLookedFor }
+{}

@@ -1,0 +1,29 @@
+//! One package, as its manifest, its files and what it takes from its workspace make it, before the packages of a
+//! workspace are put together (The Cargo Book, Manifest Format, Cargo Targets, Features, Specifying Dependencies,
+//! Workspaces). `pb_workspace` reads the manifests and puts the packages together.
+#![tactic(auto)]
+
+mod again;
+mod between;
+mod binaries;
+mod by_key;
+pub mod draft;
+mod features;
+mod found;
+mod found_binaries;
+pub mod keys;
+mod laws;
+mod listings;
+pub mod settling;
+mod sorted;
+pub mod source;
+mod taken;
+pub mod wanted;
+
+pub use again::was_mentioned;
+pub use between::{cut_at_slashes, names_in};
+pub use by_key::{SharedByKey, WantedByKey};
+pub use draft::{Draft, Tables, draft_of};
+pub use laws::found_binaries_are_looked_for;
+pub use settling::Given;
+pub use wanted::{Standing, Wanted};

@@ -1,0 +1,147 @@
+//! Files of the sources: what lies at or below the target folder is left out.
+
+ghost use Rattle.std.specs.Prelude.{◌≡◌, IfOk, IfErr, IsTrue, true, not, filter};
+ghost use Rattle.std.specs.FinMap as finite;
+ghost use Rattle.pb_place.specs.declared.call.Call.TheVariants as call;
+ghost use Rattle.pb_place.specs.Paths.{below, is_at_or_below, is_relative};
+ghost use Rattle.pb_place.specs.World.{from_nothing, listed, listed_directly};
+ghost use Rattle.pb_draft.specs.Looks.{Looks, looked};
+ghost use Rattle.pb_draft.specs.Causes.{is_outside, fault_at, Reads};
+ghost use Rattle.pb_draft.specs.Sources.{resolved};
+
+use pb_data::{Bytes, Items, TryCopy};
+use pb_manifest::WrittenPath;
+use pb_package::LoadFault;
+use pb_place::{PathText, Place, PlaceFault, RelativePath};
+use std::alloc::{AllocError, Global};
+
+/// The fault of a call on a path that failed. Want of memory stays so. It takes no memory.
+pub fn failed(path: PathText, fault: PlaceFault) -> LoadFault
+    ensures { result ≡ fault_at path fault }
+{
+    match fault {
+        PlaceFault::OutOfMemory => LoadFault::OutOfMemory,
+        fault => LoadFault::Place(path, fault),
+    }
+}
+
+/// The file at a path, where it is one of the sources. A path at or below the target folder is not read. A call that
+/// failed is told as it failed, with its path; else the one fault is want of memory.
+#[tactic(auto, using(crate::proofs::SourceLemmas::source_laws))]
+pub fn source<P: Place>(
+    alloc: Global,
+    place: &mut P,
+    target: &PathText,
+    path: &PathText,
+) -> Result<Option<Bytes>, LoadFault>
+    ensures ok { IsTrue P.tells → IfOk result (λ found. found ≡ finite.get (from_nothing target.now (P.world place.old)).files path.now) }
+    ensures same { IsTrue P.tells → P.world place.new ≡ P.world place.old }
+    ensures most { P.most place.new ≡ P.most place.old }
+    ensures outside { IfErr result (λ e. is_outside e ≡ true) }
+    ensures reads { Reads result (P.counts place.old) (P.counts place.new) }
+    ensures looks { Looks result (looked target.now (call.Read path.now)) (P.counts place.old) (P.counts place.new) }
+{
+    if path.starts_with(target) {
+        return Ok(None);
+    }
+    let named = path.copy(alloc)?;
+    match place.read(alloc, path) {
+        Ok(found) => Ok(found),
+        Err(fault) => Err(failed(named, fault)),
+    }
+}
+
+/// Those of some paths that are not at or below the target folder.
+fn sources_among(
+    alloc: Global,
+    target: &PathText,
+    paths: Items<PathText>,
+) -> Result<Items<PathText>, AllocError>
+    ensures { IfOk result (λ kept. kept ≡ filter (λ path. not (is_at_or_below target.now path)) paths) }
+{
+    let mut kept = Items::new(alloc);
+    for path in paths.into_vec() {
+        if !path.starts_with(target) {
+            kept.push(path)?;
+        }
+    }
+    Ok(kept)
+}
+
+/// The files of the sources directly in a folder, in byte order. A folder at or below the target folder is not
+/// listed.
+#[tactic(auto, using(crate::proofs::SourceLemmas::listing_laws))]
+pub fn sources_directly<P: Place>(
+    alloc: Global,
+    place: &mut P,
+    target: &PathText,
+    folder: &PathText,
+) -> Result<Items<PathText>, LoadFault>
+    ensures ok { IsTrue P.tells → IfOk result (λ paths. paths ≡ listed_directly folder.now (from_nothing target.now (P.world place.old))) }
+    ensures same { IsTrue P.tells → P.world place.new ≡ P.world place.old }
+    ensures most { P.most place.new ≡ P.most place.old }
+    ensures outside { IfErr result (λ e. is_outside e ≡ true) }
+    ensures reads { Reads result (P.counts place.old) (P.counts place.new) }
+    ensures looks { Looks result (looked target.now (call.ListDirectly folder.now)) (P.counts place.old) (P.counts place.new) }
+{
+    if folder.starts_with(target) {
+        return Ok(Items::new(alloc));
+    }
+    let named = folder.copy(alloc)?;
+    let paths = match place.list_directly(alloc, folder) {
+        Ok(paths) => paths,
+        Err(fault) => return Err(failed(named, fault)),
+    };
+    Ok(sources_among(alloc, target, paths)?)
+}
+
+/// The files of the sources below a folder, in byte order. Nothing at or below the target folder is looked at. A call
+/// that failed is told as it failed, with its path; else the one fault is want of memory.
+#[tactic(auto, using(crate::proofs::SourceLemmas::listing_laws))]
+pub fn listed_sources<P: Place>(
+    alloc: Global,
+    place: &mut P,
+    target: &PathText,
+    folder: &PathText,
+) -> Result<Items<PathText>, LoadFault>
+    ensures ok { IsTrue P.tells → IfOk result (λ paths. paths ≡ listed folder.now (from_nothing target.now (P.world place.old))) }
+    ensures same { IsTrue P.tells → P.world place.new ≡ P.world place.old }
+    ensures most { P.most place.new ≡ P.most place.old }
+    ensures outside { IfErr result (λ e. is_outside e ≡ true) }
+    ensures reads { Reads result (P.counts place.old) (P.counts place.new) }
+    ensures looks { Looks result (looked target.now (call.ListOutside folder.now target.now)) (P.counts place.old) (P.counts place.new) }
+{
+    if folder.starts_with(target) {
+        return Ok(Items::new(alloc));
+    }
+    let named = folder.copy(alloc)?;
+    match place.list_outside(alloc, folder, target) {
+        Ok(paths) => Ok(paths),
+        Err(fault) => Err(failed(named, fault)),
+    }
+}
+
+/// The path of a name, or of names with slashes between them, from a folder. The one fault is want of memory.
+pub fn own_path(alloc: Global, folder: &PathText, name: &str) -> Result<PathText, AllocError>
+    requires { is_relative name.now ≡ true }
+    ensures { IfOk result (λ path. path ≡ below folder.now name.now) }
+{
+    let name = RelativePath::name(alloc, name)?;
+    folder.below(alloc, &name)
+}
+
+/// The path that a written one says, from a folder; an absolute one says its own. It holds no byte 0, so it is one, and
+/// the one fault is want of memory.
+#[tactic(auto, using(crate::proofs::Resolving::resolving_laws))]
+pub fn resolved(
+    alloc: Global,
+    folder: &PathText,
+    path: &WrittenPath,
+) -> Result<PathText, AllocError>
+    ensures { IfOk result (λ made. made ≡ resolved folder.now path.now) }
+{
+    match folder.join(alloc, path.as_str()) {
+        Ok(made) => Ok(made),
+        Err(_) => Err(AllocError),
+    }
+}

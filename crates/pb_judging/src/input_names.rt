@@ -1,0 +1,232 @@
+//! The inputs of a unit: paths and variables, each once.
+
+ghost use Rattle.std.specs.Prelude.{◌≡◌, ◌++◌, ◌∷◌, [], not, IfOk, OnOk, map, filter, option_map, List, ℕ};
+ghost use Rattle.std.specs.List.{flat_map, find};
+ghost use Rattle.pb_data.specs.Gives.{Gives};
+ghost use Rattle.pb_data.specs.Mentions.{is_mentioned, mentioned, mentioned_all, once};
+ghost use Rattle.pb_judging.specs.Answers.{path_said, paths_from, is_covered, is_foreign, is_source, inputs_of, inherited};
+ghost use Rattle.pb_record.specs.declared.record.InputName.TheVariants.{Path, Variable};
+ghost use Rattle.pb_project.specs.declared.fault.UnitFault.TheVariants as unit_fault;
+
+use pb_data::{Items, Mentions, Text, TryCopy};
+use pb_place::{Command, PathFault, PathText};
+use pb_project::UnitFault;
+use pb_record::InputName;
+use std::alloc::{AllocError, Global};
+
+/// Mentions a path. The texts of the paths are those that were seen.
+fn mention(
+    alloc: Global,
+    paths: &mut Items<PathText>,
+    seen: &mut Mentions,
+    path: PathText,
+) -> Result<(), AllocError>
+    requires { seen.old ≡ paths.old }
+    ensures paths { OnOk result (paths.new ≡ mentioned paths.old path) }
+    ensures seen { OnOk result (seen.new ≡ paths.new) }
+{
+    let text = Text::from_str(alloc, path.as_str())?;
+    if seen.contains(&text) {
+        return Ok(());
+    }
+    seen.insert(text)?;
+    paths.push(path)?;
+    Ok(())
+}
+
+/// Mentions the path that a text says from a folder.
+#[tactic(auto, unfolding(crate::specs::Answers::path_said))]
+fn mention_said(
+    alloc: Global,
+    paths: &mut Items<PathText>,
+    seen: &mut Mentions,
+    folder: &PathText,
+    text: &Text,
+) -> Result<(), AllocError>
+    requires { seen.old ≡ paths.old }
+    ensures paths { OnOk result (paths.new ≡ mentioned_all paths.old (path_said folder.now text.now)) }
+    ensures seen { OnOk result (seen.new ≡ paths.new) }
+{
+    match folder.join(alloc, text.as_str()) {
+        Ok(path) => mention(alloc, paths, seen, path),
+        Err(PathFault::OutOfMemory) => Err(AllocError),
+        Err(_) => Ok(()),
+    }
+}
+
+/// Mentions the paths that some texts say from a folder.
+fn mention_all_said(
+    alloc: Global,
+    paths: &mut Items<PathText>,
+    seen: &mut Mentions,
+    folder: &PathText,
+    texts: &[Text],
+) -> Result<(), AllocError>
+    requires { seen.old ≡ paths.old }
+    ensures { OnOk result (paths.new ≡ mentioned_all paths.old (flat_map (path_said folder.now) texts.now)) }
+{
+    for text in texts {
+        mention_said(alloc, paths, seen, folder, text)?;
+    }
+    Ok(())
+}
+
+/// The paths that some texts say from a folder, each once, in order of mention.
+#[tactic(auto, using(crate::proofs::Naming::naming_laws))]
+pub(crate) fn paths_from(
+    alloc: Global,
+    folder: &PathText,
+    texts: &[Text],
+) -> Result<Items<PathText>, AllocError>
+    ensures { IfOk result (λ paths. paths ≡ paths_from folder.now texts.now) }
+{
+    let mut paths = Items::new(alloc);
+    let mut seen = Mentions::new(alloc);
+    mention_all_said(alloc, &mut paths, &mut seen, folder, texts)?;
+    Ok(paths)
+}
+
+/// Names, mentioned one after another.
+fn all_mentioned(alloc: Global, names: &[Text]) -> Result<Mentions, AllocError>
+    ensures { IfOk result (λ made. made ≡ mentioned_all [] names.now) }
+{
+    let mut made = Mentions::new(alloc);
+    for name in names {
+        made.insert(name.copy(alloc)?)?;
+    }
+    Ok(made)
+}
+
+/// Names, each once, in order of mention.
+#[tactic(auto, using(crate::proofs::Naming::naming_laws))]
+pub(crate) fn once(alloc: Global, names: &[Text]) -> Result<Items<Text>, AllocError>
+    ensures { IfOk result (λ made. made ≡ once names.now) }
+{
+    let made = all_mentioned(alloc, names)?;
+    let items = made.into_items(alloc)?;
+    Ok(items)
+}
+
+/// Whether a path lies in the folder of a unit that was reached.
+#[tactic(auto, unfolding(crate::specs::Answers::is_covered))]
+fn is_covered(command: &Command, path: &PathText) -> bool
+    ensures { result ≡ is_covered command.now path.now }
+{
+    command
+        .reads
+        .as_slice()
+        .iter()
+        .any(|folder| path.starts_with(folder))
+}
+
+/// Whether a path of the target folder is covered by no unit that was reached.
+#[tactic(auto, unfolding(crate::specs::Answers::is_foreign))]
+fn is_foreign(command: &Command, path: &PathText) -> bool
+    ensures { result ≡ is_foreign command.now path.now }
+{
+    path.starts_with(&command.target) && !is_covered(command, path)
+}
+
+/// Whether a path is no part of the target folder.
+#[tactic(auto, unfolding(crate::specs::Answers::is_source))]
+fn is_source(command: &Command, path: &PathText) -> bool
+    ensures { result ≡ is_source command.now path.now }
+{
+    !path.starts_with(&command.target)
+}
+
+/// The first path that no unit covers.
+fn first_foreign<'a>(command: &Command, paths: &'a [PathText]) -> Option<&'a PathText>
+    ensures { option_map (λ path. path.now) result ≡ find (is_foreign command.now) paths.now }
+{
+    paths.iter().find(|path| is_foreign(command, *path))
+}
+
+/// Adds the paths that are no part of the target folder.
+fn push_sources(
+    inputs: &mut Items<InputName>,
+    command: &Command,
+    paths: Items<PathText>,
+) -> Result<(), AllocError>
+    ensures { OnOk result (inputs.new ≡ inputs.old ++ map Path (filter (is_source command.now) paths)) }
+{
+    for path in paths.into_vec() {
+        if is_source(command, &path) {
+            inputs.push(InputName::Path(path))?;
+        }
+    }
+    Ok(())
+}
+
+/// Adds variables.
+fn push_variables(inputs: &mut Items<InputName>, names: Items<Text>) -> Result<(), AllocError>
+    ensures { OnOk result (inputs.new ≡ inputs.old ++ map Variable names) }
+{
+    for name in names.into_vec() {
+        inputs.push(InputName::Variable(name))?;
+    }
+    Ok(())
+}
+
+/// The inputs: the paths that are no part of the target folder, and the variables. ForeignInput where a path
+/// of the target folder is covered by no unit.
+pub(crate) fn inputs_of(
+    alloc: Global,
+    command: &Command,
+    paths: Items<PathText>,
+    names: Items<Text>,
+) -> Result<Items<InputName>, UnitFault>
+    ensures { Gives unit_fault.OutOfMemory (λ inputs. inputs) result (inputs_of command.now paths names) }
+{
+    if let Some(path) = first_foreign(command, paths.as_slice()) {
+        return Err(UnitFault::ForeignInput(path.copy(alloc)?));
+    }
+    let mut inputs = Items::new(alloc);
+    push_sources(&mut inputs, command, paths)?;
+    push_variables(&mut inputs, names)?;
+    Ok(inputs)
+}
+
+/// The names that pairs set.
+fn names_set(alloc: Global, pairs: &[(Text, Text)]) -> Result<Mentions, AllocError>
+    ensures { IfOk result (λ names. names ≡ mentioned_all [] (map (λ pair. pair.0) pairs.now)) }
+{
+    let mut names = Mentions::new(alloc);
+    for pair in pairs {
+        names.insert(pair.0.copy(alloc)?)?;
+    }
+    Ok(names)
+}
+
+/// The names that a command sets.
+fn names_of(alloc: Global, command: &Command) -> Result<Mentions, AllocError>
+    ensures { IfOk result (λ names. names ≡ mentioned_all [] (map (λ (pair : List ℕ × List ℕ). pair.0) command.now.pairs)) }
+{
+    names_set(alloc, command.pairs.as_slice())
+}
+
+/// The names that are not among others.
+fn names_but(alloc: Global, names: &[Text], others: &Mentions) -> Result<Items<Text>, AllocError>
+    ensures { IfOk result (λ left. left ≡ filter (λ name. not (is_mentioned others.now name)) names.now) }
+{
+    let mut left = Items::new(alloc);
+    for name in names {
+        if !others.contains(name) {
+            left.push(name.copy(alloc)?)?;
+        }
+    }
+    Ok(left)
+}
+
+/// The variables that a command does not set.
+pub(crate) fn inherited(
+    alloc: Global,
+    command: &Command,
+    names: &[Text],
+) -> Result<Items<Text>, AllocError>
+    ensures { IfOk result (λ left. left ≡ inherited command.now names.now) }
+{
+    let others = names_of(alloc, command)?;
+    let left = names_but(alloc, names, &others)?;
+    Ok(left)
+}

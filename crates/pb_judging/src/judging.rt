@@ -1,0 +1,340 @@
+//! The judgement of an answer.
+
+ghost use Rattle.std.specs.Prelude.{◌≡◌, ◌++◌, ◌∷◌, [], IfOk, OnOk, option_map};
+ghost use Rattle.std.specs.List.{flat_map, list_any};
+ghost use Rattle.pb_data.specs.Gives.{Gives, lifted};
+ghost use Rattle.pb_directive.specs.Directives.{directives_of};
+ghost use Rattle.pb_project.specs.Targets.{folder_of};
+ghost use Rattle.pb_judging.specs.Answers.{is_too_long, greatest_length, ended_fault, info_in, read_info, inputs_of, info_inputs, compile_answered, changed_path, changed_variable, is_error, unless_error, said_in, marked_inputs, rerun_inputs, said_inputs, run_answered, answered_by, answered_of, named_in};
+ghost use Rattle.pb_project.specs.declared.fault.UnitFault.TheVariants as unit_fault;
+
+use crate::input_names::{inherited, inputs_of, once, paths_from};
+use pb_data::{Bytes, Items, Text, TryCopy};
+use pb_directive::{DepInfo, Directive, LineFault, read_dep_info, read_directives};
+use pb_place::{Command, Ended, PathText};
+use pb_project::{Answered, Project, UnitFault, folder_of};
+use pb_record::InputName;
+use pb_unit::{Planned, What};
+use std::alloc::{AllocError, Global};
+
+/// The most bytes that a stream of a child, or dep-info, may have (our own choice).
+const GREATEST_LENGTH: usize = 4_194_304;
+
+/// Whether bytes are more than a stream or dep-info may have.
+fn is_too_long(bytes: &Bytes) -> bool
+    ensures { result ≡ is_too_long bytes.now }
+{
+    bytes.as_slice().len() > GREATEST_LENGTH
+}
+
+/// The first fault of how a child ended, or none: OutputTooLong where a stream is over 4,194,304 bytes, else
+/// Status where its status is not 0. It takes no memory.
+pub fn ended_fault(ended: &Ended) -> Option<UnitFault>
+    ensures { result ≡ ended_fault ended.now }
+{
+    if is_too_long(&ended.stdout) || is_too_long(&ended.stderr) {
+        return Some(UnitFault::OutputTooLong);
+    }
+    if ended.status != 0 {
+        return Some(UnitFault::Status(ended.status));
+    }
+    None
+}
+
+/// What dep-info names.
+fn info_in(alloc: Global, bytes: &Bytes) -> Result<DepInfo, UnitFault>
+    ensures { Gives unit_fault.OutOfMemory (λ info. info) result (info_in bytes.now) }
+{
+    match read_dep_info(alloc, bytes.as_slice()) {
+        Ok(info) => Ok(info),
+        Err(LineFault::OutOfMemory) => Err(UnitFault::OutOfMemory),
+        Err(_) => Err(UnitFault::NoDepInfo),
+    }
+}
+
+/// The dep-info of a compile: it is there, not too long, and it reads.
+fn read_info(alloc: Global, dep_info: Option<&Bytes>) -> Result<DepInfo, UnitFault>
+    ensures { Gives unit_fault.OutOfMemory (λ info. info) result (read_info (option_map (λ bytes. bytes.now) dep_info.entry)) }
+{
+    match dep_info {
+        Some(bytes) => {
+            if is_too_long(bytes) {
+                return Err(UnitFault::NoDepInfo);
+            }
+            info_in(alloc, bytes)
+        }
+        None => Err(UnitFault::NoDepInfo),
+    }
+}
+
+/// The inputs that dep-info names.
+fn info_inputs(
+    alloc: Global,
+    command: &Command,
+    info: &DepInfo,
+) -> Result<Items<InputName>, UnitFault>
+    ensures { Gives unit_fault.OutOfMemory (λ inputs. inputs) result (info_inputs command.now info.now) }
+{
+    let paths = paths_from(alloc, &command.folder, info.words.as_slice())?;
+    let names = inherited(alloc, command, info.variables.as_slice())?;
+    inputs_of(alloc, command, paths, names)
+}
+
+/// What the answer of a compile gives.
+fn compile_answered(
+    alloc: Global,
+    command: &Command,
+    dep_info: Option<&Bytes>,
+) -> Result<Answered, UnitFault>
+    ensures { Gives unit_fault.OutOfMemory (λ a. a) result (compile_answered command.now (option_map (λ bytes. bytes.now) dep_info.entry)) }
+{
+    let info = read_info(alloc, dep_info)?;
+    let inputs = info_inputs(alloc, command, &info);
+    drop(info);
+    Ok(Answered {
+        directives: None,
+        inputs: inputs?,
+    })
+}
+
+/// Adds the path of a line `rerun-if-changed`.
+fn push_path(
+    alloc: Global,
+    paths: &mut Items<Text>,
+    directive: &Directive,
+) -> Result<(), AllocError>
+    ensures { OnOk result (paths.new ≡ paths.old ++ changed_path directive.now) }
+{
+    match directive {
+        Directive::RerunIfChanged(path) => {
+            paths.push(path.copy(alloc)?)?;
+            Ok(())
+        }
+        _ => Ok(()),
+    }
+}
+
+/// The paths of the lines `rerun-if-changed`.
+fn changed_paths(alloc: Global, said: &[Directive]) -> Result<Items<Text>, AllocError>
+    ensures { IfOk result (λ paths. paths ≡ flat_map changed_path said.now) }
+{
+    let mut paths = Items::new(alloc);
+    for directive in said {
+        push_path(alloc, &mut paths, directive)?;
+    }
+    Ok(paths)
+}
+
+/// Adds the name of a line `rerun-if-env-changed`.
+fn push_variable(
+    alloc: Global,
+    names: &mut Items<Text>,
+    directive: &Directive,
+) -> Result<(), AllocError>
+    ensures { OnOk result (names.new ≡ names.old ++ changed_variable directive.now) }
+{
+    match directive {
+        Directive::RerunIfEnvChanged(name) => {
+            names.push(name.copy(alloc)?)?;
+            Ok(())
+        }
+        _ => Ok(()),
+    }
+}
+
+/// The names of the lines `rerun-if-env-changed`.
+fn changed_variables(alloc: Global, said: &[Directive]) -> Result<Items<Text>, AllocError>
+    ensures { IfOk result (λ names. names ≡ flat_map changed_variable said.now) }
+{
+    let mut names = Items::new(alloc);
+    for directive in said {
+        push_variable(alloc, &mut names, directive)?;
+    }
+    Ok(names)
+}
+
+/// The inputs of paths and variables that lines name.
+fn marked_inputs(
+    alloc: Global,
+    command: &Command,
+    folder: &PathText,
+    paths: &[Text],
+    names: &[Text],
+) -> Result<Items<InputName>, UnitFault>
+    ensures { Gives unit_fault.OutOfMemory (λ inputs. inputs) result (marked_inputs command.now folder.now paths.now names.now) }
+{
+    let paths = paths_from(alloc, folder, paths)?;
+    let names = once(alloc, names)?;
+    inputs_of(alloc, command, paths, names)
+}
+
+/// The inputs of a whole folder.
+fn folder_inputs(
+    alloc: Global,
+    command: &Command,
+    folder: &PathText,
+) -> Result<Items<InputName>, UnitFault>
+    ensures { Gives unit_fault.OutOfMemory (λ inputs. inputs) result (inputs_of command.now (folder.now ∷ []) []) }
+{
+    let mut paths = Items::new(alloc);
+    paths.push(folder.copy(alloc)?)?;
+    inputs_of(alloc, command, paths, Items::new(alloc))
+}
+
+/// The inputs of paths and variables that lines name, or of the whole folder where none names any.
+fn rerun_inputs(
+    alloc: Global,
+    command: &Command,
+    folder: &PathText,
+    paths: &[Text],
+    names: &[Text],
+) -> Result<Items<InputName>, UnitFault>
+    ensures { Gives unit_fault.OutOfMemory (λ inputs. inputs) result (rerun_inputs command.now folder.now paths.now names.now) }
+{
+    match paths {
+        [] => match names {
+            [] => folder_inputs(alloc, command, folder),
+            [_, ..] => marked_inputs(alloc, command, folder, paths, names),
+        },
+        [_, ..] => marked_inputs(alloc, command, folder, paths, names),
+    }
+}
+
+/// The inputs that the lines of a run name.
+fn said_inputs(
+    alloc: Global,
+    command: &Command,
+    folder: &PathText,
+    said: &[Directive],
+) -> Result<Items<InputName>, UnitFault>
+    ensures { Gives unit_fault.OutOfMemory (λ inputs. inputs) result (said_inputs command.now folder.now said.now) }
+{
+    let paths = changed_paths(alloc, said)?;
+    let names = changed_variables(alloc, said)?;
+    rerun_inputs(alloc, command, folder, paths.as_slice(), names.as_slice())
+}
+
+/// Whether a line tells of an error.
+fn is_error(directive: &Directive) -> bool
+    ensures { result ≡ is_error directive.now }
+{
+    matches!(directive, Directive::Error(_))
+}
+
+/// What the lines of a run give, each by itself.
+fn lines_in(alloc: Global, ended: &Ended) -> Result<Items<Directive>, UnitFault>
+    ensures { Gives unit_fault.OutOfMemory (λ said. said) result (lifted unit_fault.Directive (directives_of ended.now.stdout)) }
+{
+    match read_directives(alloc, ended.stdout.as_slice()) {
+        Ok(said) => Ok(said),
+        Err(LineFault::OutOfMemory) => Err(UnitFault::OutOfMemory),
+        Err(fault) => Err(UnitFault::Directive(fault)),
+    }
+}
+
+/// Whether one of some lines tells of an error.
+fn tells_error(said: &[Directive]) -> bool
+    ensures { result ≡ list_any is_error said.now }
+{
+    said.iter().any(is_error)
+}
+
+/// Lines, unless one of them tells of an error.
+fn unless_error(said: Items<Directive>) -> Result<Items<Directive>, UnitFault>
+    ensures { result ≡ unless_error said }
+{
+    if tells_error(said.as_slice()) {
+        return Err(UnitFault::ScriptError);
+    }
+    Ok(said)
+}
+
+/// What the lines of a run give, unless one tells of an error.
+fn said_in(alloc: Global, ended: &Ended) -> Result<Items<Directive>, UnitFault>
+    ensures { Gives unit_fault.OutOfMemory (λ said. said) result (said_in ended.now) }
+{
+    let said = lines_in(alloc, ended)?;
+    unless_error(said)
+}
+
+/// What the answer of a run gives.
+fn run_answered(
+    alloc: Global,
+    command: &Command,
+    folder: &PathText,
+    ended: &Ended,
+) -> Result<Answered, UnitFault>
+    ensures { Gives unit_fault.OutOfMemory (λ a. a) result (run_answered command.now folder.now ended.now) }
+{
+    let said = said_in(alloc, ended)?;
+    let inputs = said_inputs(alloc, command, folder, said.as_slice())?;
+    Ok(Answered {
+        directives: Some(said),
+        inputs,
+    })
+}
+
+/// What an answer gives of which the end is no fault.
+fn answered_by(
+    alloc: Global,
+    what: &What,
+    command: &Command,
+    folder: &PathText,
+    ended: &Ended,
+    dep_info: Option<&Bytes>,
+) -> Result<Answered, UnitFault>
+    ensures { Gives unit_fault.OutOfMemory (λ a. a) result (answered_by what.now command.now folder.now ended.now (option_map (λ bytes. bytes.now) dep_info.entry)) }
+{
+    match what {
+        What::Run => run_answered(alloc, command, folder, ended),
+        _ => compile_answered(alloc, command, dep_info),
+    }
+}
+
+/// What the answer of a unit's child gives, or the first fault of it. `dep_info` is what the file at
+/// `dep_info_path` holds, or none where no file is there; for a run it is not looked at.
+///
+/// In this order: OutputTooLong and Status, by `ended_fault`; for a run, Directive where a line of its output
+/// has a fault, and ScriptError where one is `cargo::error`; for a compile, NoDepInfo where its dep-info is not there, does not read or is over 4,194,304
+/// bytes; ForeignInput where an input lies at or below the target folder and in no folder of a unit that was
+/// reached, the first such path.
+///
+/// The inputs of a compile are the paths and variables of its dep-info (The Cargo Book, Build Cache), without
+/// the variables that the command sets. Those of a run are the paths and variables of its lines
+/// `rerun-if-changed` and `rerun-if-env-changed`, and without any such line the folder of its package (The Cargo
+/// Book, Build Scripts). What lies in the folder of a unit that was reached is left out: that unit covers it.
+pub fn answered(
+    alloc: Global,
+    project: &Project,
+    unit: &Planned,
+    command: &Command,
+    ended: &Ended,
+    dep_info: Option<&Bytes>,
+) -> Result<Answered, UnitFault>
+    ensures { Gives unit_fault.OutOfMemory (λ a. a) result (answered_of project.now unit.now command.now ended.now (option_map (λ bytes. bytes.now) dep_info.entry)) }
+{
+    match ended_fault(ended) {
+        Some(fault) => Err(fault),
+        None => {
+            let folder = folder_of(project, unit);
+            answered_by(alloc, &unit.unit.what, command, folder, ended, dep_info)
+        }
+    }
+}
+
+/// The names of the inputs of a unit, as its child's answer tells them: those of `answered`, with its faults.
+pub fn inputs(
+    alloc: Global,
+    project: &Project,
+    unit: &Planned,
+    command: &Command,
+    ended: &Ended,
+    dep_info: Option<&Bytes>,
+) -> Result<Items<InputName>, UnitFault>
+    ensures { Gives unit_fault.OutOfMemory (λ names. names) result (named_in (answered_of project.now unit.now command.now ended.now (option_map (λ bytes. bytes.now) dep_info.entry))) }
+{
+    match answered(alloc, project, unit, command, ended, dep_info) {
+        Ok(found) => Ok(found.inputs),
+        Err(fault) => Err(fault),
+    }
+}

@@ -1,0 +1,9 @@
+//! What a unit tells: the messages that come of its child's answer, and the lines that they are, with the unit's package
+//! and target (The Cargo Book, External Tools).
+#![tactic(auto)]
+
+mod messages;
+mod subjects;
+
+pub use messages::{bad_messages, good_messages, said_by};
+pub use subjects::lines_of_unit;

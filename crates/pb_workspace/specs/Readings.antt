@@ -1,0 +1,20 @@
+-- What every reading of packages keeps to, whatever the files say, and what a root manifest promises of its workspace. These words serve the promise that a workspace which was read is settled.
+use Rattle.std.specs.Prelude.{◌≡◌, ℕ, ◌≤◌, List, map, length}
+use Rattle.std.specs.List.{AllByRecursion}
+use Rattle.pb_manifest.specs.declared.dependency.WorkspaceDependency.{WorkspaceDependency}
+use Rattle.pb_manifest.specs.declared.manifest.WorkspaceTable.{WorkspaceTable}
+use Rattle.pb_draft.specs.declared.draft.Draft.{Draft}
+use Rattle.pb_workspace.specs.declared.rounds.Reading.{Reading}
+use Rattle.pb_package.specs.Settled.{IsAscending}
+use Rattle.pb_draft.specs.Drafted.{IsDraft}
+
+-- the entries of `[workspace.dependencies]`, in byte order of their keys
+abbrev pub HasSharedInOrder : WorkspaceTable → Type 0
+HasSharedInOrder w = IsAscending (map (λ (d : WorkspaceDependency). d.key) w.dependencies)
+
+-- a package stands at its own folder
+abbrev pub IsPut : List ℕ × Draft → Type 0
+IsPut e = (e.1.folder ≡ e.0) × IsDraft e.1
+
+abbrev pub IsReading : Reading → Type 0
+IsReading r = (length r.found ≤ 256) × AllByRecursion IsPut r.found
