@@ -44,11 +44,12 @@ pub fn flies<K>(flying: &[Flying<K>], ticket: u64) -> bool
     has_ticket(flying, ticket)
 }
 
-/// A number that no child in flight has: the lowest. There is one at or below their number, so none is never the answer;
+/// The lowest number that no child in flight has. There is one at or below their number, so none is never the answer;
 /// proved is that it is only where each of these numbers is taken.
 #[tactic(auto, using(crate::proofs::InFlight::flying_laws))]
 pub fn free_ticket<K>(flying: &[Flying<K>]) -> Option<u64>
     ensures free { IfSome result (λ ticket. is_flying ticket (children_in flying.now) ≡ false) }
+    ensures lowest { IfSome result (λ ticket. (t : ℕ) → t < ticket → is_flying t (children_in flying.now) ≡ true) }
     ensures taken { (t : ℕ) → t ≤ length flying.now → IfNone result (is_flying t (children_in flying.now) ≡ true) }
 {
     for ticket in 0..=flying.len() as u64 {
@@ -72,11 +73,12 @@ fn place_of_ticket<K>(flying: &[Flying<K>], ticket: u64) -> Option<usize>
     None
 }
 
-/// Takes out the first child of this ticket.
+/// Takes out the first child of this ticket. Where there is none, all stay.
 pub fn take_out<K: Drop>(flying: &mut Vec<Flying<K>>, ticket: u64) -> Option<Flying<K>>
     ensures entry { IfSome result (λ f. (entry_at ticket flying.old.items ≡ Some f) × (flying.new.items ≡ other_entries ticket flying.old.items)) }
     ensures some { IfSome result (λ f. (child_at ticket (children_in flying.old.items) ≡ Some f.child) × (children_in flying.new.items ≡ without ticket (children_in flying.old.items))) }
     ensures none { IfNone result (is_flying ticket (children_in flying.old.items) ≡ false) }
+    ensures kept { IfNone result (flying.new.items ≡ flying.old.items) }
 {
     match place_of_ticket(flying.as_slice(), ticket) {
         Some(place) => Some(flying.remove(place)),
