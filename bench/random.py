@@ -8,6 +8,12 @@ ENVIRONMENT = {name: value for name, value in os.environ.items() if name not in 
 HOST = next(line[6:] for line in subprocess.run(["rustc", "-vV"], capture_output=True, text=True, check=True).stdout.split("\n") if line.startswith("host: "))
 NAMES = ["ash", "birch-tree", "cedar", "dog_wood", "elm", "fir-x", "gum"]
 FEATURES = ["one", "two", "three", "four"]
+# What a package says of itself, and what its workspace has to give.
+ABOUT = {"description": "A tree, \"green\".", "homepage": "https://tree.example", "license": "MIT", "repository": "https://tree.example/git", "rust-version": "1.90"}
+# The variables that a compile may read, and those that a script is told beside them; not the folder of its own files, which
+# differs, nor flags and debug information, of which cargo under `--target` tells scripts for the host nothing.
+COMPILED = [f"CARGO_PKG_{it}" for it in "NAME VERSION VERSION_MAJOR VERSION_MINOR VERSION_PATCH VERSION_PRE AUTHORS DESCRIPTION HOMEPAGE LICENSE LICENSE_FILE README REPOSITORY RUST_VERSION".split()] + ["CARGO_MANIFEST_DIR", "CARGO_MANIFEST_PATH", "CARGO_CRATE_NAME", "CARGO_BIN_NAME"]
+TOLD = ["CARGO_MANIFEST_LINKS", "CARGO_MANIFEST_DIR", "CARGO_MANIFEST_PATH", "OPT_LEVEL", "PROFILE", "TARGET", "HOST"]
 
 
 def chance(dice, of):
@@ -28,7 +34,7 @@ def entries_of(dice, own, lower):
         key, optional = name if chance(dice, 0.8) else f"{name}-again", chance(dice, 0.3)
         for table in ("dependencies", "build-dependencies"):
             if chance(dice, 0.45 if table == "dependencies" else 0.2 if own["script"] else 0):
-                made.append({"table": table, "of": name, "key": key, "optional": optional, "defaults": chance(dice, 0.8), "features": [], "version": chance(dice, 0.3)})
+                made.append({"table": table, "of": name, "key": key, "optional": optional, "defaults": chance(dice, 0.8), "features": [], "version": chance(dice, 0.3), "shared": key == name and not own["outside"] and chance(dice, 0.3)})
     return made
 
 
@@ -64,6 +70,9 @@ def made_up(dice):
             "number": 0, "required": [], "outside": chance(dice, 0.1), "inherits": chance(dice, 0.3), "noisy": chance(dice, 0.1),
         }
         own["library"] = own["library"] or not (own["main"] or own["bins"])
+        own["about"] = {key: None if own["inherits"] and not own["outside"] and chance(dice, 0.5) else f"{text} {name}" if key != "rust-version" else "1.91" for key, text in ABOUT.items() if chance(dice, 0.3)}
+        own["readme"] = dice.choice([None, None, "file", "text", "false", "workspace" if own["inherits"] and not own["outside"] else None])
+        own["license_file"] = dice.choice([None, None, "LICENSE", "workspace" if own["inherits"] and not own["outside"] else None])
         own["links"] = bool(own["script"]) and chance(dice, 0.4)
         own["entries"] = entries_of(dice, own, [it for it in names[:at] if packages[it]["library"]])
         own["features"] = features_of(dice, own, packages)
@@ -71,7 +80,9 @@ def made_up(dice):
             entry["features"] = [it for it in sorted(packages[entry["of"]]["features"]) if it != "default" and chance(dice, 0.2)]
         if own["bins"] and own["features"] and chance(dice, 0.4):
             own["required"] = [dice.choice(sorted(own["features"]))]
+        own["layout"] = {"nested": chance(dice, 0.3), "lib_path": chance(dice, 0.15), "extra": chance(dice, 0.15), "found": chance(dice, 0.85)}
         packages[name] = own
+    shared = {it: {"defaults": chance(dice, 0.6), "features": [of for of in sorted(packages[it]["features"]) if of != "default" and chance(dice, 0.2)]} for it in names}
     profiles = {}
     for profile in ("dev", "release", "slim"):
         keys = {}
@@ -82,12 +93,15 @@ def made_up(dice):
         for of in ("build-override", *[f'package."{it}"' for it in ("*", *names)]):
             if chance(dice, 0.12):
                 overrides[of] = {"opt-level": dice.choice(["0", "1", "2"])} | ({"debug": "true"} if chance(dice, 0.3) else {})
+        for key, values in {"codegen-units": ["1", "16"], "panic": ['"abort"', '"unwind"'], "lto": ["true", '"thin"', "false", '"off"'], "strip": ["true", '"debuginfo"', '"none"']}.items():
+            if chance(dice, 0.12):
+                keys[key] = dice.choice(values)
         profiles[profile] = (keys, overrides)
     root = names[-1] if chance(dice, 0.3) and not packages[names[-1]]["outside"] else None
     # (below the root package lie the others, which are inputs of a script that names none for pb_tool alone)
     if root and packages[root]["script"] == "nothing":
         packages[root]["script"] = "changed"
-    return {"packages": packages, "profiles": profiles, "root": root, "defaults": [it for it in names if chance(dice, 0.5) and not packages[it]["outside"]] if chance(dice, 0.3) else []}
+    return {"packages": packages, "shared": shared, "profiles": profiles, "root": root, "defaults": [it for it in names if chance(dice, 0.5) and not packages[it]["outside"]] if chance(dice, 0.3) else []}
 
 
 def folder_of(model, name):
@@ -106,14 +120,17 @@ def quoted(texts):
 
 def entry_text(model, own, entry):
     up = os.path.relpath(f"/{folder_of(model, entry['of'])}", f"/{folder_of(model, own['name'])}")
-    parts = [f"path = {json.dumps(up)}"]
+    parts = ["workspace = true"] if entry["shared"] else [f"path = {json.dumps(up)}"]
     if entry["key"] != entry["of"]:
         parts.append(f"package = {json.dumps(entry['of'])}")
-    if entry["version"]:
+    if entry["version"] and not entry["shared"]:
         parts.append(f'version = "={version_of(model["packages"][entry["of"]])}"')
     if entry["optional"]:
         parts.append("optional = true")
-    if not entry["defaults"]:
+    # (over a workspace's entry with default features a member's word against them is an error of the newest edition)
+    if entry["shared"]:
+        parts += ["default-features = true"] if entry["defaults"] and not model["shared"][entry["of"]]["defaults"] else []
+    elif not entry["defaults"]:
         parts.append("default-features = false")
     if entry["features"]:
         parts.append(f"features = {quoted(entry['features'])}")
@@ -122,13 +139,18 @@ def entry_text(model, own, entry):
 
 def manifest_of(model, own):
     text = f"[package]\nname = {json.dumps(own['name'])}\nedition = \"{own['edition']}\"\n"
+    text += "" if own["layout"]["found"] or own["main"] else "autobins = false\n"
     text += "version.workspace = true\n" if own["inherits"] and not own["outside"] else f"version = \"{own['version']}\"\n"
     text += "authors.workspace = true\n" if own["inherits"] and not own["outside"] else ""
+    text += "".join(f"{key}.workspace = true\n" if value is None else f"{key} = {json.dumps(value)}\n" for key, value in own["about"].items())
+    text += {"text": 'readme = "NOTES"\n', "false": "readme = false\n", "workspace": "readme.workspace = true\n"}.get(own["readme"], "")
+    text += {"LICENSE": 'license-file = "LICENSE"\n', "workspace": "license-file.workspace = true\n"}.get(own["license_file"], "")
     text += f"links = \"{crate(own['name'])}-n\"\n" if own["links"] else ""
-    if own["library"] and (own["types"] or own["library_name"]):
-        text += "[lib]\n" + (f"crate-type = {quoted(own['types'])}\n" if own["types"] else "") + (f"name = \"{own['library_name']}\"\n" if own["library_name"] else "")
-    for bin in own["bins"] if own["required"] else []:
-        text += f"[[bin]]\nname = {json.dumps(bin)}\nrequired-features = {quoted(own['required'])}\n"
+    if own["library"] and (own["types"] or own["library_name"] or own["layout"]["lib_path"]):
+        text += "[lib]\n" + ('path = "src/other.rs"\n' if own["layout"]["lib_path"] else "") + (f"crate-type = {quoted(own['types'])}\n" if own["types"] else "") + (f"name = \"{own['library_name']}\"\n" if own["library_name"] else "")
+    for bin in own["bins"] if own["required"] or not own["layout"]["found"] else []:
+        text += f"[[bin]]\nname = {json.dumps(bin)}\n" + (f"required-features = {quoted(own['required'])}\n" if own["required"] else "")
+    text += '[[bin]]\nname = "extra"\npath = "tools/extra.rs"\n' if own["layout"]["extra"] else ""
     for table in ("dependencies", "build-dependencies"):
         text += f"[{table}]\n" + "".join(entry_text(model, own, it) for it in own["entries"] if it["table"] == table)
     text += "[features]\n" + "".join(f"{name} = {quoted(items)}\n" for name, items in own["features"].items())
@@ -136,9 +158,16 @@ def manifest_of(model, own):
 
 
 def root_of(model):
-    text = "[workspace]\nresolver = \"2\"\nmembers = [\"packages/*\"]\nexclude = [\"away\"]\n"
+    # (a pattern that matches nothing is an error of cargo's alone)
+    members = ["packages/*"] if any(folder_of(model, it).startswith("packages/") for it in model["packages"]) else []
+    text = f"[workspace]\nresolver = \"2\"\nmembers = {quoted(members)}\nexclude = [\"away\"]\n"
     text += f"default-members = {quoted([folder_of(model, it) or '.' for it in model['defaults']])}\n" if model["defaults"] else ""
-    text += "[workspace.package]\nversion = \"0.1.0\"\nauthors = [\"Ada\", \"Bob\"]\n"
+    text += "[workspace.package]\nversion = \"0.1.0\"\nauthors = [\"Ada\", \"Bob\"]\nreadme = \"README.md\"\nlicense-file = \"legal/LICENSE\"\n"
+    text += "".join(f"{key} = {json.dumps(value)}\n" for key, value in ABOUT.items())
+    text += "[workspace.dependencies]\n"
+    for name, its in model["shared"].items():
+        parts = [f"path = {json.dumps(folder_of(model, name) or '.')}", *([] if its["defaults"] else ["default-features = false"]), *([f"features = {quoted(its['features'])}"] if its["features"] else [])]
+        text += f"{name} = {{ {', '.join(parts)} }}\n"
     for profile, (keys, overrides) in model["profiles"].items():
         text += f"[profile.{profile}]\n" + ("inherits = \"release\"\n" if profile == "slim" else "") + "".join(f"{key} = {value}\n" for key, value in keys.items())
         for of, its in overrides.items():
@@ -156,7 +185,38 @@ def script_of(own):
     }[own["script"]]
     if own["links"]:
         lines = [*lines, f"cargo::metadata=number={own['number']}"]
-    return "fn main() {\n" + "".join(f"    println!({json.dumps(it)});\n" for it in lines) + f"    let _ = {own['number']};\n}}\n"
+    named = " || ".join(f'name == "{it}"' for it in TOLD)
+    seen = f"""    let mut seen: Vec<(String, String)> = std::env::vars().collect();
+    seen.sort();
+    for (name, value) in seen {{
+        if name.starts_with("CARGO_PKG_") || name.starts_with("CARGO_FEATURE_") || name.starts_with("DEP_") || {named} {{
+            println!("cargo::rustc-env=SEEN_{{name}}={{value}}");
+        }}
+    }}
+"""
+    return "fn main() {\n" + "".join(f"    println!({json.dumps(it)});\n" for it in lines) + seen + f"    let _ = {own['number']};\n}}\n"
+
+
+def library_named(model, entry):
+    """How a source calls the library of an entry."""
+    of = model["packages"][entry["of"]]
+    return crate(entry["key"]) if entry["key"] != entry["of"] else of["library_name"] or crate(of["name"])
+
+
+def library_of(model, own):
+    """The source of a library: its number and those of the libraries that it always has."""
+    needs = sorted({library_named(model, it) for it in own["entries"] if it["table"] == "dependencies" and not it["optional"]})
+    features = ", ".join([*[f'cfg!(feature = "{it}")' for it in sorted(own["features"])], "cfg!(extra)"])
+    text = f"pub const NUMBER: u32 = {own['number']};\npub fn all() -> String {{ format!(\"{own['name']} {own['number']} {{:?}}\", ({features},)){''.join(f' + &{it}::all()' for it in needs)} }}\n"
+    return text + ("pub fn noisy() { let unused = 1; }\n" if own["noisy"] else "")
+
+
+def binary_of(own, name):
+    """The source of a binary: what it is told, and what its library says."""
+    told = ", ".join(f'option_env!("{it}")' for it in COMPILED)
+    library = own["library_name"] or crate(own["name"])
+    said = f"    println!(\"{{}}\", {library}::all());\n" if own["library"] else ""
+    return f"fn main() {{\n    println!(\"{name} {own['number']}\");\n    for it in [{told}] {{ println!(\"{{it:?}}\"); }}\n{said}}}\n"
 
 
 def files_of(model):
@@ -166,13 +226,16 @@ def files_of(model):
         folder = folder_of(model, name)
         at = f"{folder}/" if folder else ""
         made[f"{at}Cargo.toml"] = manifest_of(model, own) + (root_of(model) if not folder else "")
-        body = f"pub const NUMBER: u32 = {own['number']};\n" + ("pub fn noisy() { let unused = 1; }\n" if own["noisy"] else "")
         if own["library"]:
-            made[f"{at}src/lib.rs"] = body
+            made[f"{at}src/{'other' if own['layout']['lib_path'] else 'lib'}.rs"] = library_of(model, own)
         if own["main"]:
-            made[f"{at}src/main.rs"] = f"fn main() {{ println!(\"{own['number']}\"); }}\n"
+            made[f"{at}src/main.rs"] = binary_of(own, "main")
         for bin in own["bins"]:
-            made[f"{at}src/bin/{bin}.rs"] = f"fn main() {{ println!(\"{bin} {own['number']}\"); }}\n"
+            made[f"{at}src/bin/{bin}{'/main' if own['layout']['nested'] else ''}.rs"] = binary_of(own, bin)
+        if own["layout"]["extra"]:
+            made[f"{at}tools/extra.rs"] = binary_of(own, "extra")
+        if own["readme"] == "file":
+            made[f"{at}README.md"] = "A tree.\n"
         if own["script"]:
             made[f"{at}build.rs"] = script_of(own)
             made[f"{at}data.txt"] = str(own["number"])
@@ -210,7 +273,9 @@ def options_of(dice, model):
         words += ["--no-default-features"]
     elif kind < 0.5 and picked:
         of = dice.choice(picked)
-        if model["packages"][of]["features"]:
+        # (cargo means the dependencies of that name too, and turns on optional ones)
+        is_meant_again = any(entry["key"] == of and (entry["optional"] or entry["table"] == "build-dependencies") for it in picked for entry in model["packages"][it]["entries"])
+        if model["packages"][of]["features"] and not is_meant_again:
             words += ["--features", f"{of}/{dice.choice(sorted(model['packages'][of]['features']))}"]
     return words + dice.choice([[], [], [], [], ["--lib"], ["--bins"]])
 
@@ -226,7 +291,7 @@ def edited(dice, model, said):
         said["SAID"] = str(dice.randint(0, 2))
         return "the variable"
     # (once each: cargo keeps what it made with other features, and pb_tool does not)
-    entries = [it for it in own["entries"] if "edited" not in it]
+    entries = [it for it in own["entries"] if "edited" not in it and not it["shared"]]
     if kind < 0.75 and entries:
         entry = dice.choice(entries)
         entry["defaults"], entry["edited"] = not entry["defaults"], True
@@ -237,13 +302,14 @@ def edited(dice, model, said):
     return "nothing"
 
 
-Built = collections.namedtuple("Built", "status artifacts fresh scripts said")
+Built = collections.namedtuple("Built", "status artifacts fresh scripts outputs said")
 
 
 def built(words, top, target, said, is_cargo):
     command = [*words, "--manifest-path", f"{top}/Cargo.toml", "--target-dir", target, "--message-format", "json", *(["--target", HOST] if is_cargo else [])]
     ran = subprocess.run(command, capture_output=True, text=True, env=ENVIRONMENT | said, check=False)
-    artifacts, fresh, scripts = collections.Counter(), collections.Counter(), collections.Counter()
+    artifacts, fresh, scripts, outputs = collections.Counter(), collections.Counter(), collections.Counter(), collections.Counter()
+    programs = collections.defaultdict(list)
     for line in ran.stdout.split("\n"):
         it = json.loads(line) if line.startswith("{") else {"reason": ""}
         if it["reason"] == "compiler-artifact":
@@ -255,9 +321,14 @@ def built(words, top, target, said, is_cargo):
             is_told = it["target"]["kind"] == ["custom-build"] and what in artifacts
             artifacts[what] += not is_told
             fresh[what] += it["fresh"] and not is_told
+            if it["executable"] and not is_host:
+                programs[it["target"]["name"]].append(it["executable"])
         elif it["reason"] == "build-script-executed":
             scripts[json.dumps([it["package_id"], it["linked_libs"], it["linked_paths"], it["cfgs"], it["env"]])] += 1
-    return Built(ran.returncode, artifacts, fresh, scripts, ran.stderr[-1500:])
+    # (of several of one name cargo leaves the last one in the place of all)
+    for file in [it[0] for it in programs.values() if len(it) == 1]:
+        outputs[subprocess.run([file], capture_output=True, text=True, check=False).stdout] += 1
+    return Built(ran.returncode, artifacts, fresh, scripts, outputs, ran.stderr[-1500:])
 
 
 def compared(one, other):
@@ -269,7 +340,7 @@ def compared(one, other):
     if (one.status == 0) != (other.status == 0):
         told.append(f"status {one.status} and {other.status}")
     elif one.status == 0:
-        for what, a, b in (("artifacts", one.artifacts, other.artifacts), ("fresh", one.fresh, other.fresh), ("scripts", one.scripts, other.scripts)):
+        for what, a, b in (("artifacts", one.artifacts, other.artifacts), ("fresh", one.fresh, other.fresh), ("scripts", one.scripts, other.scripts), ("outputs", one.outputs, other.outputs)):
             told += [f"{what}, pb_tool alone: {it} {count}" for it, count in (a - b).items()] + [f"{what}, cargo alone: {it} {count}" for it, count in (b - a).items()]
     return told
 
@@ -280,12 +351,14 @@ def main():
         dice, top, said = random.Random(number), f"{room}/{number}", {"SAID": "0"}
         model, before = made_up(dice), {}
         words = options_of(dice, model)
+        said |= {"RUSTFLAGS": "--cfg extra"} if chance(dice, 0.2) else {}
         for turn in range(5):
             what = "from nothing" if turn == 0 else edited(dice, model, said)
             before = written(model, top, before)
             ours, its = (built([*it, *words], top, f"{room}/{number}-{at}", said, at == "cargo") for at, it in (("ours", [program, "build"]), ("cargo", ["cargo", "build", "--offline"])))
             count, failed, units = count + 1, failed + (its.status != 0), units + sum(its.artifacts.values())
-            told = compared(ours, its)
+            # (a script that cargo has compiled for the other side with the same features it compiles no more)
+            told = [it for it in compared(ours, its) if not (what.startswith("defaults") and it.startswith("fresh, cargo alone") and "custom-build" in it)]
             if told:
                 wrong.append(number)
                 print(f"{number}, build {turn} ({what}), {' '.join(words)}:\n  " + "\n  ".join(told[:8]) + f"\n  pb_tool: {ours.said[-300:]}\n  cargo: {its.said[-500:]}", flush=True)
