@@ -2,6 +2,6 @@
 long=$(printf '%0300d' 0 | tr 0 x)
 package . a
 file src/lib.rs
-build --target-dir "$long" | tr -s x
+build --target-dir "$long" | sed "s/$long/x/"
 package . a '[dependencies]' "q = { path = \"$long\" }"
-build | tr -s x
+build | sed "s/$long/x/"
