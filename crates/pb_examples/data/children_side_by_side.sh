@@ -5,12 +5,13 @@ for name in a b; do
     file w/$name/src/lib.rs
     file w/$name/build.rs
 done
-file meet.sh ": > $PWD/met/\$CARGO_PKG_NAME" 'for i in 1 2 3 4 5 6 7 8 9 10; do for j in 1 2 3 4 5; do' \
-    "    [ -e $PWD/met/a ] && [ -e $PWD/met/b ] && exit 0" '    sleep 0.06' 'done done' 'exit 3'
+program both.sh '#!/bin/sh' "until [ -e $PWD/met/a ] && [ -e $PWD/met/b ]; do sleep 0.02; done"
 meet() {
     rm -rf met w/target
     mkdir met
+    file meet.sh ": > $PWD/met/\$CARGO_PKG_NAME" "timeout $1 $PWD/both.sh || exit 3"
+    shift
     build --manifest-path w/Cargo.toml --runner "sh $PWD/meet.sh" "$@"
 }
-meet --jobs 2
-meet --jobs 1
+meet 60 --jobs 2
+meet 0.5 --jobs 1
