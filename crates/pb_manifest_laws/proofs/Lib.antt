@@ -8,3 +8,6 @@ pub mod Profiles
 pub mod Shared
 pub mod Workspaces
 pub mod Documents
+pub mod Rows
+pub mod Written
+pub mod Printed

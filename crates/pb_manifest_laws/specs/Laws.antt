@@ -1,6 +1,8 @@
 -- The laws: what is read of a table is what the table says, and nothing else.
-use Rattle.std.specs.Prelude.{◌≡◌, ◌↔◌, ℕ, List, Ok}
+use Rattle.std.specs.Prelude.{◌≡◌, ◌↔◌, ◌≤◌, ℕ, Bool, true, List, length, Ok}
+use Rattle.std.specs.Str.{is_utf8}
 use Rattle.toml.specs.Data.{Members}
+use Rattle.toml.specs.Text.{IsDocumentText}
 use Rattle.pb_manifest.specs.Values.{Read}
 use Rattle.pb_manifest_reader.specs.Binaries.{binary_keys}
 use Rattle.pb_manifest_reader.specs.Dependencies.{dependency_of, shared_dependency_of}
@@ -18,6 +20,7 @@ use Rattle.pb_manifest_laws.specs.Profiles.{AreSettings, IsProfileEntry}
 use Rattle.pb_manifest_laws.specs.Values.{OfTable}
 use Rattle.pb_manifest_laws.specs.Workspaces.{IsWorkspaceTable}
 use Rattle.pb_manifest_laws.specs.Packages.{IsPackageTable, IsLibraryTable, IsBinaryTable, IsFeatureEntry}
+use Rattle.pb_manifest_laws.specs.Written.{written}
 
 -- a reading gives just what is said
 abbrev pub Reads : {M A : Type 0} → (M → Read A) → (M → A → Type 0) → Type 0
@@ -61,3 +64,11 @@ ReadsManifests = (bytes : List ℕ) (m : Manifest) → (manifest_of bytes ≡ Ok
 -- so a document says one manifest
 abbrev pub DocumentsSayOne : Type 0
 DocumentsSayOne = (ms : Members) (m n : Manifest) → IsDocument ms m → IsDocument ms n → m ≡ n
+
+-- what is written of a manifest that was read is read as that manifest
+abbrev pub ReadsWhatIsWritten : Type 0
+ReadsWhatIsWritten = (ms : Members) (m : Manifest) → document_of ms ≡ Ok m → document_of (written m) ≡ Ok m
+
+-- so is a text that prints it as `toml` does, where it is no longer than a manifest may be
+abbrev pub ReadsWhatIsPrinted : Type 0
+ReadsWhatIsPrinted = (bytes : List ℕ) (m : Manifest) → manifest_of bytes ≡ Ok m → (pretty : Bool) (text : List ℕ) → IsDocumentText pretty (written m) text → is_utf8 text ≡ true → length text ≤ 1048576 → manifest_of text ≡ Ok m

@@ -4,4 +4,5 @@ pub mod Dependencies
 pub mod Profiles
 pub mod Workspaces
 pub mod Documents
+pub mod Written
 pub mod Laws

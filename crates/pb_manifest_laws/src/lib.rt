@@ -2,7 +2,7 @@
 //! Features, Specifying Dependencies, Profiles, Workspaces).
 #![tactic(auto)]
 
-ghost use Rattle.pb_manifest_laws.specs.Laws.{ReadsPackages, ReadsLibraries, ReadsBinaries, ReadsFeatures, ReadsDependencies, ReadsSettings, ReadsProfiles, ReadsSharedDependencies, ReadsWorkspaces, ReadsDocuments, ReadsManifests, DocumentsSayOne};
+ghost use Rattle.pb_manifest_laws.specs.Laws.{ReadsPackages, ReadsLibraries, ReadsBinaries, ReadsFeatures, ReadsDependencies, ReadsSettings, ReadsProfiles, ReadsSharedDependencies, ReadsWorkspaces, ReadsDocuments, ReadsManifests, DocumentsSayOne, ReadsWhatIsWritten, ReadsWhatIsPrinted};
 
 /// A law: `[package]` is read as just what it says, key by key.
 pub fn packages_say()
@@ -34,9 +34,12 @@ pub fn workspaces_say()
 {}
 
 /// A law: a document is read as a manifest if and only if it says that manifest, table by table and key by key; and bytes
-/// are if and only if they are such a document's. So a document says one manifest.
+/// are if and only if they are such a document's. So a document says one manifest. What is written of a manifest that was
+/// read, each key with its value, is read as that manifest, and so is a text that prints it as `toml` does.
 pub fn manifests_say()
     ensures documents { ReadsDocuments }
     ensures manifests { ReadsManifests }
     ensures one { DocumentsSayOne }
+    ensures written { ReadsWhatIsWritten }
+    ensures printed { ReadsWhatIsPrinted }
 {}
