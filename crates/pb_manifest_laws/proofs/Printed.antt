@@ -49,7 +49,7 @@ use Rattle.pb_manifest_laws.specs.Laws.{ReadsWhatIsPrinted}
 use Rattle.pb_manifest_laws.specs.Packages.{edition, readme_value}
 use Rattle.pb_manifest_laws.specs.Profiles.{opt_levels, debug_infos, ltos, strips, panics}
 use Rattle.pb_manifest_laws.specs.Values.{texts, members_of}
-use Rattle.pb_manifest_laws.specs.Written.{Rows, with_key, members_with, table_with, list, entries, taken, inheritable, inherited_value, build_value, package_rows, library_rows, binary_rows, feature_items, dependency_rows, dependency_entry, shared_rows, shared_entry, first_form, settings, settings_alone, profile_entry, inherited_rows, workspace_rows, dependencies, document_rows, written}
+use Rattle.pb_manifest_laws.specs.Written.{Rows, with_key, members_with, table_with, list, entries, taken, inheritable, inherited_value, build_value, package_rows, library_rows, binary_rows, feature_items, dependency_rows, dependency_entry, shared_rows, shared_entry, first_form, profile_rows, settings_table, profile_entry, inherited_rows, workspace_rows, dependencies, document_rows, written}
 use Rattle.pb_manifest_laws.proofs.Documents.{manifests_read}
 use Rattle.pb_manifest_laws.proofs.Written.{document_written}
 
@@ -303,9 +303,9 @@ level_plain n Three = number_plain n 3
 level_plain n Size = text_plain n (codes "s")
 level_plain n SmallestSize = text_plain n (codes "z")
 
-settings_plain : (n : ℕ) (override : Option Data) (inherits : Option (List ℕ)) (packages : Option Data) (keys : ProfileKeys) → PlainAt n override → PlainAt n packages → Plain (suc n) (table_with (settings override inherits packages keys))
+settings_plain : (n : ℕ) (override : Option Data) (inherits : Option (List ℕ)) (packages : Option Data) (keys : ProfileKeys) → PlainAt n override → PlainAt n packages → Plain (suc n) (table_with (profile_rows override inherits packages keys))
 unfolding are_behind rows_ascend
-settings_plain n override inherits packages keys override_is packages_are = table_plain n (settings override inherits packages keys) (
+settings_plain n override inherits packages keys override_is packages_are = table_plain n (profile_rows override inherits packages keys) (
   override_is,
   (
     given n (λ k. integer (pos k)) (number_plain n) keys.codegen_units,
@@ -325,7 +325,7 @@ settings_plain n override inherits packages keys override_is packages_are = tabl
   ),
 ) refl
 
-alone_plain : (keys : ProfileKeys) → Plain 1 (settings_alone keys)
+alone_plain : (keys : ProfileKeys) → Plain 1 (settings_table keys)
 alone_plain keys = settings_plain 0 None None None keys tt tt
 
 deeper : (m n : ℕ) (o : Option Data) → m ≤ n → PlainAt m o → PlainAt n o
@@ -335,13 +335,13 @@ deeper m n (Some d) more plain = (within (depth d) m n plain.0 more, plain.1, pl
     within : (a m n : ℕ) → a ≤ m → m ≤ n → a ≤ n
     within a m n first more = omega arith
 
-override_plain : (o : ProfileOverride) → Plain 1 (settings_alone o.keys)
+override_plain : (o : ProfileOverride) → Plain 1 (settings_table o.keys)
 override_plain o = alone_plain o.keys
 
 profile_plain : (p : Profile) → Ascend (map (λ (o : ProfileOverride). o.name) p.packages) → Plain 3 (profile_entry p)
 profile_plain p order =
-    settings_plain 2 (option_map settings_alone p.build_override) p.inherits (entries (λ (o : ProfileOverride). o.name) (λ o. settings_alone o.keys) p.packages) p.keys
-    (deeper 1 2 (option_map settings_alone p.build_override) (omega arith) (given 1 settings_alone alone_plain p.build_override)) (entries_plain 1 (λ (o : ProfileOverride). o.name) (λ o. settings_alone o.keys) p.packages (every (λ o. Plain 1 (settings_alone o.keys)) override_plain p.packages) order)
+    settings_plain 2 (option_map settings_table p.build_override) p.inherits (entries (λ (o : ProfileOverride). o.name) (λ o. settings_table o.keys) p.packages) p.keys
+    (deeper 1 2 (option_map settings_table p.build_override) (omega arith) (given 1 settings_table alone_plain p.build_override)) (entries_plain 1 (λ (o : ProfileOverride). o.name) (λ o. settings_table o.keys) p.packages (every (λ o. Plain 1 (settings_table o.keys)) override_plain p.packages) order)
 
 inherited_rows_plain : (w : WorkspacePackage) → Plain 2 (table_with (inherited_rows w))
 unfolding are_behind rows_ascend

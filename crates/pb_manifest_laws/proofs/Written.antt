@@ -38,7 +38,7 @@ use Rattle.pb_manifest_laws.specs.Packages.{edition, IsBuild, readme_value, IsRe
 use Rattle.pb_manifest_laws.specs.Profiles.{opt_levels, debug_infos, ltos, strips, panics, HoldsOne, AreSettings, IsOverrideEntry, IsProfileEntry}
 use Rattle.pb_manifest_laws.specs.Values.{texts, HoldsOr, Lists, OfTable, HoldsOrTakes, HasOrTakes, IsTableAt, AreTablesAt, AreEntriesAt, members_of}
 use Rattle.pb_manifest_laws.specs.Workspaces.{IsInheritedTable, IsWorkspaceTable}
-use Rattle.pb_manifest_laws.specs.Written.{members_with, table_with, list, entries, inheritable, inherited_value, build_value, package_rows, library_rows, binary_rows, feature_items, dependency_rows, dependency_entry, shared_rows, shared_entry, first_form, settings, settings_alone, profile_entry, inherited_rows, workspace_rows, dependencies, document_rows, written}
+use Rattle.pb_manifest_laws.specs.Written.{members_with, table_with, list, entries, inheritable, inherited_value, build_value, package_rows, library_rows, binary_rows, feature_items, dependency_rows, dependency_entry, shared_rows, shared_entry, first_form, profile_rows, settings_table, profile_entry, inherited_rows, workspace_rows, dependencies, document_rows, written}
 use Rattle.pb_manifest_laws.proofs.Documents.{documents_read}
 use Rattle.pb_manifest_laws.proofs.Rows.{at, holds_at, text_at, text_taken, takes, has_or_takes, table_written, tables_written, entries_written}
 
@@ -264,9 +264,9 @@ first_level Three = (integer (pos 3), refl, (0, omega arith, refl))
 first_level Size = (string (codes "s"), refl, (0, omega arith, refl))
 first_level SmallestSize = (string (codes "z"), refl, (0, omega arith, refl))
 
-settings_written : (ms : Members) (override : Option Data) (inherits : Option (List ℕ)) (packages : Option Data) (keys : ProfileKeys) → AreSettings ms keys → AreSettings (members_with (settings override inherits packages keys)) keys
+settings_written : (ms : Members) (override : Option Data) (inherits : Option (List ℕ)) (packages : Option Data) (keys : ProfileKeys) → AreSettings ms keys → AreSettings (members_with (profile_rows override inherits packages keys)) keys
 settings_written ms override inherits packages keys says =
-    let rows = settings override inherits packages keys in
+    let rows = profile_rows override inherits packages keys in
     record {
       codegen_units = (at (codes "codegen-units") rows (option_map (λ n. integer (pos n)) keys.codegen_units) refl, says.codegen_units.1);
       debug_is = holds_at (λ o. HoldsOne debug_infos o keys.debug) (codes "debug") rows (first_form debug_infos keys.debug) refl (form_written debug_infos first_debug keys.debug);
@@ -279,14 +279,14 @@ settings_written ms override inherits packages keys says =
       strip_is = holds_at (λ o. HoldsOne strips o keys.strip) (codes "strip") rows (first_form strips keys.strip) refl (form_written strips first_strip keys.strip);
     }
 
-override_written : (name : List ℕ) (d : Data) (o : ProfileOverride) → OfTable (IsOverrideEntry name) d o → OfTable (IsOverrideEntry o.name) (settings_alone o.keys) o
-override_written name d o says = (members_with (settings None None None o.keys), refl, record { name_is = refl; keys = settings_written says.0 None None None o.keys says.2.keys })
+override_written : (name : List ℕ) (d : Data) (o : ProfileOverride) → OfTable (IsOverrideEntry name) d o → OfTable (IsOverrideEntry o.name) (settings_table o.keys) o
+override_written name d o says = (members_with (profile_rows None None None o.keys), refl, record { name_is = refl; keys = settings_written says.0 None None None o.keys says.2.keys })
 
 profile_written : (name : List ℕ) (d : Data) (p : Profile) → OfTable (IsProfileEntry name) d p → OfTable (IsProfileEntry p.name) (profile_entry p) p
 profile_written name d p says =
-    let override = option_map settings_alone p.build_override in
-    let packages = entries (λ (o : ProfileOverride). o.name) (λ o. settings_alone o.keys) p.packages in
-    let rows = settings override p.inherits packages p.keys in (
+    let override = option_map settings_table p.build_override in
+    let packages = entries (λ (o : ProfileOverride). o.name) (λ o. settings_table o.keys) p.packages in
+    let rows = profile_rows override p.inherits packages p.keys in (
       members_with rows,
       refl,
       record {
@@ -295,9 +295,9 @@ profile_written name d p says =
         inherits = text_at (codes "inherits") rows p.inherits refl;
         may_be = ap (λ n. may_be_profile n p.inherits) says.2.name_is ∙ says.2.may_be;
         packages = holds_at (λ o. AreEntriesAt (λ name. OfTable (IsOverrideEntry name)) o p.packages) (codes "package") rows packages refl
-            (entries_written (λ name. OfTable (IsOverrideEntry name)) (λ (o : ProfileOverride). o.name) (λ o. settings_alone o.keys) override_written (get_member (codes "package") says.0) p.packages says.2.packages);
+            (entries_written (λ name. OfTable (IsOverrideEntry name)) (λ (o : ProfileOverride). o.name) (λ o. settings_table o.keys) override_written (get_member (codes "package") says.0) p.packages says.2.packages);
         build_override = holds_at (λ o. IsTableAt AreSettings o p.build_override) (codes "build-override") rows override refl
-            (table_written AreSettings (λ keys. settings None None None keys) (λ ms keys is. settings_written ms None None None keys is) (get_member (codes "build-override") says.0) p.build_override says.2.build_override);
+            (table_written AreSettings (λ keys. profile_rows None None None keys) (λ ms keys is. settings_written ms None None None keys is) (get_member (codes "build-override") says.0) p.build_override says.2.build_override);
       },
     )
 

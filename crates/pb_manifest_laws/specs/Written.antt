@@ -113,19 +113,19 @@ shared_entry d = table_with (shared_rows d.source d.features)
 abbrev pub first_form : {A : Type 0} → (A → List Data) → Option A → Option Data
 first_form forms value = option_and_then (λ x. slice_get (forms x) 0) value
 
--- what a profile sets, between what else may stand there
-abbrev pub settings : Option Data → Option (List ℕ) → Option Data → ProfileKeys → Rows
-settings override inherits packages keys =
+-- what a profile sets, between what else may stand there; and what an override sets, alone
+abbrev pub profile_rows : Option Data → Option (List ℕ) → Option Data → ProfileKeys → Rows
+profile_rows override inherits packages keys =
     (codes "build-override", override) ∷ (codes "codegen-units", option_map (λ n. integer (pos n)) keys.codegen_units) ∷ (codes "debug", first_form debug_infos keys.debug)
     ∷ (codes "debug-assertions", option_map boolean keys.debug_assertions) ∷ (codes "inherits", option_map string inherits) ∷ (codes "lto", first_form ltos keys.lto) ∷ (codes "opt-level", first_form opt_levels keys.opt_level)
     ∷ (codes "overflow-checks", option_map boolean keys.overflow_checks) ∷ (codes "package", packages) ∷ (codes "panic", first_form panics keys.panic) ∷ (codes "rpath", option_map boolean keys.rpath)
     ∷ (codes "strip", first_form strips keys.strip) ∷ []
 
-abbrev pub settings_alone : ProfileKeys → Data
-settings_alone keys = table_with (settings None None None keys)
+abbrev pub settings_table : ProfileKeys → Data
+settings_table keys = table_with (profile_rows None None None keys)
 
 abbrev pub profile_entry : Profile → Data
-profile_entry p = table_with (settings (option_map settings_alone p.build_override) p.inherits (entries (λ (o : ProfileOverride). o.name) (λ o. settings_alone o.keys) p.packages) p.keys)
+profile_entry p = table_with (profile_rows (option_map settings_table p.build_override) p.inherits (entries (λ (o : ProfileOverride). o.name) (λ o. settings_table o.keys) p.packages) p.keys)
 
 abbrev pub inherited_rows : WorkspacePackage → Rows
 inherited_rows w =
