@@ -288,11 +288,12 @@ def since(row):
 
 
 def aged():
-    """Prints the crates that changed since their row of `LAST.md`, and returns whether there are some."""
+    """Prints the crates that changed since their row of `LAST.md`, or have none, and returns whether there are some."""
     rows = re.findall(r"^\| `(\w+)` \| \S+ \| (\S+) \|", read(f"{TOP}/bench/edits/LAST.md"), re.M)
     told = [f"{row[0]}: {since(row)}" for row in rows if since(row)]
-    print("".join(f"{it}\n" for it in told) + f"{len(rows)} rows, {len(told)} older than what they are about")
-    return bool(told)
+    without = sorted({it for it in os.listdir(f"{TOP}/bench/edits") if os.path.isdir(f"{TOP}/bench/edits/{it}")} - {row[0] for row in rows})
+    print("".join(f"{it}\n" for it in [*told, *(f"{it}: has no row" for it in without)]) + f"{len(rows)} rows, {len(told)} older than what they are about")
+    return bool(told or without)
 
 
 def main():

@@ -20,7 +20,7 @@
 # `edits.sh --texts [CRATE..]` proves nothing. It only looks whether each edit, of `crates/CRATE/must-fail/` too, still
 # fits: whether each text that it replaces stands in its file once, and that file is code. That takes a second.
 #
-# `edits.sh --aged` tells which crates, their code, definitions or edits, changed since their row was written; comments,
+# `edits.sh --aged` tells which crates, their code, definitions or edits, changed since their row was written, or have none; comments,
 # imports and who may name a module are no such change.
 #
 # An edit is a file `NAME.edit` as the gate reads it: a line `file: src/lib.rt`, below it pairs of lines `old: TEXT`
