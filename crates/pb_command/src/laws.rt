@@ -13,7 +13,8 @@ pub fn last_values_count()
     ensures { LastValuesCount }
 {}
 
-/// The libraries that a compile is given stand in byte order of their names, and then of their paths.
+/// What the libraries of a compile are put in order by orders them by their names, and then by their paths, in byte order,
+/// where names have no byte 0.
 pub fn libraries_in_order()
     ensures { LibrariesInOrder }
 {}

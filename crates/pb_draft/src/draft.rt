@@ -222,7 +222,8 @@ fn draft_seen(
 /// Book, Manifest Format and Workspaces). It looks at its folder once. NoInherited where a key or an entry is taken
 /// from a workspace that has it not to give; the manifest with UnsupportedSource where the entry that it has to give
 /// has no path, or `git` or `registry`. The first is told: of the keys, then of `[dependencies]`, then of
-/// `[build-dependencies]`.
+/// `[build-dependencies]`. Before all, Place, where a call failed, with its path; anywhere OutOfMemory, where memory is
+/// refused.
 pub fn draft_of<P: Place>(
     alloc: Global,
     place: &mut P,

@@ -105,7 +105,8 @@ fn keys_from(
 }
 
 /// The keys of a package: what it writes, or takes from its workspace, or has in its folder (The Cargo Book,
-/// Manifest Format and Workspaces). NoInherited where a key is taken from a workspace that has none to give.
+/// Manifest Format and Workspaces). NoInherited where a key is taken from a workspace that has none to give; OutOfMemory
+/// where memory is refused.
 pub fn keys_of(
     alloc: Global,
     listings: &Listings,

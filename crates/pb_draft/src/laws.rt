@@ -2,8 +2,9 @@
 
 ghost use Rattle.pb_draft.specs.Laws.{FoundAsLookedFor};
 
-/// A binary that is found has the source that a `[[bin]]` of its name would have that writes no path (The Cargo Book,
-/// Cargo Targets): what is found and what is looked for are told in opposite orders, and agree.
+/// The last binary of a name that is found, which counts, has the source that a `[[bin]]` of this name would have that
+/// writes no path, where paths are normalised (The Cargo Book, Cargo Targets): what is found and what is looked for are
+/// told in opposite orders, and agree.
 pub fn found_binaries_are_looked_for()
     ensures { FoundAsLookedFor }
 {}

@@ -47,7 +47,8 @@ pub struct Targets {
     pub script: Option<PathText>,
 }
 
-/// The README that is looked for in a package's folder, where none is written; else the empty text.
+/// The README that is looked for in a package's folder, where none is written; else the empty text. The one fault is want
+/// of memory.
 pub fn readme_found(
     alloc: Global,
     listings: &Listings,
@@ -74,7 +75,9 @@ fn joined(first: Items<Wanted>, second: Items<Wanted>) -> Result<Items<Wanted>, 
     Ok(made)
 }
 
-/// What the entries of `[dependencies]` and then of `[build-dependencies]` ask for, up to the first fault.
+/// What the entries of `[dependencies]` and then of `[build-dependencies]` ask for, up to the first fault: NoInherited
+/// where one is taken from a workspace that has it not to give; the manifest with UnsupportedSource where the entry that
+/// it has to give has no path, or `git` or `registry`; OutOfMemory.
 pub fn wanted_in(
     alloc: Global,
     at: &Standing,
@@ -116,7 +119,7 @@ fn discovered(
 }
 
 /// What a package of these keys is built to: its library, its binaries and its build script, each where it is
-/// written or found (The Cargo Book, Cargo Targets and Build Scripts).
+/// written or found (The Cargo Book, Cargo Targets and Build Scripts). The one fault is want of memory.
 pub fn targets_of(
     alloc: Global,
     listings: &Listings,

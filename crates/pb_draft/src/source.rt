@@ -69,7 +69,7 @@ fn sources_among(
 }
 
 /// The files of the sources directly in a folder, in byte order. A folder at or below the target folder is not
-/// listed.
+/// listed. A call that failed is told as it failed, with its path; else the one fault is want of memory.
 #[tactic(auto, using(crate::proofs::SourceLemmas::listing_laws))]
 pub fn sources_directly<P: Place>(
     alloc: Global,

@@ -197,7 +197,8 @@ fn wanted_of(
     }
 }
 
-/// What the entries of one table ask for, in their order, up to the first fault.
+/// What the entries of one table ask for, in their order, up to the first fault: NoInherited, the manifest with
+/// UnsupportedSource, or OutOfMemory.
 pub fn each_wanted(
     alloc: Global,
     at: &Standing,

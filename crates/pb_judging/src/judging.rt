@@ -291,13 +291,13 @@ fn answered_by(
     }
 }
 
-/// What the answer of a unit's child gives, or the first fault of it. `dep_info` is what the file at
-/// `dep_info_path` holds, or none where no file is there; for a run it is not looked at.
+/// What the answer of a unit's child gives, or the first fault of it. `dep_info` is what the file at `dep_info_path` of
+/// `pb_project` holds, or none where no file is there; for a run it is not looked at.
 ///
-/// In this order: OutputTooLong and Status, by `ended_fault`; for a run, Directive where a line of its output
-/// has a fault, and ScriptError where one is `cargo::error`; for a compile, NoDepInfo where its dep-info is not there, does not read or is over 4,194,304
-/// bytes; ForeignInput where an input lies at or below the target folder and in no folder of a unit that was
-/// reached, the first such path.
+/// In this order: OutputTooLong and Status, by `ended_fault`; for a run, Directive where a line of its output has a fault,
+/// and ScriptError where one is `cargo::error`; for a compile, NoDepInfo where its dep-info is not there, does not read or
+/// is over 4,194,304 bytes; ForeignInput where an input lies at or below the target folder and in no folder of a unit that
+/// was reached, the first such path. OutOfMemory where memory is refused.
 ///
 /// The inputs of a compile are the paths and variables of its dep-info (The Cargo Book, Build Cache), without
 /// the variables that the command sets. Those of a run are the paths and variables of its lines

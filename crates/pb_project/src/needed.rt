@@ -119,7 +119,7 @@ fn file_at(
     }
 }
 
-/// The file of the library of a package, where a unit needs it.
+/// The file of the library of a package, where a unit needs it. The one fault is want of memory.
 pub fn library_file(
     alloc: Global,
     project: &Project,
@@ -131,7 +131,7 @@ pub fn library_file(
     file_at(alloc, project, needed_library(project, unit, owner))
 }
 
-/// The file of the script of a unit's own package, where the unit needs it.
+/// The file of the script of a unit's own package, where the unit needs it. The one fault is want of memory.
 pub fn script_file(
     alloc: Global,
     project: &Project,

@@ -1,5 +1,5 @@
-//! One unit of a build: what it tells, how its child's answer is judged, and its run. It hands out the flight table,
-//! which says which unit is begun and answered when.
+//! One unit of a build: how it begins, how its child's answer is judged, what it leaves. It hands out its lines, and the
+//! flight table, which says which unit is begun and answered when.
 #![tactic(auto)]
 
 pub mod begun;

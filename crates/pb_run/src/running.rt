@@ -17,7 +17,8 @@ use pb_data::{Bytes, Text};
 use pb_place::{Command, Ended, PathText, Place};
 use std::alloc::Global;
 
-/// Starts a child, by one call, and waits for its end. Its faults have this name: `-vV` for the query of the compiler's version, else a unit's key.
+/// Starts a child, by one call, and waits for its end. Child where it could not be started or gave no answer, with this
+/// name: `-vV` for the query of the compiler's version, else a unit's key; OutOfMemory where memory is refused.
 pub fn start<P: Place>(
     alloc: Global,
     place: &mut P,

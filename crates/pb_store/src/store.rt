@@ -25,7 +25,7 @@ pub struct Store {
     /// opened. None where no number is left.
     pub next: Option<u64>,
     /// The run numbers of the records that count in the folder, by the units' keys; none of a unit whose record has none,
-    /// or was dropped. What a call that failed leaves here is said by nothing.
+    /// or was dropped. What a call that failed leaves here of its unit is said by nothing.
     pub numbers: Table<Option<u64>>,
 }
 

@@ -280,8 +280,8 @@ fn diagnostics_by(
     Ok(messages)
 }
 
-/// The messages of a unit whose child's answer is bad: a compile gives its diagnostics, and a script that told of
-/// an error its notes. The one fault is want of memory.
+/// The messages of a unit whose child's answer is bad: a compile gives its diagnostics, unless a stream is too long, and
+/// a script that told of an error its notes. The one fault is want of memory.
 pub fn bad_messages(
     alloc: Global,
     what: &What,

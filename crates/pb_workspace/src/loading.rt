@@ -270,7 +270,8 @@ fn workspace_in<P: Place>(
 /// workspace is taken that has no path, or `git` or `registry`; NoInherited, where a key or an entry is taken that
 /// the workspace has not, or by a package that is no member; TooMany, where a 257th package would be read; Place,
 /// where a call failed, with its path. Then come SameName, NameMismatch, VersionMismatch, LinksTwice,
-/// LinksWithoutScript and SameBinary, in this order. It starts no child and changes no file.
+/// LinksWithoutScript and SameBinary, in this order. OutOfMemory may come anywhere, where memory is refused. It starts no
+/// child and changes no file.
 #[tactic(auto, unfolding(crate::specs::Loaded::workspace_of))]
 pub fn load<P: Place>(
     alloc: Global,

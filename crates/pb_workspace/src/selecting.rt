@@ -248,7 +248,7 @@ fn selection_of(
 /// The packages are all members with `--workspace`; else the members that `-p` names; else those of
 /// `default-members`; else the root package; else all members. They stand in ascending order of their
 /// places, each once. NoSuchPackage where `-p` names no member, and where `default-members` decide and
-/// write out a folder that is no member.
+/// write out a folder that is no member; OutOfMemory where memory is refused.
 ///
 /// The features are what stands between the commas and spaces of the texts of `--features`, in their order,
 /// empty parts dropped.
