@@ -72,7 +72,7 @@ fn mark(
 
 /// The least set of things with the seeds, closed under the rules: whether each thing is in it.
 /// Each thing is looked at once, in the order in which they are found: what is found together mostly lies
-/// together.
+/// together. The one fault is want of memory.
 pub fn least<R: Rules>(alloc: Global, rules: &R, seeds: &[usize]) -> Result<Vec<bool>, AllocError>
     requires seeds { All (λ x. x < R.count rules.now) seeds.now }
     requires fit { R.is_fit rules.now }

@@ -51,7 +51,7 @@ impl<'a> Rules for Indexed<'a> {
 }
 
 /// What follows from the seeds by the rules, of the things from 0 up to a count. Each rule is
-/// looked at once for each of its premises.
+/// looked at once for each of its premises. The one fault is want of memory.
 pub fn derived(
     alloc: Global,
     count: usize,

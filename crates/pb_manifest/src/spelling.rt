@@ -47,7 +47,7 @@ fn texts_of(alloc: Global, crate_types: &[CrateType]) -> Result<Vec<&'static str
 }
 
 /// The crate types of a library as they are spelled, in the manifest's order: `lib` alone where
-/// none is written (The Cargo Book, Cargo Targets).
+/// none is written (The Cargo Book, Cargo Targets). The one fault is want of memory.
 pub fn crate_type_texts(
     alloc: Global,
     crate_types: &[CrateType],

@@ -97,7 +97,7 @@ impl<C> Memory<C> {
         self.variables.remove(alloc, name)
     }
 
-    /// The bytes of a file, or none where no file is there.
+    /// The bytes of a file, or none where no file is there. The one fault is want of memory.
     pub fn file(&self, alloc: Global, path: &PathText) -> Result<Option<Bytes>, AllocError>
         ensures { IfOk result (λ found. found ≡ map.get self.now.world.files path.now) }
     {

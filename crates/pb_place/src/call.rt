@@ -30,21 +30,21 @@ pub enum Call {
 }
 
 impl Call {
-    /// To read a file.
+    /// To read a file. The one fault is want of memory.
     pub fn read(alloc: Global, path: &PathText) -> Result<Call, AllocError>
         ensures { IfOk result (λ it. it ≡ call.Read path.now) }
     {
         Ok(Call::Read(path.copy(alloc)?))
     }
 
-    /// To list all files below a folder.
+    /// To list all files below a folder. The one fault is want of memory.
     pub fn list(alloc: Global, folder: &PathText) -> Result<Call, AllocError>
         ensures { IfOk result (λ it. it ≡ call.List folder.now) }
     {
         Ok(Call::List(folder.copy(alloc)?))
     }
 
-    /// To list the files below a folder but those at or below another path.
+    /// To list the files below a folder but those at or below another path. The one fault is want of memory.
     pub fn list_outside(
         alloc: Global,
         folder: &PathText,
@@ -57,28 +57,28 @@ impl Call {
         Ok(Call::ListOutside(folder, left_out))
     }
 
-    /// To list the files directly in a folder.
+    /// To list the files directly in a folder. The one fault is want of memory.
     pub fn list_directly(alloc: Global, folder: &PathText) -> Result<Call, AllocError>
         ensures { IfOk result (λ it. it ≡ call.ListDirectly folder.now) }
     {
         Ok(Call::ListDirectly(folder.copy(alloc)?))
     }
 
-    /// To write a file.
+    /// To write a file. The one fault is want of memory.
     pub fn write(alloc: Global, path: &PathText) -> Result<Call, AllocError>
         ensures { IfOk result (λ it. it ≡ call.Write path.now) }
     {
         Ok(Call::Write(path.copy(alloc)?))
     }
 
-    /// To remove what stands at or below a path.
+    /// To remove what stands at or below a path. The one fault is want of memory.
     pub fn remove(alloc: Global, path: &PathText) -> Result<Call, AllocError>
         ensures { IfOk result (λ it. it ≡ call.Remove path.now) }
     {
         Ok(Call::Remove(path.copy(alloc)?))
     }
 
-    /// To ask for a variable.
+    /// To ask for a variable. The one fault is want of memory.
     pub fn variable(alloc: Global, name: &str) -> Result<Call, AllocError>
         ensures { IfOk result (λ it. it ≡ call.Variable name.now) }
     {

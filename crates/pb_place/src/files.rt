@@ -77,7 +77,7 @@ impl FileMap {
         Ok(())
     }
 
-    /// The paths of the files below a folder, in byte order.
+    /// The paths of the files below a folder, in byte order. The one fault is want of memory.
     pub fn list(&self, alloc: Global, folder: &PathText) -> Result<Items<PathText>, AllocError>
         ensures { IfOk result (λ paths. paths ≡ map.keys (map.retain_keys self.now (is_below folder.now))) }
     {
@@ -85,7 +85,7 @@ impl FileMap {
         Ok(paths_of(alloc, names)?)
     }
 
-    /// The paths of the files below a folder that are not at or below another path, in byte order.
+    /// The paths of the files below a folder but those at or below another path, in byte order. The one fault is want of memory.
     pub fn list_outside(
         &self,
         alloc: Global,
@@ -99,7 +99,7 @@ impl FileMap {
         Ok(paths_of(alloc, names)?)
     }
 
-    /// The paths of the files directly in a folder, in byte order.
+    /// The paths of the files directly in a folder, in byte order. The one fault is want of memory.
     pub fn list_directly(
         &self,
         alloc: Global,
@@ -349,7 +349,7 @@ impl TextMap {
         }
     }
 
-    /// The value of a variable, if it is set.
+    /// The value of a variable, if it is set. The one fault is want of memory.
     #[tactic(auto, using(crate::proofs::MapLemmas::map_laws))]
     pub fn get(&self, alloc: Global, name: &str) -> Result<Option<Text>, AllocError>
         ensures { IfOk result (λ found. found ≡ map.get self.now name.now) }
@@ -384,7 +384,7 @@ impl TextMap {
         Ok(())
     }
 
-    /// All names and values, in byte order of the names.
+    /// All names and values, in byte order of the names. The one fault is want of memory.
     #[tactic(auto, using(crate::proofs::MapLemmas::ordered_laws))]
     pub fn into_pairs(self, alloc: Global) -> Result<Items<(Text, Text)>, AllocError>
         ensures { IfOk result (λ pairs. pairs ≡ map.entries self) }

@@ -36,7 +36,7 @@ fn result_lines(alloc: Global, answers: &[Answer]) -> Result<String, AllocError>
     Ok(lines)
 }
 
-/// Writes the result lines of builds, and says whether the sink took them.
+/// Writes the result lines of builds, and says whether the sink took them. Want of memory comes before all writing.
 pub fn write_results<O: Out>(
     alloc: Global,
     answers: &[Answer],
