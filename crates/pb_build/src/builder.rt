@@ -1,6 +1,6 @@
 //! A whole build.
 
-ghost use Rattle.std.specs.Prelude.{◌≡◌, ◌⊎◌, ◌+◌, [], max, length, IsTrue, IfOk, IfErr, MatchResult, OnErr};
+ghost use Rattle.std.specs.Prelude.{◌≡◌, ◌⊎◌, ◌+◌, [], max, length, true, IsTrue, IfOk, IfErr, MatchResult, OnErr};
 ghost use Rattle.pb_record.specs.Parts.{IsReading};
 ghost use Rattle.pb_build.specs.Causes.{MayPlan, MayReady, NamesCall, PlansInTurn, ReadiesInTurn, StopsBefore, plan_called};
 ghost use Rattle.pb_build.specs.Ending.{FailsBefore, Finishes, IsPlanOf, PlansFrom, Prepares, Works, Closes, Builds, BuildsBy, BuildsFirst};
@@ -102,6 +102,7 @@ fn opened<P: Place>(
 ) -> Result<Store, BuildFault>
     ensures folder { IfOk result (λ store. store.folder ≡ records_folder project.now) }
     ensures next { (read : Reading) → IsReading read → IsTrue P.tells → IfOk result (λ store. store.next ≡ next_in read (records_folder project.now) (P.world place.old)) }
+    ensures known { IfOk result (λ store. store.numbers.known ≡ true) }
     ensures numbers { (read : Reading) → IsReading read → IsTrue P.tells → IfOk result (λ store. HoldsNumbers (record_at read (records_folder project.now) (P.world place.new).files) store.numbers) }
     ensures same { IsTrue P.tells → P.world place.new ≡ P.world place.old }
     ensures most { P.most place.new ≡ P.most place.old }
@@ -129,6 +130,7 @@ fn ready<P: Place>(
     project: OrderedProject,
 ) -> Result<Prepared, BuildFault>
     ensures folder { IfOk result (λ prepared. prepared.store.folder ≡ records_folder prepared.project) }
+    ensures known { IfOk result (λ prepared. prepared.store.numbers.known ≡ true) }
     ensures numbers { (read : Reading) → IsReading read → IsTrue P.tells → IfOk result (λ prepared. HoldsNumbers (record_at read (records_folder prepared.project) (P.world place.new).files) prepared.store.numbers) }
     ensures ready { IsTrue P.tells → IfOk result (IsReadyFor P.child options.now environment project (P.world place.old)) }
     ensures project { IfOk result (λ prepared. prepared.project ≡ project) }
@@ -218,6 +220,7 @@ fn prepare<P: Place>(
 ) -> Result<Prepared, BuildFault>
     requires none { (P.counts place.old).starts.flying ≡ [] }
     ensures folder { IfOk result (λ prepared. prepared.store.folder ≡ records_folder prepared.project) }
+    ensures known { IfOk result (λ prepared. prepared.store.numbers.known ≡ true) }
     ensures numbers { (read : Reading) → IsReading read → IsTrue P.tells → IfOk result (λ prepared. HoldsNumbers (record_at read (records_folder prepared.project) (P.world place.new).files) prepared.store.numbers) }
     ensures readies { (heard : Heard) → Readies P.tells P.child options.now plan result record { world = P.world place.old; counts = P.counts place.old; most = P.most place.old; heard = heard } record { world = P.world place.new; counts = P.counts place.new; most = P.most place.new; heard = heard } }
     ensures prepares { IfOk result (λ prepared. (from : Moment) → PlansFrom P.tells options.now plan from record { world = P.world place.old; counts = P.counts place.old; most = P.most place.old; heard = from.heard }

@@ -33,7 +33,7 @@ use Rattle.pb_record.specs.declared.record.Record.{Record}
 use Rattle.pb_soundness.specs.Records.{Reading, place_of, record_at}
 use Rattle.pb_store.specs.Migrating.{lacks_number}
 use Rattle.pb_store.specs.Looking as looking
-use Rattle.pb_store.specs.Looking.{kept_called, migrated_called}
+use Rattle.pb_store.specs.Looking.{kept_called, migrated_called, numbers_looked}
 use Rattle.pb_store.specs.declared.replaying.Replayed.{Replayed}
 use Rattle.pb_unit.specs.declared.plan.Planned.{Planned}
 use Rattle.pb_store.specs.declared.fault.StoreFault.{StoreFault}
@@ -128,16 +128,16 @@ numbers_so (Err e) calls old new makes = numbering_so e calls old new makes
 no_spent : {T : Type 0} (r : Result T StoreFault) (e : StoreFault) → r ≡ Err e → r ≡ Err store.NumbersSpent → e ≡ store.NumbersSpent
 no_spent r e is spent = cc
 
-spent_there : (path : List ℕ) (lacks : Bool) (old new : Counts) → lacks ≡ true → new ≡ past_calls (call.Read path ∷ []) old → StopsBeforeWrite (call.Read path ∷ cond lacks (call.Write path ∷ []) []) old new
-spent_there path lacks old new is made = (call.Read path ∷ [], path, ap (λ b. call.Read path ∷ cond b (call.Write path ∷ []) []) is, made)
+spent_there : (path : List ℕ) (looks : List Call) (lacks : Bool) (old new : Counts) → lacks ≡ true → new ≡ past_calls (call.Read path ∷ looks) old → StopsBeforeWrite (call.Read path ∷ cond lacks (looks ++ (call.Write path ∷ [])) []) old new
+spent_there path looks lacks old new is made = (call.Read path ∷ looks, path, ap (λ b. call.Read path ∷ cond b (looks ++ (call.Write path ∷ [])) []) is, made)
 
-pub migrate_stops : {T : Type 0} (r : Result T StoreFault) (unit : List ℕ) (e : StoreFault) (told : BuildFault) (folder key : List ℕ) (found : Option Record) (old new : Counts) → r ≡ Err e → told ≡ store_fault unit e
+pub migrate_stops : {T : Type 0} (r : Result T StoreFault) (unit : List ℕ) (e : StoreFault) (told : BuildFault) (known : Bool) (folder key : List ℕ) (w : World) (found : Option Record) (old new : Counts) → r ≡ Err e → told ≡ store_fault unit e
     → (r ≡ Err store.NumbersSpent → lacks_number found ≡ true)
-    → ((r ≡ Err store.NumbersSpent) × (new ≡ past_calls (call.Read (place_of folder key) ∷ []) old)) ⊎ looking.StopsAt e (migrated_called folder key found) old new → NumberingStopsAt told (migrated_called folder key found) old new
-migrate_stops r unit e told folder key found old new so is lacks (inl (spent, made)) =
-    subst (λ f. NumberingStopsAt f (migrated_called folder key found) old new) (sym (is ∙ ap (store_fault unit) (no_spent r e so spent))) (spent_there (place_of folder key) (lacks_number found) old new (lacks spent) made)
-migrate_stops r unit e told folder key found old new so is lacks (inr stops) =
-    numbering_so told (migrated_called folder key found) old new (store_stops unit e told (migrated_called folder key found) old new is stops)
+    → ((r ≡ Err store.NumbersSpent) × (new ≡ past_calls (call.Read (place_of folder key) ∷ numbers_looked known folder w) old)) ⊎ looking.StopsAt e (migrated_called known folder key w found) old new → NumberingStopsAt told (migrated_called known folder key w found) old new
+migrate_stops r unit e told known folder key w found old new so is lacks (inl (spent, made)) =
+    subst (λ f. NumberingStopsAt f (migrated_called known folder key w found) old new) (sym (is ∙ ap (store_fault unit) (no_spent r e so spent))) (spent_there (place_of folder key) (numbers_looked known folder w) (lacks_number found) old new (lacks spent) made)
+migrate_stops r unit e told known folder key w found old new so is lacks (inr stops) =
+    numbering_so told (migrated_called known folder key w found) old new (store_stops unit e told (migrated_called known folder key w found) old new is stops)
 
 pub ruleset call_laws = (call_stops, memory_first, memory_last)
 
@@ -158,49 +158,49 @@ numbers_then (Ok x) a b old mid new first second = made_both a b old mid new fir
 numbers_then (Err e) a b old mid new first second = numbering_then e a b old mid new first second
 
 -- What comes behind the dep-info, by the judgement of the answer.
-module _ (read : Reading) (project : Project) (u : Planned) (c : Command) (by : Awaited) (w : World) (ended : Ended) (j : Judgement)
+module _ (read : Reading) (known : Bool) (project : Project) (u : Planned) (c : Command) (by : Awaited) (w : World) (ended : Ended) (j : Judgement)
     (judged : j ≡ judgement_by project u ended (answered_of project u c ended (file_at (dep_info_of project u) w.files))) (old mid : Counts) (first : mid ≡ past_calls (dep_info_looked (dep_info_of project u)) old) where
-  told_of : {T : Type 0} (result : Result T BuildFault) (new : Counts) → NumbersInTurn result (judged_called read project u c w by j) mid new → NumbersInTurn result (answered_called read project u c w by ended) old new
+  told_of : {T : Type 0} (result : Result T BuildFault) (new : Counts) → NumbersInTurn result (judged_called read known project u c w by j) mid new → NumbersInTurn result (answered_called read known project u c w by ended) old new
   told_of result new makes =
-      subst (λ (x : Judgement). NumbersInTurn result (dep_info_looked (dep_info_of project u) ++ judged_called read project u c w by x) old new) judged
-      (numbers_then result (dep_info_looked (dep_info_of project u)) (judged_called read project u c w by j) old mid new first makes)
+      subst (λ (x : Judgement). NumbersInTurn result (dep_info_looked (dep_info_of project u) ++ judged_called read known project u c w by x) old new) judged
+      (numbers_then result (dep_info_looked (dep_info_of project u)) (judged_called read known project u c w by j) old mid new first makes)
 
   -- the unit is bad
-  pub bad_made : is_some j.ran.bad ≡ true → mid ≡ past_calls (answered_called read project u c w by ended) old
+  pub bad_made : is_some j.ran.bad ≡ true → mid ≡ past_calls (answered_called read known project u c w by ended) old
   bad_made bad =
-      subst (λ (x : Judgement). mid ≡ past_calls (dep_info_looked (dep_info_of project u) ++ judged_called read project u c w by x) old) judged
-      (made_both (dep_info_looked (dep_info_of project u)) (judged_called read project u c w by j) old mid mid first (ap (λ b. past_calls (cond b [] (recorded_called read project u c w j.names by)) mid) (sym bad)))
+      subst (λ (x : Judgement). mid ≡ past_calls (dep_info_looked (dep_info_of project u) ++ judged_called read known project u c w by x) old) judged
+      (made_both (dep_info_looked (dep_info_of project u)) (judged_called read known project u c w by j) old mid mid first (ap (λ b. past_calls (cond b [] (recorded_called read known project u c w j.names by)) mid) (sym bad)))
 
   -- it is good, and just these calls were made then
-  pub good_made : {T : Type 0} (result : Result T BuildFault) (names : List Call) (new : Counts) → is_some j.ran.bad ≡ false → names ≡ recorded_called read project u c w j.names by → NumbersInTurn result names mid new
-      → NumbersInTurn result (answered_called read project u c w by ended) old new
+  pub good_made : {T : Type 0} (result : Result T BuildFault) (names : List Call) (new : Counts) → is_some j.ran.bad ≡ false → names ≡ recorded_called read known project u c w j.names by → NumbersInTurn result names mid new
+      → NumbersInTurn result (answered_called read known project u c w by ended) old new
   good_made result names new good are makes =
-      told_of result new (subst (λ b. NumbersInTurn result (cond b [] (recorded_called read project u c w j.names by)) mid new) (sym good) (subst (λ (ns : List Call). NumbersInTurn result ns mid new) are makes))
+      told_of result new (subst (λ b. NumbersInTurn result (cond b [] (recorded_called read known project u c w j.names by)) mid new) (sym good) (subst (λ (ns : List Call). NumbersInTurn result ns mid new) are makes))
 
   -- it is good, and a call stopped it then
-  pub good_stops : (fault : BuildFault) (names : List Call) (new : Counts) → is_some j.ran.bad ≡ false → names ≡ recorded_called read project u c w j.names by → StopsAt fault names mid new → StopsAt fault (answered_called read project u c w by ended) old new
+  pub good_stops : (fault : BuildFault) (names : List Call) (new : Counts) → is_some j.ran.bad ≡ false → names ≡ recorded_called read known project u c w j.names by → StopsAt fault names mid new → StopsAt fault (answered_called read known project u c w by ended) old new
   good_stops fault names new good are stops =
-      subst (λ (x : Judgement). StopsAt fault (dep_info_looked (dep_info_of project u) ++ judged_called read project u c w by x) old new) judged
-      (stops_then fault (dep_info_looked (dep_info_of project u)) (judged_called read project u c w by j) old mid new first
-      (subst (λ b. StopsAt fault (cond b [] (recorded_called read project u c w j.names by)) mid new) (sym good) (subst (λ (ns : List Call). StopsAt fault ns mid new) are stops)))
+      subst (λ (x : Judgement). StopsAt fault (dep_info_looked (dep_info_of project u) ++ judged_called read known project u c w by x) old new) judged
+      (stops_then fault (dep_info_looked (dep_info_of project u)) (judged_called read known project u c w by j) old mid new first
+      (subst (λ b. StopsAt fault (cond b [] (recorded_called read known project u c w j.names by)) mid new) (sym good) (subst (λ (ns : List Call). StopsAt fault ns mid new) are stops)))
 
 -- the record is kept; it has a number; it is given one
-pub kept_so : (read : Reading) (project : Project) (u : Planned) (c : Command) (l : Launched) (folder : List ℕ) (v w : World) (names known : List InputName) → folder ≡ records_folder project → v ≡ w → names ≡ known
-    → kept_called folder u.key c.target v names ≡ recorded_called read project u c w known (awaited.Child l)
-kept_so read project u c l folder v w names known is same are =
-    ap (λ (f : List ℕ). kept_called f u.key c.target v names) is
-    ∙ ap (λ (x : World). kept_called (records_folder project) u.key c.target x names) same
-    ∙ ap (λ (ns : List InputName). kept_called (records_folder project) u.key c.target w ns) are
+pub kept_so : (read : Reading) (known : Bool) (project : Project) (u : Planned) (c : Command) (l : Launched) (folder : List ℕ) (v w : World) (names told : List InputName) → folder ≡ records_folder project → v ≡ w → names ≡ told
+    → kept_called known folder u.key c.target v names ≡ recorded_called read known project u c w told (awaited.Child l)
+kept_so read known project u c l folder v w names told is same are =
+    ap (λ (f : List ℕ). kept_called known f u.key c.target v names) is
+    ∙ ap (λ (x : World). kept_called known (records_folder project) u.key c.target x names) same
+    ∙ ap (λ (ns : List InputName). kept_called known (records_folder project) u.key c.target w ns) are
 
-pub numbered_so : (read : Reading) (project : Project) (u : Planned) (c : Command) (again : Replayed) (w : World) (known : List InputName) → again.numbered ≡ true → [] ≡ recorded_called read project u c w known (awaited.Record again)
-numbered_so read project u c again w known is = ap (λ b. cond b [] (migrated_called (records_folder project) u.key (record_at read (records_folder project) w.files u.key))) (sym is)
+pub numbered_so : (read : Reading) (known : Bool) (project : Project) (u : Planned) (c : Command) (again : Replayed) (w : World) (told : List InputName) → again.numbered ≡ true → [] ≡ recorded_called read known project u c w told (awaited.Record again)
+numbered_so read known project u c again w told is = ap (λ b. cond b [] (migrated_called known (records_folder project) u.key w (record_at read (records_folder project) w.files u.key))) (sym is)
 
-pub renewed_names : (read : Reading) (project : Project) (u : Planned) (c : Command) (again : Replayed) (folder : List ℕ) (v w : World) (known : List InputName) → folder ≡ records_folder project → v ≡ w → again.numbered ≡ false
-    → migrated_called folder u.key (record_at read folder v.files u.key) ≡ recorded_called read project u c w known (awaited.Record again)
-renewed_names read project u c again folder v w known is same lacks =
-    ap (λ (f : List ℕ). migrated_called f u.key (record_at read f v.files u.key)) is
-    ∙ ap (λ (x : World). migrated_called (records_folder project) u.key (record_at read (records_folder project) x.files u.key)) same
-    ∙ ap (λ b. cond b [] (migrated_called (records_folder project) u.key (record_at read (records_folder project) w.files u.key))) (sym lacks)
+pub renewed_names : (read : Reading) (known : Bool) (project : Project) (u : Planned) (c : Command) (again : Replayed) (folder : List ℕ) (v w : World) (told : List InputName) → folder ≡ records_folder project → v ≡ w → again.numbered ≡ false
+    → migrated_called known folder u.key v (record_at read folder v.files u.key) ≡ recorded_called read known project u c w told (awaited.Record again)
+renewed_names read known project u c again folder v w told is same lacks =
+    ap (λ (f : List ℕ). migrated_called known f u.key v (record_at read f v.files u.key)) is
+    ∙ ap (λ (x : World). migrated_called known (records_folder project) u.key x (record_at read (records_folder project) x.files u.key)) same
+    ∙ ap (λ b. cond b [] (migrated_called known (records_folder project) u.key w (record_at read (records_folder project) w.files u.key))) (sym lacks)
 
 -- what ends a launch is no call of a look
 removal_no_look : (path : List ℕ) (e : BuildFault) (old new : Counts) → RemovalEnds path e old new → is_of_look e ≡ true → ⊥

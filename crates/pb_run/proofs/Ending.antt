@@ -99,6 +99,9 @@ alone_told next key e old mid new first second = (follow_alone next key e old.st
 read_no_remove : place.Read ≡ place.Remove → ⊥
 read_no_remove e = cc
 
+list_no_remove : place.List ≡ place.Remove → ⊥
+list_no_remove e = cc
+
 write_no_remove : place.Write ≡ place.Remove → ⊥
 write_no_remove e = cc
 
@@ -107,8 +110,11 @@ AnswersAt next key old new f = FailedLast (Called f) old new → TellsAnswer nex
 
 migrated_told : (next : Option ℕ) (key : List ℕ) (e : StoreFault) (old new : Counts) → new.starts ≡ old.starts → causes.MayMigrate next e → causes.HasCause e old new → TellsAnswer next key None old new (store_fault key e)
 migrated_told next key (store.Place f) old new starts may cause = elim may [
-  | inl e ↦ subst (AnswersAt next key old new) (sym e) (λ c. ((refl, read_no_remove, starts), c)) cause
-  | inr e ↦ subst (AnswersAt next key old new) (sym e) (λ c. ((refl, write_no_remove, starts), c)) cause
+  | inl e ↦ subst (AnswersAt next key old new) (sym e) (λ c. ((refl, write_no_remove, starts), c)) cause
+  | inr other ↦ elim other [
+    | inl e ↦ subst (AnswersAt next key old new) (sym e) (λ c. ((refl, read_no_remove, starts), c)) cause
+    | inr e ↦ subst (AnswersAt next key old new) (sym e) (λ c. ((refl, list_no_remove, starts), c)) cause
+  ]
 ]
 migrated_told next key store.NumbersSpent old new starts may cause = ((refl, may, refl, starts), cause)
 migrated_told next key store.OutOfMemory old new starts may cause = (starts, cause)

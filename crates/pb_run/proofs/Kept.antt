@@ -52,6 +52,7 @@ use Rattle.pb_soundness.specs.Apart.{KeepsStill, KeepsStillOutside, is_of}
 use Rattle.pb_soundness.specs.Inputs.{input_in}
 use Rattle.pb_soundness.specs.Records.{place_of, record_at}
 use Rattle.pb_store.specs.Held.{HoldsNumbers}
+use Rattle.pb_store.specs.declared.store.RunNumbers.{RunNumbers}
 use Rattle.pb_store.specs.Keeping.{Leaves, kept_of, numbered}
 
 -- What the call that keeps a record asks.
@@ -105,7 +106,7 @@ module _ (b : Basis) (order : IsInOrder b.project) (i : ℕ) (u : Planned) (at :
   landed_so = landed_only b order i u at u.key c l next flying still w w1 can.begun_so ends
 
   -- the numbers that are held
-  pub held_ended : (v : World) → v ≡ w1 → (folder : List ℕ) (numbers : List (List ℕ × Option ℕ)) → folder ≡ records_folder b.project → HoldsNumbers (records_in b w) numbers → HoldsNumbers (record_at b.read folder v.files) numbers
+  pub held_ended : (v : World) → v ≡ w1 → (folder : List ℕ) (numbers : RunNumbers) → folder ≡ records_folder b.project → HoldsNumbers (records_in b w) numbers → HoldsNumbers (record_at b.read folder v.files) numbers
   held_ended v same folder numbers is_folder holds = held_landed b.read b.project order i u at folder w w1 v numbers is_folder same landed_so holds
 
   -- nothing is kept: another unit that has begun

@@ -68,17 +68,17 @@ awaits_alone (awaited.Child launched) is = absurd (false≢true is)
 awaits_alone (awaited.Record again) is = refl
 
 -- What the beginning says of its calls.
-module _ {P : Type 0} (world : P → World) (counts : P → Counts) (tells : Bool) (child : Answers) (read : Reading) (project : Project) (u : Planned) (c : Command) (w : World) (old new : Counts) (reading : IsReading read) (told : IsTrue tells) where
+module _ {P : Type 0} (world : P → World) (counts : P → Counts) (tells : Bool) (child : Answers) (read : Reading) (known : Bool) (project : Project) (u : Planned) (c : Command) (w : World) (old new : Counts) (reading : IsReading read) (told : IsTrue tells) where
   pub stops_so : (e : BuildFault)
-      → ((r : Reading) → IsReading r → StopsAt e (looked_at r (records_folder project) u.key c w) old new)
-      ⊎ ((looked : P) × HasLooked tells (λ r. looked_at r (records_folder project) u.key c w) w (world looked) old (counts looked) × LaunchEnds (place_of (records_folder project) u.key) u.out e (counts looked) new)
-      → StopsToBegin read project u c e w old new
+      → ((r : Reading) → IsReading r → StopsAt e (looked_at r known (records_folder project) u.key c w) old new)
+      ⊎ ((looked : P) × HasLooked tells (λ r. looked_at r known (records_folder project) u.key c w) w (world looked) old (counts looked) × LaunchEnds (place_of (records_folder project) u.key) u.out e (counts looked) new)
+      → StopsToBegin read known project u c e w old new
   stops_so e (inl stops) = inl (stops read reading)
   stops_so e (inr (looked, has, ends)) = inr (subst (λ k. LaunchEnds (place_of (records_folder project) u.key) u.out e k new) (has.looks read reading told) ends)
 
-  pub begins_so : (o : Option Launched) → (o ≡ None → new ≡ past_look read project u c w old)
-      → IfSome o (λ launched. (looked : P) × HasLooked tells (λ r. looked_at r (records_folder project) u.key c w) w (world looked) old (counts looked) × Launches child c launched.ticket (counts looked) new)
-      → MatchOption o (new ≡ past_look read project u c w old) (λ launched. Launches child c launched.ticket (past_look read project u c w old) new)
+  pub begins_so : (o : Option Launched) → (o ≡ None → new ≡ past_look read known project u c w old)
+      → IfSome o (λ launched. (looked : P) × HasLooked tells (λ r. looked_at r known (records_folder project) u.key c w) w (world looked) old (counts looked) × Launches child c launched.ticket (counts looked) new)
+      → MatchOption o (new ≡ past_look read known project u c w old) (λ launched. Launches child c launched.ticket (past_look read known project u c w old) new)
   begins_so None looks launches = looks refl
   begins_so (Some launched) looks launches = let (looked, has, so) = launches in subst (λ k. Launches child c launched.ticket k new) (has.looks read reading told) so
 
@@ -106,13 +106,13 @@ behind_badly T key (awaited.Child launched) calls (Err e) fault old new so = so
 behind_badly T key (awaited.Record again) calls (Ok it) fault old new so = so
 behind_badly T key (awaited.Record again) calls (Err e) fault old new so = so
 
-module _ (read : Reading) (child : Answers) (project : Project) (u : Planned) (c : Command) (begun : Begun) (w between left after : World) (old mid ended new : Counts) (answer : Result Ended StartFault) (still : ℕ → Type 0) (is : begun.command ≡ c)
-    (begins : MatchOption (child_of begun) (mid ≡ past_look read project u begun.command w old) (λ launched. Launches child begun.command launched.ticket (past_look read project u begun.command w old) mid))
+module _ (read : Reading) (known : Bool) (child : Answers) (project : Project) (u : Planned) (c : Command) (begun : Begun) (w between left after : World) (old mid ended new : Counts) (answer : Result Ended StartFault) (still : ℕ → Type 0) (is : begun.command ≡ c)
+    (begins : MatchOption (child_of begun) (mid ≡ past_look read known project u begun.command w old) (λ launched. Launches child begun.command launched.ticket (past_look read known project u begun.command w old) mid))
     (spawned : IfSome (child_of begun) (λ launched. IsSpawned (is_of (records_folder project) u.key) child begun.command w launched.ticket mid.starts.flying still))
     (same : child_of begun ≡ None → between ≡ w) (gives : GivesRecord (record_at read (records_folder project) w.files u.key) begun.awaited) (only : ChangesOnly (is_at_or_below (place_of (records_folder project) u.key)) left after) where
   through : {T : Type 0} (result : Result T BuildFault) → EndsBy begun.awaited answer (IsOk result) still between left mid ended
-      → CallsBehind u.key begun.awaited (answered_called read project u begun.command left begun.awaited) answer result ended new → RunsThrough read child project u c result w old after new
-  through result ends behind = subst (λ k. RunsThrough read child project u k result w old after new) is record {
+      → CallsBehind u.key begun.awaited (answered_called read known project u begun.command left begun.awaited) answer result ended new → RunsThrough read known child project u c result w old after new
+  through result ends behind = subst (λ k. RunsThrough read known child project u k result w old after new) is record {
     begun = begun;
     between = between;
     mid = mid;
@@ -129,9 +129,9 @@ module _ (read : Reading) (child : Answers) (project : Project) (u : Planned) (c
   }
 
   pub ran_well : {T : Type 0} (ran : Ran) (run : T) → EndsBy begun.awaited answer (IsOk (ended_well ran)) still between left mid ended
-      → CallsBehind u.key begun.awaited (answered_called read project u begun.command left begun.awaited) answer (ended_well ran) ended new → RunsThrough {T = T} read child project u c (Ok run) w old after new
-  ran_well {T} ran run ends behind = through {T = T} (Ok run) ends (behind_well u.key begun.awaited (answered_called read project u begun.command left begun.awaited) answer ran run ended new behind)
+      → CallsBehind u.key begun.awaited (answered_called read known project u begun.command left begun.awaited) answer (ended_well ran) ended new → RunsThrough {T = T} read known child project u c (Ok run) w old after new
+  ran_well {T} ran run ends behind = through {T = T} (Ok run) ends (behind_well u.key begun.awaited (answered_called read known project u begun.command left begun.awaited) answer ran run ended new behind)
 
   pub ran_badly : {T : Type 0} (fault : BuildFault) → EndsBy begun.awaited answer (IsOk (ended_badly fault)) still between left mid ended
-      → CallsBehind u.key begun.awaited (answered_called read project u begun.command left begun.awaited) answer (ended_badly fault) ended new → RunsThrough {T = T} read child project u c (Err fault) w old after new
-  ran_badly {T} fault ends behind = through {T = T} (Err fault) ends (behind_badly T u.key begun.awaited (answered_called read project u begun.command left begun.awaited) answer fault ended new behind)
+      → CallsBehind u.key begun.awaited (answered_called read known project u begun.command left begun.awaited) answer (ended_badly fault) ended new → RunsThrough {T = T} read known child project u c (Err fault) w old after new
+  ran_badly {T} fault ends behind = through {T = T} (Err fault) ends (behind_badly T u.key begun.awaited (answered_called read known project u begun.command left begun.awaited) answer fault ended new behind)

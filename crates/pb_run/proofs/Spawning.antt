@@ -27,6 +27,7 @@ use Rattle.pb_soundness.specs.Sound.{Sound}
 use Rattle.pb_soundness.proofs.Four.{in_output}
 use Rattle.pb_soundness.proofs.Places.{place_outside, record_same, no_key}
 use Rattle.pb_store.specs.Held.{HoldsNumbers}
+use Rattle.pb_store.specs.declared.store.RunNumbers.{RunNumbers}
 
 -- What stands still.
 
@@ -154,8 +155,8 @@ module _ (read : Reading) (folder key out : List ℕ) (old new : World) (is : is
   pub launched_ahead : (next : Option ℕ) → IsAhead (record_at read folder old.files) next → IsAhead (record_at read folder new.files) next
   launched_ahead next ahead k r there = ahead k r (sym (records_stay read folder key old.files new.files is in_folder k) ∙ there)
 
-  pub launched_held : (numbers : List (List ℕ × Option ℕ)) → HoldsNumbers (record_at read folder old.files) numbers → HoldsNumbers (record_at read folder new.files) numbers
-  launched_held numbers holds l = holds l ∙ sym (ap number_if (records_stay read folder key old.files new.files is in_folder l))
+  pub launched_held : (numbers : RunNumbers) → HoldsNumbers (record_at read folder old.files) numbers → HoldsNumbers (record_at read folder new.files) numbers
+  launched_held numbers holds known l = holds known l ∙ sym (ap number_if (records_stay read folder key old.files new.files is in_folder l))
 
   pub launched_sound : (judge : Judge) (child : Answers) → is_path folder ≡ true → record_at read folder old.files key ≡ None → Sound read judge child folder old.files → Sound read judge child folder new.files
   launched_sound judge child path gone sound = in_output read judge child folder old.files new.files key path is gone in_folder sound

@@ -1,5 +1,5 @@
 -- What comes of a unit that has begun: what the end of its child left, where it has one, and which calls come behind it.
-use Rattle.std.specs.Prelude.{◌≡◌, ◌++◌, ◌∷◌, ℕ, if◌then◌else◌, is_some, List, [], map, Option, Some, None, Result, Ok, Err, IsOk, IfOk, IfErr, IfSome}
+use Rattle.std.specs.Prelude.{◌≡◌, ◌++◌, ◌∷◌, ℕ, Bool, if◌then◌else◌, is_some, List, [], map, Option, Some, None, Result, Ok, Err, IsOk, IfOk, IfErr, IfSome}
 use Rattle.pb_answer.specs.declared.fault.BuildFault.{BuildFault}
 use Rattle.pb_judging.specs.Answers.{answered_of}
 use Rattle.pb_command.specs.Judge.{file_at}
@@ -82,19 +82,19 @@ dep_info_looked None = []
 dep_info_looked (Some path) = call.Read path ∷ []
 
 -- where its child was started, its record is kept; else a record that has no run number is given one
-abbrev pub recorded_called : Reading → Project → Planned → Command → World → List InputName → Awaited → List Call
-recorded_called read project u c w names (awaited.Child launched) = kept_called (records_folder project) u.key c.target w names
-recorded_called read project u c w names (awaited.Record again) =
-    if again.numbered then [] else migrated_called (records_folder project) u.key (record_at read (records_folder project) w.files u.key)
+abbrev pub recorded_called : Reading → Bool → Project → Planned → Command → World → List InputName → Awaited → List Call
+recorded_called read known project u c w names (awaited.Child launched) = kept_called known (records_folder project) u.key c.target w names
+recorded_called read known project u c w names (awaited.Record again) =
+    if again.numbered then [] else migrated_called known (records_folder project) u.key w (record_at read (records_folder project) w.files u.key)
 
 -- but for a unit that is bad
-abbrev pub judged_called : Reading → Project → Planned → Command → World → Awaited → Judgement → List Call
-judged_called read project u c w by j = if is_some j.ran.bad then [] else recorded_called read project u c w j.names by
+abbrev pub judged_called : Reading → Bool → Project → Planned → Command → World → Awaited → Judgement → List Call
+judged_called read known project u c w by j = if is_some j.ran.bad then [] else recorded_called read known project u c w j.names by
 
 -- first the dep-info; and what is called next is by the judgement of the answer
-abbrev pub answered_called : Reading → Project → Planned → Command → World → Awaited → Ended → List Call
-answered_called read project u c w by ended =
-    dep_info_looked (dep_info_of project u) ++ judged_called read project u c w by (judgement_by project u ended (answered_of project u c ended (file_at (dep_info_of project u) w.files)))
+abbrev pub answered_called : Reading → Bool → Project → Planned → Command → World → Awaited → Ended → List Call
+answered_called read known project u c w by ended =
+    dep_info_looked (dep_info_of project u) ++ judged_called read known project u c w by (judgement_by project u ended (answered_of project u c ended (file_at (dep_info_of project u) w.files)))
 
 -- behind an answer just these calls were made, in this order, and a number may be missing only to a record that is given again; where a child gave none, no call, and its fault is told
 abbrev pub CallsBehind : {T : Type 0} → List ℕ → Awaited → (Ended → List Call) → Result Ended StartFault → Result T BuildFault → Counts → Counts → Type 0

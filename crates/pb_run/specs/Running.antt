@@ -1,5 +1,5 @@
 -- Which calls the run of a unit makes, from its beginning to its answer, and what comes of one for which a child was started.
-use Rattle.std.specs.Prelude.{◌≡◌, ◌⊎◌, ℕ, IfSome, IsOk, MatchOption, Option, Some, None, Result, Err}
+use Rattle.std.specs.Prelude.{◌≡◌, ◌⊎◌, ℕ, Bool, IfSome, IsOk, MatchOption, Option, Some, None, Result, Err}
 use Rattle.pb_answer.specs.declared.fault.BuildFault.{BuildFault}
 use Rattle.pb_command.specs.Judge.{ended_by, replied_files}
 use Rattle.pb_place.specs.CallsInTurn.{past_calls}
@@ -29,19 +29,19 @@ use Rattle.pb_store.specs.declared.difference.Difference.{Difference}
 use Rattle.pb_unit.specs.declared.plan.Planned.{Planned}
 
 -- the counters once a unit was looked at for a difference from its record
-abbrev pub past_look : Reading → Project → Planned → Command → World → Counts → Counts
-past_look read project u c w old = past_calls (looked_at read (records_folder project) u.key c w) old
+abbrev pub past_look : Reading → Bool → Project → Planned → Command → World → Counts → Counts
+past_look read known project u c w old = past_calls (looked_at read known (records_folder project) u.key c w) old
 
 -- a unit could not begin: it stopped at a call of its look, or of the launch of its child
-abbrev pub StopsToBegin : Reading → Project → Planned → Command → BuildFault → World → Counts → Counts → Type 0
-StopsToBegin read project u c fault w old new = StopsAt fault (looked_at read (records_folder project) u.key c w) old new ⊎ LaunchEnds (place_of (records_folder project) u.key) u.out fault (past_look read project u c w old) new
+abbrev pub StopsToBegin : Reading → Bool → Project → Planned → Command → BuildFault → World → Counts → Counts → Type 0
+StopsToBegin read known project u c fault w old new = StopsAt fault (looked_at read known (records_folder project) u.key c w) old new ⊎ LaunchEnds (place_of (records_folder project) u.key) u.out fault (past_look read known project u c w old) new
 
 -- it began, by its look and the launch of its child where it has one, which was spawned over an empty folder, and where it has none nothing was changed and the record that counts gives its answer again; and its answer was taken: the end of the child was asked for, which left what its reply makes of that moment, and behind it just the calls came that belong to the answer, of which the unit's record alone is written
-pub record RunsThrough {T : Type 0} (read : Reading) (child : Answers) (project : Project) (u : Planned) (c : Command) (result : Result T BuildFault) (w : World) (old : Counts) (after : World) (new : Counts) : Type 0 where
+pub record RunsThrough {T : Type 0} (read : Reading) (known : Bool) (child : Answers) (project : Project) (u : Planned) (c : Command) (result : Result T BuildFault) (w : World) (old : Counts) (after : World) (new : Counts) : Type 0 where
   pub begun : Begun
   pub between : World
   pub mid : Counts
-  pub begins : MatchOption (child_of begun) (mid ≡ past_look read project u c w old) (λ launched. Launches child c launched.ticket (past_look read project u c w old) mid)
+  pub begins : MatchOption (child_of begun) (mid ≡ past_look read known project u c w old) (λ launched. Launches child c launched.ticket (past_look read known project u c w old) mid)
   pub spawned : IfSome (child_of begun) (λ launched. IsSpawned (is_of (records_folder project) u.key) child c w launched.ticket mid.starts.flying (λ ticket. Unit {0}))
   pub same : child_of begun ≡ None → between ≡ w
   pub gives : GivesRecord (record_at read (records_folder project) w.files u.key) begun.awaited
@@ -50,11 +50,11 @@ pub record RunsThrough {T : Type 0} (read : Reading) (child : Answers) (project 
   pub answer : Result Ended StartFault
   pub ends : EndsBy begun.awaited answer (IsOk result) (λ ticket. Unit {0}) between left mid ended
   pub only : ChangesOnly (is_at_or_below (place_of (records_folder project) u.key)) left after
-  pub behind : CallsBehind u.key begun.awaited (answered_called read project u c left begun.awaited) answer result ended new
+  pub behind : CallsBehind u.key begun.awaited (answered_called read known project u c left begun.awaited) answer result ended new
 
 -- a unit was run by just these calls
-abbrev pub RunsCalling : {T : Type 0} → Reading → Answers → Project → Planned → Command → Result T BuildFault → World → Counts → World → Counts → Type 0
-RunsCalling read child project u c result w old after new = ((fault : BuildFault) × (result ≡ Err fault) × StopsToBegin read project u c fault w old new) ⊎ RunsThrough read child project u c result w old after new
+abbrev pub RunsCalling : {T : Type 0} → Reading → Bool → Answers → Project → Planned → Command → Result T BuildFault → World → Counts → World → Counts → Type 0
+RunsCalling read known child project u c result w old after new = ((fault : BuildFault) × (result ≡ Err fault) × StopsToBegin read known project u c fault w old new) ⊎ RunsThrough read known child project u c result w old after new
 
 -- what came of a unit is what this reply of its child comes to, and its folder holds just the files of that reply
 abbrev pub ComesOfReply : Project → Planned → Command → Reply → World → Ran → Type 0

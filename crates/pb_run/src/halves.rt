@@ -31,7 +31,7 @@ ghost use Rattle.pb_soundness.specs.Grounded.{Standing};
 ghost use Rattle.pb_soundness.specs.Numbers.{after};
 ghost use Rattle.pb_soundness.specs.Records.{Reading, place_of, record_at};
 ghost use Rattle.pb_store.specs.Differences.{FirstDifference, FirstOf};
-ghost use Rattle.pb_store.specs.Held.{HoldsNumbers, number_held};
+ghost use Rattle.pb_store.specs.Held.{GoesBy, HoldsNumbers, number_held};
 ghost use Rattle.pb_place.specs.CallsInTurn.{past_calls};
 ghost use Rattle.pb_store.specs.Looking.{looked_at};
 ghost use Rattle.pb_store.specs.declared.difference.Difference.{Difference};
@@ -71,8 +71,9 @@ fn command(
 /// taken, the record is removed, the output folder is emptied and the unit's child is spawned, in this order, by one
 /// call each and no other: no text counts as the unit's record then; where nothing does, or the look fails, or no run
 /// number is left, nothing is changed, and where the record cannot be removed, no number is taken. The records of needed
-/// units are not read: what differs is told by the numbers of records that the store holds, where they are those of its
-/// folder. They are so too after a call that goes well.
+/// units are not read: what differs is told by the numbers of records that the store knows, where they are those of its
+/// folder. They are so too after the call, whether it goes well or fails. Where a call that failed left them unknown, all
+/// records are read first.
 ///
 /// Faults: Device, where a file, a folder or a variable cannot be read; where something differs, Child too, where the
 /// child cannot be spawned, and Device, where the record or the folder cannot be removed, or no run number is left;
@@ -103,7 +104,7 @@ pub fn begin_unit<P: Place>(
         → CanBegin (basis footing read P.child setup.now project.now sources) states done.now index unit.now store.old.next (P.world place.old)
         → BeginsApart (basis footing read P.child setup.now project.now sources) states index None other its store.old.next (P.world place.old) (P.counts place.old).starts.flying (P.still place.old)
         → IsBegun (basis footing read P.child setup.now project.now sources) other its store.new.next (P.world place.new) (P.counts place.new).starts.flying (P.still place.new) }
-    ensures held { (read : Reading) (at : Standing) → IsReading read → IsTrue P.tells → HoldsNumbers at store.old.numbers → IfOk result (λ made. FirstOf (records_folder project.now) at made.begun.command (P.world place.old) (record_at read (records_folder project.now) (P.world place.old).files unit.now.key) made.difference) }
+    ensures held { (read : Reading) (at : Standing) → IsReading read → IsTrue P.tells → GoesBy (record_at read (records_folder project.now) (P.world place.old).files) store.old.numbers at → IfOk result (λ made. FirstOf (records_folder project.now) at made.begun.command (P.world place.old) (record_at read (records_folder project.now) (P.world place.old).files unit.now.key) made.difference) }
     ensures differs { (read : Reading) → IsReading read → IsTrue P.tells → HoldsNumbers (record_at read (records_folder project.now) (P.world place.old).files) store.old.numbers → IfOk result (λ made. FirstDifference read (records_folder project.now) unit.now.key made.begun.command (P.world place.old) made.difference) }
     ensures spawned { IfOk result (λ made. is_some (child_of made.begun) ≡ is_some made.difference) }
     ensures only { IsTrue P.tells → ChangesOnly (is_of (records_folder project.now) unit.now.key) (P.world place.old) (P.world place.new) }
@@ -112,7 +113,8 @@ pub fn begin_unit<P: Place>(
     ensures cause { (read : Reading) → IsReading read → IsTrue P.tells → HoldsNumbers (record_at read (records_folder project.now) (P.world place.old).files) store.old.numbers → IfErr result (λ e. is_of_start e ≡ true → (difference : Difference) × FirstDifference read (records_folder project.now) unit.now.key (command_of setup.now project.now unit.now done.now) (P.world place.old) (Some difference)) }
     ensures tried { (read : Reading) → IsReading read → IsTrue P.tells → HoldsNumbers (record_at read (records_folder project.now) (P.world place.old).files) store.old.numbers → IfErr result (λ e. ((P.counts place.new).starts ≡ (P.counts place.old).starts) ⊎ ((difference : Difference) × FirstDifference read (records_folder project.now) unit.now.key (command_of setup.now project.now unit.now done.now) (P.world place.old) (Some difference))) }
     ensures dropped { (read : Reading) → IsTrue P.tells → IfOk result (λ made. IsSome (child_of made.begun) → record_at read (records_folder project.now) (P.world place.new).files unit.now.key ≡ None) }
-    ensures numbers { (read : Reading) → IsTrue P.tells → HoldsNumbers (record_at read (records_folder project.now) (P.world place.old).files) store.old.numbers → OnOk result (HoldsNumbers (record_at read (records_folder project.now) (P.world place.new).files) store.new.numbers) }
+    ensures numbers { (read : Reading) → IsTrue P.tells → HoldsNumbers (record_at read (records_folder project.now) (P.world place.old).files) store.old.numbers → HoldsNumbers (record_at read (records_folder project.now) (P.world place.new).files) store.new.numbers }
+    ensures known { OnOk result (store.new.numbers.known ≡ store.old.numbers.known) }
     ensures still { IsTrue P.tells → KeepsStillOutside (is_of (records_folder project.now) unit.now.key) (P.counts place.old).starts.flying (P.still place.old) (P.still place.new) }
     ensures writes { IsTrue P.tells → IfOk result (λ made. WritesTo unit.now.out (child_of made.begun) (P.counts place.new).starts.flying) }
     ensures launched { IsTrue P.tells → IfOk result (λ made. IfSome (child_of made.begun) (λ launched. IsSpawned (is_of (records_folder project.now) unit.now.key) P.child made.begun.command (P.world place.old) launched.ticket (P.counts place.new).starts.flying (P.still place.new))) }
@@ -127,14 +129,14 @@ pub fn begin_unit<P: Place>(
     ensures carries { (read : Reading) → IsReading read → IsTrue P.tells → IfOk result (λ made. GivesRecord (record_at read (records_folder project.now) (P.world place.old).files unit.now.key) made.begun.awaited) }
     ensures most { MatchResult result (λ made. MatchOption (child_of made.begun) (P.most place.new ≡ P.most place.old) (λ launched. P.most place.new ≡ max (P.most place.old) (length (P.counts place.old).starts.flying + 1))) (λ e. P.most place.new ≡ P.most place.old) }
     ensures takes { Takes Begins (MayBeginUnit store.old.next unit.now.key) result (P.counts place.old) (P.counts place.new) }
-    ensures looks { (read : Reading) → IsReading read → IsTrue P.tells → IfOk result (λ made. child_of made.begun ≡ None → P.counts place.new ≡ past_calls (looked_at read (records_folder project.now) unit.now.key made.begun.command (P.world place.old)) (P.counts place.old)) }
-    ensures launches { IfOk result (λ made. IfSome (child_of made.begun) (λ launched. (looked : P) × HasLooked P.tells (λ read. looked_at read (records_folder project.now) unit.now.key made.begun.command (P.world place.old)) (P.world place.old) (P.world looked) (P.counts place.old) (P.counts looked) × Launches P.child made.begun.command launched.ticket (P.counts looked) (P.counts place.new))) }
-    ensures stops { IsTrue P.tells → IfErr result (λ e. ((read : Reading) → IsReading read → StopsAt e (looked_at read (records_folder project.now) unit.now.key (command_of setup.now project.now unit.now done.now) (P.world place.old)) (P.counts place.old) (P.counts place.new))
-        ⊎ ((looked : P) × HasLooked P.tells (λ read. looked_at read (records_folder project.now) unit.now.key (command_of setup.now project.now unit.now done.now) (P.world place.old)) (P.world place.old) (P.world looked) (P.counts place.old) (P.counts looked) × LaunchEnds (place_of (records_folder project.now) unit.now.key) unit.now.out e (P.counts looked) (P.counts place.new))) }
+    ensures looks { (read : Reading) → IsReading read → IsTrue P.tells → IfOk result (λ made. child_of made.begun ≡ None → P.counts place.new ≡ past_calls (looked_at read store.old.numbers.known (records_folder project.now) unit.now.key made.begun.command (P.world place.old)) (P.counts place.old)) }
+    ensures launches { IfOk result (λ made. IfSome (child_of made.begun) (λ launched. (looked : P) × HasLooked P.tells (λ read. looked_at read store.old.numbers.known (records_folder project.now) unit.now.key made.begun.command (P.world place.old)) (P.world place.old) (P.world looked) (P.counts place.old) (P.counts looked) × Launches P.child made.begun.command launched.ticket (P.counts looked) (P.counts place.new))) }
+    ensures stops { IsTrue P.tells → IfErr result (λ e. ((read : Reading) → IsReading read → StopsAt e (looked_at read store.old.numbers.known (records_folder project.now) unit.now.key (command_of setup.now project.now unit.now done.now) (P.world place.old)) (P.counts place.old) (P.counts place.new))
+        ⊎ ((looked : P) × HasLooked P.tells (λ read. looked_at read store.old.numbers.known (records_folder project.now) unit.now.key (command_of setup.now project.now unit.now done.now) (P.world place.old)) (P.world place.old) (P.world looked) (P.counts place.old) (P.counts looked) × LaunchEnds (place_of (records_folder project.now) unit.now.key) unit.now.out e (P.counts looked) (P.counts place.new))) }
     ensures differed { (read : Reading) → IsReading read → IsTrue P.tells → HoldsNumbers (record_at read (records_folder project.now) (P.world place.old).files) store.old.numbers
-        → IfErr result (λ e. StopsAt e (looked_at read (records_folder project.now) unit.now.key (command_of setup.now project.now unit.now done.now) (P.world place.old)) (P.counts place.old) (P.counts place.new)
+        → IfErr result (λ e. StopsAt e (looked_at read store.old.numbers.known (records_folder project.now) unit.now.key (command_of setup.now project.now unit.now done.now) (P.world place.old)) (P.counts place.old) (P.counts place.new)
         ⊎ ((difference : Difference) × FirstDifference read (records_folder project.now) unit.now.key (command_of setup.now project.now unit.now done.now) (P.world place.old) (Some difference))) }
-    ensures launch_ends { IfErr result (λ e. is_of_start e ≡ true → (looked : P) × HasLooked P.tells (λ read. looked_at read (records_folder project.now) unit.now.key (command_of setup.now project.now unit.now done.now) (P.world place.old)) (P.world place.old) (P.world looked) (P.counts place.old) (P.counts looked) × LaunchTakes (place_of (records_folder project.now) unit.now.key) unit.now.out e store.old.next store.new.next (P.counts looked) (P.counts place.new)) }
+    ensures launch_ends { IfErr result (λ e. is_of_start e ≡ true → (looked : P) × HasLooked P.tells (λ read. looked_at read store.old.numbers.known (records_folder project.now) unit.now.key (command_of setup.now project.now unit.now done.now) (P.world place.old)) (P.world place.old) (P.world looked) (P.counts place.old) (P.counts looked) × LaunchTakes (place_of (records_folder project.now) unit.now.key) unit.now.out e store.old.next store.new.next (P.counts looked) (P.counts place.new)) }
 {
     project.is_in_order();
     // Every growth before the first call: a child that is in flight has its name.
@@ -228,14 +230,15 @@ pub fn answer_unit<P: Place>(
     ensures only { IsTrue P.tells → WritesTo unit.now.out (child_of begun) (P.counts place.old).starts.flying → ChangesOnly (is_of (records_folder project.now) unit.now.key) (P.world place.old) (P.world place.new) }
     ensures unkept { IsTrue P.tells → WritesTo unit.now.out (child_of begun) (P.counts place.old).starts.flying → IfOk result (λ ran. IsSome ran.bad → ChangesOnly (is_at_or_below unit.now.out) (P.world place.old) (P.world place.new)) }
     ensures numbers { (read : Reading) → IsReading read → IsTrue P.tells → WritesTo unit.now.out (child_of begun) (P.counts place.old).starts.flying
-        → HoldsNumbers (record_at read (records_folder project.now) (P.world place.old).files) store.old.numbers → OnOk result (HoldsNumbers (record_at read (records_folder project.now) (P.world place.new).files) store.new.numbers) }
+        → HoldsNumbers (record_at read (records_folder project.now) (P.world place.old).files) store.old.numbers → HoldsNumbers (record_at read (records_folder project.now) (P.world place.new).files) store.new.numbers }
+    ensures known { store.old.numbers.known ≡ true → OnOk result (store.new.numbers.known ≡ true) }
     ensures same { (read : Reading) → IsReading read → IsTrue P.tells → child_of begun ≡ None → lacks_number (record_at read (records_folder project.now) (P.world place.old).files unit.now.key) ≡ false → P.world place.new ≡ P.world place.old }
     ensures stay { (ticket : ℕ) (its : ChildInFlight) → IfSome (child_of begun) (λ launched. ticket ≢ launched.ticket) → child_at ticket (P.counts place.old).starts.flying ≡ Some its → child_at ticket (P.counts place.new).starts.flying ≡ Some its }
     ensures still { IsTrue P.tells → WritesTo unit.now.out (child_of begun) (P.counts place.old).starts.flying → KeepsOthersStill (child_of begun) (is_of (records_folder project.now) unit.now.key) (P.counts place.old).starts.flying (P.still place.old) (P.still place.new) }
     ensures started { IfOk result (λ ran. ran.started ≡ is_some (child_of begun)) }
     ensures directives { IfOk result (λ ran. directives_in (outcome_by finite.empty ran) ≡ ran.directives) }
     ensures folder { store.new.folder ≡ store.old.folder }
-    ensures others_held { (l : List ℕ) → l ≢ unit.now.key → number_held store.new.numbers l ≡ number_held store.old.numbers l }
+    ensures others_held { (l : List ℕ) → store.old.numbers.known ≡ true → l ≢ unit.now.key → number_held store.new.numbers l ≡ number_held store.old.numbers l }
     ensures next { TakesNumber store.old.next store.new.next }
     ensures untaken { awaits_number begun.awaited ≡ false → store.new.next ≡ store.old.next }
     ensures taken { (read : Reading) → IsReading read → IsTrue P.tells → awaits_number begun.awaited ≡ true → lacks_number (record_at read (records_folder project.now) (P.world place.old).files unit.now.key) ≡ true
@@ -257,7 +260,7 @@ pub fn answer_unit<P: Place>(
     ensures takes { Takes (Lands (child_of begun)) (MayAnswerUnit store.old.next unit.now.key (child_of begun)) result (P.counts place.old) (P.counts place.new) }
     ensures lands { IsTrue P.tells → (left : P) × (answer : Result Ended StartFault) × EndsBy begun.awaited answer (IsOk result) (P.still place.old) (P.world place.old) (P.world left) (P.counts place.old) (P.counts left)
         × ChangesOnly (is_at_or_below (place_of (records_folder project.now) unit.now.key)) (P.world left) (P.world place.new)
-        × ((read : Reading) → IsReading read → CallsBehind unit.now.key begun.awaited (answered_called read project.now unit.now begun.command (P.world left) begun.awaited) answer result (P.counts left) (P.counts place.new)) }
+        × ((read : Reading) → IsReading read → CallsBehind unit.now.key begun.awaited (answered_called read store.old.numbers.known project.now unit.now begun.command (P.world left) begun.awaited) answer result (P.counts left) (P.counts place.new)) }
 {
     let Begun {
         unit: name,
@@ -353,13 +356,14 @@ pub fn run_unit<P: Place>(
         (λ run. (lines : List ℕ) → Keeps (basis footing read P.child setup.now project.now sources) (slice_set states index (state.Answered record { fault = run.ran.bad; lines = lines })) (slice_set done.now index run.ran.directives) store.new.next (P.world place.new))
         (λ e. Keeps (basis footing read P.child setup.now project.now sources) (slice_set states index state.Begun) done.now store.new.next (P.world place.new)) }
     ensures differs { (read : Reading) → IsReading read → IsTrue P.tells → HoldsNumbers (record_at read (records_folder project.now) (P.world place.old).files) store.old.numbers → IfOk result (λ run. FirstDifference read (records_folder project.now) unit.now.key (command_of setup.now project.now unit.now done.now) (P.world place.old) run.difference) }
-    ensures numbers { (read : Reading) → IsReading read → IsTrue P.tells → HoldsNumbers (record_at read (records_folder project.now) (P.world place.old).files) store.old.numbers → OnOk result (HoldsNumbers (record_at read (records_folder project.now) (P.world place.new).files) store.new.numbers) }
+    ensures numbers { (read : Reading) → IsReading read → IsTrue P.tells → HoldsNumbers (record_at read (records_folder project.now) (P.world place.old).files) store.old.numbers → HoldsNumbers (record_at read (records_folder project.now) (P.world place.new).files) store.new.numbers }
+    ensures known { store.old.numbers.known ≡ true → OnOk result (store.new.numbers.known ≡ true) }
     ensures same { (read : Reading) → IsReading read → IsTrue P.tells → IfOk result (λ run. run.difference ≡ None → lacks_number (record_at read (records_folder project.now) (P.world place.old).files unit.now.key) ≡ false → P.world place.new ≡ P.world place.old) }
     ensures unrecorded { (read : Reading) → IsTrue P.tells → IfOk result (λ run. IsSome run.difference → IsSome run.ran.bad → record_at read (records_folder project.now) (P.world place.new).files unit.now.key ≡ None) }
     ensures started { IfOk result (λ run. run.ran.started ≡ is_some run.difference) }
     ensures only { IsTrue P.tells → ChangesOnly (is_of (records_folder project.now) unit.now.key) (P.world place.old) (P.world place.new) }
     ensures folder { store.new.folder ≡ store.old.folder }
-    ensures others_held { (l : List ℕ) → l ≢ unit.now.key → number_held store.new.numbers l ≡ number_held store.old.numbers l }
+    ensures others_held { (l : List ℕ) → store.old.numbers.known ≡ true → l ≢ unit.now.key → number_held store.new.numbers l ≡ number_held store.old.numbers l }
     ensures next { TakesNumber store.old.next store.new.next }
     ensures number { IfOk result (λ run. IsSome run.difference → TakesNext store.old.next store.new.next) }
     ensures taken { (read : Reading) → IsReading read → IsTrue P.tells → lacks_number (record_at read (records_folder project.now) (P.world place.old).files unit.now.key) ≡ true → IfOk result (λ run. run.difference ≡ None → is_some run.ran.bad ≡ false → TakesNext store.old.next store.new.next) }
@@ -380,7 +384,7 @@ pub fn run_unit<P: Place>(
         → IfErr result (λ e. is_spent e ≡ true → ((difference : Difference) × FirstDifference read (records_folder project.now) unit.now.key (command_of setup.now project.now unit.now done.now) (P.world place.old) (Some difference))
         ⊎ (lacks_number (record_at read (records_folder project.now) (P.world place.old).files unit.now.key) ≡ true)) }
     ensures takes { Takes Runs (MayRunUnit store.old.next unit.now.key) result (P.counts place.old) (P.counts place.new) }
-    ensures calls { (read : Reading) → IsReading read → IsTrue P.tells → RunsCalling read P.child project.now unit.now (command_of setup.now project.now unit.now done.now) result (P.world place.old) (P.counts place.old) (P.world place.new) (P.counts place.new) }
+    ensures calls { (read : Reading) → IsReading read → IsTrue P.tells → RunsCalling read store.old.numbers.known P.child project.now unit.now (command_of setup.now project.now unit.now done.now) result (P.world place.old) (P.counts place.old) (P.world place.new) (P.counts place.new) }
 {
     project.is_in_order();
     let made = match begin_unit(alloc, place, store, setup, project, done, index, unit) {

@@ -172,16 +172,17 @@ fn keep<P: Place>(
     ensures stands { (read : Reading) → IsReading read → IsTrue P.tells → HoldsNumbers (record_at read store.old.folder (P.world place.old).files) store.old.numbers → OnOk result (record_at read store.old.folder (P.world place.new).files unit.now.key ≡ Some (kept_of store.old.folder unit.now.key command.now (map (input_in command.now.target (P.world place.old)) names.now) number (numbered (record_at read store.old.folder (P.world place.old).files) (needed_keys project.now unit.now)) ended.now)) }
     ensures left { (read : Reading) → IsReading read → IsTrue P.tells → HoldsNumbers (record_at read store.old.folder (P.world place.old).files) store.old.numbers → Leaves (Some (kept_of store.old.folder unit.now.key command.now (map (input_in command.now.target (P.world place.old)) names.now) number (numbered (record_at read store.old.folder (P.world place.old).files) (needed_keys project.now unit.now)) ended.now)) (record_at read store.old.folder (P.world place.old).files unit.now.key) (record_at read store.old.folder (P.world place.new).files unit.now.key) }
     ensures ahead { (read : Reading) → IsReading read → IsTrue P.tells → HoldsNumbers (record_at read store.old.folder (P.world place.old).files) store.old.numbers → IsBefore store.old.next number → HasNeeds (record_at read store.old.folder (P.world place.old).files) store.old.folder command.now.reads (needed_keys project.now unit.now) number → IsAhead (record_at read store.old.folder (P.world place.old).files) store.old.next → IsAhead (record_at read store.old.folder (P.world place.new).files) store.old.next }
-    ensures numbers { (read : Reading) → IsReading read → IsTrue P.tells → HoldsNumbers (record_at read store.old.folder (P.world place.old).files) store.old.numbers → OnOk result (HoldsNumbers (record_at read store.old.folder (P.world place.new).files) store.new.numbers) }
+    ensures numbers { (read : Reading) → IsReading read → IsTrue P.tells → HoldsNumbers (record_at read store.old.folder (P.world place.old).files) store.old.numbers → HoldsNumbers (record_at read store.old.folder (P.world place.new).files) store.new.numbers }
+    ensures known { OnOk result (store.new.numbers.known ≡ true) }
     ensures folder { store.new.folder ≡ store.old.folder }
-    ensures others_held { (l : List ℕ) → l ≢ unit.now.key → number_held store.new.numbers l ≡ number_held store.old.numbers l }
+    ensures others_held { (l : List ℕ) → store.old.numbers.known ≡ true → l ≢ unit.now.key → number_held store.new.numbers l ≡ number_held store.old.numbers l }
     ensures next { store.new.next ≡ store.old.next }
     ensures only { IsTrue P.tells → ChangesOnly (is_at_or_below (place_of store.old.folder unit.now.key)) (P.world place.old) (P.world place.new) }
     ensures most { P.most place.new ≡ P.most place.old }
     ensures still { IsTrue P.tells → KeepsStillOutside (is_at_or_below (place_of store.old.folder unit.now.key)) (P.counts place.old).starts.flying (P.still place.old) (P.still place.new) }
     ensures takes { Takes NoStart (MayFollow unit.now.key) result (P.counts place.old) (P.counts place.new) }
     ensures written { IfErr result (λ e. is_of_write e ≡ true → (P.counts place.new).failing ≡ Some (call.Write (place_of store.old.folder unit.now.key))) }
-    ensures calls { IsTrue P.tells → MakesInTurn result (kept_called store.old.folder unit.now.key command.now.target (P.world place.old) names.now) (P.counts place.old) (P.counts place.new) }
+    ensures calls { IsTrue P.tells → MakesInTurn result (kept_called store.old.numbers.known store.old.folder unit.now.key command.now.target (P.world place.old) names.now) (P.counts place.old) (P.counts place.new) }
 {
     let needs = match needed_keys(alloc, project, unit) {
         Ok(needs) => needs,
@@ -220,7 +221,8 @@ fn migrate<P: Place>(
     ensures ahead { (read : Reading) (judge : Judge) (c : Command) (r : Record) → IsReading read → IsTrue P.tells → HoldsNumbers (record_at read store.old.folder (P.world place.old).files) store.old.numbers → ((number : ℕ) → store.old.next ≡ Some number → IsMigrated read judge P.child store.old.folder unit.now.key c (needed_keys project.now unit.now) number (P.world place.old) r) → IsAhead (record_at read store.old.folder (P.world place.old).files) store.old.next → IsAhead (record_at read store.old.folder (P.world place.new).files) store.new.next }
     ensures left { (read : Reading) → IsReading read → IsTrue P.tells → HoldsNumbers (record_at read store.old.folder (P.world place.old).files) store.old.numbers → Leaves (migrated store.old.next (numbered (record_at read store.old.folder (P.world place.old).files) (needed_keys project.now unit.now)) (record_at read store.old.folder (P.world place.old).files unit.now.key)) (record_at read store.old.folder (P.world place.old).files unit.now.key) (record_at read store.old.folder (P.world place.new).files unit.now.key) }
     ensures numbered { (read : Reading) (r : Record) → IsReading read → IsTrue P.tells → OnOk result (record_at read store.old.folder (P.world place.new).files unit.now.key ≡ Some r → is_some (number_of r) ≡ true) }
-    ensures numbers { (read : Reading) → IsReading read → IsTrue P.tells → HoldsNumbers (record_at read store.old.folder (P.world place.old).files) store.old.numbers → OnOk result (HoldsNumbers (record_at read store.old.folder (P.world place.new).files) store.new.numbers) }
+    ensures numbers { (read : Reading) → IsReading read → IsTrue P.tells → HoldsNumbers (record_at read store.old.folder (P.world place.old).files) store.old.numbers → HoldsNumbers (record_at read store.old.folder (P.world place.new).files) store.new.numbers }
+    ensures known { store.old.numbers.known ≡ true → OnOk result (store.new.numbers.known ≡ true) }
     ensures same { (read : Reading) → IsReading read → IsTrue P.tells → lacks_number (record_at read store.old.folder (P.world place.old).files unit.now.key) ≡ false → P.world place.new ≡ P.world place.old }
     ensures unnumbered { IfErr result (λ e. is_of_look e ≡ true → store.new.next ≡ store.old.next) }
     ensures used { IfErr result (λ e. is_of_write e ≡ true → TakesNext store.old.next store.new.next) }
@@ -228,7 +230,7 @@ fn migrate<P: Place>(
     ensures taken { (read : Reading) → IsReading read → IsTrue P.tells → lacks_number (record_at read store.old.folder (P.world place.old).files unit.now.key) ≡ true → OnOk result (TakesNext store.old.next store.new.next) }
     ensures next { TakesNumber store.old.next store.new.next }
     ensures folder { store.new.folder ≡ store.old.folder }
-    ensures others_held { (l : List ℕ) → l ≢ unit.now.key → number_held store.new.numbers l ≡ number_held store.old.numbers l }
+    ensures others_held { (l : List ℕ) → store.old.numbers.known ≡ true → l ≢ unit.now.key → number_held store.new.numbers l ≡ number_held store.old.numbers l }
     ensures stands { (read : Reading) → IsReading read → IsTrue P.tells → HoldsNumbers (record_at read store.old.folder (P.world place.old).files) store.old.numbers → OnOk result (record_at read store.old.folder (P.world place.new).files unit.now.key ≡ migrated store.old.next (numbered (record_at read store.old.folder (P.world place.old).files) (needed_keys project.now unit.now)) (record_at read store.old.folder (P.world place.old).files unit.now.key)) }
     ensures only { IsTrue P.tells → ChangesOnly (is_at_or_below (place_of store.old.folder unit.now.key)) (P.world place.old) (P.world place.new) }
     ensures most { P.most place.new ≡ P.most place.old }
@@ -237,7 +239,7 @@ fn migrate<P: Place>(
     ensures spent { store.old.next ≡ None → IsTrue P.tells → P.world place.new ≡ P.world place.old }
     ensures cause { (read : Reading) → IsReading read → IsTrue P.tells → IfErr result (λ e. is_spent e ≡ true → lacks_number (record_at read store.old.folder (P.world place.old).files unit.now.key) ≡ true) }
     ensures written { IfErr result (λ e. is_of_write e ≡ true → (P.counts place.new).failing ≡ Some (call.Write (place_of store.old.folder unit.now.key))) }
-    ensures calls { (read : Reading) → IsReading read → IsTrue P.tells → NumbersInTurn result (migrated_called store.old.folder unit.now.key (record_at read store.old.folder (P.world place.old).files unit.now.key)) (P.counts place.old) (P.counts place.new) }
+    ensures calls { (read : Reading) → IsReading read → IsTrue P.tells → NumbersInTurn result (migrated_called store.old.numbers.known store.old.folder unit.now.key (P.world place.old) (record_at read store.old.folder (P.world place.old).files unit.now.key)) (P.counts place.old) (P.counts place.new) }
 {
     let needs = match needed_keys(alloc, project, unit) {
         Ok(needs) => needs,
@@ -300,18 +302,19 @@ pub(crate) fn land<P: Place>(
     ensures only { IsTrue P.tells → WritesTo unit.now.out (Some launched.now) (P.counts place.old).starts.flying → ChangesOnly (is_of (records_folder project.now) unit.now.key) (P.world place.old) (P.world place.new) }
     ensures unkept { IsTrue P.tells → WritesTo unit.now.out (Some launched.now) (P.counts place.old).starts.flying → IfOk result (λ ran. IsSome ran.bad → ChangesOnly (is_at_or_below unit.now.out) (P.world place.old) (P.world place.new)) }
     ensures numbers { (read : Reading) → IsReading read → IsTrue P.tells → WritesTo unit.now.out (Some launched.now) (P.counts place.old).starts.flying
-        → HoldsNumbers (record_at read (records_folder project.now) (P.world place.old).files) store.old.numbers → OnOk result (HoldsNumbers (record_at read (records_folder project.now) (P.world place.new).files) store.new.numbers) }
+        → HoldsNumbers (record_at read (records_folder project.now) (P.world place.old).files) store.old.numbers → HoldsNumbers (record_at read (records_folder project.now) (P.world place.new).files) store.new.numbers }
+    ensures known { store.old.numbers.known ≡ true → OnOk result (store.new.numbers.known ≡ true) }
     ensures started { IfOk result (λ ran. ran.started ≡ true) }
     ensures directives { IfOk result (λ ran. directives_in (outcome_by finite.empty ran) ≡ ran.directives) }
     ensures folder { store.new.folder ≡ store.old.folder }
-    ensures others_held { (l : List ℕ) → l ≢ unit.now.key → number_held store.new.numbers l ≡ number_held store.old.numbers l }
+    ensures others_held { (l : List ℕ) → store.old.numbers.known ≡ true → l ≢ unit.now.key → number_held store.new.numbers l ≡ number_held store.old.numbers l }
     ensures next { store.new.next ≡ store.old.next }
     ensures most { P.most place.new ≡ P.most place.old }
     ensures still { IsTrue P.tells → WritesTo unit.now.out (Some launched.now) (P.counts place.old).starts.flying → KeepsOthersStill (Some launched.now) (is_of (records_folder project.now) unit.now.key) (P.counts place.old).starts.flying (P.still place.old) (P.still place.new) }
     ensures takes { Takes (Lands (Some launched.now)) (MayAnswerUnit store.old.next unit.now.key (Some launched.now)) result (P.counts place.old) (P.counts place.new) }
     ensures lands { IsTrue P.tells → (left : P) × (answer : Result Ended StartFault) × HasEnded launched.now.ticket answer (IsOk result) (P.still place.old launched.now.ticket) (P.world place.old) (P.world left) (P.counts place.old) (P.counts left)
         × ChangesOnly (is_at_or_below (place_of (records_folder project.now) unit.now.key)) (P.world left) (P.world place.new)
-        × ((read : Reading) → IsReading read → CallsBehind unit.now.key (awaited.Child launched.now) (answered_called read project.now unit.now command.now (P.world left) (awaited.Child launched.now)) answer result (P.counts left) (P.counts place.new)) }
+        × ((read : Reading) → IsReading read → CallsBehind unit.now.key (awaited.Child launched.now) (answered_called read store.old.numbers.known project.now unit.now command.now (P.world left) (awaited.Child launched.now)) answer result (P.counts left) (P.counts place.new)) }
     ensures judged { IsTrue P.tells → IfOk result (λ ran. (left : P) × (ended : Ended) × HasEnded launched.now.ticket (Ok ended) (IsOk result) (P.still place.old launched.now.ticket) (P.world place.old) (P.world left) (P.counts place.old) (P.counts left)
         × IsJudged project.now unit.now command.now (awaited.Child launched.now) ended (P.world left) ran) }
     ensures kept { (read : Reading) → IsReading read → IsTrue P.tells → WritesTo unit.now.out (Some launched.now) (P.counts place.old).starts.flying → HoldsNumbers (record_at read (records_folder project.now) (P.world place.old).files) store.old.numbers
@@ -381,11 +384,12 @@ pub(crate) fn reuse<P: Place>(
     ensures same { (read : Reading) → IsReading read → IsTrue P.tells → lacks_number (record_at read (records_folder project.now) (P.world place.old).files unit.now.key) ≡ false → P.world place.new ≡ P.world place.old }
     ensures unkept { IsTrue P.tells → IfOk result (λ ran. IsSome ran.bad → P.world place.new ≡ P.world place.old) }
     ensures numbers { (read : Reading) → IsReading read → IsTrue P.tells → HoldsNumbers (record_at read (records_folder project.now) (P.world place.old).files) store.old.numbers
-        → OnOk result (HoldsNumbers (record_at read (records_folder project.now) (P.world place.new).files) store.new.numbers) }
+        → HoldsNumbers (record_at read (records_folder project.now) (P.world place.new).files) store.new.numbers }
+    ensures known { store.old.numbers.known ≡ true → OnOk result (store.new.numbers.known ≡ true) }
     ensures started { IfOk result (λ ran. ran.started ≡ false) }
     ensures directives { IfOk result (λ ran. directives_in (outcome_by finite.empty ran) ≡ ran.directives) }
     ensures folder { store.new.folder ≡ store.old.folder }
-    ensures others_held { (l : List ℕ) → l ≢ unit.now.key → number_held store.new.numbers l ≡ number_held store.old.numbers l }
+    ensures others_held { (l : List ℕ) → store.old.numbers.known ≡ true → l ≢ unit.now.key → number_held store.new.numbers l ≡ number_held store.old.numbers l }
     ensures next { TakesNumber store.old.next store.new.next }
     ensures most { P.most place.new ≡ P.most place.old }
     ensures still { IsTrue P.tells → KeepsStillOutside (is_of (records_folder project.now) unit.now.key) (P.counts place.old).starts.flying (P.still place.old) (P.still place.new) }
@@ -400,7 +404,7 @@ pub(crate) fn reuse<P: Place>(
     ensures cause { (read : Reading) → IsReading read → IsTrue P.tells → IfErr result (λ e. is_spent e ≡ true → lacks_number (record_at read (records_folder project.now) (P.world place.old).files unit.now.key) ≡ true) }
     ensures takes { Takes (Lands None) (MayAnswerUnit store.old.next unit.now.key None) result (P.counts place.old) (P.counts place.new) }
     ensures lands { IsTrue P.tells → ChangesOnly (is_at_or_below (place_of (records_folder project.now) unit.now.key)) (P.world place.old) (P.world place.new) }
-    ensures calls { (read : Reading) → IsReading read → IsTrue P.tells → NumbersInTurn result (answered_called read project.now unit.now command.now (P.world place.old) (awaited.Record again.now) again.now.ended) (P.counts place.old) (P.counts place.new) }
+    ensures calls { (read : Reading) → IsReading read → IsTrue P.tells → NumbersInTurn result (answered_called read store.old.numbers.known project.now unit.now command.now (P.world place.old) (awaited.Record again.now) again.now.ended) (P.counts place.old) (P.counts place.new) }
     ensures judged { IsTrue P.tells → IfOk result (IsJudged project.now unit.now command.now (awaited.Record again.now) again.now.ended (P.world place.old)) }
     ensures bad { IfOk result (λ ran. IsSome ran.bad → store.new.next ≡ store.old.next) }
     ensures kept { (read : Reading) → IsReading read → IsTrue P.tells → HoldsNumbers (record_at read (records_folder project.now) (P.world place.old).files) store.old.numbers

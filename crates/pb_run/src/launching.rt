@@ -16,7 +16,7 @@ ghost use Rattle.pb_soundness.specs.Records.{Reading, is_key, out_of, place_of, 
 ghost use Rattle.pb_soundness.specs.Reuse.{IsSame};
 ghost use Rattle.pb_soundness.specs.Sound.{Sound};
 ghost use Rattle.pb_store.specs.Differences.{FirstDifference, FirstOf};
-ghost use Rattle.pb_store.specs.Held.{HoldsNumbers, number_held};
+ghost use Rattle.pb_store.specs.Held.{GoesBy, HoldsNumbers, number_held};
 ghost use Rattle.pb_store.specs.Keeping.{Leaves};
 ghost use Rattle.pb_store.specs.Looking.{looked_at};
 ghost use Rattle.pb_store.specs.Migrating.{TakesNext, TakesNumber};
@@ -42,7 +42,7 @@ pub(crate) fn compare<P: Place>(
     command: &Command,
 ) -> Result<Compared, BuildFault>
     requires { is_key key.now ≡ true }
-    ensures held { (read : Reading) (at : Standing) → IsReading read → IsTrue P.tells → HoldsNumbers at store.now.numbers → IfOk result (λ compared. FirstOf store.now.folder at command.now (P.world place.old) (record_at read store.now.folder (P.world place.old).files key.now) (difference_in compared)) }
+    ensures held { (read : Reading) (at : Standing) → IsReading read → IsTrue P.tells → GoesBy (record_at read store.now.folder (P.world place.old).files) store.now.numbers at → IfOk result (λ compared. FirstOf store.now.folder at command.now (P.world place.old) (record_at read store.now.folder (P.world place.old).files key.now) (difference_in compared)) }
     ensures first { (read : Reading) → IsReading read → IsTrue P.tells → HoldsNumbers (record_at read store.now.folder (P.world place.old).files) store.now.numbers → IfOk result (λ compared. FirstDifference read store.now.folder key.now command.now (P.world place.old) (difference_in compared)) }
     ensures none { (read : Reading) → IsReading read → IsTrue P.tells → HoldsNumbers (record_at read store.now.folder (P.world place.old).files) store.now.numbers → IfOk result (λ compared. IfNone (difference_in compared) ((r : Record) × IsSame read store.now.folder key.now command.now (P.world place.old) r)) }
     ensures carries { (read : Reading) → IsReading read → IsTrue P.tells → IfOk result (CarriesReplayed (record_at read store.now.folder (P.world place.old).files key.now)) }
@@ -52,7 +52,7 @@ pub(crate) fn compare<P: Place>(
     ensures takes { Takes NoStart (MayBeginUnit store.now.next key.now) result (P.counts place.old) (P.counts place.new) }
     ensures looks { IfErr result (λ e. is_of_start e ≡ false) }
     ensures starts { (P.counts place.new).starts ≡ (P.counts place.old).starts }
-    ensures looked { (read : Reading) → IsReading read → IsTrue P.tells → MakesInTurn result (looked_at read store.now.folder key.now command.now (P.world place.old)) (P.counts place.old) (P.counts place.new) }
+    ensures looked { (read : Reading) → IsReading read → IsTrue P.tells → MakesInTurn result (looked_at read store.now.numbers.known store.now.folder key.now command.now (P.world place.old)) (P.counts place.old) (P.counts place.new) }
 {
     let unit = match key.copy(alloc) {
         Ok(unit) => unit,
@@ -83,7 +83,8 @@ fn drop_record<P: Place>(
     ensures gone { (read : Reading) → IsTrue P.tells → OnOk result (record_at read store.old.folder (P.world place.new).files key.now ≡ None) }
     ensures left { (read : Reading) → IsTrue P.tells → Leaves None (record_at read store.old.folder (P.world place.old).files key.now) (record_at read store.old.folder (P.world place.new).files key.now) }
     ensures ahead { (read : Reading) → IsTrue P.tells → IsAhead (record_at read store.old.folder (P.world place.old).files) store.old.next → IsAhead (record_at read store.old.folder (P.world place.new).files) store.new.next }
-    ensures numbers { (read : Reading) → IsTrue P.tells → HoldsNumbers (record_at read store.old.folder (P.world place.old).files) store.old.numbers → OnOk result (HoldsNumbers (record_at read store.old.folder (P.world place.new).files) store.new.numbers) }
+    ensures numbers { (read : Reading) → IsTrue P.tells → HoldsNumbers (record_at read store.old.folder (P.world place.old).files) store.old.numbers → HoldsNumbers (record_at read store.old.folder (P.world place.new).files) store.new.numbers }
+    ensures known { OnOk result (store.new.numbers.known ≡ store.old.numbers.known) }
     ensures only { IsTrue P.tells → ChangesOnly (is_at_or_below (place_of store.old.folder key.now)) (P.world place.old) (P.world place.new) }
     ensures most { P.most place.new ≡ P.most place.old }
     ensures still { IsTrue P.tells → KeepsStillOutside (is_at_or_below (place_of store.old.folder key.now)) (P.counts place.old).starts.flying (P.still place.old) (P.still place.new) }
@@ -173,7 +174,8 @@ pub(crate) fn launch<P: Place>(
     ensures sound { (read : Reading) (judge : Judge) → IsTrue P.tells → Sound read judge P.child store.old.folder (P.world place.old).files → Sound read judge P.child store.old.folder (P.world place.new).files }
     ensures gone { (read : Reading) → IsTrue P.tells → OnOk result (record_at read store.old.folder (P.world place.new).files unit.now.key ≡ None) }
     ensures ahead { (read : Reading) → IsTrue P.tells → IsAhead (record_at read store.old.folder (P.world place.old).files) store.old.next → IsAhead (record_at read store.old.folder (P.world place.new).files) store.new.next }
-    ensures numbers { (read : Reading) → IsTrue P.tells → HoldsNumbers (record_at read store.old.folder (P.world place.old).files) store.old.numbers → OnOk result (HoldsNumbers (record_at read store.old.folder (P.world place.new).files) store.new.numbers) }
+    ensures numbers { (read : Reading) → IsTrue P.tells → HoldsNumbers (record_at read store.old.folder (P.world place.old).files) store.old.numbers → HoldsNumbers (record_at read store.old.folder (P.world place.new).files) store.new.numbers }
+    ensures known { OnOk result (store.new.numbers.known ≡ store.old.numbers.known) }
     ensures left { (read : Reading) → IsTrue P.tells → Leaves None (record_at read store.old.folder (P.world place.old).files unit.now.key) (record_at read store.old.folder (P.world place.new).files unit.now.key) }
     ensures spawned { IsTrue P.tells → IfOk result (λ launched. IsSpawned (is_of store.old.folder unit.now.key) P.child command.now (P.world place.old) launched.ticket (P.counts place.new).starts.flying (P.still place.new)) }
     ensures only { IsTrue P.tells → ChangesOnly (is_of store.old.folder unit.now.key) (P.world place.old) (P.world place.new) }

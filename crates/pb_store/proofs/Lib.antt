@@ -14,3 +14,5 @@ pub mod Alike
 pub mod LookingOver
 pub mod LookingBy
 pub mod Held
+pub mod Unopened
+pub mod Settling

@@ -20,7 +20,7 @@ use Rattle.pb_store.specs.Asking.{IsFirstName, SamePart, parts}
 use Rattle.pb_store.specs.Differences.{IsFirst, IsPresent}
 use Rattle.pb_store.specs.declared.difference.CommandPart.{CommandPart}
 use Rattle.pb_store.specs.declared.fault.StoreFault.{StoreFault}
-use Rattle.pb_store.specs.Looking.{Looks, StopsAt, is_present, inputs_looked, needed_looked, around_looked, from_looked, kept_looked, looked_at}
+use Rattle.pb_store.specs.Looking.{Looks, StopsAt, is_present, inputs_looked, needed_looked, around_looked, from_looked, kept_looked, unit_looked}
 use Rattle.pb_store.proofs.Alike.{all_decided, asked_decides, present_decides}
 use Rattle.pb_store.proofs.Firsts.{one_read}
 use Rattle.pb_store.proofs.Looking.{looks_both, stops_first}
@@ -85,25 +85,25 @@ module _ (folder : List ℕ) (c : commands.Command) (w : World) (r : Record) whe
 
 -- the place of a record, and the record that counts there
 module _ (read : Reading) (folder key : List ℕ) (c : commands.Command) (w : World) (old : Counts) where
-  pub at_unread : (e : StoreFault) (new : Counts) → StopsAt e (call.Read (place_of folder key) ∷ []) old new → StopsAt e (looked_at read folder key c w) old new
-  unfolding looked_at
+  pub at_unread : (e : StoreFault) (new : Counts) → StopsAt e (call.Read (place_of folder key) ∷ []) old new → StopsAt e (unit_looked read folder key c w) old new
+  unfolding unit_looked
   at_unread e new stops = stops_first e (call.Read (place_of folder key) ∷ []) _ old new stops
 
-  pub at_none : (found : Option Record) (new : Counts) → found ≡ record_at read folder w.files key → found ≡ None → new ≡ past_calls (call.Read (place_of folder key) ∷ []) old → new ≡ past_calls (looked_at read folder key c w) old
-  unfolding looked_at
+  pub at_none : (found : Option Record) (new : Counts) → found ≡ record_at read folder w.files key → found ≡ None → new ≡ past_calls (call.Read (place_of folder key) ∷ []) old → new ≡ past_calls (unit_looked read folder key c w) old
+  unfolding unit_looked
   at_none found new is none made = made ∙ ap (λ o. past_calls (call.Read (place_of folder key) ∷ kept_looked folder c w o) old) (sym none ∙ is)
 
-  at_names : (found : Option Record) (r : Record) → found ≡ record_at read folder w.files key → found ≡ Some r → looked_at read folder key c w ≡ (call.Read (place_of folder key) ∷ []) ++ from_looked folder c w r
-  unfolding looked_at
+  at_names : (found : Option Record) (r : Record) → found ≡ record_at read folder w.files key → found ≡ Some r → unit_looked read folder key c w ≡ (call.Read (place_of folder key) ∷ []) ++ from_looked folder c w r
+  unfolding unit_looked
   at_names found r is some = ap (λ o. call.Read (place_of folder key) ∷ kept_looked folder c w o) (sym is ∙ some)
 
   pub at_then : {T : Type 0} (result : Result T StoreFault) (found : Option Record) (r : Record) (now : World) (mid new : Counts) → found ≡ record_at read folder w.files key → found ≡ Some r → now ≡ w → mid ≡ past_calls (call.Read (place_of folder key) ∷ []) old
-      → Looks result (from_looked folder c now r) mid new → Looks result (looked_at read folder key c w) old new
+      → Looks result (from_looked folder c now r) mid new → Looks result (unit_looked read folder key c w) old new
   at_then result found r now mid new is some same first second =
       subst (λ names. Looks result names old new) (sym (at_names found r is some))
       (looks_both result (call.Read (place_of folder key) ∷ []) (from_looked folder c w r) old mid new first
       (subst (λ (v : World). Looks result (from_looked folder c v r) mid new) same second))
 
 -- whatever reading it is
-pub looks_for : {T : Type 0} (result : Result T StoreFault) (read : Reading) (folder key : List ℕ) (c : commands.Command) (w : World) (old new : Counts) → IsReading read → Looks result (looked_at reading folder key c w) old new → Looks result (looked_at read folder key c w) old new
-looks_for result read folder key c w old new is looks = subst (λ r. Looks result (looked_at r folder key c w) old new) (one_read read is) looks
+pub looks_for : {T : Type 0} (result : Result T StoreFault) (read : Reading) (folder key : List ℕ) (c : commands.Command) (w : World) (old new : Counts) → IsReading read → Looks result (unit_looked reading folder key c w) old new → Looks result (unit_looked read folder key c w) old new
+looks_for result read folder key c w old new is looks = subst (λ r. Looks result (unit_looked r folder key c w) old new) (one_read read is) looks

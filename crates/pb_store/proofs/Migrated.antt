@@ -118,6 +118,22 @@ renumbered_left read folder key next old mid new found kept pairs all pairs_are 
 pub has_number : (r s : Record) (number : ℕ) (pairs : List (List ℕ × ℕ)) (o : Option Record) → o ≡ Some (numbered_record s number pairs) → o ≡ Some r → is_some (number_of r) ≡ true
 has_number r s number pairs o put is = ap (λ (t : Record). is_some (number_of t)) (sym (one (numbered_record s number pairs) r (sym put ∙ is)))
 
+-- a record that was put with the number that was next
+pub renumbered_put : (read : Reading) (folder key : List ℕ) (next : Option ℕ) (new : World) (kept put : Record) (number : ℕ) (pairs all : List (List ℕ × ℕ)) → pairs ≡ all → put ≡ numbered_record kept number pairs → next ≡ Some number
+    → record_at read folder new.files key ≡ Some put → (number : ℕ) × (next ≡ Some number) × (record_at read folder new.files key ≡ Some (numbered_record kept number all))
+renumbered_put read folder key next new kept put number pairs all are is was stands = (number, was, stands ∙ ap Some is ∙ ap (λ (ps : List (List ℕ × ℕ)). Some (numbered_record kept number ps)) are)
+
+pub renumbered_on : (read : Reading) (folder key : List ℕ) (next : Option ℕ) (old mid new : World) (kept put : Record) (number : ℕ) (pairs all : List (List ℕ × ℕ)) → mid ≡ old → pairs ≡ all → put ≡ numbered_record kept number pairs → next ≡ Some number
+    → Leaves (Some put) (record_at read folder mid.files key) (record_at read folder new.files key)
+    → (record_at read folder new.files key ≡ None) ⊎ ((record_at read folder new.files key ≡ record_at read folder old.files key) ⊎ ((number : ℕ) × (next ≡ Some number) × (record_at read folder new.files key ≡ Some (numbered_record kept number all))))
+renumbered_on read folder key next old mid new kept put number pairs all same are is was leaves = elim leaves [
+  | inl none ↦ inl none
+  | inr other ↦ elim other [
+    | inl stays ↦ inr (inl (stays ∙ ap (λ (w : World). record_at read folder w.files key) same))
+    | inr stands ↦ inr (inr (renumbered_put read folder key next new kept put number pairs all are is was stands))
+  ]
+]
+
 -- the record that was found lacks a number
 pub lacks_it : (read : Reading) (folder key : List ℕ) (old : World) (found : Option Record) (kept : Record) → found ≡ record_at read folder old.files key → found ≡ Some kept → is_some (number_of kept) ≡ false → lacks_number (record_at read folder old.files key) ≡ true
 lacks_it read folder key old found kept found_is is lacks = ap lacks_number (sym found_is ∙ is) ∙ ap not lacks

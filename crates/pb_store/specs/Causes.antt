@@ -28,6 +28,11 @@ opened path place.Remove = open_fault.Place path place.Remove
 opened path place.Variable = open_fault.Place path place.Variable
 opened path place.OutOfMemory = open_fault.OutOfMemory
 
+-- a fault of opening as one of a call of the store, without its path
+abbrev pub unopened : OpenFault → StoreFault
+unopened (open_fault.Place path fault) = Place fault
+unopened open_fault.OutOfMemory = OutOfMemory
+
 -- a call failed, with this fault, and none came after it
 abbrev pub FailedLast : Failure → Counts → Counts → Type 0
 FailedLast failure old new = (new.failures ≡ up old.failures) × (new.late ≡ 0) × (new.last ≡ Some failure)
@@ -47,6 +52,12 @@ abbrev pub MayRead : StoreFault → Type 0
 MayRead (Place fault) = fault ≡ place.Read
 MayRead NumbersSpent = ⊥
 MayRead OutOfMemory = Unit {0}
+
+-- of one that reads the records of a folder: it lists the folder and reads files
+abbrev pub MayReadAll : StoreFault → Type 0
+MayReadAll (Place fault) = (fault ≡ place.Read) ⊎ (fault ≡ place.List)
+MayReadAll NumbersSpent = ⊥
+MayReadAll OutOfMemory = Unit {0}
 
 -- of one that looks at inputs: it reads files, lists folders and reads variables
 abbrev pub MayLook : StoreFault → Type 0
@@ -81,7 +92,7 @@ MayKeep OutOfMemory = Unit {0}
 
 -- of one that takes a run number after it has read, and writes a record: it tells that none is left only where none is
 abbrev pub MayMigrate : Option ℕ → StoreFault → Type 0
-MayMigrate next (Place fault) = (fault ≡ place.Read) ⊎ (fault ≡ place.Write)
+MayMigrate next (Place fault) = (fault ≡ place.Write) ⊎ MayReadAll (Place fault)
 MayMigrate next NumbersSpent = next ≡ None
 MayMigrate next OutOfMemory = Unit {0}
 

@@ -105,7 +105,7 @@ has_files folder files need = is_relative need.0 && same_files (contents (out_of
 abbrev pub copies_looked : List ℕ → World → List (List ℕ × List (List ℕ × List ℕ)) → List Call
 copies_looked folder w copies = looked_up_to (has_files folder w.files) (λ need. out_looked folder w need.0) copies
 
--- for the units that it names by number it looks nowhere: the store holds the numbers of their records
+-- for the units that it names by number it looks nowhere: their numbers are held
 abbrev pub needed_looked : List ℕ → World → Needed → List Call
 needed_looked folder w (Copies copies) = copies_looked folder w copies
 needed_looked folder w (Numbers number needs) = []
@@ -130,8 +130,8 @@ kept_looked folder c w None = []
 kept_looked folder c w (Some r) = from_looked folder c w r
 
 -- for a unit: the place of its record is read, and then it is looked where the record that counts there leads
-unfoldable pub looked_at : Reading → List ℕ → List ℕ → commands.Command → World → List Call
-looked_at read folder key c w = call.Read (place_of folder key) ∷ kept_looked folder c w (record_at read folder w.files key)
+unfoldable pub unit_looked : Reading → List ℕ → List ℕ → commands.Command → World → List Call
+unit_looked read folder key c w = call.Read (place_of folder key) ∷ kept_looked folder c w (record_at read folder w.files key)
 
 -- those of some files that have the name of a record are read, in their order
 abbrev pub records_looked : List (List ℕ) → List Call
@@ -141,17 +141,30 @@ records_looked paths = map call.Read (filter ends_as_record paths)
 abbrev pub opened_looked : List ℕ → World → List Call
 opened_looked folder w = call.ListDirectly folder ∷ records_looked (listed_directly folder w)
 
+-- for the run numbers: nowhere where the store knows them; else the records are read anew, as where it is opened
+abbrev pub numbers_looked : Bool → List ℕ → World → List Call
+numbers_looked true folder w = []
+numbers_looked false folder w = opened_looked folder w
+
+-- to compare a unit with its record: for the numbers, and then for the unit
+abbrev pub looked_at : Reading → Bool → List ℕ → List ℕ → commands.Command → World → List Call
+looked_at read known folder key c w = numbers_looked known folder w ++ unit_looked read folder key c w
+
 -- it is looked at each of some inputs, in their order
 abbrev pub names_looked : List ℕ → World → List InputName → List Call
 names_looked target w names = looked_up_to (λ name. true) (name_looked target w) names
 
--- to keep a record the inputs are looked at, and then it is written in its place
-abbrev pub kept_called : List ℕ → List ℕ → List ℕ → World → List InputName → List Call
-kept_called folder key target w names = names_looked target w names ++ (call.Write (place_of folder key) ∷ [])
+-- to keep a record it is looked for the numbers, then at the inputs, and then it is written in its place
+abbrev pub kept_called : Bool → List ℕ → List ℕ → List ℕ → World → List InputName → List Call
+kept_called known folder key target w names = numbers_looked known folder w ++ (names_looked target w names ++ (call.Write (place_of folder key) ∷ []))
+
+-- to write a record again with a number it is looked for those of the units that it needs
+abbrev pub renumbered_called : Bool → List ℕ → List ℕ → World → List Call
+renumbered_called known folder key w = numbers_looked known folder w ++ (call.Write (place_of folder key) ∷ [])
 
 -- to migrate a record its place is read, and where one without a number counts there, it is written again
-abbrev pub migrated_called : List ℕ → List ℕ → Option Record → List Call
-migrated_called folder key found = call.Read (place_of folder key) ∷ (if lacks_number found then call.Write (place_of folder key) ∷ [] else [])
+abbrev pub migrated_called : Bool → List ℕ → List ℕ → World → Option Record → List Call
+migrated_called known folder key w found = call.Read (place_of folder key) ∷ (if lacks_number found then renumbered_called known folder key w else [])
 
 -- The tests by which it is said how far it looks decide just that by which a difference is told.
 pub record TestsDecide : Type 0 where

@@ -9,10 +9,13 @@ use Rattle.pb_place.specs.declared.call.Call.TheVariants as call
 use Rattle.pb_place.specs.Paths.{inside}
 use Rattle.pb_place.specs.World.{Map}
 use Rattle.pb_record.specs.declared.record.Record.{Record}
+use Rattle.pb_soundness.specs.Grounded.{Standing}
 use Rattle.pb_soundness.specs.Records.{Reading, ends_as_record, is_key, number_of, place_of, read_text}
-use Rattle.pb_store.specs.Held.{number_held}
+use Rattle.pb_soundness.specs.Reuse.{number_if}
+use Rattle.pb_store.specs.Held.{number_by, number_in}
 use Rattle.pb_store.specs.Keeping.{or_zero}
 use Rattle.pb_store.specs.Looking.{looked_up_to}
+use Rattle.pb_store.specs.declared.store.RunNumbers.{RunNumbers}
 
 -- two things that are both there
 abbrev pub both_of : Option (List ℕ) → Option (List ℕ) → Option (List ℕ × List ℕ)
@@ -33,13 +36,21 @@ file_looked path (Some relative) = call.Read path ∷ []
 abbrev pub files_looked : List ℕ → List (List ℕ) → List Call
 files_looked folder paths = looked_up_to (λ path. true) (λ path. file_looked path (inside folder path)) paths
 
--- a needed unit has, by the numbers that are held, the one with which it is named
+-- a needed unit has, by a table of numbers, the one with which it is named
 abbrev pub IsHeld : List (List ℕ × Option ℕ) → (List ℕ × ℕ) → Type 0
-IsHeld numbers need = number_held numbers need.0 ≡ Some need.1
+IsHeld numbers need = number_in numbers need.0 ≡ Some need.1
 
--- the needed units with the numbers that are held of them
+-- the needed units with the numbers that a table has of them
 abbrev pub numbered_by : List (List ℕ × Option ℕ) → List (List ℕ) → List (List ℕ × ℕ)
-numbered_by numbers needs = map (λ (need : List ℕ). (need, or_zero (number_held numbers need))) needs
+numbered_by numbers needs = map (λ (need : List ℕ). (need, or_zero (number_in numbers need))) needs
+
+-- and with those by which a store goes
+abbrev pub counted_by : Standing → RunNumbers → List (List ℕ) → List (List ℕ × ℕ)
+counted_by there numbers needs = map (λ (need : List ℕ). (need, or_zero (number_by there numbers need))) needs
+
+-- records have the numbers of these
+abbrev pub SameNumbers : Standing → Standing → Type 0
+SameNumbers there at = (key : List ℕ) → number_if (there key) ≡ number_if (at key)
 
 -- with the number of a record that was read at a path, where that is the place of its key
 abbrev pub noted : List ℕ → List ℕ → Option Record → List (List ℕ × Option ℕ) → List (List ℕ × Option ℕ)

@@ -1,6 +1,6 @@
 //! What differs of a unit since its record was kept.
 
-ghost use Rattle.std.specs.Prelude.{◌≡◌, true, false, IsTrue, IfOk, IfNone, MatchOption, Decides, None};
+ghost use Rattle.std.specs.Prelude.{◌≡◌, ◌++◌, true, false, IsTrue, IfOk, IfNone, MatchOption, Decides, None};
 ghost use Rattle.pb_record.proofs.ReadingLemmas.{reading};
 ghost use Rattle.pb_record.specs.Commands.{command_of};
 ghost use Rattle.pb_record.specs.Parts.{IsReading};
@@ -13,8 +13,9 @@ ghost use Rattle.pb_soundness.specs.Records.{Reading, is_key, out_of, record_at}
 ghost use Rattle.pb_soundness.specs.Reuse.{IsSame};
 ghost use Rattle.pb_store.specs.Causes.{Takes, MayLook};
 ghost use Rattle.pb_store.specs.Differences.{IsFirst, FirstOrAll, IsPresent, HasFiles, AreNeeded, FirstNeed, FirstFrom, FirstOf, FirstDifference, NamesPaths};
-ghost use Rattle.pb_store.specs.Held.{HoldsNumbers};
-ghost use Rattle.pb_store.specs.Looking.{Looks, name_looked, inputs_looked, out_looked, copies_looked, needed_looked, around_looked, from_looked, looked_at};
+ghost use Rattle.pb_store.specs.Held.{GoesBy, HasNumbers, HoldsNumbers};
+ghost use Rattle.pb_store.specs.Looking.{Looks, name_looked, inputs_looked, out_looked, copies_looked, needed_looked, around_looked, from_looked, opened_looked, unit_looked, looked_at};
+ghost use Rattle.pb_store.specs.Presence.{SameNumbers};
 ghost use Rattle.pb_store.specs.Replaying.{CarriesReplayed, difference_in};
 
 use crate::asking::{first_part, first_variable};
@@ -23,6 +24,7 @@ use crate::difference::Difference;
 use crate::fault::StoreFault;
 use crate::inputs::{files_in, input_now};
 use crate::numbers::first_number;
+use crate::opening::read_numbers;
 use crate::replaying::{Compared, again};
 use crate::store::{Store, record_at};
 use pb_data::{Bytes, Items, Table, Text, TryCopy};
@@ -168,7 +170,7 @@ fn first_need<P: Place>(
     numbers: &Table<Option<u64>>,
     needed: &Needed,
 ) -> Result<Option<Text>, StoreFault>
-    ensures ok { (at : Standing) → IsTrue P.tells → HoldsNumbers at numbers.now → IfOk result (λ found. MatchOption found (AreNeeded folder.now at (P.world place.old).files needed.now) (FirstNeed folder.now at (P.world place.old).files needed.now)) }
+    ensures ok { (at : Standing) → IsTrue P.tells → HasNumbers at numbers.now → IfOk result (λ found. MatchOption found (AreNeeded folder.now at (P.world place.old).files needed.now) (FirstNeed folder.now at (P.world place.old).files needed.now)) }
     ensures same { IsTrue P.tells → P.world place.new ≡ P.world place.old }
     ensures most { P.most place.new ≡ P.most place.old }
     ensures still { IsTrue P.tells → KeepsStill (P.still place.old) (P.still place.new) }
@@ -193,7 +195,7 @@ fn first_around<P: Place>(
     command: &Command,
     kept: &Record,
 ) -> Result<Option<Difference>, StoreFault>
-    ensures ok { (at : Standing) → IsTrue P.tells → HoldsNumbers at numbers.now → command_of kept.now.asked ≡ command.now → IfOk result (FirstFrom folder.now at command.now (P.world place.old) kept.now) }
+    ensures ok { (at : Standing) → IsTrue P.tells → HasNumbers at numbers.now → command_of kept.now.asked ≡ command.now → IfOk result (FirstFrom folder.now at command.now (P.world place.old) kept.now) }
     ensures same { IsTrue P.tells → P.world place.new ≡ P.world place.old }
     ensures most { P.most place.new ≡ P.most place.old }
     ensures still { IsTrue P.tells → KeepsStill (P.still place.old) (P.still place.new) }
@@ -221,7 +223,7 @@ fn first_from<P: Place>(
     command: &Command,
     kept: &Record,
 ) -> Result<Option<Difference>, StoreFault>
-    ensures ok { (at : Standing) → IsTrue P.tells → HoldsNumbers at numbers.now → IfOk result (FirstFrom folder.now at command.now (P.world place.old) kept.now) }
+    ensures ok { (at : Standing) → IsTrue P.tells → HasNumbers at numbers.now → IfOk result (FirstFrom folder.now at command.now (P.world place.old) kept.now) }
     ensures same { IsTrue P.tells → P.world place.new ≡ P.world place.old }
     ensures most { P.most place.new ≡ P.most place.old }
     ensures still { IsTrue P.tells → KeepsStill (P.still place.old) (P.still place.new) }
@@ -250,13 +252,13 @@ fn compare<P: Place>(
     command: &Command,
 ) -> Result<Compared, StoreFault>
     requires { is_key key.now ≡ true }
-    ensures first { (at : Standing) → IsTrue P.tells → HoldsNumbers at numbers.now → IfOk result (λ compared. FirstOf folder.now at command.now (P.world place.old) (record_at reading folder.now (P.world place.old).files key.now) (difference_in compared)) }
+    ensures first { (at : Standing) → IsTrue P.tells → HasNumbers at numbers.now → IfOk result (λ compared. FirstOf folder.now at command.now (P.world place.old) (record_at reading folder.now (P.world place.old).files key.now) (difference_in compared)) }
     ensures carries { (read : Reading) → IsReading read → IsTrue P.tells → IfOk result (CarriesReplayed (record_at read folder.now (P.world place.old).files key.now)) }
     ensures same { IsTrue P.tells → P.world place.new ≡ P.world place.old }
     ensures most { P.most place.new ≡ P.most place.old }
     ensures still { IsTrue P.tells → KeepsStill (P.still place.old) (P.still place.new) }
     ensures takes { Takes MayLook result (P.counts place.old) (P.counts place.new) }
-    ensures looks { IsTrue P.tells → Looks result (looked_at reading folder.now key.now command.now (P.world place.old)) (P.counts place.old) (P.counts place.new) }
+    ensures looks { IsTrue P.tells → Looks result (unit_looked reading folder.now key.now command.now (P.world place.old)) (P.counts place.old) (P.counts place.new) }
 {
     let kept = match record_at(alloc, place, folder, key) {
         Ok(Some(kept)) => kept,
@@ -277,11 +279,37 @@ fn compare<P: Place>(
     }
 }
 
+/// What comes of the comparison by the numbers of the records that are there, which are read anew.
+#[tactic(auto, using(crate::proofs::Firsts::number_laws))]
+fn compare_anew<P: Place>(
+    alloc: Global,
+    place: &mut P,
+    folder: &PathText,
+    key: &Text,
+    command: &Command,
+) -> Result<Compared, StoreFault>
+    requires { is_key key.now ≡ true }
+    ensures first { (at : Standing) → IsTrue P.tells → SameNumbers (record_at reading folder.now (P.world place.old).files) at → IfOk result (λ compared. FirstOf folder.now at command.now (P.world place.old) (record_at reading folder.now (P.world place.old).files key.now) (difference_in compared)) }
+    ensures carries { (read : Reading) → IsReading read → IsTrue P.tells → IfOk result (CarriesReplayed (record_at read folder.now (P.world place.old).files key.now)) }
+    ensures same { IsTrue P.tells → P.world place.new ≡ P.world place.old }
+    ensures most { P.most place.new ≡ P.most place.old }
+    ensures still { IsTrue P.tells → KeepsStill (P.still place.old) (P.still place.new) }
+    ensures takes { Takes MayLook result (P.counts place.old) (P.counts place.new) }
+    ensures looks { IsTrue P.tells → Looks result (opened_looked folder.now (P.world place.old) ++ unit_looked reading folder.now key.now command.now (P.world place.old)) (P.counts place.old) (P.counts place.new) }
+{
+    let numbers = match read_numbers(alloc, place, folder) {
+        Ok(numbers) => numbers,
+        Err(fault) => return Err(fault),
+    };
+    compare(alloc, place, folder, &numbers, key, command)
+}
+
 impl Store {
     /// Compares a unit with its record, for a command that would build it again: what differs first; or, where the
     /// record says what a child would answer, what it gives again in the child's place. Each input is read and compared
     /// in turn, and let go; after the first that differs none is looked at. The records of needed units are not read: the
-    /// numbers that are held count for theirs. Our own rule of when a unit is built again.
+    /// numbers that are held count for theirs. Where a call that failed has left them unknown, all records are read
+    /// first, as where the folder is opened. Our own rule of when a unit is built again.
     ///
     /// Faults: Place, where a file cannot be read, a folder not be listed or a variable not be read; OutOfMemory.
     #[tactic(auto, using(crate::proofs::Once::difference_laws))]
@@ -293,7 +321,7 @@ impl Store {
         command: &Command,
     ) -> Result<Compared, StoreFault>
         requires { is_key key.now ≡ true }
-        ensures held { (read : Reading) (at : Standing) → IsReading read → IsTrue P.tells → HoldsNumbers at self.now.numbers → IfOk result (λ compared. FirstOf self.now.folder at command.now (P.world place.old) (record_at read self.now.folder (P.world place.old).files key.now) (difference_in compared)) }
+        ensures held { (read : Reading) (at : Standing) → IsReading read → IsTrue P.tells → GoesBy (record_at read self.now.folder (P.world place.old).files) self.now.numbers at → IfOk result (λ compared. FirstOf self.now.folder at command.now (P.world place.old) (record_at read self.now.folder (P.world place.old).files key.now) (difference_in compared)) }
         ensures first { (read : Reading) → IsReading read → IsTrue P.tells → HoldsNumbers (record_at read self.now.folder (P.world place.old).files) self.now.numbers → IfOk result (λ compared. FirstDifference read self.now.folder key.now command.now (P.world place.old) (difference_in compared)) }
         ensures none { (read : Reading) → IsReading read → IsTrue P.tells → HoldsNumbers (record_at read self.now.folder (P.world place.old).files) self.now.numbers → IfOk result (λ compared. IfNone (difference_in compared) ((r : Record) × IsSame read self.now.folder key.now command.now (P.world place.old) r)) }
         ensures carries { (read : Reading) → IsReading read → IsTrue P.tells → IfOk result (CarriesReplayed (record_at read self.now.folder (P.world place.old).files key.now)) }
@@ -302,8 +330,11 @@ impl Store {
         ensures most { P.most place.new ≡ P.most place.old }
         ensures still { IsTrue P.tells → KeepsStill (P.still place.old) (P.still place.new) }
         ensures takes { Takes MayLook result (P.counts place.old) (P.counts place.new) }
-        ensures looks { (read : Reading) → IsReading read → IsTrue P.tells → Looks result (looked_at read self.now.folder key.now command.now (P.world place.old)) (P.counts place.old) (P.counts place.new) }
+        ensures looks { (read : Reading) → IsReading read → IsTrue P.tells → Looks result (looked_at read self.now.numbers.known self.now.folder key.now command.now (P.world place.old)) (P.counts place.old) (P.counts place.new) }
     {
-        compare(alloc, place, &self.folder, &self.numbers, key, command)
+        if self.numbers.known {
+            return compare(alloc, place, &self.folder, &self.numbers.held, key, command);
+        }
+        compare_anew(alloc, place, &self.folder, key, command)
     }
 }

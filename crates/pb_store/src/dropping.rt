@@ -79,7 +79,8 @@ fn remove_record<P: Place>(
 
 impl Store {
     /// Removes the record of a unit, and gives the run number of its next one. The number is taken before anything is
-    /// removed: where none is left, nothing is. After a fault no number was given, and the record stands or not.
+    /// removed: where none is left, nothing is. After a fault no number was given, the record stands or not, and those of
+    /// the records may have to be read anew where they are needed next.
     ///
     /// Faults: NumbersSpent, exactly where no number is left; Place, where the record cannot be removed; OutOfMemory.
     #[tactic(auto, using(crate::proofs::Held::held_elsewhere))]
@@ -98,7 +99,9 @@ impl Store {
         ensures gone { (read : Reading) → IsTrue P.tells → OnOk result (record_at read self.old.folder (P.world place.new).files key.now ≡ None) }
         ensures left { (read : Reading) → IsTrue P.tells → Leaves None (record_at read self.old.folder (P.world place.old).files key.now) (record_at read self.old.folder (P.world place.new).files key.now) }
         ensures ahead { (read : Reading) → IsTrue P.tells → IsAhead (record_at read self.old.folder (P.world place.old).files) self.old.next → IsAhead (record_at read self.old.folder (P.world place.new).files) self.new.next }
-        ensures numbers { (read : Reading) → IsTrue P.tells → HoldsNumbers (record_at read self.old.folder (P.world place.old).files) self.old.numbers → OnOk result (HoldsNumbers (record_at read self.old.folder (P.world place.new).files) self.new.numbers) }
+        ensures numbers { (read : Reading) → IsTrue P.tells → HoldsNumbers (record_at read self.old.folder (P.world place.old).files) self.old.numbers → HoldsNumbers (record_at read self.old.folder (P.world place.new).files) self.new.numbers }
+        ensures known { OnOk result (self.new.numbers.known ≡ self.old.numbers.known) }
+        ensures untouched { self.old.next ≡ None → self.new ≡ self.old }
         ensures others { (l : List ℕ) → l ≢ key.now → number_held self.new.numbers l ≡ number_held self.old.numbers l }
         ensures only { IsTrue P.tells → ChangesOnly (is_at_or_below (place_of self.old.folder key.now)) (P.world place.old) (P.world place.new) }
         ensures most { P.most place.new ≡ P.most place.old }
@@ -111,8 +114,12 @@ impl Store {
             None => return Err(StoreFault::NumbersSpent),
             Some(number) => number,
         };
-        note(alloc, &mut self.numbers, key, None)?;
+        note(alloc, &mut self.numbers.held, key, None)?;
+        // Not known until the record is gone: where the call fails, it stands or not.
+        let known = self.numbers.known;
+        self.numbers.known = false;
         remove_record(alloc, place, &self.folder, key)?;
+        self.numbers.known = known;
         // Counted only once the record is gone.
         self.next = number_after(number);
         Ok(number)

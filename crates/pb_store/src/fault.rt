@@ -1,7 +1,7 @@
 //! Why a call of the store fails.
 
 ghost use Rattle.std.specs.Prelude.{◌≡◌};
-ghost use Rattle.pb_store.specs.Causes.{stored, opened};
+ghost use Rattle.pb_store.specs.Causes.{stored, opened, unopened};
 
 use pb_place::{PathText, PlaceFault};
 use thiserror::Error;
@@ -49,5 +49,18 @@ pub(crate) fn opened(path: PathText, fault: PlaceFault) -> OpenFault
     match fault {
         PlaceFault::OutOfMemory => OpenFault::OutOfMemory,
         fault => OpenFault::Place(path, fault),
+    }
+}
+
+/// The fault of opening as one of a call of the store, without its path.
+pub(crate) fn unopened(fault: OpenFault) -> StoreFault
+    ensures { result ≡ unopened fault }
+{
+    match fault {
+        OpenFault::Place(path, fault) => {
+            drop(path);
+            StoreFault::Place(fault)
+        }
+        OpenFault::OutOfMemory => StoreFault::OutOfMemory,
     }
 }

@@ -14,7 +14,7 @@ ghost use Rattle.pb_soundness.specs.Sound.{Sound};
 ghost use Rattle.pb_store.specs.Calls.{CallsOnce, looked};
 ghost use Rattle.pb_store.specs.declared.fault.StoreFault.TheVariants as store_fault;
 ghost use Rattle.pb_store.specs.Causes.{Takes, MayLook, MayWrite, MayKeep};
-ghost use Rattle.pb_store.specs.Held.{HoldsNumbers, number_held};
+ghost use Rattle.pb_store.specs.Held.{GoesBy, HasNumbers, HoldsNumbers, number_held};
 ghost use Rattle.pb_store.specs.Keeping.{Leaves, IsKept, HasNeeds, MayPut, kept_of, numbered};
 ghost use Rattle.pb_store.specs.Looking.{Looks, kept_called, names_looked};
 ghost use Rattle.pb_record.specs.Commands.{of_parts};
@@ -24,6 +24,7 @@ ghost use Rattle.pb_record.specs.Sorted.{are_sorted};
 use crate::fault::{StoreFault, stored};
 use crate::inputs::present;
 use crate::numbers::{note, numbered};
+use crate::opening::settle;
 use crate::store::{Store, place_path};
 use pb_data::{Bytes, Items, Table, Text, TryCopy, with_next};
 use pb_place::{Command, Ended, PathText, Place};
@@ -176,7 +177,7 @@ fn kept_now<P: Place>(
 ) -> Result<Record, StoreFault>
     requires out { command.now.out ≡ Some (out_of folder.now key.now) }
     requires sorted { are_sorted command.now.pairs ≡ true }
-    ensures ok { (at : Standing) → IsTrue P.tells → HoldsNumbers at numbers.now → IfOk result (λ kept. kept ≡ kept_of folder.now key.now command.now (map (input_in command.now.target (P.world place.old)) names.now) number (numbered at needs.now) ended.now) }
+    ensures ok { (at : Standing) → IsTrue P.tells → HasNumbers at numbers.now → IfOk result (λ kept. kept ≡ kept_of folder.now key.now command.now (map (input_in command.now.target (P.world place.old)) names.now) number (numbered at needs.now) ended.now) }
     ensures same { IsTrue P.tells → P.world place.new ≡ P.world place.old }
     ensures most { P.most place.new ≡ P.most place.old }
     ensures still { IsTrue P.tells → KeepsStill (P.still place.old) (P.still place.new) }
@@ -198,7 +199,7 @@ fn kept_now<P: Place>(
 impl Store {
     /// Keeps the record of a unit whose answer is good, with the number that `drop_record` gave. The command writes
     /// into the unit's folder, its variables sorted by name, each once. `needs` are the keys of the units that the unit
-    /// needs, in plan order, whose numbers are held; `names` are the inputs found in its answer, whose present values are
+    /// needs, in plan order, by whose numbers the store goes; `names` are the inputs found in its answer, whose present values are
     /// read and kept. After a fault no record stands, the one that stood, or the new one.
     ///
     /// Faults: Place, where an input cannot be read, or the record cannot be written; OutOfMemory.
@@ -219,11 +220,13 @@ impl Store {
         requires sorted { are_sorted command.now.pairs ≡ true }
         ensures sound { (read : Reading) (judge : Judge) → IsReading read → IsTrue P.tells → HoldsNumbers (record_at read self.old.folder (P.world place.old).files) self.old.numbers → IsKept read judge P.child self.old.folder key.now command.now needs.now names.now ended.now number (P.world place.old) → Sound read judge P.child self.old.folder (P.world place.old).files → Sound read judge P.child self.old.folder (P.world place.new).files }
         ensures stands { (read : Reading) → IsReading read → IsTrue P.tells → HoldsNumbers (record_at read self.old.folder (P.world place.old).files) self.old.numbers → OnOk result (record_at read self.old.folder (P.world place.new).files key.now ≡ Some (kept_of self.old.folder key.now command.now (map (input_in command.now.target (P.world place.old)) names.now) number (numbered (record_at read self.old.folder (P.world place.old).files) needs.now) ended.now)) }
-        ensures held { (read : Reading) (at : Standing) → IsReading read → IsTrue P.tells → HoldsNumbers at self.old.numbers → OnOk result (record_at read self.old.folder (P.world place.new).files key.now ≡ Some (kept_of self.old.folder key.now command.now (map (input_in command.now.target (P.world place.old)) names.now) number (numbered at needs.now) ended.now)) }
+        ensures held { (read : Reading) (at : Standing) → IsReading read → IsTrue P.tells → GoesBy (record_at read self.old.folder (P.world place.old).files) self.old.numbers at → OnOk result (record_at read self.old.folder (P.world place.new).files key.now ≡ Some (kept_of self.old.folder key.now command.now (map (input_in command.now.target (P.world place.old)) names.now) number (numbered at needs.now) ended.now)) }
         ensures left { (read : Reading) → IsReading read → IsTrue P.tells → HoldsNumbers (record_at read self.old.folder (P.world place.old).files) self.old.numbers → Leaves (Some (kept_of self.old.folder key.now command.now (map (input_in command.now.target (P.world place.old)) names.now) number (numbered (record_at read self.old.folder (P.world place.old).files) needs.now) ended.now)) (record_at read self.old.folder (P.world place.old).files key.now) (record_at read self.old.folder (P.world place.new).files key.now) }
         ensures ahead { (read : Reading) → IsReading read → IsTrue P.tells → HoldsNumbers (record_at read self.old.folder (P.world place.old).files) self.old.numbers → IsBefore self.old.next number → HasNeeds (record_at read self.old.folder (P.world place.old).files) self.old.folder command.now.reads needs.now number → IsAhead (record_at read self.old.folder (P.world place.old).files) self.old.next → IsAhead (record_at read self.old.folder (P.world place.new).files) self.old.next }
-        ensures numbers { (read : Reading) → IsReading read → IsTrue P.tells → HoldsNumbers (record_at read self.old.folder (P.world place.old).files) self.old.numbers → OnOk result (HoldsNumbers (record_at read self.old.folder (P.world place.new).files) self.new.numbers) }
-        ensures others { (l : List ℕ) → l ≢ key.now → number_held self.new.numbers l ≡ number_held self.old.numbers l }
+        ensures numbers { (read : Reading) → IsReading read → IsTrue P.tells → HoldsNumbers (record_at read self.old.folder (P.world place.old).files) self.old.numbers → HoldsNumbers (record_at read self.old.folder (P.world place.new).files) self.new.numbers }
+        ensures known { OnOk result (self.new.numbers.known ≡ true) }
+        ensures unread { IfErr result (λ e. looked e ≡ true → self.old.numbers.known ≡ true → self.new.numbers.known ≡ true) }
+        ensures others { (l : List ℕ) → self.old.numbers.known ≡ true → l ≢ key.now → number_held self.new.numbers l ≡ number_held self.old.numbers l }
         ensures folder { self.new.folder ≡ self.old.folder }
         ensures next { self.new.next ≡ self.old.next }
         ensures only { IsTrue P.tells → ChangesOnly (is_at_or_below (place_of self.old.folder key.now)) (P.world place.old) (P.world place.new) }
@@ -232,14 +235,18 @@ impl Store {
         ensures takes { Takes MayKeep result (P.counts place.old) (P.counts place.new) }
         ensures before { IsTrue P.tells → IfErr result (λ e. looked e ≡ true → P.world place.new ≡ P.world place.old) }
         ensures written { IfErr result (λ e. e ≡ store_fault.Place place_fault.Write → (P.counts place.new).failing ≡ Some (call.Write (place_of self.old.folder key.now))) }
-        ensures calls { IsTrue P.tells → Looks result (kept_called self.old.folder key.now command.now.target (P.world place.old) names.now) (P.counts place.old) (P.counts place.new) }
+        ensures calls { IsTrue P.tells → Looks result (kept_called self.old.numbers.known self.old.folder key.now command.now.target (P.world place.old) names.now) (P.counts place.old) (P.counts place.new) }
     {
         let _ = self.folder.as_str();
+        match settle(alloc, place, &self.folder, &mut self.numbers) {
+            Ok(()) => {}
+            Err(fault) => return Err(fault),
+        }
         let kept = match kept_now(
             alloc,
             place,
             &self.folder,
-            &self.numbers,
+            &self.numbers.held,
             key,
             number,
             command,
@@ -251,16 +258,19 @@ impl Store {
             Err(fault) => return Err(fault),
         };
         // Noted before the write: after it nothing else is called.
-        match note(alloc, &mut self.numbers, key, Some(number)) {
+        match note(alloc, &mut self.numbers.held, key, Some(number)) {
             Ok(()) => {}
             Err(fault) => {
                 drop(kept);
                 return Err(fault);
             }
         }
+        // Not known until the record is written: where the call fails, it stands or not.
+        self.numbers.known = false;
         match put_record(alloc, place, &self.folder, key, &kept) {
             Ok(()) => {
                 drop(kept);
+                self.numbers.known = true;
                 Ok(())
             }
             Err(fault) => {

@@ -22,4 +22,4 @@ pub use difference::{CommandPart, Difference};
 pub use fault::{OpenFault, StoreFault};
 pub use laws::{differences_are_one, first_name_is_first};
 pub use replaying::{Compared, Replayed};
-pub use store::Store;
+pub use store::{RunNumbers, Store};

@@ -1,6 +1,6 @@
 //! A record of format 1 that becomes one of format 2.
 
-ghost use Rattle.std.specs.Prelude.{is_some, false, ◌≡◌, ◌≢◌, ◌⊎◌, ◌∷◌, [], ℕ, List, true, IsTrue, IfErr, OnOk, Some, None, Err};
+ghost use Rattle.std.specs.Prelude.{is_some, false, ◌≡◌, ◌≢◌, ◌⊎◌, ◌∷◌, ℕ, List, true, IsTrue, IfErr, OnOk, Some, None, Err};
 ghost use Rattle.pb_place.specs.CallsInTurn.{past_calls};
 ghost use Rattle.pb_place.specs.declared.call.Call.TheVariants as call;
 ghost use Rattle.pb_place.specs.declared.place.PlaceFault.TheVariants as place_fault;
@@ -17,10 +17,10 @@ ghost use Rattle.pb_soundness.specs.Records.{Reading, is_key, place_of, record_a
 ghost use Rattle.pb_soundness.specs.Sound.{Sound};
 ghost use Rattle.pb_store.specs.Calls.{looked};
 ghost use Rattle.pb_store.specs.Causes.{Takes, MayMigrate};
-ghost use Rattle.pb_store.specs.Held.{HoldsNumbers, number_held};
+ghost use Rattle.pb_store.specs.Held.{GoesBy, HoldsNumbers, number_held};
 ghost use Rattle.pb_store.specs.Keeping.{Leaves, numbered};
-ghost use Rattle.pb_store.specs.Looking.{Looks, migrated_called};
-ghost use Rattle.pb_store.specs.Presence.{numbered_by};
+ghost use Rattle.pb_store.specs.Looking.{Looks, migrated_called, numbers_looked, renumbered_called};
+ghost use Rattle.pb_store.specs.Presence.{counted_by};
 ghost use Rattle.pb_store.specs.declared.fault.StoreFault.TheVariants as store_fault;
 ghost use Rattle.pb_store.specs.Migrating.{IsMigrated, TakesNext, TakesNumber, lacks_number, migrated, numbered_record};
 
@@ -28,6 +28,7 @@ use crate::dropping::number_after;
 use crate::fault::StoreFault;
 use crate::keeping::{number_of, put_record};
 use crate::numbers::{note, numbered};
+use crate::opening::settle;
 use crate::store::{Store, record_at};
 use pb_data::{Items, Text};
 use pb_place::Place;
@@ -65,12 +66,14 @@ impl Store {
         ensures next { TakesNumber self.old.next self.new.next }
         ensures taken { OnOk result (TakesNext self.old.next self.new.next) }
         ensures folder { self.new.folder ≡ self.old.folder }
-        ensures spent { self.old.next ≡ None → (result ≡ Err store_fault.NumbersSpent) × (IsTrue P.tells → P.world place.new ≡ P.world place.old) }
-        ensures stands { (read : Reading) → IsReading read → IsTrue P.tells → kept.key ≡ key.now → OnOk result ((number : ℕ) × (self.old.next ≡ Some number) × (record_at read self.old.folder (P.world place.new).files key.now ≡ Some (numbered_record kept number (numbered_by self.old.numbers needs.now)))) }
+        ensures spent { self.old.next ≡ None → IsTrue P.tells → P.world place.new ≡ P.world place.old }
+        ensures stands { (read : Reading) → IsReading read → IsTrue P.tells → kept.key ≡ key.now → OnOk result ((number : ℕ) × (self.old.next ≡ Some number) × (record_at read self.old.folder (P.world place.new).files key.now ≡ Some (numbered_record kept number (counted_by (record_at read self.old.folder (P.world place.old).files) self.old.numbers needs.now)))) }
         ensures left { (read : Reading) → IsReading read → IsTrue P.tells → kept.key ≡ key.now → (record_at read self.old.folder (P.world place.new).files key.now ≡ None) ⊎ ((record_at read self.old.folder (P.world place.new).files key.now ≡ record_at read self.old.folder (P.world place.old).files key.now)
-            ⊎ ((number : ℕ) × (self.old.next ≡ Some number) × (record_at read self.old.folder (P.world place.new).files key.now ≡ Some (numbered_record kept number (numbered_by self.old.numbers needs.now))))) }
-        ensures numbers { (read : Reading) → IsReading read → IsTrue P.tells → HoldsNumbers (record_at read self.old.folder (P.world place.old).files) self.old.numbers → kept.key ≡ key.now → OnOk result (HoldsNumbers (record_at read self.old.folder (P.world place.new).files) self.new.numbers) }
-        ensures others { (l : List ℕ) → l ≢ key.now → number_held self.new.numbers l ≡ number_held self.old.numbers l }
+            ⊎ ((number : ℕ) × (self.old.next ≡ Some number) × (record_at read self.old.folder (P.world place.new).files key.now ≡ Some (numbered_record kept number (counted_by (record_at read self.old.folder (P.world place.old).files) self.old.numbers needs.now))))) }
+        ensures numbers { (read : Reading) → IsReading read → IsTrue P.tells → HoldsNumbers (record_at read self.old.folder (P.world place.old).files) self.old.numbers → kept.key ≡ key.now → HoldsNumbers (record_at read self.old.folder (P.world place.new).files) self.new.numbers }
+        ensures known { OnOk result (self.new.numbers.known ≡ true) }
+        ensures unread { IfErr result (λ e. looked e ≡ true → self.old.numbers.known ≡ true → self.new.numbers.known ≡ true) }
+        ensures others { (l : List ℕ) → self.old.numbers.known ≡ true → l ≢ key.now → number_held self.new.numbers l ≡ number_held self.old.numbers l }
         ensures only { IsTrue P.tells → ChangesOnly (is_at_or_below (place_of self.old.folder key.now)) (P.world place.old) (P.world place.new) }
         ensures most { P.most place.new ≡ P.most place.old }
         ensures still { IsTrue P.tells → KeepsStillOutside (is_at_or_below (place_of self.old.folder key.now)) (P.counts place.old).starts.flying (P.still place.old) (P.still place.new) }
@@ -78,9 +81,16 @@ impl Store {
         ensures before { IfErr result (λ e. looked e ≡ true → (self.new.next ≡ self.old.next) × (IsTrue P.tells → P.world place.new ≡ P.world place.old)) }
         ensures used { IfErr result (λ e. e ≡ store_fault.Place place_fault.Write → TakesNext self.old.next self.new.next) }
         ensures written { IfErr result (λ e. e ≡ store_fault.Place place_fault.Write → (P.counts place.new).failing ≡ Some (call.Write (place_of self.old.folder key.now))) }
-        ensures calls { ((result ≡ Err store_fault.NumbersSpent) × (P.counts place.new ≡ P.counts place.old)) ⊎ Looks result (call.Write (place_of self.old.folder key.now) ∷ []) (P.counts place.old) (P.counts place.new) }
+        ensures calls { IsTrue P.tells → ((result ≡ Err store_fault.NumbersSpent) × (P.counts place.new ≡ past_calls (numbers_looked self.old.numbers.known self.old.folder (P.world place.old)) (P.counts place.old))) ⊎ Looks result (renumbered_called self.old.numbers.known self.old.folder key.now (P.world place.old)) (P.counts place.old) (P.counts place.new) }
     {
         let _ = self.folder.as_str();
+        match settle(alloc, place, &self.folder, &mut self.numbers) {
+            Ok(()) => {}
+            Err(fault) => {
+                drop(kept);
+                return Err(fault);
+            }
+        }
         let number = match self.next {
             None => {
                 drop(kept);
@@ -88,7 +98,7 @@ impl Store {
             }
             Some(number) => number,
         };
-        let numbers = match numbered(alloc, &self.numbers, needs) {
+        let numbers = match numbered(alloc, &self.numbers.held, needs) {
             Ok(numbers) => numbers,
             Err(_) => {
                 drop(kept);
@@ -96,18 +106,20 @@ impl Store {
             }
         };
         let kept = numbered_record(kept, number, numbers);
-        match note(alloc, &mut self.numbers, key, Some(number)) {
+        match note(alloc, &mut self.numbers.held, key, Some(number)) {
             Ok(()) => {}
             Err(fault) => {
                 drop(kept);
                 return Err(fault);
             }
         }
-        // Before the write: a torn one may have used the number.
+        // Before the write: a torn one may have used the number, and the record stands or not.
         self.next = number_after(number);
+        self.numbers.known = false;
         match put_record(alloc, place, &self.folder, key, &kept) {
             Ok(()) => {
                 drop(kept);
+                self.numbers.known = true;
                 Ok(())
             }
             Err(fault) => {
@@ -117,8 +129,8 @@ impl Store {
         }
     }
 
-    /// Gives a unit's record of format 1 the next run number, names the needed units with their numbers, which are held,
-    /// and writes it in its place as format 2. Where the record is of format 2, or none counts, nothing is changed.
+    /// Gives a unit's record of format 1 the next run number, names the needed units with their numbers, and writes it
+    /// in its place as format 2. Where the record is of format 2, or none counts, nothing is changed.
     /// `needs` are the keys of the units that the unit needs, in plan order. After a fault the old record stands, none,
     /// or the new one, and the number may have been taken; where the write failed, it was.
     ///
@@ -142,11 +154,13 @@ impl Store {
         ensures taken { (read : Reading) → IsReading read → IsTrue P.tells → lacks_number (record_at read self.old.folder (P.world place.old).files key.now) ≡ true → OnOk result (TakesNext self.old.next self.new.next) }
         ensures unused { (read : Reading) → IsReading read → IsTrue P.tells → lacks_number (record_at read self.old.folder (P.world place.old).files key.now) ≡ false → self.new.next ≡ self.old.next }
         ensures stands { (read : Reading) → IsReading read → IsTrue P.tells → HoldsNumbers (record_at read self.old.folder (P.world place.old).files) self.old.numbers → OnOk result (record_at read self.old.folder (P.world place.new).files key.now ≡ migrated self.old.next (numbered (record_at read self.old.folder (P.world place.old).files) needs.now) (record_at read self.old.folder (P.world place.old).files key.now)) }
-        ensures held { (read : Reading) (at : Standing) → IsReading read → IsTrue P.tells → HoldsNumbers at self.old.numbers → OnOk result (record_at read self.old.folder (P.world place.new).files key.now ≡ migrated self.old.next (numbered at needs.now) (record_at read self.old.folder (P.world place.old).files key.now)) }
+        ensures held { (read : Reading) (at : Standing) → IsReading read → IsTrue P.tells → GoesBy (record_at read self.old.folder (P.world place.old).files) self.old.numbers at → OnOk result (record_at read self.old.folder (P.world place.new).files key.now ≡ migrated self.old.next (numbered at needs.now) (record_at read self.old.folder (P.world place.old).files key.now)) }
         ensures left { (read : Reading) → IsReading read → IsTrue P.tells → HoldsNumbers (record_at read self.old.folder (P.world place.old).files) self.old.numbers → Leaves (migrated self.old.next (numbered (record_at read self.old.folder (P.world place.old).files) needs.now) (record_at read self.old.folder (P.world place.old).files key.now)) (record_at read self.old.folder (P.world place.old).files key.now) (record_at read self.old.folder (P.world place.new).files key.now) }
         ensures numbered { (read : Reading) (r : Record) → IsReading read → IsTrue P.tells → OnOk result (record_at read self.old.folder (P.world place.new).files key.now ≡ Some r → is_some (number_of r) ≡ true) }
-        ensures numbers { (read : Reading) → IsReading read → IsTrue P.tells → HoldsNumbers (record_at read self.old.folder (P.world place.old).files) self.old.numbers → OnOk result (HoldsNumbers (record_at read self.old.folder (P.world place.new).files) self.new.numbers) }
-        ensures others { (l : List ℕ) → l ≢ key.now → number_held self.new.numbers l ≡ number_held self.old.numbers l }
+        ensures numbers { (read : Reading) → IsReading read → IsTrue P.tells → HoldsNumbers (record_at read self.old.folder (P.world place.old).files) self.old.numbers → HoldsNumbers (record_at read self.old.folder (P.world place.new).files) self.new.numbers }
+        ensures known { self.old.numbers.known ≡ true → OnOk result (self.new.numbers.known ≡ true) }
+        ensures unread { IfErr result (λ e. looked e ≡ true → self.old.numbers.known ≡ true → self.new.numbers.known ≡ true) }
+        ensures others { (l : List ℕ) → self.old.numbers.known ≡ true → l ≢ key.now → number_held self.new.numbers l ≡ number_held self.old.numbers l }
         ensures only { IsTrue P.tells → ChangesOnly (is_at_or_below (place_of self.old.folder key.now)) (P.world place.old) (P.world place.new) }
         ensures most { P.most place.new ≡ P.most place.old }
         ensures still { IsTrue P.tells → KeepsStillOutside (is_at_or_below (place_of self.old.folder key.now)) (P.counts place.old).starts.flying (P.still place.old) (P.still place.new) }
@@ -154,8 +168,8 @@ impl Store {
         ensures before { IfErr result (λ e. looked e ≡ true → (self.new.next ≡ self.old.next) × (IsTrue P.tells → P.world place.new ≡ P.world place.old)) }
         ensures used { IfErr result (λ e. e ≡ store_fault.Place place_fault.Write → TakesNext self.old.next self.new.next) }
         ensures written { IfErr result (λ e. e ≡ store_fault.Place place_fault.Write → (P.counts place.new).failing ≡ Some (call.Write (place_of self.old.folder key.now))) }
-        ensures calls { (read : Reading) → IsReading read → IsTrue P.tells → ((result ≡ Err store_fault.NumbersSpent) × (P.counts place.new ≡ past_calls (call.Read (place_of self.old.folder key.now) ∷ []) (P.counts place.old)))
-            ⊎ Looks result (migrated_called self.old.folder key.now (record_at read self.old.folder (P.world place.old).files key.now)) (P.counts place.old) (P.counts place.new) }
+        ensures calls { (read : Reading) → IsReading read → IsTrue P.tells → ((result ≡ Err store_fault.NumbersSpent) × (P.counts place.new ≡ past_calls (call.Read (place_of self.old.folder key.now) ∷ numbers_looked self.old.numbers.known self.old.folder (P.world place.old)) (P.counts place.old)))
+            ⊎ Looks result (migrated_called self.old.numbers.known self.old.folder key.now (P.world place.old) (record_at read self.old.folder (P.world place.old).files key.now)) (P.counts place.old) (P.counts place.new) }
     {
         let found = record_at(alloc, place, &self.folder, key)?;
         let kept = match found {

@@ -4,7 +4,7 @@ ghost use Rattle.std.specs.Prelude.{◌≡◌, ◌&&◌, Decides, IfErr, IfOk, O
 ghost use Rattle.std.specs.Str.{bytes_eq};
 ghost use Rattle.pb_data.specs.Table.{with_entry};
 ghost use Rattle.pb_store.specs.Differences.{FirstOrAll};
-ghost use Rattle.pb_store.specs.Held.{number_held};
+ghost use Rattle.pb_store.specs.Held.{number_in};
 ghost use Rattle.pb_store.specs.Keeping.{or_zero};
 ghost use Rattle.pb_soundness.specs.Records.{is_key, place_of};
 ghost use Rattle.pb_store.specs.Presence.{IsHeld, noted, numbered_by};
@@ -19,9 +19,9 @@ use pb_place::PathText;
 use pb_record::Record;
 use std::alloc::{AllocError, Global};
 
-/// The run number that is held of a unit, where there is one.
-fn number_held(numbers: &Table<Option<u64>>, key: &Text) -> Option<u64>
-    ensures { result ≡ number_held numbers.now key.now }
+/// The run number that a table has of a unit, where there is one.
+fn number_in(numbers: &Table<Option<u64>>, key: &Text) -> Option<u64>
+    ensures { result ≡ number_in numbers.now key.now }
 {
     match numbers.get(key) {
         None => None,
@@ -43,7 +43,7 @@ fn is_number(found: Option<u64>, number: u64) -> bool
 fn is_held(numbers: &Table<Option<u64>>, need: &(Text, u64)) -> bool
     ensures { Decides result (IsHeld numbers.now need.now) }
 {
-    is_number(number_held(numbers, &need.0), need.1)
+    is_number(number_in(numbers, &need.0), need.1)
 }
 
 /// The key of the first needed unit that has not the number with which it is named.
@@ -81,10 +81,10 @@ fn numbered_one(
     numbers: &Table<Option<u64>>,
     key: &Text,
 ) -> Result<(Text, u64), AllocError>
-    ensures { IfOk result (λ pair. pair ≡ (key.now, or_zero (number_held numbers.now key.now))) }
+    ensures { IfOk result (λ pair. pair ≡ (key.now, or_zero (number_in numbers.now key.now))) }
 {
     let name = key.copy(alloc)?;
-    Ok((name, or_zero(number_held(numbers, key))))
+    Ok((name, or_zero(number_in(numbers, key))))
 }
 
 /// The needed units with the numbers that are held of them.

@@ -1,6 +1,6 @@
 //! A store is opened: what the records of a folder name says which run number is the next.
 
-ghost use Rattle.std.specs.Prelude.{◌≡◌, ◌∷◌, [], if◌then◌else◌, max, IsTrue, IfErr, IfOk, OnOk};
+ghost use Rattle.std.specs.Prelude.{◌≡◌, ◌∷◌, [], ℕ, List, if◌then◌else◌, max, true, IsTrue, IfErr, IfOk, OnErr, OnOk};
 ghost use Rattle.std.specs.List.{fold};
 ghost use Rattle.std.specs.FinMap as map;
 ghost use Rattle.pb_place.specs.declared.call.Call.TheVariants as call;
@@ -8,22 +8,23 @@ ghost use Rattle.pb_soundness.specs.Apart.{KeepsStill};
 ghost use Rattle.pb_soundness.specs.Numbers.{IsAhead};
 ghost use Rattle.pb_soundness.specs.Records.{Reading, ends_as_record, read_text, record_at};
 ghost use Rattle.pb_store.specs.Calls.{OpensBy, ReadsAt, ReadsOneOf, ReadsRecord};
-ghost use Rattle.pb_store.specs.Causes.{TakesOpen};
-ghost use Rattle.pb_store.specs.Held.{HoldsNumbers};
-ghost use Rattle.pb_store.specs.Looking.{OpensLooking, opened_looked, records_looked};
+ghost use Rattle.pb_store.specs.Causes.{MayReadAll, Takes, TakesOpen};
+ghost use Rattle.pb_store.specs.Held.{HasNumbers, HoldsNumbers, number_by, number_in};
+ghost use Rattle.pb_store.specs.Looking.{Looks, OpensLooking, numbers_looked, opened_looked, records_looked};
 ghost use Rattle.pb_store.specs.Opening.{greatest_named, greatest_if, greatest_at, greatest_of, next_in};
 ghost use Rattle.pb_store.specs.Presence.{noted, noted_at};
 ghost use Rattle.pb_record.specs.Parts.{IsReading};
 
 use crate::dropping::number_after;
-use crate::fault::{OpenFault, opened};
+use crate::fault::{OpenFault, StoreFault, opened, unopened};
 use crate::keys::ends_as_record;
 use crate::numbers::note_read;
-use crate::store::{Store, read_text};
-use pb_data::{Items, Table, Text};
+use crate::store::{RunNumbers, Store, read_text};
+use pb_data::{Items, Table, Text, TryCopy};
 use pb_place::{PathText, Place};
 use pb_record::{Needed, Record};
 use std::alloc::Global;
+use std::mem;
 
 /// The greater of two numbers.
 fn greater(number: u64, other: u64) -> u64
@@ -172,6 +173,7 @@ impl Store {
         ensures folder { IfOk result (λ store. store.folder ≡ folder) }
         ensures next { (read : Reading) → IsReading read → IsTrue P.tells → IfOk result (λ store. store.next ≡ next_in read folder (P.world place.old)) }
         ensures ahead { (read : Reading) → IsReading read → IsTrue P.tells → IfOk result (λ store. IsAhead (record_at read folder (P.world place.old).files) store.next) }
+        ensures known { IfOk result (λ store. store.numbers.known ≡ true) }
         ensures numbers { (read : Reading) → IsReading read → IsTrue P.tells → IfOk result (λ store. HoldsNumbers (record_at read folder (P.world place.old).files) store.numbers) }
         ensures same { IsTrue P.tells → P.world place.new ≡ P.world place.old }
         ensures most { P.most place.new ≡ P.most place.old }
@@ -189,12 +191,77 @@ impl Store {
             Ok(greatest) => Ok(Store {
                 folder,
                 next: number_after(greatest),
-                numbers,
+                numbers: RunNumbers {
+                    held: numbers,
+                    known: true,
+                },
             }),
             Err(fault) => {
                 drop((folder, numbers));
                 Err(fault)
             }
         }
+    }
+}
+
+/// The run numbers of the records of a folder, read as where it is opened.
+#[tactic(auto, using(crate::proofs::Unopened::unopened_laws))]
+pub(crate) fn read_numbers<P: Place>(
+    alloc: Global,
+    place: &mut P,
+    folder: &PathText,
+) -> Result<Table<Option<u64>>, StoreFault>
+    ensures ok { (read : Reading) → IsReading read → IsTrue P.tells → IfOk result (λ numbers. HasNumbers (record_at read folder.now (P.world place.old).files) numbers) }
+    ensures same { IsTrue P.tells → P.world place.new ≡ P.world place.old }
+    ensures most { P.most place.new ≡ P.most place.old }
+    ensures still { IsTrue P.tells → KeepsStill (P.still place.old) (P.still place.new) }
+    ensures takes { Takes MayReadAll result (P.counts place.old) (P.counts place.new) }
+    ensures looks { IsTrue P.tells → Looks result (opened_looked folder.now (P.world place.old)) (P.counts place.old) (P.counts place.new) }
+{
+    let folder = match folder.copy(alloc) {
+        Ok(folder) => folder,
+        Err(_) => return Err(StoreFault::OutOfMemory),
+    };
+    match Store::open(alloc, place, folder) {
+        Ok(store) => {
+            let Store {
+                folder,
+                next: _,
+                numbers,
+            } = store;
+            drop(folder);
+            Ok(numbers.held)
+        }
+        Err(fault) => Err(unopened(fault)),
+    }
+}
+
+/// Reads the run numbers anew where they are not known. After a fault they are as they were.
+pub(crate) fn settle<P: Place>(
+    alloc: Global,
+    place: &mut P,
+    folder: &PathText,
+    numbers: &mut RunNumbers,
+) -> Result<(), StoreFault>
+    ensures known { OnOk result (numbers.new.known ≡ true) }
+    ensures settled { (read : Reading) → IsReading read → IsTrue P.tells → OnOk result ((key : List ℕ) → number_in numbers.new.held key ≡ number_by (record_at read folder.now (P.world place.old).files) numbers.old key) }
+    ensures before { numbers.old.known ≡ true → numbers.new ≡ numbers.old }
+    ensures err { OnErr result (numbers.new ≡ numbers.old) }
+    ensures same { IsTrue P.tells → P.world place.new ≡ P.world place.old }
+    ensures most { P.most place.new ≡ P.most place.old }
+    ensures still { IsTrue P.tells → KeepsStill (P.still place.old) (P.still place.new) }
+    ensures takes { Takes MayReadAll result (P.counts place.old) (P.counts place.new) }
+    ensures looks { IsTrue P.tells → Looks result (numbers_looked numbers.old.known folder.now (P.world place.old)) (P.counts place.old) (P.counts place.new) }
+{
+    if numbers.known {
+        return Ok(());
+    }
+    match read_numbers(alloc, place, folder) {
+        Ok(read) => {
+            drop(mem::replace(&mut numbers.held, read));
+            numbers.known = true;
+            Ok(())
+        }
+        Err(fault) => Err(fault),
     }
 }

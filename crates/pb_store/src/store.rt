@@ -24,9 +24,18 @@ pub struct Store {
     /// The next run number: above each that a record of the folder names and each that was given since the store was
     /// opened. None where no number is left.
     pub next: Option<u64>,
-    /// The run numbers of the records that count in the folder, by the units' keys; none of a unit whose record has none,
-    /// or was dropped. What a call that failed leaves here of its unit is said by nothing.
-    pub numbers: Table<Option<u64>>,
+    /// The run numbers of the records of the folder.
+    pub numbers: RunNumbers,
+}
+
+/// The run numbers of the records of a folder.
+#[derive(Debug, Drop)]
+pub struct RunNumbers {
+    /// Those of the records that count, by the units' keys; none of a unit whose record has none, or was dropped.
+    pub held: Table<Option<u64>>,
+    /// Whether they are known. A call that fails as it removes or writes a record leaves them unknown: they are read
+    /// anew, as when the folder is opened, where they are needed next.
+    pub known: bool,
 }
 
 /// The path of a unit's record.

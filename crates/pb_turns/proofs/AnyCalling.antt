@@ -1,5 +1,5 @@
 -- The calls of units over any records: what is noted of a run changes none that were made before, and what a unit waits for that is in flight.
-use Rattle.std.proofs.Common.{◌≡◌, ◌≢◌, ◌∙◌, ◌∷◌, [], Bool, List, ℕ, Option, Some, Contains, Result, refl, sym, ap, subst}
+use Rattle.std.proofs.Common.{◌≡◌, ◌≢◌, ◌∙◌, ◌∷◌, [], Bool, true, List, ℕ, Option, Some, Contains, Result, refl, sym, ap, subst}
 use Rattle.std.specs.Option.{option_map}
 use Rattle.std.specs.Prelude.{IfOk, IfSome}
 use Rattle.pb_answer.specs.declared.bad_unit.BadUnit.{BadUnit}
@@ -73,7 +73,7 @@ module _ (read : Reading) (child : Answers) (setup : Setup) (project : Project) 
     ends = f.ends;
     replied = λ started. subst (λ (c : Command). IfOk f.answer (λ ended. EndsAsReplied (child c (seen_by c f.left)) f.unit ended f.left)) (same f.unit f.there) (f.replied started);
     only = f.only;
-    calls = subst (λ (c : Command). CallsBehind f.unit.key f.by (answered_called read project f.unit c f.left f.by) f.answer result f.mid new) (same f.unit f.there) f.calls;
+    calls = subst (λ (c : Command). CallsBehind f.unit.key f.by (answered_called read true project f.unit c f.left f.by) f.answer result f.mid new) (same f.unit f.there) f.calls;
   }
 
   pub calls_same : (es : List (Event BadUnit)) → IsLawful (needs_of project) es → ((place : ℕ) → HasBegun (states_in project es) place → SameCommand place) → (first : World) (at : Counts) (last : World) (now : Counts)

@@ -74,8 +74,8 @@ launched_behind {P} world counts tells child c names before old new o launches l
 module _ (told : CallBasis) (unit : ℕ) (u : Planned) (there : unit_at told.project unit ≡ Some u) (before after : World) (old new : Counts) where
   -- by its command, whatever that is told by
   begins_calling : (begun : unit_begun) → begun.command ≡ told.command unit u → ChangesOnly (is_of (records_folder told.project) u.key) before after → (child_of begun ≡ None → after ≡ before)
-      → (child_of begun ≡ None → new ≡ past_look told.read told.project u begun.command before old)
-      → ((launched : Launched) → child_of begun ≡ Some launched → Launches told.child begun.command launched.ticket (past_look told.read told.project u begun.command before old) new)
+      → (child_of begun ≡ None → new ≡ past_look told.read true told.project u begun.command before old)
+      → ((launched : Launched) → child_of begun ≡ Some launched → Launches told.child begun.command launched.ticket (past_look told.read true told.project u begun.command before old) new)
       → BeginsCalling told unit (is_some (child_of begun)) before old after new
   begins_calling begun asks only same looks launches = record {
     unit = u;
@@ -108,14 +108,20 @@ module _ (tells : Bool) (child : Answers) (first old : UnitCrew) (at now new : M
 
   -- it has begun
   module _ (begun : unit_begun) (asks : begun.command ≡ command_of old.setup old.project u done) (only : IsTrue tells → ChangesOnly (is_of (records_folder old.project) u.key) now.world new.world) (same : IsTrue tells → child_of begun ≡ None → new.world ≡ now.world)
-      (looks : (read : Reading) → IsReading read → IsTrue tells → child_of begun ≡ None → new.counts ≡ past_look read old.project u begun.command now.world now.counts)
-      (launches : (launched : Launched) → child_of begun ≡ Some launched → (read : Reading) → IsReading read → IsTrue tells → Launches child begun.command launched.ticket (past_look read old.project u begun.command now.world now.counts) new.counts) where
+      (looks : (read : Reading) → IsReading read → IsTrue tells → child_of begun ≡ None → new.counts ≡ past_look read old.store.numbers.known old.project u begun.command now.world now.counts)
+      (launches : (launched : Launched) → child_of begun ≡ Some launched → (read : Reading) → IsReading read → IsTrue tells → Launches child begun.command launched.ticket (past_look read old.store.numbers.known old.project u begun.command now.world now.counts) new.counts) where
+    looks_known : (read : Reading) → IsReading read → IsTrue tells → child_of begun ≡ None → new.counts ≡ past_look read true old.project u begun.command now.world now.counts
+    looks_known read reading t none = subst (λ b. new.counts ≡ past_look read b old.project u begun.command now.world now.counts) story.known (looks read reading t none)
+
+    launches_known : (launched : Launched) → child_of begun ≡ Some launched → (read : Reading) → IsReading read → IsTrue tells → Launches child begun.command launched.ticket (past_look read true old.project u begun.command now.world now.counts) new.counts
+    launches_known launched is read reading t = subst (λ b. Launches child begun.command launched.ticket (past_look read b old.project u begun.command now.world now.counts) new.counts) story.known (launches launched is read reading t)
+
     pub calls_begun : IsTrue tells → FromFirst child first at old (λ b. CallsOver (call_basis b) (Began unit (is_some (child_of begun)) ∷ es) at.world at.counts new.world new.counts)
     calls_begun t f r s reading k = (
       now.world,
       now.counts,
       story.calls t f r s reading k,
-      begins_calling (call_basis (Of f r s)) unit u there now.world new.world now.counts new.counts begun (commanded begun.command asks t f r s reading k) (only t) (same t) (looks r reading t) (λ launched is. launches launched is r reading t),
+      begins_calling (call_basis (Of f r s)) unit u there now.world new.world now.counts new.counts begun (commanded begun.command asks t f r s reading k) (only t) (same t) (looks_known r reading t) (λ launched is. launches_known launched is r reading t),
     )
 
     pub calls_begun_on_any : (IsTrue tells → CallsOnAny child old.setup old.project old.done.items es at.world at.counts now.world now.counts)
@@ -124,30 +130,31 @@ module _ (tells : Bool) (child : Answers) (first old : UnitCrew) (at now new : M
       now.world,
       now.counts,
       calls t read reading,
-      begins_calling (OnAny read) unit u there now.world new.world now.counts new.counts begun (asks ∙ ap (command_of old.setup old.project u) same_done) (only t) (same t) (looks read reading t) (λ launched is. launches launched is read reading t),
+      begins_calling (OnAny read) unit u there now.world new.world now.counts new.counts begun (asks ∙ ap (command_of old.setup old.project u) same_done) (only t) (same t) (looks_known read reading t) (λ launched is. launches_known launched is read reading t),
     )
 
   -- it could not: it stopped at its look, or something had differed
-  abbrev Differed : Reading → Command → BuildFault → Type 0
-  Differed read c fault = StopsAt fault (looked_at read (records_folder old.project) u.key c now.world) now.counts new.counts ⊎ ((difference : Difference) × FirstDifference read (records_folder old.project) u.key c now.world (Some difference))
+  abbrev Differed : Bool → Reading → Command → BuildFault → Type 0
+  Differed known read c fault = StopsAt fault (looked_at read known (records_folder old.project) u.key c now.world) now.counts new.counts ⊎ ((difference : Difference) × FirstDifference read (records_folder old.project) u.key c now.world (Some difference))
 
   module _ (spawned : Bool) (fault : BuildFault)
-      (stops : IsTrue tells → ((read : Reading) → IsReading read → StopsAt fault (looked_at read (records_folder old.project) u.key (command_of old.setup old.project u done) now.world) now.counts new.counts)
-      ⊎ ((looked : Counts) × ((read : Reading) → IsReading read → looked ≡ past_look read old.project u (command_of old.setup old.project u done) now.world now.counts)
+      (stops : IsTrue tells → ((read : Reading) → IsReading read → StopsAt fault (looked_at read old.store.numbers.known (records_folder old.project) u.key (command_of old.setup old.project u done) now.world) now.counts new.counts)
+      ⊎ ((looked : Counts) × ((read : Reading) → IsReading read → looked ≡ past_look read old.store.numbers.known old.project u (command_of old.setup old.project u done) now.world now.counts)
       × LaunchEnds (place_of (records_folder old.project) u.key) u.out fault looked new.counts))
-      (differed : (read : Reading) → IsReading read → IsTrue tells → Differed read (command_of old.setup old.project u done) fault)
+      (differed : (read : Reading) → IsReading read → IsTrue tells → Differed old.store.numbers.known read (command_of old.setup old.project u done) fault)
       (only : IsTrue tells → ChangesOnly (is_of (records_folder old.project) u.key) now.world new.world) where
-    differed_by : (read : Reading) (c : Command) → command_of old.setup old.project u done ≡ c → IsReading read → IsTrue tells → Differed read c fault
-    differed_by read c is reading t = subst (λ (d : Command). Differed read d fault) is (differed read reading t)
+    differed_by : (read : Reading) (c : Command) → command_of old.setup old.project u done ≡ c → IsReading read → IsTrue tells → Differed true read c fault
+    differed_by read c is reading t = subst (λ (d : Command). Differed true read d fault) is (subst (λ b. Differed b read (command_of old.setup old.project u done) fault) story.known (differed read reading t))
 
-    stops_to_begin : IsTrue tells → (read : Reading) → IsReading read → StopsToBegin read old.project u (command_of old.setup old.project u done) fault now.world now.counts new.counts
+    stops_to_begin : IsTrue tells → (read : Reading) → IsReading read → StopsToBegin read old.store.numbers.known old.project u (command_of old.setup old.project u done) fault now.world now.counts new.counts
     stops_to_begin t read reading = elim (stops t) [
       | inl look ↦ inl (look read reading)
       | inr (looked, past, ends) ↦ inr (subst (λ (c : Counts). LaunchEnds (place_of (records_folder old.project) u.key) u.out fault c new.counts) (past read reading) ends)
     ]
 
-    stops_beginning : (read : Reading) (c : Command) → command_of old.setup old.project u done ≡ c → IsReading read → IsTrue tells → StopsToBegin read old.project u c fault now.world now.counts new.counts
-    stops_beginning read c is reading t = subst (λ (d : Command). StopsToBegin read old.project u d fault now.world now.counts new.counts) is (stops_to_begin t read reading)
+    stops_beginning : (read : Reading) (c : Command) → command_of old.setup old.project u done ≡ c → IsReading read → IsTrue tells → StopsToBegin read true old.project u c fault now.world now.counts new.counts
+    stops_beginning read c is reading t =
+        subst (λ (d : Command). StopsToBegin read true old.project u d fault now.world now.counts new.counts) is (subst (λ b. StopsToBegin read b old.project u (command_of old.setup old.project u done) fault now.world now.counts new.counts) story.known (stops_to_begin t read reading))
 
     pub calls_unbegun : IsTrue tells → FromFirst child first at old (λ b. CallsCut (call_basis b) fault None (Began unit spawned ∷ es) es at.world at.counts new.world new.counts)
     calls_unbegun t f r s reading k = (
@@ -234,7 +241,7 @@ module _ (told : CallBasis) (place : ℕ) (u : Planned) (there : unit_at told.pr
   -- it has answered, or a fault came in its place
   answers_calling : (by : Awaited) (spawned : Bool) → spawned ≡ is_some (child_in by) → WaitsTold told place u c before left old.starts.flying still by
       → (answer : Result Ended StartFault) (result : Result (Unit {0}) BuildFault) (well : Type 0) → (IsOk result → well) → (mid : Counts) → EndsBy by answer well still before left old mid
-      → (after : World) (new : Counts) → ChangesOnly (is_at_or_below (place_of (records_folder told.project) u.key)) left after → CallsBehind u.key by (answered_called told.read told.project u c left by) answer result mid new
+      → (after : World) (new : Counts) → ChangesOnly (is_at_or_below (place_of (records_folder told.project) u.key)) left after → CallsBehind u.key by (answered_called told.read true told.project u c left by) answer result mid new
       → AnswersCalling told place spawned result before old after new
   answers_calling by spawned is_child waits answer result well so mid ends after new only behind = record {
     unit = u;
@@ -249,7 +256,7 @@ module _ (told : CallBasis) (place : ℕ) (u : Planned) (there : unit_at told.pr
     ends = stood_still by answer well (IsOk result) mid waits so ends;
     replied = λ started. replies_so by answer well mid waits ends (sym is_child ∙ started);
     only = only;
-    calls = subst (λ (d : Command). CallsBehind u.key by (answered_called told.read told.project u d left by) answer result mid new) asks behind;
+    calls = subst (λ (d : Command). CallsBehind u.key by (answered_called told.read true told.project u d left by) answer result mid new) asks behind;
   }
 
 -- over a basis it waits so
@@ -269,7 +276,7 @@ module _ {P : Type 0} (world : P → World) (counts : P → Counts) (tells : Boo
   abbrev pub Lands : Result Ran BuildFault → Type 0
   Lands said = IsTrue tells → (left : P) × (answer : Result Ended StartFault) × EndsBy a.begun.awaited answer (IsOk said) still now.world (world left) now.counts (counts left)
       × ChangesOnly (is_at_or_below (place_of (records_folder old.project) u.key)) (world left) new.world
-      × ((read : Reading) → IsReading read → CallsBehind u.key a.begun.awaited (answered_called read old.project u a.begun.command (world left) a.begun.awaited) answer said (counts left) new.counts)
+      × ((read : Reading) → IsReading read → CallsBehind u.key a.begun.awaited (answered_called read old.store.numbers.known old.project u a.begun.command (world left) a.begun.awaited) answer said (counts left) new.counts)
 
   -- what is called behind, whatever is told of it
   abbrev Behind : Result (Unit {0}) BuildFault → Result Ran BuildFault → Type 0
@@ -284,8 +291,8 @@ module _ {P : Type 0} (world : P → World) (counts : P → Counts) (tells : Boo
       let (left, answer, ends, only, behind) = lands t in
       answers_calling (call_basis (On f r s)) a.unit u there a.begun.command asks (ap (λ (d : Command). d.out) asks ∙ command_out (On f r s) order a.unit u there) now.world (world left) now.counts still a.begun.awaited (is_started es a.unit) so_begun.started
       (waits_in (On f r s) a.unit u a.begun.command old.store.next now.world (world left) now.counts.starts.flying still a.begun.awaited waits)
-      answer result (IsOk said) so (counts left) ends new.world new.counts only (same_calls u.key a.begun.awaited (answered_called r old.project u a.begun.command (world left) a.begun.awaited) answer (counts left) new.counts
-      (has_answered a.begun.awaited answer (IsOk said) still now.world (world left) now.counts (counts left) ends) (behind r reading))
+      answer result (IsOk said) so (counts left) ends new.world new.counts only (same_calls u.key a.begun.awaited (answered_called r true old.project u a.begun.command (world left) a.begun.awaited) answer (counts left) new.counts
+      (has_answered a.begun.awaited answer (IsOk said) still now.world (world left) now.counts (counts left) ends) (subst (λ b. CallsBehind u.key a.begun.awaited (answered_called r b old.project u a.begun.command (world left) a.begun.awaited) answer said (counts left) new.counts) story.known (behind r reading)))
 
   -- it has answered
   pub calls_answered : (answer : Answer BadUnit) (ran : Ran) → Lands (ended_well ran) → IsTrue tells → FromFirst child first at old (λ b. CallsOver (call_basis b) (Gave a.unit answer ∷ es) at.world at.counts new.world new.counts)
@@ -328,8 +335,8 @@ module _ {P : Type 0} (world : P → World) (counts : P → Counts) (tells : Boo
         answers_calling (call_basis_on_any read child old.setup old.project done') a.unit u there a.begun.command (asks ∙ same)
         (writes_to_folder read child old.setup old.project order a.unit u there old.done.items at.world now.world now.counts still a.begun.command asks) now.world (world left) now.counts still a.begun.awaited (is_started es a.unit) flies.started
         (waits_on_any read child old.setup old.project order a.unit u there old.done.items at.world now.world now.counts still a.begun.command asks (world left) (far flies.state) done' same a.begun.awaited answer (IsOk said) (counts left) carries (anew t u there) ends)
-        answer result (IsOk said) so (counts left) ends new.world new.counts only (same_calls u.key a.begun.awaited (answered_called read old.project u a.begun.command (world left) a.begun.awaited) answer (counts left) new.counts
-        (has_answered a.begun.awaited answer (IsOk said) still now.world (world left) now.counts (counts left) ends) (behind read reading))
+        answer result (IsOk said) so (counts left) ends new.world new.counts only (same_calls u.key a.begun.awaited (answered_called read true old.project u a.begun.command (world left) a.begun.awaited) answer (counts left) new.counts
+        (has_answered a.begun.awaited answer (IsOk said) still now.world (world left) now.counts (counts left) ends) (subst (λ b. CallsBehind u.key a.begun.awaited (answered_called read b old.project u a.begun.command (world left) a.begun.awaited) answer said (counts left) new.counts) story.known (behind read reading)))
 
     -- it has answered; what is noted of it changes no command of those that have begun
     pub calls_answered_on_any : (done' : List (Option (List Directive))) (d : Option (List Directive)) → done' ≡ slice_set old.done.items a.unit d → (answer : Answer BadUnit) (ran : Ran) → Lands (ended_well ran)

@@ -93,9 +93,9 @@ no_answer answer e = cc
 none_begun : (project : Project) (place : ℕ) → HasBegun (untouched project) place → ⊥
 none_begun project place (s, at, begun) = false≢true (sym begun ∙ ap is_untouched (untouched_at (needs_of project) place s at))
 
-pub story_first : (tells : Bool) (child : Answers) (c : UnitCrew) (at : Moment) (still : ℕ → Type 0) → c.aloft.items ≡ [] → c.started.items ≡ []
+pub story_first : (tells : Bool) (child : Answers) (c : UnitCrew) (at : Moment) (still : ℕ → Type 0) → c.aloft.items ≡ [] → c.started.items ≡ [] → c.store.numbers.known ≡ true
     → (IsTrue tells → (read : Reading) → IsReading read → HoldsNumbers (record_at read (records_folder c.project) at.world.files) c.store.numbers) → Story tells child c at c at still [] 0
-story_first tells child c at still aloft started holds = record {
+story_first tells child c at still aloft started known holds = record {
   setup = refl;
   project = refl;
   goes = record {
@@ -123,6 +123,7 @@ story_first tells child c at still aloft started holds = record {
   left = λ t. recordings_first child c.setup c.project c.done.items c.aloft.items c.store.next at.world aloft;
   began = λ t read reading place has. absurd (none_begun c.project place has);
   quiet = λ t read reading none numbered. refl;
+  known = known;
   held = holds;
   calls = λ t f r s reading keeps. (refl, refl);
   calls_on_any = λ t read reading. (refl, refl);

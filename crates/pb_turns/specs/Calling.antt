@@ -63,8 +63,8 @@ call_basis_on_any read child setup project done = record {
 
 -- where nothing differed no other call was made, and nothing was changed; else its child was launched
 abbrev pub CallsToBegin : Reading → Answers → Project → Planned → Command → Bool → World → Counts → World → Counts → Type 0
-CallsToBegin read child project u c false before old after new = (after ≡ before) × (new ≡ past_look read project u c before old)
-CallsToBegin read child project u c true before old after new = (ticket : ℕ) × Launches child c ticket (past_look read project u c before old) new
+CallsToBegin read child project u c false before old after new = (after ≡ before) × (new ≡ past_look read true project u c before old)
+CallsToBegin read child project u c true before old after new = (ticket : ℕ) × Launches child c ticket (past_look read true project u c before old) new
 
 -- the unit at a place began by just these calls
 pub record BeginsCalling (b : CallBasis) (place : ℕ) (spawned : Bool) (before : World) (old : Counts) (after : World) (new : Counts) : Type 0 where
@@ -78,8 +78,8 @@ pub record StopsBeginning (b : CallBasis) (place : ℕ) (fault : BuildFault) (w 
   pub unit : Planned
   pub there : unit_at b.project place ≡ Some unit
   pub only : ChangesOnly (is_of (records_folder b.project) unit.key) w after
-  pub stops : StopsToBegin b.read b.project unit (b.command place unit) fault w old new
-  pub differed : StopsAt fault (looked_at b.read (records_folder b.project) unit.key (b.command place unit) w) old new ⊎ ((difference : Difference) × FirstDifference b.read (records_folder b.project) unit.key (b.command place unit) w (Some difference))
+  pub stops : StopsToBegin b.read true b.project unit (b.command place unit) fault w old new
+  pub differed : StopsAt fault (looked_at b.read true (records_folder b.project) unit.key (b.command place unit) w) old new ⊎ ((difference : Difference) × FirstDifference b.read (records_folder b.project) unit.key (b.command place unit) w (Some difference))
 
 -- A unit answers.
 
@@ -110,7 +110,7 @@ pub record AnswersCalling (b : CallBasis) (place : ℕ) (spawned : Bool) (result
   pub ends : EndsBy by answer (IsOk result) (λ ticket. Unit {0}) before left old mid
   pub replied : spawned ≡ true → IfOk answer (λ ended. EndsAsReplied (reply_by b place unit left) unit ended left)
   pub only : ChangesOnly (is_at_or_below (place_of (records_folder b.project) unit.key)) left after
-  pub calls : CallsBehind unit.key by (answered_called b.read b.project unit (b.command place unit) left by) answer result mid new
+  pub calls : CallsBehind unit.key by (answered_called b.read true b.project unit (b.command place unit) left by) answer result mid new
 
 -- All of them.
 

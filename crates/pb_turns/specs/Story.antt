@@ -352,7 +352,7 @@ FromFirst child first at c Since = (footing : Footing) (read : Reading) (sources
     → Keeps (basis footing read child c.setup c.project sources) (untouched c.project) first.done.items first.store.next at.world
     → Since (basis footing read child c.setup c.project sources)
 
--- the story of a crew between two moments, by which its store holds the run numbers of the records of its folder
+-- the story of a crew between two moments, by which its store knows the run numbers of the records of its folder
 pub record Story (tells : Bool) (child : Answers) (first : UnitCrew) (at : Moment) (c : UnitCrew) (now : Moment) (still : ℕ → Type 0) (es : List (Event BadUnit)) (given : ℕ) : Type 0 where
   pub setup : c.setup ≡ first.setup
   pub project : c.project ≡ first.project
@@ -366,6 +366,7 @@ pub record Story (tells : Bool) (child : Answers) (first : UnitCrew) (at : Momen
   pub left : IsTrue tells → Recordings child c.setup c.project c.done.items c.aloft.items es first.store.next at.world now.world
   pub began : IsTrue tells → AllBeganOnAny c.setup c.project c.done.items es c.reasons.items at.world now.world
   pub quiet : IsTrue tells → (read : Reading) → IsReading read → IsQuiet c.project read es at.world now.world
+  pub known : c.store.numbers.known ≡ true
   pub held : IsTrue tells → (read : Reading) → IsReading read → HoldsNumbers (record_at read (records_folder c.project) now.world.files) c.store.numbers
   pub happened : IsTrue tells → FromFirst child first at c (λ b. Happened b c.done.items c.aloft.items c.store.next es now.world now.counts.starts.flying still)
   pub taken : IsTrue tells → (read : Reading) → IsReading read → NumbersGiven (LacksNumber c.project read at.world) es first.store.next c.store.next

@@ -1,6 +1,6 @@
 //! The units of a project, by turns.
 
-ghost use Rattle.std.specs.Prelude.{◌≡◌, [], ℕ, List, IfOk, IsTrue, length, map, None};
+ghost use Rattle.std.specs.Prelude.{◌≡◌, [], ℕ, List, IfOk, IsTrue, length, map, true, None};
 ghost use Rattle.pb_flight.specs.Table.{fresh, first_bad};
 ghost use Rattle.pb_record.specs.Parts.{IsReading};
 ghost use Rattle.pb_run.specs.Standing.{records_folder};
@@ -102,6 +102,7 @@ pub fn run_turns<P: Place, O: Out, T: Turn>(
     turn: &mut T,
 ) -> Result<Summary, BuildFault>
     requires folder { store.folder ≡ records_folder project }
+    requires known { store.numbers.known ≡ true }
     requires numbers { (read : Reading) → IsReading read → IsTrue P.tells → HoldsNumbers (record_at read (records_folder project) (P.world place.old).files) store.numbers }
     requires none { (P.counts place.old).starts.flying ≡ [] }
     ensures { TurnsEnd P.tells P.child T.turns setup project store.next turn.old turn.new result

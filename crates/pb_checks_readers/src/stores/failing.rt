@@ -117,3 +117,60 @@ fn failing_calls_are_told(rt: HostRuntime) -> Result<(), Fail> {
     }
     Ok(())
 }
+
+/// Adds what a call tells whose first call of the place fails.
+fn fail_first(
+    alloc: Global,
+    place: &mut Memory<Mini>,
+    store: &mut Store,
+    verb: &str,
+    out: &mut Shown,
+) -> Result<(), Fail> {
+    place.fuse(1);
+    let is_told = call(alloc, place, store, verb, ("", ""), out);
+    place.fuse(0);
+    is_told?;
+    out.put(&[", "]);
+    Ok(())
+}
+
+/// The same of comparisons before and behind a record that could not be removed, and of one that does not fail.
+fn fail_in_turn(
+    alloc: Global,
+    place: &mut Memory<Mini>,
+    store: &mut Store,
+    out: &mut Shown,
+) -> Result<(), Fail> {
+    fail_first(alloc, place, store, "differs", out)?;
+    fail_first(alloc, place, store, "drop", out)?;
+    fail_first(alloc, place, store, "differs", out)?;
+    tell_compared(alloc, place, store, ("", ""), false, out)
+}
+
+/// In a fresh place.
+fn told_in_turn(alloc: Global, out: &mut Shown) -> Result<(), Fail> {
+    let mut place = Memory::new(alloc, Mini);
+    let is_told = match begin(alloc, &mut place) {
+        Ok(mut store) => {
+            let is_told = fail_in_turn(alloc, &mut place, &mut store, out);
+            drop(store);
+            is_told
+        }
+        Err(fault) => Err(fault),
+    };
+    drop(place);
+    is_told
+}
+
+#[test]
+fn numbers_are_read_anew_behind_a_failed_removal(rt: HostRuntime) -> Result<(), Fail> {
+    let mut out = Shown::new(rt.alloc());
+    told_in_turn(rt.alloc(), &mut out)?;
+    assert!(rt;
+        out.says(
+            "a file could not be read, a file or folder could not be removed, a folder could not be listed, same"
+        ),
+        "numbers"
+    );
+    Ok(())
+}

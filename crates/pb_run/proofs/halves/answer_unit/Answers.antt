@@ -6,7 +6,7 @@ use Rattle.pb_place.specs.Counts.{Starts}
 use Rattle.pb_place.specs.Paths.{is_at_or_below}
 use Rattle.pb_place.specs.World.{ChangesOnly}
 use Rattle.pb_place.proofs.Folders.{only_same}
-use Rattle.pb_run.specs.Halves.{KeepsOthersStill, WritesTo, awaits_number, basis, child_in, child_of}
+use Rattle.pb_run.specs.Halves.{BeginsApart, KeepsOthersStill, WritesTo, awaits_number, basis, child_in, child_of}
 use Rattle.pb_run.specs.Landing.{CallsBehind, EndsBy, IsJudged, answered_called, record_left}
 use Rattle.pb_run.specs.Standing.{records_folder}
 use Rattle.pb_run.specs.declared.begun.Awaited.{Awaited}
@@ -125,7 +125,7 @@ returns-in-Ok-clause-lands g c told =
       answer,
       subst (λ (o : Awaited). EndsBy o answer _ (g.P.Place.still c.args.place.now) (g.P.Place.world c.args.place.now) (g.P.Place.world left) (g.P.Place.counts c.args.place.now) (g.P.Place.counts left)) (sym c.in-Child.is) ended,
       only,
-      λ read reading. subst (λ (o : Awaited). CallsBehind c.args.unit.now.key o (answered_called read c.args.project.now c.args.unit.now c.args.begun.command (g.P.Place.world left) o) answer (ended_well c.in-Ok.ran) (g.P.Place.counts left) (g.P.Place.counts c.land.new.place)) (sym c.in-Child.is) (calls read reading),
+      λ read reading. subst (λ (o : Awaited). CallsBehind c.args.unit.now.key o (answered_called read c.args.store.now.numbers.known c.args.project.now c.args.unit.now c.args.begun.command (g.P.Place.world left) o) answer (ended_well c.in-Ok.ran) (g.P.Place.counts left) (g.P.Place.counts c.land.new.place)) (sym c.in-Child.is) (calls read reading),
     )
 
 pub returns-in-Child-clause-lands : goal.returns-in-Child-clause-lands
@@ -135,7 +135,7 @@ returns-in-Child-clause-lands g c told =
       answer,
       subst (λ (o : Awaited). EndsBy o answer _ (g.P.Place.still c.args.place.now) (g.P.Place.world c.args.place.now) (g.P.Place.world left) (g.P.Place.counts c.args.place.now) (g.P.Place.counts left)) (sym c.in-Child.is) ended,
       only,
-      λ read reading. subst (λ (o : Awaited). CallsBehind c.args.unit.now.key o (answered_called read c.args.project.now c.args.unit.now c.args.begun.command (g.P.Place.world left) o) answer (ended_badly c.in-Err.fault) (g.P.Place.counts left) (g.P.Place.counts c.land.new.place)) (sym c.in-Child.is) (calls read reading),
+      λ read reading. subst (λ (o : Awaited). CallsBehind c.args.unit.now.key o (answered_called read c.args.store.now.numbers.known c.args.project.now c.args.unit.now c.args.begun.command (g.P.Place.world left) o) answer (ended_badly c.in-Err.fault) (g.P.Place.counts left) (g.P.Place.counts c.land.new.place)) (sym c.in-Child.is) (calls read reading),
     )
 
 pub returns-in-Ok-reuse-clause-lands : goal.returns-in-Ok-reuse-clause-lands
@@ -147,7 +147,7 @@ returns-in-Ok-reuse-clause-lands g c told = (
       (sym c.in-Record.is) (refl, refl, refl),
   c.in-Ok-reuse.ensures.lands told,
   λ read reading. subst
-      (λ (o : Awaited). CallsBehind c.args.unit.now.key o (answered_called read c.args.project.now c.args.unit.now c.args.begun.command (g.P.Place.world c.args.place.now) o) (Ok c.in-Record.again.ended) (ended_well c.in-Ok-reuse.ran) (g.P.Place.counts c.args.place.now) (g.P.Place.counts c.reuse.new.place))
+      (λ (o : Awaited). CallsBehind c.args.unit.now.key o (answered_called read c.args.store.now.numbers.known c.args.project.now c.args.unit.now c.args.begun.command (g.P.Place.world c.args.place.now) o) (Ok c.in-Record.again.ended) (ended_well c.in-Ok-reuse.ran) (g.P.Place.counts c.args.place.now) (g.P.Place.counts c.reuse.new.place))
       (sym c.in-Record.is) (c.in-Ok-reuse.ensures.calls read reading told),
 )
 
@@ -160,7 +160,7 @@ returns-clause-lands g c told = (
       (sym c.in-Record.is) (refl, refl, refl),
   c.in-Err-reuse.ensures.lands told,
   λ read reading. subst
-      (λ (o : Awaited). CallsBehind c.args.unit.now.key o (answered_called read c.args.project.now c.args.unit.now c.args.begun.command (g.P.Place.world c.args.place.now) o) (Ok c.in-Record.again.ended) (ended_badly c.in-Err-reuse.fault) (g.P.Place.counts c.args.place.now) (g.P.Place.counts c.reuse.new.place))
+      (λ (o : Awaited). CallsBehind c.args.unit.now.key o (answered_called read c.args.store.now.numbers.known c.args.project.now c.args.unit.now c.args.begun.command (g.P.Place.world c.args.place.now) o) (Ok c.in-Record.again.ended) (ended_badly c.in-Err-reuse.fault) (g.P.Place.counts c.args.place.now) (g.P.Place.counts c.reuse.new.place))
       (sym c.in-Record.is) (c.in-Err-reuse.ensures.calls read reading told),
 )
 
@@ -254,3 +254,34 @@ returns-in-Ok-reuse-clause-kept g c read is told writes holds good = (
 pub returns-in-Ok-reuse-clause-outcome : goal.returns-in-Ok-reuse-clause-outcome
 returns-in-Ok-reuse-clause-outcome g c footing read setup sources states done is told can =
     c.in-Ok-reuse.ensures.outcome footing read setup sources states done is told (can_by_parts (basis footing read g.P.Place.child setup c.args.project.now sources) c.args.index c.args.begun c.args.store.now.next (g.P.Place.world c.args.place.now) (g.P.Place.counts c.args.place.now).starts.flying (g.P.Place.still c.args.place.now) c.args.unit.now.key (awaited.Record c.in-Record.again) c.requires.named c.in-Record.is states done c.args.unit.now can)
+
+pub returns-in-Child-clause-numbers : goal.returns-in-Child-clause-numbers
+returns-in-Child-clause-numbers g c read is told writes holds =
+    c.in-Err.ensures.numbers read is told (subst (λ (o : Awaited). WritesTo c.args.unit.now.out (child_in o) (g.P.Place.counts c.args.place.now).starts.flying) c.in-Child.is writes) holds
+
+pub returns-clause-numbers : goal.returns-clause-numbers
+returns-clause-numbers g c read is told writes holds = c.in-Err-reuse.ensures.numbers read is told holds
+
+pub returns-in-Ok-clause-others : goal.returns-in-Ok-clause-others
+returns-in-Ok-clause-others g c footing read setup sources states done other its is told holds can apart =
+    c.in-Ok.ensures.others footing read setup sources states done other its is told holds
+    (can_by_parts (basis footing read g.P.Place.child setup c.args.project.now sources) c.args.index c.args.begun c.args.store.now.next (g.P.Place.world c.args.place.now) (g.P.Place.counts c.args.place.now).starts.flying (g.P.Place.still c.args.place.now) c.args.unit.now.key (awaited.Child c.in-Child.launched) c.requires.named c.in-Child.is states done c.args.unit.now can)
+    (subst (λ (o : Option Launched). BeginsApart (basis footing read g.P.Place.child setup c.args.project.now sources) states c.args.index o other its c.args.store.now.next (g.P.Place.world c.args.place.now) (g.P.Place.counts c.args.place.now).starts.flying (g.P.Place.still c.args.place.now)) (ap child_in c.in-Child.is) apart)
+
+pub returns-in-Child-clause-others : goal.returns-in-Child-clause-others
+returns-in-Child-clause-others g c footing read setup sources states done other its is told holds can apart =
+    c.in-Err.ensures.others footing read setup sources states done other its is told holds
+    (can_by_parts (basis footing read g.P.Place.child setup c.args.project.now sources) c.args.index c.args.begun c.args.store.now.next (g.P.Place.world c.args.place.now) (g.P.Place.counts c.args.place.now).starts.flying (g.P.Place.still c.args.place.now) c.args.unit.now.key (awaited.Child c.in-Child.launched) c.requires.named c.in-Child.is states done c.args.unit.now can)
+    (subst (λ (o : Option Launched). BeginsApart (basis footing read g.P.Place.child setup c.args.project.now sources) states c.args.index o other its c.args.store.now.next (g.P.Place.world c.args.place.now) (g.P.Place.counts c.args.place.now).starts.flying (g.P.Place.still c.args.place.now)) (ap child_in c.in-Child.is) apart)
+
+pub returns-in-Ok-reuse-clause-others : goal.returns-in-Ok-reuse-clause-others
+returns-in-Ok-reuse-clause-others g c footing read setup sources states done other its is told holds can apart =
+    c.in-Ok-reuse.ensures.others footing read setup sources states done other its is told holds
+    (can_by_parts (basis footing read g.P.Place.child setup c.args.project.now sources) c.args.index c.args.begun c.args.store.now.next (g.P.Place.world c.args.place.now) (g.P.Place.counts c.args.place.now).starts.flying (g.P.Place.still c.args.place.now) c.args.unit.now.key (awaited.Record c.in-Record.again) c.requires.named c.in-Record.is states done c.args.unit.now can)
+    (subst (λ (o : Option Launched). BeginsApart (basis footing read g.P.Place.child setup c.args.project.now sources) states c.args.index o other its c.args.store.now.next (g.P.Place.world c.args.place.now) (g.P.Place.counts c.args.place.now).starts.flying (g.P.Place.still c.args.place.now)) (ap child_in c.in-Record.is) apart)
+
+pub returns-clause-others : goal.returns-clause-others
+returns-clause-others g c footing read setup sources states done other its is told holds can apart =
+    c.in-Err-reuse.ensures.others footing read setup sources states done other its is told holds
+    (can_by_parts (basis footing read g.P.Place.child setup c.args.project.now sources) c.args.index c.args.begun c.args.store.now.next (g.P.Place.world c.args.place.now) (g.P.Place.counts c.args.place.now).starts.flying (g.P.Place.still c.args.place.now) c.args.unit.now.key (awaited.Record c.in-Record.again) c.requires.named c.in-Record.is states done c.args.unit.now can)
+    (subst (λ (o : Option Launched). BeginsApart (basis footing read g.P.Place.child setup c.args.project.now sources) states c.args.index o other its c.args.store.now.next (g.P.Place.world c.args.place.now) (g.P.Place.counts c.args.place.now).starts.flying (g.P.Place.still c.args.place.now)) (ap child_in c.in-Record.is) apart)

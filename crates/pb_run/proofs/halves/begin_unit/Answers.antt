@@ -12,8 +12,9 @@ use Rattle.pb_run.specs.Standing.{records_folder}
 use Rattle.pb_run.proofs.Judged.{child_starts}
 use Rattle.pb_run.proofs.Calling.{launch_no_look, memory_first}
 use Rattle.pb_run.proofs.Halving.{begun_none, begun_some, flies_lifted, flying_begun, keeps_launched, keeps_same, others_begun, others_same, out_asked, still_after}
-use Rattle.pb_run.proofs.Held.{held_same, held_there}
+use Rattle.pb_run.proofs.Held.{differs_first, held_same, held_there}
 use Rattle.pb_run.proofs.Writes.{spawned_writes}
+use Rattle.pb_store.specs.Held.{GoesBy}
 use Rattle.pb_run.proofs.halves.begin_unit.Goals as goal
 use Rattle.pb_soundness.specs.Apart.{KeepsStillOutside, is_of}
 use Rattle.pb_soundness.specs.Records.{place_of, record_at}
@@ -122,14 +123,14 @@ returns-in-Err-launch-clause-spent g c none told = c.in-Err-launch.ensures.spent
 pub returns-in-Ok-launch-clause-launches : goal.returns-in-Ok-launch-clause-launches
 returns-in-Ok-launch-clause-launches g c = (
   c.compare.new.place,
-  record { same = c.in-Ok-compare.ensures.same; failures = c.in-Ok-compare.ensures.takes.0; starts = c.in-Ok-compare.ensures.takes.1; looks = λ read reading told. c.in-Ok-compare.ensures.looked read reading told ∙ ap (λ (folder : List ℕ). past_calls (looked_at read folder c.args.unit.now.key c.in-Ok-command.command (g.P.Place.world c.args.place.now)) (g.P.Place.counts c.args.place.now)) c.requires.folder },
+  record { same = c.in-Ok-compare.ensures.same; failures = c.in-Ok-compare.ensures.takes.0; starts = c.in-Ok-compare.ensures.takes.1; looks = λ read reading told. c.in-Ok-compare.ensures.looked read reading told ∙ ap (λ (folder : List ℕ). past_calls (looked_at read c.args.store.now.numbers.known folder c.args.unit.now.key c.in-Ok-command.command (g.P.Place.world c.args.place.now)) (g.P.Place.counts c.args.place.now)) c.requires.folder },
   c.in-Ok-launch.ensures.calls,
 )
 
 pub returns-in-Err-launch-clause-launch_ends : goal.returns-in-Err-launch-clause-launch_ends
 returns-in-Err-launch-clause-launch_ends g c of_start = (
   c.compare.new.place,
-  record { same = c.in-Ok-compare.ensures.same; failures = c.in-Ok-compare.ensures.takes.0; starts = c.in-Ok-compare.ensures.takes.1; looks = λ read reading told. c.in-Ok-compare.ensures.looked read reading told ∙ ap (λ (folder : List ℕ). past_calls (looked_at read folder c.args.unit.now.key c.in-Ok-command.command (g.P.Place.world c.args.place.now)) (g.P.Place.counts c.args.place.now)) c.requires.folder ∙ ap (λ (command : Command). past_calls (looked_at read (records_folder c.args.project.now) c.args.unit.now.key command (g.P.Place.world c.args.place.now)) (g.P.Place.counts c.args.place.now)) c.in-Ok-command.ensures },
+  record { same = c.in-Ok-compare.ensures.same; failures = c.in-Ok-compare.ensures.takes.0; starts = c.in-Ok-compare.ensures.takes.1; looks = λ read reading told. c.in-Ok-compare.ensures.looked read reading told ∙ ap (λ (folder : List ℕ). past_calls (looked_at read c.args.store.now.numbers.known folder c.args.unit.now.key c.in-Ok-command.command (g.P.Place.world c.args.place.now)) (g.P.Place.counts c.args.place.now)) c.requires.folder ∙ ap (λ (command : Command). past_calls (looked_at read c.args.store.now.numbers.known (records_folder c.args.project.now) c.args.unit.now.key command (g.P.Place.world c.args.place.now)) (g.P.Place.counts c.args.place.now)) c.in-Ok-command.ensures },
   subst (λ (folder : List ℕ). LaunchTakes (place_of folder c.args.unit.now.key) c.args.unit.now.out c.in-Err-launch.fault c.args.store.now.next c.launch.new.store.next (g.P.Place.counts c.compare.new.place) (g.P.Place.counts c.launch.new.place)) c.requires.folder c.in-Err-launch.ensures.ends,
 )
 
@@ -141,14 +142,14 @@ returns-in-Err-command-clause-stops g c told = inl (λ read reading. memory_firs
 
 pub returns-in-Err-compare-clause-stops : goal.returns-in-Err-compare-clause-stops
 returns-in-Err-compare-clause-stops g c told = inl (λ read reading.
-    subst (λ (command : Command). StopsAt c.in-Err-compare.fault (looked_at read (records_folder c.args.project.now) c.args.unit.now.key command (g.P.Place.world c.args.place.now)) (g.P.Place.counts c.args.place.now) (g.P.Place.counts c.compare.new.place)) c.in-Ok-command.ensures
-    (subst (λ (folder : List ℕ). StopsAt c.in-Err-compare.fault (looked_at read folder c.args.unit.now.key c.in-Ok-command.command (g.P.Place.world c.args.place.now)) (g.P.Place.counts c.args.place.now) (g.P.Place.counts c.compare.new.place)) c.requires.folder
+    subst (λ (command : Command). StopsAt c.in-Err-compare.fault (looked_at read c.args.store.now.numbers.known (records_folder c.args.project.now) c.args.unit.now.key command (g.P.Place.world c.args.place.now)) (g.P.Place.counts c.args.place.now) (g.P.Place.counts c.compare.new.place)) c.in-Ok-command.ensures
+    (subst (λ (folder : List ℕ). StopsAt c.in-Err-compare.fault (looked_at read c.args.store.now.numbers.known folder c.args.unit.now.key c.in-Ok-command.command (g.P.Place.world c.args.place.now)) (g.P.Place.counts c.args.place.now) (g.P.Place.counts c.compare.new.place)) c.requires.folder
     (c.in-Err-compare.ensures.looked read reading told)))
 
 pub returns-in-Err-launch-clause-stops : goal.returns-in-Err-launch-clause-stops
 returns-in-Err-launch-clause-stops g c told = inr (
   c.compare.new.place,
-  record { same = c.in-Ok-compare.ensures.same; failures = c.in-Ok-compare.ensures.takes.0; starts = c.in-Ok-compare.ensures.takes.1; looks = λ read reading told. c.in-Ok-compare.ensures.looked read reading told ∙ ap (λ (folder : List ℕ). past_calls (looked_at read folder c.args.unit.now.key c.in-Ok-command.command (g.P.Place.world c.args.place.now)) (g.P.Place.counts c.args.place.now)) c.requires.folder ∙ ap (λ (command : Command). past_calls (looked_at read (records_folder c.args.project.now) c.args.unit.now.key command (g.P.Place.world c.args.place.now)) (g.P.Place.counts c.args.place.now)) c.in-Ok-command.ensures },
+  record { same = c.in-Ok-compare.ensures.same; failures = c.in-Ok-compare.ensures.takes.0; starts = c.in-Ok-compare.ensures.takes.1; looks = λ read reading told. c.in-Ok-compare.ensures.looked read reading told ∙ ap (λ (folder : List ℕ). past_calls (looked_at read c.args.store.now.numbers.known folder c.args.unit.now.key c.in-Ok-command.command (g.P.Place.world c.args.place.now)) (g.P.Place.counts c.args.place.now)) c.requires.folder ∙ ap (λ (command : Command). past_calls (looked_at read c.args.store.now.numbers.known (records_folder c.args.project.now) c.args.unit.now.key command (g.P.Place.world c.args.place.now)) (g.P.Place.counts c.args.place.now)) c.in-Ok-command.ensures },
   subst (λ (folder : List ℕ). LaunchEnds (place_of folder c.args.unit.now.key) c.args.unit.now.out c.in-Err-launch.fault (g.P.Place.counts c.compare.new.place) (g.P.Place.counts c.launch.new.place)) c.requires.folder c.in-Err-launch.ensures.calls,
 )
 
@@ -160,12 +161,12 @@ returns-in-Err-command-clause-differed g c read reading told holds = inl (memory
 
 pub returns-in-Err-compare-clause-differed : goal.returns-in-Err-compare-clause-differed
 returns-in-Err-compare-clause-differed g c read reading told holds = inl
-    (subst (λ (command : Command). StopsAt c.in-Err-compare.fault (looked_at read (records_folder c.args.project.now) c.args.unit.now.key command (g.P.Place.world c.args.place.now)) (g.P.Place.counts c.args.place.now) (g.P.Place.counts c.compare.new.place)) c.in-Ok-command.ensures
-    (subst (λ (folder : List ℕ). StopsAt c.in-Err-compare.fault (looked_at read folder c.args.unit.now.key c.in-Ok-command.command (g.P.Place.world c.args.place.now)) (g.P.Place.counts c.args.place.now) (g.P.Place.counts c.compare.new.place)) c.requires.folder
+    (subst (λ (command : Command). StopsAt c.in-Err-compare.fault (looked_at read c.args.store.now.numbers.known (records_folder c.args.project.now) c.args.unit.now.key command (g.P.Place.world c.args.place.now)) (g.P.Place.counts c.args.place.now) (g.P.Place.counts c.compare.new.place)) c.in-Ok-command.ensures
+    (subst (λ (folder : List ℕ). StopsAt c.in-Err-compare.fault (looked_at read c.args.store.now.numbers.known folder c.args.unit.now.key c.in-Ok-command.command (g.P.Place.world c.args.place.now)) (g.P.Place.counts c.args.place.now) (g.P.Place.counts c.compare.new.place)) c.requires.folder
     (c.in-Err-compare.ensures.looked read reading told)))
 
 pub returns-in-Same-clause-looks : goal.returns-in-Same-clause-looks
-returns-in-Same-clause-looks g c read reading told none = c.in-Ok-compare.ensures.looked read reading told ∙ ap (λ (folder : List ℕ). past_calls (looked_at read folder c.args.unit.now.key c.in-Ok-command.command (g.P.Place.world c.args.place.now)) (g.P.Place.counts c.args.place.now)) c.requires.folder
+returns-in-Same-clause-looks g c read reading told none = c.in-Ok-compare.ensures.looked read reading told ∙ ap (λ (folder : List ℕ). past_calls (looked_at read c.args.store.now.numbers.known folder c.args.unit.now.key c.in-Ok-command.command (g.P.Place.world c.args.place.now)) (g.P.Place.counts c.args.place.now)) c.requires.folder
 
 pub returns-in-Same-clause-numbers : goal.returns-in-Same-clause-numbers
 returns-in-Same-clause-numbers g c read told holds =
@@ -181,7 +182,7 @@ pub returns-in-Ok-launch-clause-held : goal.returns-in-Ok-launch-clause-held
 returns-in-Ok-launch-clause-held g c read records is told holds =
     subst (λ (f : List ℕ). FirstOf f records c.in-Ok-command.command (g.P.Place.world c.args.place.now) (record_at read f (g.P.Place.world c.args.place.now).files c.args.unit.now.key) (Some c.in-Differs.difference)) c.requires.folder
     (subst (λ (compared : Compared). FirstOf c.args.store.now.folder records c.in-Ok-command.command (g.P.Place.world c.args.place.now) (record_at read c.args.store.now.folder (g.P.Place.world c.args.place.now).files c.args.unit.now.key) (difference_in compared)) c.in-Differs.is
-    (c.in-Ok-compare.ensures.held read records is told holds))
+    (c.in-Ok-compare.ensures.held read records is told (subst (λ (f : List ℕ). GoesBy (record_at read f (g.P.Place.world c.args.place.now).files) c.args.store.now.numbers records) (sym c.requires.folder) holds)))
 
 pub returns-in-Err-launch-clause-unnumbered : goal.returns-in-Err-launch-clause-unnumbered
 returns-in-Err-launch-clause-unnumbered g c look = absurd (launch_no_look _ _ c.in-Err-launch.fault _ _ c.in-Err-launch.ensures.calls look)
@@ -214,3 +215,28 @@ pub returns-in-Err-launch-clause-still : goal.returns-in-Err-launch-clause-still
 returns-in-Err-launch-clause-still g c told =
     subst (λ (f : List ℕ). KeepsStillOutside (is_of f c.args.unit.now.key) (g.P.Place.counts c.args.place.now).starts.flying (g.P.Place.still c.args.place.now) (g.P.Place.still c.launch.new.place)) c.requires.folder
     (still_after (is_of c.args.store.now.folder c.args.unit.now.key) (g.P.Place.counts c.args.place.now).starts.flying (g.P.Place.counts c.compare.new.place).starts.flying (g.P.Place.still c.args.place.now) (g.P.Place.still c.compare.new.place) (g.P.Place.still c.launch.new.place) (c.in-Ok-compare.ensures.still told) (ap (λ (s : Starts). s.flying) c.in-Ok-compare.ensures.takes.1) (c.in-Err-launch.ensures.still told))
+
+pub returns-in-Err-compare-clause-numbers : goal.returns-in-Err-compare-clause-numbers
+returns-in-Err-compare-clause-numbers g c read told holds =
+    held_same read (records_folder c.args.project.now) (records_folder c.args.project.now) (g.P.Place.world c.args.place.now) (g.P.Place.world c.compare.new.place) c.args.store.now.numbers refl (c.in-Err-compare.ensures.same told) holds
+
+pub returns-in-Err-launch-clause-numbers : goal.returns-in-Err-launch-clause-numbers
+returns-in-Err-launch-clause-numbers g c read told holds =
+    held_there read c.args.store.now.folder (records_folder c.args.project.now) (g.P.Place.world c.launch.new.place) c.launch.new.store.numbers c.requires.folder
+    (c.in-Err-launch.ensures.numbers read told
+    (held_same read c.args.store.now.folder (records_folder c.args.project.now) (g.P.Place.world c.args.place.now) (g.P.Place.world c.compare.new.place) c.args.store.now.numbers c.requires.folder (c.in-Ok-compare.ensures.same told) holds))
+
+pub returns-in-Same-clause-held : goal.returns-in-Same-clause-held
+returns-in-Same-clause-held g c read records is told goes =
+    subst (λ (f : List ℕ). FirstOf f records c.in-Ok-command.command (g.P.Place.world c.args.place.now) (record_at read f (g.P.Place.world c.args.place.now).files c.args.unit.now.key) None) c.requires.folder
+    (subst (λ (compared : Compared). FirstOf c.args.store.now.folder records c.in-Ok-command.command (g.P.Place.world c.args.place.now) (record_at read c.args.store.now.folder (g.P.Place.world c.args.place.now).files c.args.unit.now.key) (difference_in compared)) c.in-Same.is
+    (c.in-Ok-compare.ensures.held read records is told (subst (λ (f : List ℕ). GoesBy (record_at read f (g.P.Place.world c.args.place.now).files) c.args.store.now.numbers records) (sym c.requires.folder) goes)))
+
+pub returns-in-Err-launch-clause-spared : goal.returns-in-Err-launch-clause-spared
+returns-in-Err-launch-clause-spared g c read is told holds = inr (c.in-Differs.difference, differs_first c.args.store.now.folder (records_folder c.args.project.now) c.args.unit.now.key c.in-Ok-command.command _ (g.P.Place.world c.args.place.now) read c.in-Ok-compare.compared c.in-Differs.difference c.args.store.now.numbers c.requires.folder c.in-Ok-command.ensures c.in-Differs.is (c.in-Ok-compare.ensures.first read is told) holds)
+
+pub returns-in-Err-launch-clause-tried : goal.returns-in-Err-launch-clause-tried
+returns-in-Err-launch-clause-tried g c read is told holds = inr (c.in-Differs.difference, differs_first c.args.store.now.folder (records_folder c.args.project.now) c.args.unit.now.key c.in-Ok-command.command _ (g.P.Place.world c.args.place.now) read c.in-Ok-compare.compared c.in-Differs.difference c.args.store.now.numbers c.requires.folder c.in-Ok-command.ensures c.in-Differs.is (c.in-Ok-compare.ensures.first read is told) holds)
+
+pub returns-in-Err-launch-clause-differed : goal.returns-in-Err-launch-clause-differed
+returns-in-Err-launch-clause-differed g c read is told holds = inr (c.in-Differs.difference, differs_first c.args.store.now.folder (records_folder c.args.project.now) c.args.unit.now.key c.in-Ok-command.command _ (g.P.Place.world c.args.place.now) read c.in-Ok-compare.compared c.in-Differs.difference c.args.store.now.numbers c.requires.folder c.in-Ok-command.ensures c.in-Differs.is (c.in-Ok-compare.ensures.first read is told) holds)

@@ -13,7 +13,8 @@ use Rattle.pb_store.specs.Migrating.{TakesNext, lacks_number}
 use Rattle.pb_store.specs.declared.difference.Difference.{Difference}
 use Rattle.pb_run.proofs.Anew.{runs_anew}
 use Rattle.pb_run.proofs.RecordStands.{runs_kept}
-use Rattle.pb_run.proofs.Calling.{ended_well}
+use Rattle.pb_run.proofs.Calling.{ended_badly, ended_well}
+use Rattle.pb_run.specs.Landing.{CallsBehind, answered_called}
 use Rattle.pb_run.proofs.Judged.{child_answers, either, judged_again, numbered_given, numberless_given, some_difference, taken_so}
 use Rattle.pb_run.proofs.RunsInTurn.{awaits_alone, begins_so, launch_needs, ran_badly, ran_well, spent_starts, stops_so}
 use Rattle.pb_run.proofs.Reusing.{child_numbered}
@@ -124,23 +125,23 @@ returns-in-Err-answer_unit-clause-cause g c read reading told holds spent =
 
 pub returns-in-Err-clause-calls : goal.returns-in-Err-clause-calls
 returns-in-Err-clause-calls g c read reading told =
-    inl (c.in-Err.fault, refl, stops_so g.P.Place.world g.P.Place.counts g.P.Place.tells g.P.Place.child read c.args.project.now c.args.unit.now _ (g.P.Place.world c.args.place.now) (g.P.Place.counts c.args.place.now) (g.P.Place.counts c.begin_unit.new.place) reading told c.in-Err.fault (c.in-Err.ensures.stops told))
+    inl (c.in-Err.fault, refl, stops_so g.P.Place.world g.P.Place.counts g.P.Place.tells g.P.Place.child read c.args.store.now.numbers.known c.args.project.now c.args.unit.now _ (g.P.Place.world c.args.place.now) (g.P.Place.counts c.args.place.now) (g.P.Place.counts c.begin_unit.new.place) reading told c.in-Err.fault (c.in-Err.ensures.stops told))
 
 pub returns-in-Ok-answer_unit-clause-calls : goal.returns-in-Ok-answer_unit-clause-calls
 returns-in-Ok-answer_unit-clause-calls g c read reading told =
     let (left, answer, ends, only, behind) = c.in-Ok-answer_unit.ensures.lands told in
-    let begins = begins_so g.P.Place.world g.P.Place.counts g.P.Place.tells g.P.Place.child read c.args.project.now c.args.unit.now c.in-Ok.made.begun.command (g.P.Place.world c.args.place.now) (g.P.Place.counts c.args.place.now) (g.P.Place.counts c.begin_unit.new.place) reading told
+    let begins = begins_so g.P.Place.world g.P.Place.counts g.P.Place.tells g.P.Place.child read c.args.store.now.numbers.known c.args.project.now c.args.unit.now c.in-Ok.made.begun.command (g.P.Place.world c.args.place.now) (g.P.Place.counts c.args.place.now) (g.P.Place.counts c.begin_unit.new.place) reading told
     (child_of c.in-Ok.made.begun) (c.in-Ok.ensures.looks read reading told) c.in-Ok.ensures.launches in
-    inr (ran_well read g.P.Place.child c.args.project.now c.args.unit.now _ c.in-Ok.made.begun (g.P.Place.world c.args.place.now) (g.P.Place.world c.begin_unit.new.place) (g.P.Place.world left) (g.P.Place.world c.answer_unit.new.place) (g.P.Place.counts c.args.place.now) (g.P.Place.counts c.begin_unit.new.place) (g.P.Place.counts left) (g.P.Place.counts c.answer_unit.new.place)
-    answer (g.P.Place.still c.begin_unit.new.place) c.in-Ok.ensures.asks begins (c.in-Ok.ensures.launched told) (c.in-Ok.ensures.same told) (c.in-Ok.ensures.carries read reading told) only c.in-Ok-answer_unit.ran _ ends (behind read reading))
+    inr (ran_well read c.args.store.now.numbers.known g.P.Place.child c.args.project.now c.args.unit.now _ c.in-Ok.made.begun (g.P.Place.world c.args.place.now) (g.P.Place.world c.begin_unit.new.place) (g.P.Place.world left) (g.P.Place.world c.answer_unit.new.place) (g.P.Place.counts c.args.place.now) (g.P.Place.counts c.begin_unit.new.place) (g.P.Place.counts left) (g.P.Place.counts c.answer_unit.new.place)
+    answer (g.P.Place.still c.begin_unit.new.place) c.in-Ok.ensures.asks begins (c.in-Ok.ensures.launched told) (c.in-Ok.ensures.same told) (c.in-Ok.ensures.carries read reading told) only c.in-Ok-answer_unit.ran _ ends (subst (λ (b : Bool). CallsBehind c.args.unit.now.key c.in-Ok.made.begun.awaited (answered_called read b c.args.project.now c.args.unit.now c.in-Ok.made.begun.command (g.P.Place.world left) c.in-Ok.made.begun.awaited) answer (ended_well c.in-Ok-answer_unit.ran) (g.P.Place.counts left) (g.P.Place.counts c.answer_unit.new.place)) c.in-Ok.ensures.known (behind read reading)))
 
 pub returns-in-Err-answer_unit-clause-calls : goal.returns-in-Err-answer_unit-clause-calls
 returns-in-Err-answer_unit-clause-calls g c read reading told =
     let (left, answer, ends, only, behind) = c.in-Err-answer_unit.ensures.lands told in
-    let begins = begins_so g.P.Place.world g.P.Place.counts g.P.Place.tells g.P.Place.child read c.args.project.now c.args.unit.now c.in-Ok.made.begun.command (g.P.Place.world c.args.place.now) (g.P.Place.counts c.args.place.now) (g.P.Place.counts c.begin_unit.new.place) reading told
+    let begins = begins_so g.P.Place.world g.P.Place.counts g.P.Place.tells g.P.Place.child read c.args.store.now.numbers.known c.args.project.now c.args.unit.now c.in-Ok.made.begun.command (g.P.Place.world c.args.place.now) (g.P.Place.counts c.args.place.now) (g.P.Place.counts c.begin_unit.new.place) reading told
     (child_of c.in-Ok.made.begun) (c.in-Ok.ensures.looks read reading told) c.in-Ok.ensures.launches in
-    inr (ran_badly read g.P.Place.child c.args.project.now c.args.unit.now _ c.in-Ok.made.begun (g.P.Place.world c.args.place.now) (g.P.Place.world c.begin_unit.new.place) (g.P.Place.world left) (g.P.Place.world c.answer_unit.new.place) (g.P.Place.counts c.args.place.now) (g.P.Place.counts c.begin_unit.new.place) (g.P.Place.counts left) (g.P.Place.counts c.answer_unit.new.place)
-    answer (g.P.Place.still c.begin_unit.new.place) c.in-Ok.ensures.asks begins (c.in-Ok.ensures.launched told) (c.in-Ok.ensures.same told) (c.in-Ok.ensures.carries read reading told) only c.in-Err-answer_unit.fault ends (behind read reading))
+    inr (ran_badly read c.args.store.now.numbers.known g.P.Place.child c.args.project.now c.args.unit.now _ c.in-Ok.made.begun (g.P.Place.world c.args.place.now) (g.P.Place.world c.begin_unit.new.place) (g.P.Place.world left) (g.P.Place.world c.answer_unit.new.place) (g.P.Place.counts c.args.place.now) (g.P.Place.counts c.begin_unit.new.place) (g.P.Place.counts left) (g.P.Place.counts c.answer_unit.new.place)
+    answer (g.P.Place.still c.begin_unit.new.place) c.in-Ok.ensures.asks begins (c.in-Ok.ensures.launched told) (c.in-Ok.ensures.same told) (c.in-Ok.ensures.carries read reading told) only c.in-Err-answer_unit.fault ends (subst (λ (b : Bool). CallsBehind c.args.unit.now.key c.in-Ok.made.begun.awaited (answered_called read b c.args.project.now c.args.unit.now c.in-Ok.made.begun.command (g.P.Place.world left) c.in-Ok.made.begun.awaited) answer (ended_badly c.in-Err-answer_unit.fault) (g.P.Place.counts left) (g.P.Place.counts c.answer_unit.new.place)) c.in-Ok.ensures.known (behind read reading)))
 
 pub returns-in-Ok-answer_unit-clause-number : goal.returns-in-Ok-answer_unit-clause-number
 returns-in-Ok-answer_unit-clause-number g c some =
@@ -217,3 +218,19 @@ returns-in-Ok-answer_unit-clause-judged g c read reading told none =
           ∙ ap (λ (k : Command). unstarted (ran_of c.args.project.now c.args.unit.now k again.ended (g.P.Place.world c.begin_unit.new.place).files)) c.in-Ok.ensures.asks
           ∙ ap (λ (w : World). unstarted (ran_of c.args.project.now c.args.unit.now (command_of c.args.setup.now c.args.project.now c.args.unit.now c.args.done.now) again.ended w.files)) (c.in-Ok.ensures.same told alone),
     )
+
+pub returns-in-Err-answer_unit-clause-numbers : goal.returns-in-Err-answer_unit-clause-numbers
+returns-in-Err-answer_unit-clause-numbers g c read is told holds =
+    c.in-Err-answer_unit.ensures.numbers read is told (c.in-Ok.ensures.writes told) (c.in-Ok.ensures.numbers read told holds)
+
+pub returns-in-Err-clause-numbers : goal.returns-in-Err-clause-numbers
+returns-in-Err-clause-numbers g c read is told holds = c.in-Err.ensures.numbers read told holds
+
+pub returns-in-Ok-answer_unit-clause-known : goal.returns-in-Ok-answer_unit-clause-known
+returns-in-Ok-answer_unit-clause-known g c known = c.in-Ok-answer_unit.ensures.known (c.in-Ok.ensures.known ∙ known)
+
+pub returns-in-Ok-answer_unit-clause-others_held : goal.returns-in-Ok-answer_unit-clause-others_held
+returns-in-Ok-answer_unit-clause-others_held g c l known apart = c.in-Ok-answer_unit.ensures.others_held l (c.in-Ok.ensures.known ∙ known) apart ∙ c.in-Ok.ensures.others_held l apart
+
+pub returns-in-Err-answer_unit-clause-others_held : goal.returns-in-Err-answer_unit-clause-others_held
+returns-in-Err-answer_unit-clause-others_held g c l known apart = c.in-Err-answer_unit.ensures.others_held l (c.in-Ok.ensures.known ∙ known) apart ∙ c.in-Ok.ensures.others_held l apart

@@ -160,7 +160,7 @@ returns-then-is_some-clause-lands g c told = (
   Ok c.in-Ok.ended,
   c.in-Ok.ensures.ended told,
   none_changed _ (g.P.Place.world c.finish.new.place) (g.P.Place.world c.judged_now.new.place) (c.in-Ok-judged_now.ensures.same told),
-  λ read reading. bad_made read c.args.project.now c.args.unit.now c.args.command.now (awaited.Child c.args.launched.now) (g.P.Place.world c.finish.new.place) c.in-Ok.ended c.in-Ok-judged_now.judgement (c.in-Ok-judged_now.ensures.judged told)
+  λ read reading. bad_made read c.args.store.now.numbers.known c.args.project.now c.args.unit.now c.args.command.now (awaited.Child c.args.launched.now) (g.P.Place.world c.finish.new.place) c.in-Ok.ended c.in-Ok-judged_now.judgement (c.in-Ok-judged_now.ensures.judged told)
       (g.P.Place.counts c.finish.new.place) (g.P.Place.counts c.judged_now.new.place) c.in-Ok-judged_now.ensures.calls (sym c.is_some.ensures ∙ c.if-is_some.true),
 )
 
@@ -171,9 +171,9 @@ returns-in-Ok-keep-clause-lands g c told = (
   c.in-Ok.ensures.ended told,
   record_alone c.args.store.now.folder (records_folder c.args.project.now) c.args.unit.now.key (g.P.Place.world c.finish.new.place) (g.P.Place.world c.judged_now.new.place) (g.P.Place.world c.keep.new.place) c.requires.folder
       (c.in-Ok-judged_now.ensures.same told) (c.in-Ok-keep.ensures.only told),
-  λ read reading. good_made read c.args.project.now c.args.unit.now c.args.command.now (awaited.Child c.args.launched.now) (g.P.Place.world c.finish.new.place) c.in-Ok.ended c.in-Ok-judged_now.judgement (c.in-Ok-judged_now.ensures.judged told)
+  λ read reading. good_made read c.args.store.now.numbers.known c.args.project.now c.args.unit.now c.args.command.now (awaited.Child c.args.launched.now) (g.P.Place.world c.finish.new.place) c.in-Ok.ended c.in-Ok-judged_now.judgement (c.in-Ok-judged_now.ensures.judged told)
       (g.P.Place.counts c.finish.new.place) (g.P.Place.counts c.judged_now.new.place) c.in-Ok-judged_now.ensures.calls (ended_well c.in-Ok-judged_now.judgement.ran) _ (g.P.Place.counts c.keep.new.place) (sym c.is_some.ensures ∙ c.if-is_some.false)
-      (kept_so read c.args.project.now c.args.unit.now c.args.command.now c.args.launched.now c.args.store.now.folder (g.P.Place.world c.judged_now.new.place) (g.P.Place.world c.finish.new.place) c.as_slice.result.now c.in-Ok-judged_now.judgement.names c.requires.folder (c.in-Ok-judged_now.ensures.same told) c.as_slice.ensures)
+      (kept_so read c.args.store.now.numbers.known c.args.project.now c.args.unit.now c.args.command.now c.args.launched.now c.args.store.now.folder (g.P.Place.world c.judged_now.new.place) (g.P.Place.world c.finish.new.place) c.as_slice.result.now c.in-Ok-judged_now.judgement.names c.requires.folder (c.in-Ok-judged_now.ensures.same told) c.as_slice.ensures)
       (c.in-Ok-keep.ensures.calls told),
 )
 
@@ -184,9 +184,9 @@ returns-clause-lands g c told = (
   ended_anyway _ _ _ _ _ (g.P.Place.world c.args.place.now) (g.P.Place.world c.finish.new.place) (g.P.Place.counts c.args.place.now) (g.P.Place.counts c.finish.new.place) (λ wrong. absurd (false≢true wrong)) (c.in-Ok.ensures.ended told),
   record_alone c.args.store.now.folder (records_folder c.args.project.now) c.args.unit.now.key (g.P.Place.world c.finish.new.place) (g.P.Place.world c.judged_now.new.place) (g.P.Place.world c.keep.new.place) c.requires.folder
       (c.in-Ok-judged_now.ensures.same told) (c.in-Err-keep.ensures.only told),
-  λ read reading. good_stops read c.args.project.now c.args.unit.now c.args.command.now (awaited.Child c.args.launched.now) (g.P.Place.world c.finish.new.place) c.in-Ok.ended c.in-Ok-judged_now.judgement (c.in-Ok-judged_now.ensures.judged told)
+  λ read reading. good_stops read c.args.store.now.numbers.known c.args.project.now c.args.unit.now c.args.command.now (awaited.Child c.args.launched.now) (g.P.Place.world c.finish.new.place) c.in-Ok.ended c.in-Ok-judged_now.judgement (c.in-Ok-judged_now.ensures.judged told)
       (g.P.Place.counts c.finish.new.place) (g.P.Place.counts c.judged_now.new.place) c.in-Ok-judged_now.ensures.calls c.in-Err-keep.fault _ (g.P.Place.counts c.keep.new.place) (sym c.is_some.ensures ∙ c.if-is_some.false)
-      (kept_so read c.args.project.now c.args.unit.now c.args.command.now c.args.launched.now c.args.store.now.folder (g.P.Place.world c.judged_now.new.place) (g.P.Place.world c.finish.new.place) c.as_slice.result.now c.in-Ok-judged_now.judgement.names c.requires.folder (c.in-Ok-judged_now.ensures.same told) c.as_slice.ensures)
+      (kept_so read c.args.store.now.numbers.known c.args.project.now c.args.unit.now c.args.command.now c.args.launched.now c.args.store.now.folder (g.P.Place.world c.judged_now.new.place) (g.P.Place.world c.finish.new.place) c.as_slice.result.now c.in-Ok-judged_now.judgement.names c.requires.folder (c.in-Ok-judged_now.ensures.same told) c.as_slice.ensures)
       (c.in-Err-keep.ensures.calls told),
 )
 
@@ -257,3 +257,20 @@ returns-in-Ok-keep-clause-kept g c read is told writes holds good = (
       (held_landed read c.args.project.now c.is_in_order.ensures c.args.index c.args.unit.now c.requires.unit c.args.store.now.folder (g.P.Place.world c.args.place.now) (g.P.Place.world c.finish.new.place) (g.P.Place.world c.judged_now.new.place) c.args.store.now.numbers c.requires.folder (c.in-Ok-judged_now.ensures.same told)
       (ended_only c.args.unit.now.out c.args.launched.now (g.P.Place.counts c.args.place.now).starts.flying (g.P.Place.world c.args.place.now) (g.P.Place.world c.finish.new.place) c.requires.flies writes (c.in-Ok.ensures.only told)) holds)),
 )
+
+pub returns-in-Err-judged_now-clause-numbers : goal.returns-in-Err-judged_now-clause-numbers
+returns-in-Err-judged_now-clause-numbers g c read is told writes holds =
+    held_landed read c.args.project.now c.is_in_order.ensures c.args.index c.args.unit.now c.requires.unit (records_folder c.args.project.now) (g.P.Place.world c.args.place.now) (g.P.Place.world c.finish.new.place) (g.P.Place.world c.judged_now.new.place) c.args.store.now.numbers refl (c.in-Err-judged_now.ensures.same told)
+    (ended_only c.args.unit.now.out c.args.launched.now (g.P.Place.counts c.args.place.now).starts.flying (g.P.Place.world c.args.place.now) (g.P.Place.world c.finish.new.place) c.requires.flies writes (c.in-Ok.ensures.only told)) holds
+
+pub returns-in-Err-clause-numbers : goal.returns-in-Err-clause-numbers
+returns-in-Err-clause-numbers g c read is told writes holds =
+    held_landed read c.args.project.now c.is_in_order.ensures c.args.index c.args.unit.now c.requires.unit (records_folder c.args.project.now) (g.P.Place.world c.args.place.now) (g.P.Place.world c.finish.new.place) (g.P.Place.world c.finish.new.place) c.args.store.now.numbers refl refl
+    (ended_only c.args.unit.now.out c.args.launched.now (g.P.Place.counts c.args.place.now).starts.flying (g.P.Place.world c.args.place.now) (g.P.Place.world c.finish.new.place) c.requires.flies writes (c.in-Err.ensures.only told)) holds
+
+pub returns-clause-numbers : goal.returns-clause-numbers
+returns-clause-numbers g c read is told writes holds =
+    held_there read c.args.store.now.folder (records_folder c.args.project.now) (g.P.Place.world c.keep.new.place) c.keep.new.store.numbers c.requires.folder
+    (c.in-Err-keep.ensures.numbers read is told
+    (held_landed read c.args.project.now c.is_in_order.ensures c.args.index c.args.unit.now c.requires.unit c.args.store.now.folder (g.P.Place.world c.args.place.now) (g.P.Place.world c.finish.new.place) (g.P.Place.world c.judged_now.new.place) c.args.store.now.numbers c.requires.folder (c.in-Ok-judged_now.ensures.same told)
+    (ended_only c.args.unit.now.out c.args.launched.now (g.P.Place.counts c.args.place.now).starts.flying (g.P.Place.world c.args.place.now) (g.P.Place.world c.finish.new.place) c.requires.flies writes (c.in-Ok.ensures.only told)) holds))

@@ -29,7 +29,7 @@ returns-clause-ahead g c read judge cm r is told holds may ahead =
 
 pub returns-clause-calls : goal.returns-clause-calls
 returns-clause-calls g c read reading told =
-    migrate_stops {T = Unit {0}} (Err c.in-Err-migrate.fault) _ c.in-Err-migrate.fault _ c.args.store.now.folder c.args.unit.now.key (record_at read c.args.store.now.folder (g.P.Place.world c.args.place.now).files c.args.unit.now.key) _ _ refl c.storeless.ensures
+    migrate_stops {T = Unit {0}} (Err c.in-Err-migrate.fault) _ c.in-Err-migrate.fault _ c.args.store.now.numbers.known c.args.store.now.folder c.args.unit.now.key (g.P.Place.world c.args.place.now) (record_at read c.args.store.now.folder (g.P.Place.world c.args.place.now).files c.args.unit.now.key) _ _ refl c.storeless.ensures
     (c.in-Err-migrate.ensures.cause read reading told) (c.in-Err-migrate.ensures.calls read reading told)
 
 pub returns-clause-cause : goal.returns-clause-cause

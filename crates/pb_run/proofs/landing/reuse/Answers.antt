@@ -184,27 +184,27 @@ returns-in-Err-clause-calls g c read reading told =
 
 pub returns-then-is_some-clause-calls : goal.returns-then-is_some-clause-calls
 returns-then-is_some-clause-calls g c read reading told =
-    bad_made read c.args.project.now c.args.unit.now c.args.command.now (awaited.Record c.args.again.now) (g.P.Place.world c.args.place.now) c.args.again.now.ended c.in-Ok.judgement (c.in-Ok.ensures.judged told)
+    bad_made read c.args.store.now.numbers.known c.args.project.now c.args.unit.now c.args.command.now (awaited.Record c.args.again.now) (g.P.Place.world c.args.place.now) c.args.again.now.ended c.in-Ok.judgement (c.in-Ok.ensures.judged told)
     (g.P.Place.counts c.args.place.now) (g.P.Place.counts c.judged_now.new.place) c.in-Ok.ensures.calls (ap (λ (r : Ran). is_some r.bad) (sym c.unstarted-ran.ensures) ∙ sym c.is_some.ensures ∙ c.if-is_some.true)
 
 pub returns-then-again-clause-calls : goal.returns-then-again-clause-calls
 returns-then-again-clause-calls g c read reading told =
-    good_made read c.args.project.now c.args.unit.now c.args.command.now (awaited.Record c.args.again.now) (g.P.Place.world c.args.place.now) c.args.again.now.ended c.in-Ok.judgement (c.in-Ok.ensures.judged told)
+    good_made read c.args.store.now.numbers.known c.args.project.now c.args.unit.now c.args.command.now (awaited.Record c.args.again.now) (g.P.Place.world c.args.place.now) c.args.again.now.ended c.in-Ok.judgement (c.in-Ok.ensures.judged told)
     (g.P.Place.counts c.args.place.now) (g.P.Place.counts c.judged_now.new.place) c.in-Ok.ensures.calls (ended_well c.unstarted-ran.result) [] (g.P.Place.counts c.judged_now.new.place) (ap (λ (r : Ran). is_some r.bad) (sym c.unstarted-ran.ensures) ∙ sym c.is_some.ensures ∙ c.if-is_some.false)
-    (numbered_so read c.args.project.now c.args.unit.now c.args.command.now c.args.again.now (g.P.Place.world c.args.place.now) c.in-Ok.judgement.names c.if-again.true) refl
+    (numbered_so read c.args.store.now.numbers.known c.args.project.now c.args.unit.now c.args.command.now c.args.again.now (g.P.Place.world c.args.place.now) c.in-Ok.judgement.names c.if-again.true) refl
 
 pub returns-in-Ok-migrate-clause-calls : goal.returns-in-Ok-migrate-clause-calls
 returns-in-Ok-migrate-clause-calls g c read reading told =
-    good_made read c.args.project.now c.args.unit.now c.args.command.now (awaited.Record c.args.again.now) (g.P.Place.world c.args.place.now) c.args.again.now.ended c.in-Ok.judgement (c.in-Ok.ensures.judged told)
+    good_made read c.args.store.now.numbers.known c.args.project.now c.args.unit.now c.args.command.now (awaited.Record c.args.again.now) (g.P.Place.world c.args.place.now) c.args.again.now.ended c.in-Ok.judgement (c.in-Ok.ensures.judged told)
     (g.P.Place.counts c.args.place.now) (g.P.Place.counts c.judged_now.new.place) c.in-Ok.ensures.calls (ended_well c.unstarted-ran.result) _ (g.P.Place.counts c.migrate.new.place) (ap (λ (r : Ran). is_some r.bad) (sym c.unstarted-ran.ensures) ∙ sym c.is_some.ensures ∙ c.if-is_some.false)
-    (renewed_names read c.args.project.now c.args.unit.now c.args.command.now c.args.again.now c.args.store.now.folder (g.P.Place.world c.judged_now.new.place) (g.P.Place.world c.args.place.now) c.in-Ok.judgement.names c.requires.folder (c.in-Ok.ensures.same told) c.if-again.false)
+    (renewed_names read c.args.store.now.numbers.known c.args.project.now c.args.unit.now c.args.command.now c.args.again.now c.args.store.now.folder (g.P.Place.world c.judged_now.new.place) (g.P.Place.world c.args.place.now) c.in-Ok.judgement.names c.requires.folder (c.in-Ok.ensures.same told) c.if-again.false)
     (c.in-Ok-migrate.ensures.calls read reading told)
 
 pub returns-clause-calls : goal.returns-clause-calls
 returns-clause-calls g c read reading told =
-    good_made read c.args.project.now c.args.unit.now c.args.command.now (awaited.Record c.args.again.now) (g.P.Place.world c.args.place.now) c.args.again.now.ended c.in-Ok.judgement (c.in-Ok.ensures.judged told)
+    good_made read c.args.store.now.numbers.known c.args.project.now c.args.unit.now c.args.command.now (awaited.Record c.args.again.now) (g.P.Place.world c.args.place.now) c.args.again.now.ended c.in-Ok.judgement (c.in-Ok.ensures.judged told)
     (g.P.Place.counts c.args.place.now) (g.P.Place.counts c.judged_now.new.place) c.in-Ok.ensures.calls (ended_badly c.in-Err-migrate.fault) _ (g.P.Place.counts c.migrate.new.place) (ap (λ (r : Ran). is_some r.bad) (sym c.unstarted-ran.ensures) ∙ sym c.is_some.ensures ∙ c.if-is_some.false)
-    (renewed_names read c.args.project.now c.args.unit.now c.args.command.now c.args.again.now c.args.store.now.folder (g.P.Place.world c.judged_now.new.place) (g.P.Place.world c.args.place.now) c.in-Ok.judgement.names c.requires.folder (c.in-Ok.ensures.same told) c.if-again.false)
+    (renewed_names read c.args.store.now.numbers.known c.args.project.now c.args.unit.now c.args.command.now c.args.again.now c.args.store.now.folder (g.P.Place.world c.judged_now.new.place) (g.P.Place.world c.args.place.now) c.in-Ok.judgement.names c.requires.folder (c.in-Ok.ensures.same told) c.if-again.false)
     (c.in-Err-migrate.ensures.calls read reading told)
 
 pub returns-then-is_some-clause-numbers : goal.returns-then-is_some-clause-numbers
@@ -309,3 +309,13 @@ pub returns-in-Ok-migrate-clause-kept : goal.returns-in-Ok-migrate-clause-kept
 returns-in-Ok-migrate-clause-kept g c read is told holds good =
     record_renewed read c.args.project.now c.args.unit.now c.args.command.now c.args.store.now.folder c.requires.folder (g.P.Place.world c.judged_now.new.place) (g.P.Place.world c.args.place.now) (g.P.Place.world c.migrate.new.place) (c.in-Ok.ensures.same told) c.args.again.now.ended c.args.again.now c.args.store.now.next c.if-again.false
     (c.in-Ok-migrate.ensures.stands read is told (held_same read c.args.store.now.folder (records_folder c.args.project.now) (g.P.Place.world c.args.place.now) (g.P.Place.world c.judged_now.new.place) c.args.store.now.numbers c.requires.folder (c.in-Ok.ensures.same told) holds))
+
+pub returns-in-Err-clause-numbers : goal.returns-in-Err-clause-numbers
+returns-in-Err-clause-numbers g c read is told holds =
+    held_same read (records_folder c.args.project.now) (records_folder c.args.project.now) (g.P.Place.world c.args.place.now) (g.P.Place.world c.judged_now.new.place) c.args.store.now.numbers refl (c.in-Err.ensures.same told) holds
+
+pub returns-clause-numbers : goal.returns-clause-numbers
+returns-clause-numbers g c read is told holds =
+    held_there read c.args.store.now.folder (records_folder c.args.project.now) (g.P.Place.world c.migrate.new.place) c.migrate.new.store.numbers c.requires.folder
+    (c.in-Err-migrate.ensures.numbers read is told
+    (held_same read c.args.store.now.folder (records_folder c.args.project.now) (g.P.Place.world c.args.place.now) (g.P.Place.world c.judged_now.new.place) c.args.store.now.numbers c.requires.folder (c.in-Ok.ensures.same told) holds))

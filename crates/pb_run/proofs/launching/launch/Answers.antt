@@ -65,3 +65,8 @@ pub returns-in-Ok-clause-numbers : goal.returns-in-Ok-clause-numbers
 returns-in-Ok-clause-numbers g c read told holds =
     launched_held read c.args.store.now.folder c.args.unit.now.key c.args.unit.now.out (g.P.Place.world c.drop_record.new.place) (g.P.Place.world c.spawn_anew.new.place) c.requires.key c.requires.lies
     (c.in-Ok.ensures.only told) _ (c.in_ok-number.ensures.numbers read told holds)
+
+pub returns-in-Err-clause-numbers : goal.returns-in-Err-clause-numbers
+returns-in-Err-clause-numbers g c read told holds =
+    launched_held read c.args.store.now.folder c.args.unit.now.key c.args.unit.now.out (g.P.Place.world c.drop_record.new.place) (g.P.Place.world c.spawn_anew.new.place) c.requires.key c.requires.lies
+    (c.in-Err.ensures.only told) _ (c.in_ok-number.ensures.numbers read told holds)

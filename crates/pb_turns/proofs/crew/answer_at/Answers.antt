@@ -264,6 +264,7 @@ returns-clause-story g c = λ first at taken faults es given unit s flying lawfu
       began = answered_began g.P.Place.tells g.P.Place.child first c.args.crew.now at now new (g.P.Place.still c.args.place.now) es given s c.requires.manned.order lawful c.args.index c.remove-unit.result c.index-units-unit.result there at_index only c.answer_unit.ensures.same
           (λ t none. let (left, ended, ends, behind, calls) = c.in-Ok.ensures.lands t in folder_answered c.args.crew.now.project c.requires.manned.order c.remove-unit.result.unit c.index-units-unit.result there c.remove-unit.result.begun.awaited none ended _ _ now.world (g.P.Place.world left) new.world now.counts (g.P.Place.counts left) ends behind)
           c.note_answer.new.done.items c.in-Ok.ran.directives answer c.note_answer.ensures.done;
+      known = c.in-Ok.ensures.known s.known;
       held = λ t read reading. c.in-Ok.ensures.numbers read reading t (writes t) (s.held t read reading);
       happened = answered_happened g.P.Place.tells g.P.Place.child first c.args.crew.now at now new (g.P.Place.still c.args.place.now) (g.P.Place.still c.answer_unit.new.place) es given c.args.index c.remove-unit.result c.index-units-unit.result there s at_index
           c.requires.manned.units_apart c.requires.manned.tickets_apart c.requires.manned.numbers_apart c.answer_unit.new.store.next (λ footing read setup sources states done other its reading t. c.answer_unit.ensures.others footing read setup sources states done other its reading t (s.held t read reading))

@@ -177,6 +177,7 @@ returns-clause-story g c = λ first at taken faults es given s flying lawful is_
       began = begun_began g.P.Place.tells g.P.Place.child first c.args.crew.now at now new (g.P.Place.still c.args.place.now) es given s c.requires.manned.order lawful c.args.unit c.index-units-unit.result there may (λ t. c.begin_unit.ensures.only t) c.as_slice.result.now c.as_slice.ensures.value
           c.in-Ok-begin_unit.made.begun c.in-Ok-begin_unit.ensures.asks c.in-Ok-begin_unit.made.difference c.note_begun.new.reasons.items (λ read reading t. c.in-Ok-begin_unit.ensures.differs read reading t (s.held t read reading)) c.in-Ok-begin_unit.ensures.spawned
           (within_reasons c.args.crew.now c.args.unit c.requires.manned.reasoned c.requires.unit) c.in-Ok-begin_unit.ensures.same c.note_begun.ensures.reasons;
+      known = c.in-Ok-begin_unit.ensures.known ∙ s.known;
       held = λ t read reading. c.in-Ok-begin_unit.ensures.numbers read t (s.held t read reading);
       happened = begun_happened g.P.Place.tells g.P.Place.child first c.args.crew.now at now new (g.P.Place.still c.args.place.now) (g.P.Place.still c.begin_unit.new.place)
           es given c.args.unit c.index-units-unit.result c.requires.manned.order there s may c.begin_unit.new.store.next c.as_slice.result.now c.as_slice.ensures.value
@@ -185,11 +186,11 @@ returns-clause-story g c = λ first at taken faults es given s flying lawful is_
       quiet = begun_quiet g.P.Place.tells g.P.Place.child first c.args.crew.now at now new (g.P.Place.still c.args.place.now) es given c.args.unit s c.in-Ok-begin_unit.made.begun c.in-Ok-begin_unit.ensures.same;
       calls = calls_begun g.P.Place.tells g.P.Place.child first c.args.crew.now at now new (g.P.Place.still c.args.place.now) es given c.args.unit c.index-units-unit.result c.requires.manned.order there s may c.as_slice.result.now c.as_slice.ensures.value
           c.in-Ok-begin_unit.made.begun c.in-Ok-begin_unit.ensures.asks c.begin_unit.ensures.only c.in-Ok-begin_unit.ensures.same c.in-Ok-begin_unit.ensures.looks
-          (launched_behind g.P.Place.world g.P.Place.counts g.P.Place.tells g.P.Place.child c.in-Ok-begin_unit.made.begun.command (λ read. looked_at read (records_folder c.args.crew.now.project) c.index-units-unit.result.key c.in-Ok-begin_unit.made.begun.command now.world)
+          (launched_behind g.P.Place.world g.P.Place.counts g.P.Place.tells g.P.Place.child c.in-Ok-begin_unit.made.begun.command (λ read. looked_at read c.args.crew.now.store.numbers.known (records_folder c.args.crew.now.project) c.index-units-unit.result.key c.in-Ok-begin_unit.made.begun.command now.world)
           now.world now.counts new.counts (child_of c.in-Ok-begin_unit.made.begun) c.in-Ok-begin_unit.ensures.launches);
       calls_on_any = calls_begun_on_any g.P.Place.tells g.P.Place.child first c.args.crew.now at now new (g.P.Place.still c.args.place.now) es given c.args.unit c.index-units-unit.result c.requires.manned.order there s may c.as_slice.result.now c.as_slice.ensures.value
           c.in-Ok-begin_unit.made.begun c.in-Ok-begin_unit.ensures.asks c.begin_unit.ensures.only c.in-Ok-begin_unit.ensures.same c.in-Ok-begin_unit.ensures.looks
-          (launched_behind g.P.Place.world g.P.Place.counts g.P.Place.tells g.P.Place.child c.in-Ok-begin_unit.made.begun.command (λ read. looked_at read (records_folder c.args.crew.now.project) c.index-units-unit.result.key c.in-Ok-begin_unit.made.begun.command now.world)
+          (launched_behind g.P.Place.world g.P.Place.counts g.P.Place.tells g.P.Place.child c.in-Ok-begin_unit.made.begun.command (λ read. looked_at read c.args.crew.now.store.numbers.known (records_folder c.args.crew.now.project) c.index-units-unit.result.key c.in-Ok-begin_unit.made.begun.command now.world)
           now.world now.counts new.counts (child_of c.in-Ok-begin_unit.made.begun) c.in-Ok-begin_unit.ensures.launches) s.calls_on_any;
       unnoted = notes_begun c.args.crew.now.project es first.reasons.items c.args.crew.now.reasons.items c.note_begun.new.reasons.items c.args.unit (is_some (child_of c.in-Ok-begin_unit.made.begun)) (Some c.in-Ok-begin_unit.made.difference) may.untouched
           c.note_begun.ensures.reasons s.unnoted;

@@ -34,7 +34,7 @@ returns-in-Ok-sum_up g c =
     let mid : Moment = moment (g.P.Place.world c.drive-driven.new.place) (g.P.Place.counts c.drive-driven.new.place) (g.P.Place.most c.drive-driven.new.place) (g.O.Out.taken c.drive-driven.new.out) (g.O.Out.faults c.drive-driven.new.out) in
     let new : Moment = moment (g.P.Place.world c.drain.new.place) (g.P.Place.counts c.drain.new.place) (g.P.Place.most c.drain.new.place) (g.O.Out.taken c.drive-driven.new.out) (g.O.Out.faults c.drive-driven.new.out) in
     let said : first.done.items ≡ nothing_said first.project = c.in-Ok-nothing_noted.ensures ∙ ap (map (λ (u : Planned). None)) c.units.ensures in
-    let begins = story_first g.P.Place.tells g.P.Place.child first at (g.P.Place.still c.args.place.now) c.new.ensures.items c.new-2.ensures.items (λ t read reading. c.requires.numbers read reading t) in
+    let begins = story_first g.P.Place.tells g.P.Place.child first at (g.P.Place.still c.args.place.now) c.new.ensures.items c.new-2.ensures.items c.requires.known (λ t read reading. c.requires.numbers read reading t) in
     let (es, flown, story) = c.in-Ok-driven.ensures.goes first c.args.place.now c.args.out.now begins in
     ends_whole g.P.Place.tells g.P.Place.child g.T.Turn.turns first c.drive-driven.new.crew c.drain.new.crew c.args.turn.now c.drive-driven.new.turn at mid new (g.P.Place.still c.drive-driven.new.place) (g.P.Place.still c.drain.new.place) es said
     c.drain.ensures.drained c.drain.ensures.landed refl c.drain.ensures.same c.drain.ensures.changes c.drain.ensures.unrecorded c.drain.ensures.childless c.drain.ensures.alone c.drain.ensures.happened c.drain.ensures.began c.drain.ensures.started c.drain.ensures.anew c.drain.ensures.left c.is_in_order.ensures
@@ -48,7 +48,7 @@ returns-in-Err-sum_up g c =
     let mid : Moment = moment (g.P.Place.world c.drive-driven.new.place) (g.P.Place.counts c.drive-driven.new.place) (g.P.Place.most c.drive-driven.new.place) (g.O.Out.taken c.drive-driven.new.out) (g.O.Out.faults c.drive-driven.new.out) in
     let new : Moment = moment (g.P.Place.world c.drain.new.place) (g.P.Place.counts c.drain.new.place) (g.P.Place.most c.drain.new.place) (g.O.Out.taken c.drive-driven.new.out) (g.O.Out.faults c.drive-driven.new.out) in
     let said : first.done.items ≡ nothing_said first.project = c.in-Ok-nothing_noted.ensures ∙ ap (map (λ (u : Planned). None)) c.units.ensures in
-    let begins = story_first g.P.Place.tells g.P.Place.child first at (g.P.Place.still c.args.place.now) c.new.ensures.items c.new-2.ensures.items (λ t read reading. c.requires.numbers read reading t) in
+    let begins = story_first g.P.Place.tells g.P.Place.child first at (g.P.Place.still c.args.place.now) c.new.ensures.items c.new-2.ensures.items c.requires.known (λ t read reading. c.requires.numbers read reading t) in
     let (es, flown, story) = c.in-Ok-driven.ensures.goes first c.args.place.now c.args.out.now begins in
     ends_cut g.P.Place.tells g.P.Place.child g.T.Turn.turns first c.drive-driven.new.crew c.drain.new.crew c.args.turn.now c.drive-driven.new.turn at mid new (g.P.Place.still c.drive-driven.new.place) (g.P.Place.still c.drain.new.place) es said
     c.drain.ensures.drained c.drain.ensures.landed refl c.drain.ensures.same c.drain.ensures.changes c.drain.ensures.unrecorded c.drain.ensures.childless c.drain.ensures.alone c.drain.ensures.happened c.drain.ensures.began c.drain.ensures.started c.drain.ensures.anew c.drain.ensures.left c.is_in_order.ensures
@@ -62,7 +62,7 @@ returns-in-Err-driven g c =
     let mid : Moment = moment (g.P.Place.world c.drive-driven.new.place) (g.P.Place.counts c.drive-driven.new.place) (g.P.Place.most c.drive-driven.new.place) (g.O.Out.taken c.drive-driven.new.out) (g.O.Out.faults c.drive-driven.new.out) in
     let new : Moment = moment (g.P.Place.world c.drain.new.place) (g.P.Place.counts c.drain.new.place) (g.P.Place.most c.drain.new.place) (g.O.Out.taken c.drive-driven.new.out) (g.O.Out.faults c.drive-driven.new.out) in
     let said : first.done.items ≡ nothing_said first.project = c.in-Ok-nothing_noted.ensures ∙ ap (map (λ (u : Planned). None)) c.units.ensures in
-    let begins = story_first g.P.Place.tells g.P.Place.child first at (g.P.Place.still c.args.place.now) c.new.ensures.items c.new-2.ensures.items (λ t read reading. c.requires.numbers read reading t) in
+    let begins = story_first g.P.Place.tells g.P.Place.child first at (g.P.Place.still c.args.place.now) c.new.ensures.items c.new-2.ensures.items c.requires.known (λ t read reading. c.requires.numbers read reading t) in
     let (last, es, asked, flies, hands, ends) = c.in-Err-driven.ensures.goes first c.args.place.now c.args.out.now begins in
     ends_cut g.P.Place.tells g.P.Place.child g.T.Turn.turns first c.drive-driven.new.crew c.drain.new.crew c.args.turn.now last at mid new (g.P.Place.still c.drive-driven.new.place) (g.P.Place.still c.drain.new.place) es said
     c.drain.ensures.drained c.drain.ensures.landed refl c.drain.ensures.same c.drain.ensures.changes c.drain.ensures.unrecorded c.drain.ensures.childless c.drain.ensures.alone c.drain.ensures.happened c.drain.ensures.began c.drain.ensures.started c.drain.ensures.anew c.drain.ensures.left c.is_in_order.ensures

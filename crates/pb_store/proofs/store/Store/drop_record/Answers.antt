@@ -7,6 +7,6 @@ pub returns-clause-ahead : goal.returns-clause-ahead
 returns-clause-ahead g c read told ahead = dropped_ahead _ _ _ _ c.in-Some.number c.in-Some.is c.number_after-self.ensures (λ next. c.in_ok-remove_record.ensures.ahead read next told) ahead
 
 pub returns-clause-numbers : goal.returns-clause-numbers
-returns-clause-numbers g c read told holds =
-    held_dropped read c.args.self.now.folder c.args.key.now c.requires (g.P.Place.world c.args.place.now) (g.P.Place.world c.args.place.now) (g.P.Place.world c.remove_record.new.place) c.args.self.now.numbers c.note.new.numbers refl
-    (c.in_ok-remove_record.ensures.only told) (c.in_ok-remove_record.ensures.gone read told) c.in_ok-note.ensures.ok holds
+returns-clause-numbers g c read told holds known =
+    held_dropped read c.args.self.now.folder c.args.key.now c.requires (g.P.Place.world c.args.place.now) (g.P.Place.world c.args.place.now) (g.P.Place.world c.remove_record.new.place) c.args.self.now.numbers.held c.note.new.numbers refl
+    (c.in_ok-remove_record.ensures.only told) (c.in_ok-remove_record.ensures.gone read told) c.in_ok-note.ensures.ok (holds known)

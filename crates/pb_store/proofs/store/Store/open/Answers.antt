@@ -25,5 +25,5 @@ pub returns-in-Err-greatest_of-clause-looks : goal.returns-in-Err-greatest_of-cl
 returns-in-Err-greatest_of-clause-looks g c told = folder_unread c.args.folder (g.P.Place.world c.args.place.now) _ _ _ _ _ (c.in-Ok.ensures.ok told) c.in-Ok.ensures.counts c.in-Err-greatest_of.ensures.looks
 
 pub returns-in-Ok-greatest_of-clause-numbers : goal.returns-in-Ok-greatest_of-clause-numbers
-returns-in-Ok-greatest_of-clause-numbers g c read is told =
+returns-in-Ok-greatest_of-clause-numbers g c read is told known =
     opened_held read c.args.folder (g.P.Place.world c.args.place.now) (g.P.Place.world c.list_directly.new.self) _ _ _ (c.in-Ok.ensures.same told) (c.in-Ok.ensures.ok told) c.new-numbers.ensures (c.in-Ok-greatest_of.ensures.held read is told)

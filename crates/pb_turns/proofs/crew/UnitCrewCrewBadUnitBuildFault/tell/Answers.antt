@@ -22,6 +22,7 @@ returns-then-write_all-clause-story g c = λ first first_place first_out es give
   anew = s.anew;
   left = s.left;
   began = s.began;
+  known = s.known;
   held = s.held;
   happened = s.happened;
   quiet = s.quiet;
