@@ -115,6 +115,7 @@ pub fn begin_unit<P: Place>(
     ensures dropped { (read : Reading) → IsTrue P.tells → IfOk result (λ made. IsSome (child_of made.begun) → record_at read (records_folder project.now) (P.world place.new).files unit.now.key ≡ None) }
     ensures numbers { (read : Reading) → IsTrue P.tells → HoldsNumbers (record_at read (records_folder project.now) (P.world place.old).files) store.old.numbers → HoldsNumbers (record_at read (records_folder project.now) (P.world place.new).files) store.new.numbers }
     ensures known { OnOk result (store.new.numbers.known ≡ store.old.numbers.known) }
+    ensures unread { IfErr result (λ e. is_of_look e ≡ true → store.old.numbers.known ≡ true → store.new.numbers.known ≡ true) }
     ensures still { IsTrue P.tells → KeepsStillOutside (is_of (records_folder project.now) unit.now.key) (P.counts place.old).starts.flying (P.still place.old) (P.still place.new) }
     ensures writes { IsTrue P.tells → IfOk result (λ made. WritesTo unit.now.out (child_of made.begun) (P.counts place.new).starts.flying) }
     ensures launched { IsTrue P.tells → IfOk result (λ made. IfSome (child_of made.begun) (λ launched. IsSpawned (is_of (records_folder project.now) unit.now.key) P.child made.begun.command (P.world place.old) launched.ticket (P.counts place.new).starts.flying (P.still place.new))) }
@@ -232,6 +233,7 @@ pub fn answer_unit<P: Place>(
     ensures numbers { (read : Reading) → IsReading read → IsTrue P.tells → WritesTo unit.now.out (child_of begun) (P.counts place.old).starts.flying
         → HoldsNumbers (record_at read (records_folder project.now) (P.world place.old).files) store.old.numbers → HoldsNumbers (record_at read (records_folder project.now) (P.world place.new).files) store.new.numbers }
     ensures known { store.old.numbers.known ≡ true → OnOk result (store.new.numbers.known ≡ true) }
+    ensures unread { IfErr result (λ e. is_of_look e ≡ true → store.old.numbers.known ≡ true → store.new.numbers.known ≡ true) }
     ensures same { (read : Reading) → IsReading read → IsTrue P.tells → child_of begun ≡ None → lacks_number (record_at read (records_folder project.now) (P.world place.old).files unit.now.key) ≡ false → P.world place.new ≡ P.world place.old }
     ensures stay { (ticket : ℕ) (its : ChildInFlight) → IfSome (child_of begun) (λ launched. ticket ≢ launched.ticket) → child_at ticket (P.counts place.old).starts.flying ≡ Some its → child_at ticket (P.counts place.new).starts.flying ≡ Some its }
     ensures still { IsTrue P.tells → WritesTo unit.now.out (child_of begun) (P.counts place.old).starts.flying → KeepsOthersStill (child_of begun) (is_of (records_folder project.now) unit.now.key) (P.counts place.old).starts.flying (P.still place.old) (P.still place.new) }
@@ -358,6 +360,7 @@ pub fn run_unit<P: Place>(
     ensures differs { (read : Reading) → IsReading read → IsTrue P.tells → HoldsNumbers (record_at read (records_folder project.now) (P.world place.old).files) store.old.numbers → IfOk result (λ run. FirstDifference read (records_folder project.now) unit.now.key (command_of setup.now project.now unit.now done.now) (P.world place.old) run.difference) }
     ensures numbers { (read : Reading) → IsReading read → IsTrue P.tells → HoldsNumbers (record_at read (records_folder project.now) (P.world place.old).files) store.old.numbers → HoldsNumbers (record_at read (records_folder project.now) (P.world place.new).files) store.new.numbers }
     ensures known { store.old.numbers.known ≡ true → OnOk result (store.new.numbers.known ≡ true) }
+    ensures unread { IfErr result (λ e. is_of_look e ≡ true → store.old.numbers.known ≡ true → store.new.numbers.known ≡ true) }
     ensures same { (read : Reading) → IsReading read → IsTrue P.tells → IfOk result (λ run. run.difference ≡ None → lacks_number (record_at read (records_folder project.now) (P.world place.old).files unit.now.key) ≡ false → P.world place.new ≡ P.world place.old) }
     ensures unrecorded { (read : Reading) → IsTrue P.tells → IfOk result (λ run. IsSome run.difference → IsSome run.ran.bad → record_at read (records_folder project.now) (P.world place.new).files unit.now.key ≡ None) }
     ensures started { IfOk result (λ run. run.ran.started ≡ is_some run.difference) }

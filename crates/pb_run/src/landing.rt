@@ -174,6 +174,7 @@ fn keep<P: Place>(
     ensures ahead { (read : Reading) → IsReading read → IsTrue P.tells → HoldsNumbers (record_at read store.old.folder (P.world place.old).files) store.old.numbers → IsBefore store.old.next number → HasNeeds (record_at read store.old.folder (P.world place.old).files) store.old.folder command.now.reads (needed_keys project.now unit.now) number → IsAhead (record_at read store.old.folder (P.world place.old).files) store.old.next → IsAhead (record_at read store.old.folder (P.world place.new).files) store.old.next }
     ensures numbers { (read : Reading) → IsReading read → IsTrue P.tells → HoldsNumbers (record_at read store.old.folder (P.world place.old).files) store.old.numbers → HoldsNumbers (record_at read store.old.folder (P.world place.new).files) store.new.numbers }
     ensures known { OnOk result (store.new.numbers.known ≡ true) }
+    ensures unread { IfErr result (λ e. is_of_look e ≡ true → store.old.numbers.known ≡ true → store.new.numbers.known ≡ true) }
     ensures folder { store.new.folder ≡ store.old.folder }
     ensures others_held { (l : List ℕ) → store.old.numbers.known ≡ true → l ≢ unit.now.key → number_held store.new.numbers l ≡ number_held store.old.numbers l }
     ensures next { store.new.next ≡ store.old.next }
@@ -223,6 +224,7 @@ fn migrate<P: Place>(
     ensures numbered { (read : Reading) (r : Record) → IsReading read → IsTrue P.tells → OnOk result (record_at read store.old.folder (P.world place.new).files unit.now.key ≡ Some r → is_some (number_of r) ≡ true) }
     ensures numbers { (read : Reading) → IsReading read → IsTrue P.tells → HoldsNumbers (record_at read store.old.folder (P.world place.old).files) store.old.numbers → HoldsNumbers (record_at read store.old.folder (P.world place.new).files) store.new.numbers }
     ensures known { store.old.numbers.known ≡ true → OnOk result (store.new.numbers.known ≡ true) }
+    ensures unread { IfErr result (λ e. is_of_look e ≡ true → store.old.numbers.known ≡ true → store.new.numbers.known ≡ true) }
     ensures same { (read : Reading) → IsReading read → IsTrue P.tells → lacks_number (record_at read store.old.folder (P.world place.old).files unit.now.key) ≡ false → P.world place.new ≡ P.world place.old }
     ensures unnumbered { IfErr result (λ e. is_of_look e ≡ true → store.new.next ≡ store.old.next) }
     ensures used { IfErr result (λ e. is_of_write e ≡ true → TakesNext store.old.next store.new.next) }
@@ -304,6 +306,7 @@ pub(crate) fn land<P: Place>(
     ensures numbers { (read : Reading) → IsReading read → IsTrue P.tells → WritesTo unit.now.out (Some launched.now) (P.counts place.old).starts.flying
         → HoldsNumbers (record_at read (records_folder project.now) (P.world place.old).files) store.old.numbers → HoldsNumbers (record_at read (records_folder project.now) (P.world place.new).files) store.new.numbers }
     ensures known { store.old.numbers.known ≡ true → OnOk result (store.new.numbers.known ≡ true) }
+    ensures unread { IfErr result (λ e. is_of_look e ≡ true → store.old.numbers.known ≡ true → store.new.numbers.known ≡ true) }
     ensures started { IfOk result (λ ran. ran.started ≡ true) }
     ensures directives { IfOk result (λ ran. directives_in (outcome_by finite.empty ran) ≡ ran.directives) }
     ensures folder { store.new.folder ≡ store.old.folder }
@@ -386,6 +389,7 @@ pub(crate) fn reuse<P: Place>(
     ensures numbers { (read : Reading) → IsReading read → IsTrue P.tells → HoldsNumbers (record_at read (records_folder project.now) (P.world place.old).files) store.old.numbers
         → HoldsNumbers (record_at read (records_folder project.now) (P.world place.new).files) store.new.numbers }
     ensures known { store.old.numbers.known ≡ true → OnOk result (store.new.numbers.known ≡ true) }
+    ensures unread { IfErr result (λ e. is_of_look e ≡ true → store.old.numbers.known ≡ true → store.new.numbers.known ≡ true) }
     ensures started { IfOk result (λ ran. ran.started ≡ false) }
     ensures directives { IfOk result (λ ran. directives_in (outcome_by finite.empty ran) ≡ ran.directives) }
     ensures folder { store.new.folder ≡ store.old.folder }

@@ -240,3 +240,6 @@ returns-in-Err-launch-clause-tried g c read is told holds = inr (c.in-Differs.di
 
 pub returns-in-Err-launch-clause-differed : goal.returns-in-Err-launch-clause-differed
 returns-in-Err-launch-clause-differed g c read is told holds = inr (c.in-Differs.difference, differs_first c.args.store.now.folder (records_folder c.args.project.now) c.args.unit.now.key c.in-Ok-command.command _ (g.P.Place.world c.args.place.now) read c.in-Ok-compare.compared c.in-Differs.difference c.args.store.now.numbers c.requires.folder c.in-Ok-command.ensures c.in-Differs.is (c.in-Ok-compare.ensures.first read is told) holds)
+
+pub returns-in-Err-launch-clause-unread : goal.returns-in-Err-launch-clause-unread
+returns-in-Err-launch-clause-unread g c look known = absurd (launch_no_look _ _ c.in-Err-launch.fault _ _ c.in-Err-launch.ensures.calls look)

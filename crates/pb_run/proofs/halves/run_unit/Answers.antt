@@ -234,3 +234,6 @@ returns-in-Ok-answer_unit-clause-others_held g c l known apart = c.in-Ok-answer_
 
 pub returns-in-Err-answer_unit-clause-others_held : goal.returns-in-Err-answer_unit-clause-others_held
 returns-in-Err-answer_unit-clause-others_held g c l known apart = c.in-Err-answer_unit.ensures.others_held l (c.in-Ok.ensures.known ∙ known) apart ∙ c.in-Ok.ensures.others_held l apart
+
+pub returns-in-Err-answer_unit-clause-unread : goal.returns-in-Err-answer_unit-clause-unread
+returns-in-Err-answer_unit-clause-unread g c look known = c.in-Err-answer_unit.ensures.unread look (c.in-Ok.ensures.known ∙ known)
