@@ -1,4 +1,4 @@
--- Which calls of the place the units of a build make, event by event, and in which worlds. The store knows the numbers of its records, so that none is read for them.
+-- Which calls of the place the units of a build make, event by event, and in which worlds.
 use Rattle.std.specs.Prelude.{◌≡◌, ◌⊎◌, ◌∷◌, [], ℕ, Bool, true, false, is_some, List, Option, Some, None, Result, Ok, Err, IsOk, IfOk, IfSome}
 use Rattle.pb_answer.specs.declared.bad_unit.BadUnit.{BadUnit}
 use Rattle.pb_answer.specs.declared.fault.BuildFault.{BuildFault}
