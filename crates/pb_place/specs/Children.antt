@@ -2,7 +2,7 @@
 use Rattle.std.specs.Prelude.{◌≡◌, ◌≢◌, IfSome, ℕ, ◌==◌, ◌||◌, Bool, false, not, List, [], ◌∷◌, max, Option, Some, None, Result, Ok, Err, if◌then◌else◌}
 use Rattle.std.specs.FinMap as map
 use Rattle.pb_place.specs.Paths.{is_below}
-use Rattle.pb_place.specs.World.{World, Map, put_files, seen_by}
+use Rattle.pb_place.specs.World.{World, Map, ChangesOnly, put_files, seen_by}
 use Rattle.pb_place.specs.Folders.{files_in, over}
 use Rattle.pb_place.specs.declared.command.Command.{Command}
 use Rattle.pb_place.specs.declared.command.Ended.{Ended}
@@ -67,3 +67,11 @@ StaysStill flying old new before after = (ticket : ℕ) → StandsStill ticket f
 -- for each ticket but the one that ended
 abbrev pub StaysStillBut : ℕ → List ChildInFlight → World → World → (ℕ → Type 0) → (ℕ → Type 0) → Type 0
 StaysStillBut ended flying old new before after = (ticket : ℕ) → ticket ≢ ended → StandsStill ticket flying old new → before ticket → after ticket
+
+-- what stood still for a child in flight still does
+abbrev pub KeepsStill : (ℕ → Type 0) → (ℕ → Type 0) → Type 0
+KeepsStill before after = (ticket : ℕ) → before ticket → after ticket
+
+-- it does for each child that no change of these paths touches
+abbrev pub KeepsStillOutside : (List ℕ → Bool) → List ChildInFlight → (ℕ → Type 0) → (ℕ → Type 0) → Type 0
+KeepsStillOutside inside flying before after = (ticket : ℕ) → ((v w : World) → ChangesOnly inside v w → StandsStill ticket flying v w) → before ticket → after ticket

@@ -1,4 +1,5 @@
 pub use Rattle.pb_data.specs.Gives
+pub mod At
 pub mod CallsInTurn
 pub mod Changes
 pub mod Copies

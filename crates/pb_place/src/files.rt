@@ -79,7 +79,8 @@ impl FileMap {
 
     /// The paths of the files below a folder, in byte order. The one fault is want of memory.
     pub fn list(&self, alloc: Global, folder: &PathText) -> Result<Items<PathText>, AllocError>
-        ensures { IfOk result (λ paths. paths ≡ map.keys (map.retain_keys self.now (is_below folder.now))) }
+        ensures { IfOk result
+            (λ paths. paths ≡ map.keys (map.retain_keys self.now (is_below folder.now))) }
     {
         let names = names_below(alloc, &self.inside, folder.as_str())?;
         Ok(paths_of(alloc, names)?)
@@ -92,7 +93,14 @@ impl FileMap {
         folder: &PathText,
         left_out: &PathText,
     ) -> Result<Items<PathText>, AllocError>
-        ensures { IfOk result (λ paths. paths ≡ map.keys (map.retain_keys (map.retain_keys self.now (λ q. not (is_at_or_below left_out.now q))) (is_below folder.now))) }
+        ensures { IfOk result
+            (λ paths.
+            paths
+            ≡ map.keys
+            (map.retain_keys
+            (map.retain_keys self.now
+            (λ q. not (is_at_or_below left_out.now q)))
+            (is_below folder.now))) }
     {
         let names = names_below(alloc, &self.inside, folder.as_str())?;
         let names = names_outside(alloc, names, left_out)?;
@@ -105,7 +113,8 @@ impl FileMap {
         alloc: Global,
         folder: &PathText,
     ) -> Result<Items<PathText>, AllocError>
-        ensures { IfOk result (λ paths. paths ≡ map.keys (map.retain_keys self.now (is_directly_in folder.now))) }
+        ensures { IfOk result
+            (λ paths. paths ≡ map.keys (map.retain_keys self.now (is_directly_in folder.now))) }
     {
         let names = names_below(alloc, &self.inside, folder.as_str())?;
         let names = names_without_slash(alloc, names, folder)?;
@@ -114,7 +123,8 @@ impl FileMap {
 
     /// Removes the file at a path and the files below it. Where memory is refused, nothing changes.
     pub fn remove(&mut self, alloc: Global, path: &PathText) -> Result<(), AllocError>
-        ensures ok { OnOk result (self.new ≡ map.retain_keys self.old (λ q. not (is_at_or_below path.now q))) }
+        ensures ok { OnOk result
+            (self.new ≡ map.retain_keys self.old (λ q. not (is_at_or_below path.now q))) }
         ensures err { OnErr result (self.new ≡ self.old) }
     {
         let names = names_below(alloc, &self.inside, path.as_str())?;
@@ -127,7 +137,8 @@ impl FileMap {
 impl FileMap {
     /// Removes the files strictly below a folder. Where memory is refused, nothing changes.
     pub fn remove_below(&mut self, alloc: Global, folder: &PathText) -> Result<(), AllocError>
-        ensures ok { OnOk result (self.new ≡ map.retain_keys self.old (λ q. not (is_below folder.now q))) }
+        ensures ok { OnOk result
+            (self.new ≡ map.retain_keys self.old (λ q. not (is_below folder.now q))) }
         ensures err { OnErr result (self.new ≡ self.old) }
     {
         let names = names_below(alloc, &self.inside, folder.as_str())?;
@@ -155,7 +166,8 @@ impl FileMap {
         from: &FileMap,
         path: &PathText,
     ) -> Result<(), AllocError>
-        ensures ok { OnOk result (self.new ≡ put_one path.now (map.get from.now path.now) self.old) }
+        ensures ok { OnOk result
+            (self.new ≡ put_one path.now (map.get from.now path.now) self.old) }
         ensures err { OnErr result (self.new ≡ self.old) }
     {
         match from.get(path) {
@@ -174,7 +186,8 @@ impl FileMap {
     ) -> Result<(), AllocError>
         ensures ok { OnOk result (self.new ≡ put_from from.now paths.now self.old) }
         ensures some { OnErr result (PutsSome from.now paths.now self.old self.new) }
-        ensures only { (may : List ℕ → Bool) → AgreeBut may map.empty from.now → AgreeBut may self.old self.new }
+        ensures only { (may : List ℕ → Bool) → AgreeBut may map.empty from.now
+            → AgreeBut may self.old self.new }
     {
         for path in paths {
             self.take_over(alloc, from, path)?;
@@ -200,7 +213,12 @@ fn names_between(
     high: &Text,
 ) -> Result<Vec<Text>, AllocError>
     requires { slice_cmp nat_cmp low.now high.now ≡ Less }
-    ensures between { IfOk result (λ names. names.items ≡ keys_of (entries_between (slice_cmp nat_cmp) (Excluded low.now) (Excluded high.now) files.now.entries)) }
+    ensures between { IfOk result
+        (λ names.
+        names.items
+        ≡ keys_of
+        (entries_between (slice_cmp nat_cmp) (Excluded low.now)
+        (Excluded high.now) files.now.entries)) }
     ensures ordered { OnOk result (IsOrdered (slice_cmp nat_cmp) files.now) }
 {
     let mut names = Vec::new(alloc);
@@ -217,8 +235,13 @@ fn names_below(
     files: &BTreeMap<Text, Bytes>,
     folder: &str,
 ) -> Result<Vec<Text>, AllocError>
-    ensures part { IfOk result (λ names. names.items ≡ keys_of (filter (λ e. is_below folder.now e.0) files.now.entries)) }
-    ensures keys { IfOk result (λ names. names.items ≡ map.keys (map.retain_keys (files_of files.now) (is_below folder.now))) }
+    ensures part { IfOk result
+        (λ names.
+        names.items ≡ keys_of (filter (λ e. is_below folder.now e.0) files.now.entries)) }
+    ensures keys { IfOk result
+        (λ names.
+        names.items
+        ≡ map.keys (map.retain_keys (files_of files.now) (is_below folder.now))) }
     ensures ordered { OnOk result (IsOrdered (slice_cmp nat_cmp) files.now) }
 {
     let low = bound(alloc, folder, "/")?;
@@ -233,7 +256,10 @@ fn names_at_or_below(
     files: &BTreeMap<Text, Bytes>,
     path: &PathText,
 ) -> Result<Vec<Text>, AllocError>
-    ensures part { IfOk result (λ names. names.items ≡ keys_of (filter (λ e. is_at_or_below path.now e.0) files.now.entries)) }
+    ensures part { IfOk result
+        (λ names.
+        names.items
+        ≡ keys_of (filter (λ e. is_at_or_below path.now e.0) files.now.entries)) }
     ensures ordered { OnOk result (IsOrdered (slice_cmp nat_cmp) files.now) }
 {
     let mut names = Vec::new(alloc);
@@ -251,7 +277,8 @@ fn names_outside(
     names: Vec<Text>,
     left_out: &PathText,
 ) -> Result<Vec<Text>, AllocError>
-    ensures { IfOk result (λ kept. kept.items ≡ filter (λ q. not (is_at_or_below left_out.now q)) names.items) }
+    ensures { IfOk result
+        (λ kept. kept.items ≡ filter (λ q. not (is_at_or_below left_out.now q)) names.items) }
 {
     let mut kept = Vec::new(alloc);
     for name in names {
@@ -286,7 +313,15 @@ fn names_without_slash(
     names: Vec<Text>,
     folder: &PathText,
 ) -> Result<Vec<Text>, AllocError>
-    ensures { IfOk result (λ kept. kept.items ≡ filter (λ q. not (list_any (λ b. b == 47) (drop (length (stem folder.now) + 1) q))) names.items) }
+    ensures { IfOk result
+        (λ kept.
+        kept.items
+        ≡ filter
+        (λ q.
+        not
+        (list_any (λ b. b == 47)
+        (drop (length (stem folder.now) + 1) q)))
+        names.items) }
 {
     let mut kept = Vec::new(alloc);
     for name in names {
@@ -312,8 +347,11 @@ fn paths_of(alloc: Global, names: Vec<Text>) -> Result<Items<PathText>, AllocErr
 
 /// Takes the files at some keys away.
 fn remove_names(files: &mut BTreeMap<Text, Bytes>, names: &[Text])
-    ensures gone { (q : List ℕ) → map.get (files_of files.new) q ≡ (if list_any (is_same_path q) names.now then None else map.get (files_of files.old) q) }
-    ensures keys { (p : List ℕ → Bool) → list_all (λ e. p e.0) files.old.entries ≡ true → list_all (λ e. p e.0) files.new.entries ≡ true }
+    ensures gone { (q : List ℕ)
+        → map.get (files_of files.new) q
+        ≡ (if list_any (is_same_path q) names.now then None else map.get (files_of files.old) q) }
+    ensures keys { (p : List ℕ → Bool) → list_all (λ e. p e.0) files.old.entries ≡ true
+        → list_all (λ e. p e.0) files.new.entries ≡ true }
 {
     for name in names {
         files.remove(name);

@@ -1,10 +1,11 @@
 //! The outside world: files, variables and children, each call counted.
 
-ghost use Rattle.std.specs.Prelude.{◌≡◌, ◌≢◌, ◌⊎◌, ℕ, ◌+◌, Bool, true, false, max, length, IfOk, IfErr, OnOk, OnErr, IsTrue, IfSome};
+ghost use Rattle.std.specs.Prelude.{◌≡◌, ◌≢◌, Bool, true, IfOk, IfErr, OnOk, OnErr, IsTrue, IfSome};
 ghost use Rattle.std.specs.FinMap as map;
-ghost use Rattle.pb_place.specs.World.{World, Answers, written, removed, listed, listed_directly, Torn, PartlyRemoved, ChangesOnlyInSome, Ends};
-ghost use Rattle.pb_place.specs.Counts.{Counts, counted, counted_start, counted_spawn, counted_finish};
-ghost use Rattle.pb_place.specs.Children.{child_spawned, is_flying, child_at, most_after, StaysStill, StaysStillBut, LandsAs};
+ghost use Rattle.pb_place.specs.At.{At, LooksOnce, ChangesOnce, Spawns, Finishes, Starts};
+ghost use Rattle.pb_place.specs.Children.{child_at, is_flying, LandsAs};
+ghost use Rattle.pb_place.specs.Paths.{is_at_or_below};
+ghost use Rattle.pb_place.specs.World.{Answers, written, removed, listed, listed_directly, Torn, PartlyRemoved, Ends};
 ghost use Rattle.pb_place.specs.declared.call.Call.TheVariants as call;
 ghost use Rattle.pb_place.specs.declared.place.PlaceFault.TheVariants as place_fault;
 ghost use Rattle.pb_place.specs.declared.place.StartFault.TheVariants as start_fault;
@@ -96,173 +97,159 @@ impl<T: Drop> From<AllocFailed<T>> for StartFault {
     }
 }
 
-/// The files, the variables and the children of the outside world.
+/// The files, the variables and the child processes of the outside world.
 ///
-/// What its clauses say of files and variables is asked of a place that tells its maps; what they say of
-/// the counters, of every place. Want of memory apart, each answer is determined by the maps and the child.
+/// Clauses about answers and about file contents hold of a place that tells its maps. All others hold of every place.
+/// Apart from out of memory, each answer is determined by the maps and the child.
 /// Our own choice of calls.
 pub trait Place {
-    /// Whether the place tells its maps.
+    /// Whether the place tells its maps: whether `at` has the files and variables as they are. A real machine does not,
+    /// so clauses with this premise say nothing about it.
     ghost tells: { Bool };
 
-    /// The maps, where it tells them.
-    ghost world: { Self → World };
+    /// All that clauses say of the place at one moment. If it does not tell its maps, they are constant.
+    ghost at: { Self → At };
 
     /// The child: a member of the type, so no call can change it.
     ghost child: { Answers };
 
-    /// The counters, the fault of the last call that failed, and the last failing call on files or variables: so each
-    /// failing call sets them to the very fault that it answers and to itself.
-    ghost counts: { Self → Counts };
-
-    /// The most children that ever were in flight at one moment.
-    ghost most: { Self → ℕ };
-
-    /// What the child of this ticket sees, and what its folder holds, stood still since it was spawned. Each
-    /// call keeps it for the children for which it left both alone.
-    ghost still: { Self → ℕ → Type 0 };
-
-    /// Whether a call may fail for another reason than want of memory.
+    /// Whether a call may fail for another reason than out of memory.
     ghost fails: { Self → Type 0 };
 
-    /// The bytes of a file, or none where no file is there.
+    /// Returns the bytes of a file, or none if no file is there.
+    ///
+    /// Errors: `Read`; `OutOfMemory`.
     fn read(&mut self, alloc: Global, path: &PathText) -> Result<Option<Bytes>, PlaceFault>
-        ensures ok { IsTrue tells → IfOk result (λ found. found ≡ map.get (world self.old).files path.now) }
-        ensures same { IsTrue tells → world self.new ≡ world self.old }
-        ensures fault { IfErr result (λ e. e ≢ PlaceFault.OutOfMemory → e ≡ PlaceFault.Read) }
-        ensures fails { IfErr result (λ e. e ≢ PlaceFault.OutOfMemory → fails self.old) }
-        ensures counts { counts self.new ≡ counted (call.Read path.now) result (counts self.old) }
-        ensures most { most self.new ≡ most self.old }
-        ensures still { StaysStill (counts self.old).starts.flying (world self.old) (world self.new) (still self.old) (still self.new) };
+        ensures ok { IsTrue tells → IfOk result
+            (λ found. found ≡ map.get (at self.old).world.files path.now) }
+        ensures looks { LooksOnce (call.Read path.now) result (at self.old) (at self.new) }
+        ensures fails { IfErr result (λ e. e ≢ PlaceFault.OutOfMemory → fails self.old) };
 
-    /// The paths of all files below a folder, in byte order. The folder's own path is not among them.
+    /// Returns the paths of all files below a folder, in byte order. The folder's own path is not among them.
+    ///
+    /// Errors: `List`; `OutOfMemory`.
     fn list(&mut self, alloc: Global, folder: &PathText) -> Result<Items<PathText>, PlaceFault>
-        ensures ok { IsTrue tells → IfOk result (λ paths. paths ≡ listed folder.now (world self.old)) }
-        ensures same { IsTrue tells → world self.new ≡ world self.old }
-        ensures fault { IfErr result (λ e. e ≢ PlaceFault.OutOfMemory → e ≡ PlaceFault.List) }
-        ensures fails { IfErr result (λ e. e ≢ PlaceFault.OutOfMemory → fails self.old) }
-        ensures counts { counts self.new ≡ counted (call.List folder.now) result (counts self.old) }
-        ensures most { most self.new ≡ most self.old }
-        ensures still { StaysStill (counts self.old).starts.flying (world self.old) (world self.new) (still self.old) (still self.new) };
+        ensures ok { IsTrue tells → IfOk result
+            (λ paths. paths ≡ listed folder.now (at self.old).world) }
+        ensures looks { LooksOnce (call.List folder.now) result (at self.old) (at self.new) }
+        ensures fails { IfErr result (λ e. e ≢ PlaceFault.OutOfMemory → fails self.old) };
 
-    /// The paths of all files below a folder but those at or below another path, in byte order, without looking
-    /// at or below that one.
+    /// Returns the paths of all files below a folder but those at or below another path, in byte order. It does not
+    /// look at or below that path.
+    ///
+    /// Errors: `List`; `OutOfMemory`.
     fn list_outside(
         &mut self,
         alloc: Global,
         folder: &PathText,
         left_out: &PathText,
     ) -> Result<Items<PathText>, PlaceFault>
-        ensures ok { IsTrue tells → IfOk result (λ paths. paths ≡ listed folder.now (removed left_out.now (world self.old))) }
-        ensures same { IsTrue tells → world self.new ≡ world self.old }
-        ensures fault { IfErr result (λ e. e ≢ PlaceFault.OutOfMemory → e ≡ PlaceFault.List) }
-        ensures fails { IfErr result (λ e. e ≢ PlaceFault.OutOfMemory → fails self.old) }
-        ensures counts { counts self.new ≡ counted (call.ListOutside folder.now left_out.now) result (counts self.old) }
-        ensures most { most self.new ≡ most self.old }
-        ensures still { StaysStill (counts self.old).starts.flying (world self.old) (world self.new) (still self.old) (still self.new) };
+        ensures ok { IsTrue tells → IfOk result
+            (λ paths. paths ≡ listed folder.now (removed left_out.now (at self.old).world)) }
+        ensures looks { LooksOnce (call.ListOutside folder.now left_out.now) result
+            (at self.old) (at self.new) }
+        ensures fails { IfErr result (λ e. e ≢ PlaceFault.OutOfMemory → fails self.old) };
 
-    /// The paths of the files directly in a folder, in byte order, without looking into the folders there.
+    /// Returns the paths of the files directly in a folder, in byte order. It does not look into the folders there.
+    ///
+    /// Errors: `List`; `OutOfMemory`.
     fn list_directly(
         &mut self,
         alloc: Global,
         folder: &PathText,
     ) -> Result<Items<PathText>, PlaceFault>
-        ensures ok { IsTrue tells → IfOk result (λ paths. paths ≡ listed_directly folder.now (world self.old)) }
-        ensures same { IsTrue tells → world self.new ≡ world self.old }
-        ensures fault { IfErr result (λ e. e ≢ PlaceFault.OutOfMemory → e ≡ PlaceFault.List) }
-        ensures fails { IfErr result (λ e. e ≢ PlaceFault.OutOfMemory → fails self.old) }
-        ensures counts { counts self.new ≡ counted (call.ListDirectly folder.now) result (counts self.old) }
-        ensures most { most self.new ≡ most self.old }
-        ensures still { StaysStill (counts self.old).starts.flying (world self.old) (world self.new) (still self.old) (still self.new) };
+        ensures ok { IsTrue tells → IfOk result
+            (λ paths. paths ≡ listed_directly folder.now (at self.old).world) }
+        ensures looks { LooksOnce (call.ListDirectly folder.now) result
+            (at self.old) (at self.new) }
+        ensures fails { IfErr result (λ e. e ≢ PlaceFault.OutOfMemory → fails self.old) };
 
     /// Writes a file and makes the folders above it. After an error the old file is there, or none, or the
     /// first of the new bytes.
+    ///
+    /// Errors: `Write`; `OutOfMemory`.
     fn write(&mut self, alloc: Global, path: &PathText, bytes: &[u8]) -> Result<(), PlaceFault>
-        ensures ok { IsTrue tells → OnOk result (world self.new ≡ written path.now bytes.now (world self.old)) }
-        ensures err { IsTrue tells → OnErr result (Torn path.now bytes.now (world self.old) (world self.new)) }
-        ensures fault { IfErr result (λ e. e ≢ PlaceFault.OutOfMemory → e ≡ PlaceFault.Write) }
-        ensures fails { IfErr result (λ e. e ≢ PlaceFault.OutOfMemory → fails self.old) }
-        ensures counts { counts self.new ≡ counted (call.Write path.now) result (counts self.old) }
-        ensures most { most self.new ≡ most self.old }
-        ensures still { StaysStill (counts self.old).starts.flying (world self.old) (world self.new) (still self.old) (still self.new) };
+        ensures ok { IsTrue tells → OnOk result
+            ((at self.new).world ≡ written path.now bytes.now (at self.old).world) }
+        ensures err { IsTrue tells → OnErr result
+            (Torn path.now bytes.now (at self.old).world (at self.new).world) }
+        ensures changes { ChangesOnce (is_at_or_below path.now) (call.Write path.now) result
+            (at self.old) (at self.new) }
+        ensures fails { IfErr result (λ e. e ≢ PlaceFault.OutOfMemory → fails self.old) };
 
-    /// Removes the file at a path and all files below it; where nothing is there, nothing is done. After an
+    /// Removes the file at a path and all files below it. If nothing is there, it changes nothing. After an
     /// error each of them is there or not.
+    ///
+    /// Errors: `Remove`; `OutOfMemory`.
     fn remove_tree(&mut self, alloc: Global, path: &PathText) -> Result<(), PlaceFault>
-        ensures ok { IsTrue tells → OnOk result (world self.new ≡ removed path.now (world self.old)) }
-        ensures err { IsTrue tells → OnErr result (PartlyRemoved path.now (world self.old) (world self.new)) }
-        ensures fault { IfErr result (λ e. e ≢ PlaceFault.OutOfMemory → e ≡ PlaceFault.Remove) }
-        ensures fails { IfErr result (λ e. e ≢ PlaceFault.OutOfMemory → fails self.old) }
-        ensures counts { counts self.new ≡ counted (call.Remove path.now) result (counts self.old) }
-        ensures most { most self.new ≡ most self.old }
-        ensures still { StaysStill (counts self.old).starts.flying (world self.old) (world self.new) (still self.old) (still self.new) };
+        ensures ok { IsTrue tells → OnOk result
+            ((at self.new).world ≡ removed path.now (at self.old).world) }
+        ensures err { IsTrue tells → OnErr result
+            (PartlyRemoved path.now (at self.old).world (at self.new).world) }
+        ensures changes { ChangesOnce (is_at_or_below path.now) (call.Remove path.now) result
+            (at self.old) (at self.new) }
+        ensures fails { IfErr result (λ e. e ≢ PlaceFault.OutOfMemory → fails self.old) };
 
-    /// The value of a variable, or none where it is not set.
+    /// Returns the value of a variable, or none if it is not set.
+    ///
+    /// Errors: `Variable`; `OutOfMemory`.
     fn variable(&mut self, alloc: Global, name: &str) -> Result<Option<Text>, PlaceFault>
-        ensures ok { IsTrue tells → IfOk result (λ found. found ≡ map.get (world self.old).variables name.now) }
-        ensures same { IsTrue tells → world self.new ≡ world self.old }
-        ensures fault { IfErr result (λ e. e ≢ PlaceFault.OutOfMemory → e ≡ PlaceFault.Variable) }
-        ensures fails { IfErr result (λ e. e ≢ PlaceFault.OutOfMemory → fails self.old) }
-        ensures counts { counts self.new ≡ counted (call.Variable name.now) result (counts self.old) }
-        ensures most { most self.new ≡ most self.old }
-        ensures still { StaysStill (counts self.old).starts.flying (world self.old) (world self.new) (still self.old) (still self.new) };
+        ensures ok { IsTrue tells → IfOk result
+            (λ found. found ≡ map.get (at self.old).world.variables name.now) }
+        ensures looks { LooksOnce (call.Variable name.now) result (at self.old) (at self.new) }
+        ensures fails { IfErr result (λ e. e ≢ PlaceFault.OutOfMemory → fails self.old) };
 
-    /// Spawns a child, and gives the ticket by which its end is asked for: a number that no child in flight has.
-    /// Inside `command.out`, which it makes, anything may stand from then on until its end was asked for. It fails
-    /// with CannotStart alone, and then no child is in flight.
+    /// Spawns a child process, and returns its ticket, by which `finish` waits for it. No other child in flight has
+    /// this ticket. `command.out` is made; anything may be inside it from then on, until the child has ended.
+    ///
+    /// Errors: `CannotStart`, and then no child is in flight; `OutOfMemory`.
     fn spawn(&mut self, alloc: Global, command: &Command) -> Result<u64, StartFault>
-        ensures only { IsTrue tells → ChangesOnlyInSome command.now.out (world self.old) (world self.new) }
-        ensures fresh { IfOk result (λ ticket. is_flying ticket (counts self.old).starts.flying ≡ false) }
-        ensures fault { IfErr result (λ e. e ≢ StartFault.OutOfMemory → e ≡ StartFault.CannotStart) }
+        ensures spawns { Spawns child command.now result (at self.old) (at self.new) }
         ensures fails { IfErr result (λ e. e ≢ StartFault.OutOfMemory → fails self.old) }
-        ensures later { fails self.new → fails self.old }
-        ensures counts { counts self.new ≡ counted_spawn (child_spawned (child command.now) command.now (world self.old)) result (counts self.old) }
-        ensures most { most self.new ≡ most_after result (length (counts self.old).starts.flying + 1) (most self.old) }
-        ensures stands { IfOk result (λ ticket. still self.new ticket) }
-        ensures still { StaysStill (counts self.old).starts.flying (world self.old) (world self.new) (still self.old) (still self.new) };
+        ensures later { fails self.new → fails self.old };
 
-    /// Waits for the end of a child in flight, and ends its ticket, whatever it answers. Where the child answers,
-    /// and what it sees and what its folder holds stood still since it was spawned, its answer and its folder are
-    /// what its reply to the world in which it was spawned makes of them.
+    /// Waits for the end of a child in flight, and ends its ticket, whatever it answers. If the child answers, and
+    /// what it sees and what its folder holds has not changed since it was spawned, its answer and its folder are
+    /// what its reply to the world at the spawn makes of them.
+    ///
+    /// Errors: `Died`; `Capture`; `OutOfMemory`.
     fn finish(&mut self, alloc: Global, ticket: u64) -> Result<Ended, StartFault>
-        requires flies { is_flying ticket (counts self.old).starts.flying ≡ true }
-        ensures ok { IsTrue tells → still self.old ticket → IfOk result (λ ended. IfSome (child_at ticket (counts self.old).starts.flying) (λ spawned. LandsAs spawned (world self.old) ended (world self.new))) }
-        ensures only { IsTrue tells → IfSome (child_at ticket (counts self.old).starts.flying) (λ spawned. ChangesOnlyInSome spawned.command.out (world self.old) (world self.new)) }
-        ensures fault { IfErr result (λ e. e ≢ StartFault.OutOfMemory → (e ≡ StartFault.Died) ⊎ (e ≡ StartFault.Capture)) }
-        ensures fails { IfErr result (λ e. e ≢ StartFault.OutOfMemory → fails self.old) }
-        ensures counts { counts self.new ≡ counted_finish ticket result (counts self.old) }
-        ensures most { most self.new ≡ most self.old }
-        ensures still { StaysStillBut ticket (counts self.old).starts.flying (world self.old) (world self.new) (still self.old) (still self.new) };
+        requires flies { is_flying ticket (at self.old).counts.starts.flying ≡ true }
+        ensures ok { IsTrue tells → (at self.old).still ticket → IfOk result
+            (λ ended. IfSome (child_at ticket (at self.old).counts.starts.flying)
+            (λ spawned. LandsAs spawned (at self.old).world ended (at self.new).world)) }
+        ensures finishes { Finishes ticket result (at self.old) (at self.new) }
+        ensures fails { IfErr result (λ e. e ≢ StartFault.OutOfMemory → fails self.old) };
 
-    /// Starts a child and waits for its end: `spawn` and `finish` in turn. It makes the folder `command.out` first
+    /// Starts a child process and waits for its end: `spawn`, then `finish`. It makes the folder `command.out` first
     /// (the maps know files alone, so no clause shows that). It changes files inside `out` alone, and after an error
-    /// anything may stand there.
+    /// anything may be there.
+    ///
+    /// Errors: those of `spawn` and of `finish`.
     fn start(&mut self, alloc: Global, command: &Command) -> Result<Ended, StartFault>
-        ensures ok { IsTrue tells → IfOk result (λ ended. Ends (child command.now) command.now (world self.old) ended (world self.new)) }
-        ensures only { IsTrue tells → ChangesOnlyInSome command.now.out (world self.old) (world self.new) }
+        ensures ok { IsTrue tells → IfOk result (λ ended.
+            Ends (child command.now) command.now (at self.old).world ended (at self.new).world) }
+        ensures starts { Starts command.now result (at self.old) (at self.new) }
         ensures fails { IfErr result (λ e. e ≢ StartFault.OutOfMemory → fails self.old) }
-        ensures counts { counts self.new ≡ counted_start result (counts self.old) }
-        ensures most { OnOk result (most self.new ≡ max (most self.old) (length (counts self.old).starts.flying + 1)) }
-        ensures most_else { OnErr result ((most self.new ≡ most self.old) ⊎ (most self.new ≡ max (most self.old) (length (counts self.old).starts.flying + 1))) }
     {
         let ticket = self.spawn(alloc, command)?;
         self.finish(alloc, ticket)
     }
 
-    /// How many calls failed, at most `u64::MAX`. It takes no memory.
+    /// Returns how many calls failed, at most `u64::MAX`. It takes no memory.
     fn failures(&self) -> u64
-        ensures { result ≡ (counts self.now).failures };
+        ensures { result ≡ (at self.now).counts.failures };
 
-    /// How many times `spawn` was called, at most `u64::MAX`. It takes no memory.
+    /// Returns how many times `spawn` was called, at most `u64::MAX`. It takes no memory.
     fn starts(&self) -> u64
-        ensures { result ≡ (counts self.now).starts.count };
+        ensures { result ≡ (at self.now).counts.starts.count };
 
-    /// How many calls but this one, `finish`, `failures`, `starts` and `most` came since the last that failed, at most
-    /// `u64::MAX`; 0 where none failed. It takes no memory.
+    /// Returns how many calls but this one, `finish`, `failures`, `starts` and `most` came since the last that failed,
+    /// at most `u64::MAX`; 0 if none failed. It takes no memory.
     fn late(&self) -> u64
-        ensures { result ≡ (counts self.now).late };
+        ensures { result ≡ (at self.now).counts.late };
 
-    /// The most children that were ever in flight at one moment. It takes no memory.
+    /// Returns the most children that were ever in flight at one moment. It takes no memory.
     fn most(&self) -> u64
-        ensures { result ≡ most self.now };
+        ensures { result ≡ (at self.now).most };
 }
