@@ -1,10 +1,8 @@
 -- What other units do while a unit's child is in flight.
 use Rattle.std.specs.Prelude.{◌≡◌, ◌≢◌, ◌||◌, ℕ, Bool, true, List, Contains}
-use Rattle.pb_place.specs.Children.{StandsStill}
 use Rattle.pb_place.specs.Folders.{files_in}
 use Rattle.pb_place.specs.Paths.{is_path, is_at_or_below}
 use Rattle.pb_place.specs.World.{World, ChangesOnly, seen_by}
-use Rattle.pb_place.specs.declared.child_in_flight.ChildInFlight.{ChildInFlight}
 use Rattle.pb_place.specs.declared.command.Command.{Command}
 use Rattle.pb_soundness.specs.Records.{Reading, is_key, out_of, place_of, record_at}
 
@@ -20,11 +18,3 @@ ReadsOthers folder key c = (f : List ℕ) → Contains c.reads f → (v : List �
 abbrev pub OthersLaw : Type 0
 OthersLaw = (read : Reading) (folder key : List ℕ) (c : Command) (old new : World) → is_path folder ≡ true → is_key key ≡ true → is_at_or_below c.target folder ≡ true → ReadsOthers folder key c → ChangesOnly (is_of folder key) old new
     → (seen_by c new ≡ seen_by c old) × ((l : List ℕ) → l ≢ key → (record_at read folder new.files l ≡ record_at read folder old.files l)) × ((l : List ℕ) → is_key l ≡ true → l ≢ key → files_in (out_of folder l) new.files ≡ files_in (out_of folder l) old.files)
-
--- what stood still for a child in flight still does
-abbrev pub KeepsStill : (ℕ → Type 0) → (ℕ → Type 0) → Type 0
-KeepsStill before after = (ticket : ℕ) → before ticket → after ticket
-
--- it does for each child that no change of these paths touches
-abbrev pub KeepsStillOutside : (List ℕ → Bool) → List ChildInFlight → (ℕ → Type 0) → (ℕ → Type 0) → Type 0
-KeepsStillOutside inside flying before after = (ticket : ℕ) → ((v w : World) → ChangesOnly inside v w → StandsStill ticket flying v w) → before ticket → after ticket

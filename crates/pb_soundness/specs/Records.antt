@@ -4,7 +4,8 @@ use Rattle.std.specs.FinMap as finite
 use Rattle.std.specs.List.{list_any}
 use Rattle.std.specs.Str.{bytes_eq}
 use Rattle.pb_place.specs.Paths.{below, is_name}
-use Rattle.pb_place.specs.World.{Map}
+use Rattle.pb_place.specs.World.{World, Map}
+pub use Rattle.pb_record.proofs.ReadingLemmas.{reading}
 use Rattle.pb_record.specs.declared.record.Needed.{Needed}
 use Rattle.pb_record.specs.declared.record.Needed.TheVariants.{Copies, Numbers}
 use Rattle.pb_record.specs.declared.record.Record.{Record}
@@ -40,6 +41,10 @@ if_of_key key (Some r) = if bytes_eq r.key key then Some r else None
 -- the record that counts in the place of a key
 unfoldable pub record_at : Reading → List ℕ → Map → List ℕ → Option Record
 record_at read folder files key = if is_key key then if_of_key key (read_text read (finite.get files (place_of folder key))) else None
+
+-- the record that counts in the place of each key, in a folder of a world
+abbrev pub records : List ℕ → World → List ℕ → Option Record
+records folder w = record_at reading folder w.files
 
 -- a record's own number, and the units that it names with their numbers; format 1 has neither
 abbrev pub number_in : Needed → Option ℕ

@@ -1,6 +1,8 @@
 //! Laws of soundness. Each function does nothing; its contract is the law.
 
+ghost use Rattle.pb_record.specs.Parts.{IsReading};
 ghost use Rattle.pb_soundness.specs.Apart.{OthersLaw};
+ghost use Rattle.pb_soundness.specs.Records.{reading};
 ghost use Rattle.pb_soundness.specs.Laws.{StaysSound, OutsideLaw, InOutputLaw, WithoutRecordLaw, PutLaw};
 ghost use Rattle.pb_soundness.specs.Numbers.{NumberWaitsLaw, StaysAheadLaw, GivenAheadLaw, NextIsNewLaw};
 ghost use Rattle.pb_soundness.specs.Reuse.{GroundsLaw, ReuseLaw, RenewLaw, SparesLaw, PutGroundsLaw};
@@ -38,4 +40,10 @@ pub fn numbers_stay_ahead()
     ensures stays { StaysAheadLaw }
     ensures given { GivenAheadLaw }
     ensures new { NextIsNewLaw }
+{}
+
+/// `reading`, by which records are read from their files, gives each text the record that it says, or none. By
+/// `texts_have_one_reading` of `pb_record` it is the only function that does.
+pub fn records_have_a_reading()
+    ensures { IsReading reading }
 {}

@@ -4,4 +4,7 @@
 
 mod laws;
 
-pub use laws::{numbers_stay_ahead, others_stay_apart, records_are_reused, soundness_stays};
+pub use laws::{
+    numbers_stay_ahead, others_stay_apart, records_are_reused, records_have_a_reading,
+    soundness_stays,
+};
