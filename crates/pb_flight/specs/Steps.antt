@@ -1,5 +1,6 @@
 -- What is done next, and who decides it.
 use Rattle.std.specs.Prelude.{◌≡◌, ◌<◌, ◌≤◌, ◌+◌, ◌⊎◌, ℕ, max, Bool, true, false, List, [], ◌∷◌, length, Option, Some, None, slice_get}
+use Rattle.std.specs.Borrow.{MutBor}
 use Rattle.pb_flight.specs.declared.flight.Answer.{Answer}
 use Rattle.pb_flight.specs.declared.turn.Step.{Step}
 use Rattle.pb_flight.specs.declared.turn.Step.TheVariants as step
@@ -43,6 +44,10 @@ PicksFirst ready place = place ≡ 0
 -- the greatest place
 abbrev pub PicksLast : List ℕ → ℕ → Type 0
 PicksLast ready place = place + 1 ≡ length ready
+
+-- a pick that is lent picks as the pick itself does, and the same one stays lent
+abbrev pub PicksLent : {S : Type 0} → (S → List ℕ → ℕ → S → Type 0) → MutBor S → List ℕ → ℕ → MutBor S → Type 0
+PicksLent Picks old ready place new = Picks old.now ready place new.now × (new.ghost_name ≡ old.ghost_name)
 
 -- a unit begins as it is picked, where one may and fewer than so many fly; else the one begun first is answered. No job counts as one, and their number stays
 abbrev pub JobsTurn : {S : Type 0} → (S → List ℕ → ℕ → S → Type 0) → ℕ → S → ℕ → List ℕ → List ℕ → Step → S → Type 0

@@ -22,6 +22,9 @@ pub trait Crew<P, O, F, E> {
     /// What holds at each moment, whatever has happened.
     ghost holds: { Self → P → O → Type 0 };
 
+    /// What holds at each moment at which no call has failed yet, and what each call needs.
+    ghost able: { Self → P → O → Type 0 };
+
     /// What has happened between two moments by these events, the newest first, where the lines of so many units have
     /// been handed out.
     ghost story: { Self → P → O → Self → P → O → List (Event F) → ℕ → Type 0 };
@@ -37,15 +40,26 @@ pub trait Crew<P, O, F, E> {
     /// Begins a unit, and says whether a child was started for it. After a fault it is not in flight.
     fn begin(&mut self, alloc: Global, place: &mut P, out: &mut O, unit: usize) -> Result<bool, E>
         requires holds { holds self.old place.old out.old }
+        requires able { able self.old place.old out.old }
         requires unit { unit < length (needs self.old) }
         requires grounded { Contains (flying self.old) unit → ⊥ }
         ensures holds { holds self.new place.new out.new }
+        ensures able { OnOk result (able self.new place.new out.new) }
         ensures needs { needs self.new ≡ needs self.old }
         ensures flying { OnOk result (flying self.new ≡ flying self.old ++ unit ∷ []) }
-        ensures story { (first : Self) (first_place : P) (first_out : O) (es : List (Event F)) (given : ℕ) → story first first_place first_out self.old place.old out.old es given → flying self.old ≡ flying_after es
-            → IsLawful (needs self.old) es → given ≡ count_due (states_after (needs self.old) es) → MayBegin (needs self.old) (states_after (needs self.old) es) unit
-            → MatchResult result (λ spawned. story first first_place first_out self.new place.new out.new (Began unit spawned ∷ es) given)
-            (λ e. (spawned : Bool) × stops e None first first_place first_out self.new place.new out.new (Began unit spawned ∷ es)) };
+        ensures story { (first : Self) (first_place : P) (first_out : O) (es : List (Event F)) (given : ℕ)
+            → story first first_place first_out self.old place.old out.old es given
+            → flying self.old ≡ flying_after es → IsLawful (needs self.old) es
+            → given ≡ count_due (states_after (needs self.old) es)
+            → MayBegin (needs self.old) (states_after (needs self.old) es) unit
+            → MatchResult result
+            (λ spawned.
+            story first first_place first_out self.new place.new out.new
+            (Began unit spawned ∷ es) given)
+            (λ e.
+            (spawned : Bool)
+            × stops e None first first_place first_out self.new place.new out.new
+            (Began unit spawned ∷ es)) };
 
     /// Takes the answer of the unit at a place of those in flight, which it is no more then, also after a fault.
     fn answer(
@@ -56,28 +70,54 @@ pub trait Crew<P, O, F, E> {
         index: usize,
     ) -> Result<Answer<F>, E>
         requires holds { holds self.old place.old out.old }
+        requires able { able self.old place.old out.old }
         requires within { index < length (flying self.old) }
         ensures holds { holds self.new place.new out.new }
+        ensures able { OnOk result (able self.new place.new out.new) }
         ensures needs { needs self.new ≡ needs self.old }
         ensures flying { flying self.new ≡ remove (flying self.old) index }
-        ensures story { (first : Self) (first_place : P) (first_out : O) (es : List (Event F)) (given : ℕ) (unit : ℕ) → story first first_place first_out self.old place.old out.old es given → flying self.old ≡ flying_after es
-            → IsLawful (needs self.old) es → given ≡ count_due (states_after (needs self.old) es) → slice_get (flying self.old) index ≡ Some unit → slice_get (states_after (needs self.old) es) unit ≡ Some Begun
-            → MatchResult result (λ answer. story first first_place first_out self.new place.new out.new (Gave unit answer ∷ es) given)
-            (λ e. stops e (Some unit) first first_place first_out self.new place.new out.new es) };
+        ensures story { (first : Self) (first_place : P) (first_out : O) (es : List (Event F)) (given : ℕ)
+            (unit : ℕ)
+            → story first first_place first_out self.old place.old out.old es given
+            → flying self.old ≡ flying_after es → IsLawful (needs self.old) es
+            → given ≡ count_due (states_after (needs self.old) es)
+            → slice_get (flying self.old) index ≡ Some unit
+            → slice_get (states_after (needs self.old) es) unit ≡ Some Begun
+            → MatchResult result
+            (λ answer.
+            story first first_place first_out self.new place.new out.new
+            (Gave unit answer ∷ es) given)
+            (λ e.
+            stops e (Some unit) first first_place first_out self.new place.new
+            out.new es) };
 
     /// Hands out the lines that the last answer made due.
     fn tell(&mut self, place: &mut P, out: &mut O, lines: &[u8]) -> Result<(), E>
         requires holds { holds self.old place.old out.old }
+        requires able { able self.old place.old out.old }
         ensures holds { holds self.new place.new out.new }
+        ensures able { OnOk result (able self.new place.new out.new) }
         ensures needs { needs self.new ≡ needs self.old }
         ensures flying { flying self.new ≡ flying self.old }
-        ensures story { (first : Self) (first_place : P) (first_out : O) (es : List (Event F)) (given unit : ℕ) (answer : Answer F) → story first first_place first_out self.old place.old out.old (Gave unit answer ∷ es) given → IsLawful (needs self.old) (Gave unit answer ∷ es)
-            → given ≡ count_due (states_after (needs self.old) es) → lines.now ≡ due_after given (states_after (needs self.old) (Gave unit answer ∷ es))
-            → MatchResult result (λ _. story first first_place first_out self.new place.new out.new (Gave unit answer ∷ es) (count_due (states_after (needs self.old) (Gave unit answer ∷ es))))
-            (λ e. stops e None first first_place first_out self.new place.new out.new (Gave unit answer ∷ es)) };
+        ensures story { (first : Self) (first_place : P) (first_out : O) (es : List (Event F)) (given unit : ℕ)
+            (answer : Answer F)
+            → story first first_place first_out self.old place.old out.old (Gave unit answer ∷ es)
+            given → IsLawful (needs self.old) (Gave unit answer ∷ es)
+            → given ≡ count_due (states_after (needs self.old) es)
+            → lines.now ≡ due_after given (states_after (needs self.old) (Gave unit answer ∷ es))
+            → MatchResult result
+            (λ _.
+            story first first_place first_out self.new place.new out.new
+            (Gave unit answer ∷ es)
+            (count_due (states_after (needs self.old) (Gave unit answer ∷ es))))
+            (λ e.
+            stops e None first first_place first_out self.new place.new out.new
+            (Gave unit answer ∷ es)) };
 
     /// The fault of memory that was refused.
     fn refused(&self) -> E
-        ensures { (first : Self) (first_place last_place : P) (first_out last_out : O) (es : List (Event F)) (given : ℕ) → story first first_place first_out self.now last_place last_out es given
+        ensures { (first : Self) (first_place last_place : P) (first_out last_out : O)
+            (es : List (Event F)) (given : ℕ)
+            → story first first_place first_out self.now last_place last_out es given
             → stops result None first first_place first_out self.now last_place last_out es };
 }

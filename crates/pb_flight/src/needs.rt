@@ -12,7 +12,8 @@ use std::alloc::{AllocError, Global};
 fn list_at(lists: &mut Vec<Items<usize>>, need: usize, unit: usize) -> Result<(), AllocError>
     ensures long { length lists.new.items ≡ length lists.old.items }
     ensures listed { OnOk result (need < length lists.old.items → Contains (units_at lists.new.items need) unit) }
-    ensures kept { (u v : ℕ) → Contains (units_at lists.old.items v) u → Contains (units_at lists.new.items v) u }
+    ensures kept { (u v : ℕ) → Contains (units_at lists.old.items v) u
+        → Contains (units_at lists.new.items v) u }
 {
     if need >= lists.len() {
         return Ok(());
@@ -24,8 +25,11 @@ fn list_at(lists: &mut Vec<Items<usize>>, need: usize, unit: usize) -> Result<()
 /// Lists a unit at each unit that it needs.
 fn list_unit(lists: &mut Vec<Items<usize>>, unit: usize, needs: &[usize]) -> Result<(), AllocError>
     ensures long { length lists.new.items ≡ length lists.old.items }
-    ensures listed { OnOk result ((v : ℕ) → Contains needs.now v → v < length lists.old.items → Contains (units_at lists.new.items v) unit) }
-    ensures kept { (u v : ℕ) → Contains (units_at lists.old.items v) u → Contains (units_at lists.new.items v) u }
+    ensures listed { OnOk result
+        ((v : ℕ) → Contains needs.now v → v < length lists.old.items
+        → Contains (units_at lists.new.items v) unit) }
+    ensures kept { (u v : ℕ) → Contains (units_at lists.old.items v) u
+        → Contains (units_at lists.new.items v) u }
 {
     for need in needs {
         list_at(lists, *need, unit)?;
@@ -103,7 +107,8 @@ fn move_one<F>(
 ) -> usize
     requires long { length met.old.items ≡ length needs.now }
     requires low { slice_index met.old.items unit ≤ count_met states.now (units_at needs.now unit) }
-    ensures met { met.new.items ≡ slice_set met.old.items unit (count_met states.now (units_at needs.now unit)) }
+    ensures met { met.new.items
+        ≡ slice_set met.old.items unit (count_met states.now (units_at needs.now unit)) }
     ensures far { IsFar needs.now met.old.items reach → IsFar needs.now met.new.items result }
 {
     if unit >= needs.len() {

@@ -2,7 +2,7 @@
 
 ghost use Rattle.std.specs.Prelude.{◌≡◌, ◌<◌, ◌+◌, ℕ, List, length};
 ghost use Rattle.pb_flight.specs.declared.turn.Step.{Step};
-ghost use Rattle.pb_flight.specs.Steps.{IsWithin, PicksFirst, PicksLast, TurnsOfJobs};
+ghost use Rattle.pb_flight.specs.Steps.{IsWithin, PicksFirst, PicksLast, PicksLent, TurnsOfJobs};
 
 /// A step of a build: the unit at a place of the list of those that may begin is begun, or the one at a place of the
 /// list of those in flight is answered.
@@ -39,6 +39,15 @@ pub trait Pick {
         requires some { 0 < length ready.now }
         ensures picked { picks self.old ready.now result self.new }
         ensures within { result < length ready.now };
+}
+
+/// A borrowed pick picks as the pick itself does, and stays the same reference.
+impl<P: Pick> Pick for &mut P {
+    ghost picks = { PicksLent P.picks };
+
+    fn pick(&mut self, ready: &[usize]) -> usize {
+        (**self).pick(ready)
+    }
 }
 
 /// Picks the first in plan order.

@@ -10,6 +10,7 @@ loop-alloc-init g c =
     let flown = flown_fresh g.T.Turn.turns (g.C.Crew.needs c.args.crew.now) c.args.turn.now c.args.flight.now (g.C.Crew.flying c.args.crew.now) c.requires.fresh c.requires.none in
     record {
       holds = c.requires.holds;
+      able = c.requires.able;
       needs = refl;
       flown = ([], flown);
       goes = λ first first_place first_out story. ([], flown, subst (λ n. g.C.Crew.story first first_place first_out c.args.crew.now c.args.place.now c.args.out.now [] n) (ap (λ (t : Table g.row.F.Denot). t.given) (sym c.requires.fresh)) story);
@@ -23,6 +24,7 @@ loop-alloc-preserved g c =
     let same = c.loop-alloc.invariant.needs in
     record {
       holds = c.step.ensures.holds;
+      able = c.in-Ok.ensures.able;
       needs = c.step.ensures.needs ∙ same;
       flown =
           let (es, flown) = c.loop-alloc.invariant.flown in
