@@ -27,3 +27,11 @@ AreOrdered paths = IsSorted (slice_cmp nat_cmp) paths
 pub record StaysBelow (folder : List ℕ) (found : Found) : Type 0 where
   pub files : AreBelow folder found.files.items
   pub waiting : All (λ waiting. is_at_or_below folder waiting.folder ≡ true) found.waiting.items
+
+-- what is found in a folder stays below each folder at or above it
+abbrev pub KeepsBelow : List ℕ → Found → Found → Type 0
+KeepsBelow here old new = (above : List ℕ) → is_at_or_below above here ≡ true → StaysBelow above old → StaysBelow above new
+
+-- no file is found that is left out
+abbrev pub KeepsOutside : Option (List ℕ) → Found → Found → Type 0
+KeepsOutside left_out old new = AreOutside left_out old.files.items → AreOutside left_out new.files.items

@@ -26,19 +26,20 @@ use std::alloc::{AllocError, Global};
 use std::process::{Child, Processes};
 use std::rt::{Env, Files};
 
-/// A place of real files, variables and children, by a runtime. It does not tell its maps, since no contract can say
-/// what a disk holds, and it counts its calls as every place does.
+/// A place of real files, variables and children, over a runtime. It does not tell its maps, since no contract can say
+/// what a disk holds. It counts its calls as every place does.
 ///
-/// Links are followed. A path at which nothing stands, one whose link leads nowhere, and one at which neither file nor
-/// folder stands, count as absent. A file past 4,294,967,296 bytes, a listed folder with a name that is not UTF-8
-/// (which `list_directly` passes over), a folder that lies more than 128 folders below the one that is listed, and a
-/// variable whose value is not UTF-8 are failures. A removal takes a link itself and leaves what it leads to. Our own
-/// choice, as for the limits of the other formats.
+/// It follows links. The rest is our own choice, as for the limits of the other formats:
+/// - A path is absent if nothing is there, if its link leads nowhere, or if it is neither a file nor a folder.
+/// - It is a failure to read a file of more than 4,294,967,296 bytes, or a variable whose value is not UTF-8.
+/// - It is a failure to list a folder that contains a name that is not UTF-8. `list_directly` passes over such a name.
+/// - It is a failure to list a folder with folders more than 128 levels below it.
+/// - A removal removes a link itself, and not what it leads to.
 ///
-/// A child inherits the variables of this process under those of its command, starts in the folder of the command, and
-/// has an empty standard input. What it changes on the disk is its own doing. Children in flight run side by side;
-/// what one writes past what a pipe holds waits for its `finish`. They stay in the process group of this program, and
-/// one whose place is dropped before its `finish` is neither waited for nor ended.
+/// A child inherits the variables of this process under those of its command. It starts in the folder of the command,
+/// with an empty standard input. No contract says what it changes on the disk. Children in flight run side by side; if
+/// one writes more than a pipe holds, it waits for its `finish`. They stay in the process group of this program. A
+/// child whose place is dropped before its `finish` is neither waited for nor ended.
 #[derive(Drop)]
 pub struct HostPlace<'a, R: Processes> {
     runtime: &'a R,
@@ -48,10 +49,10 @@ pub struct HostPlace<'a, R: Processes> {
 }
 
 impl<'a, R: Files + Env + Processes + AllocGlobal> HostPlace<'a, R> {
-    /// The place that a runtime gives, of which no call was made. It takes no memory.
+    /// Returns the place over a runtime, of which no call was made. It takes no memory.
     pub fn new(alloc: Global, runtime: &'a R) -> HostPlace<'a, R>
-        ensures counts { ⟦<HostPlace<'a, R> as Place>⟧.counts result ≡ no_calls }
-        ensures most { ⟦<HostPlace<'a, R> as Place>⟧.most result ≡ 0 }
+        ensures counts { (⟦<HostPlace<'a, R> as Place>⟧.at result).counts ≡ no_calls }
+        ensures most { (⟦<HostPlace<'a, R> as Place>⟧.at result).most ≡ 0 }
     {
         HostPlace {
             runtime,
@@ -61,20 +62,25 @@ impl<'a, R: Files + Env + Processes + AllocGlobal> HostPlace<'a, R> {
         }
     }
 
-    /// Whether a child of this ticket is in flight. It is no call of the place and takes no memory.
+    /// Returns whether a child of this ticket is in flight. It is no call of the place and takes no memory.
     pub fn flies(&self, ticket: u64) -> bool
-        ensures { result ≡ is_flying ticket (⟦<HostPlace<'a, R> as Place>⟧.counts self.now).starts.flying }
+        ensures { result ≡ is_flying ticket
+            (⟦<HostPlace<'a, R> as Place>⟧.at self.now).counts.starts.flying }
     {
         flies(self.flying.as_slice(), ticket)
     }
 
-    /// Begins the child of a command. Room for it among those in flight is made before, so no child that was begun
-    /// is lost to want of memory.
+    /// Begins the child of a command, and returns its ticket. It makes room for the child among those in flight first, so
+    /// no child that was begun is lost if memory is refused.
     fn begin(&mut self, alloc: Global, command: &Command) -> Result<u64, StartFault>
-        ensures fresh { IfOk result (λ ticket. is_flying ticket (children_in self.old.flying.items) ≡ false) }
-        ensures fault { IfErr result (λ e. e ≢ StartFault.OutOfMemory → e ≡ StartFault.CannotStart) }
-        ensures children { children_in self.new.flying.items ≡ flown (silent_child command.now) result (children_in self.old.flying.items) }
-        ensures most { self.new.most ≡ most_after result (length (children_in self.old.flying.items) + 1) self.old.most }
+        ensures fresh { IfOk result
+            (λ ticket. is_flying ticket (children_in self.old.flying.items) ≡ false) }
+        ensures fault { IfErr result
+            (λ e. e ≢ StartFault.OutOfMemory → e ≡ StartFault.CannotStart) }
+        ensures children { children_in self.new.flying.items
+            ≡ flown (silent_child command.now) result (children_in self.old.flying.items) }
+        ensures most { self.new.most
+            ≡ most_after result (length (children_in self.old.flying.items) + 1) self.old.most }
         ensures tally { self.new.tally ≡ self.old.tally }
     {
         let Some(ticket) = free_ticket(self.flying.as_slice()) else {
@@ -89,11 +95,13 @@ impl<'a, R: Files + Env + Processes + AllocGlobal> HostPlace<'a, R> {
         Ok(ticket)
     }
 
-    /// Ends a child.
+    /// Waits for the end of a child, and removes it from those in flight.
     fn end(&mut self, alloc: Global, ticket: u64) -> Result<Ended, StartFault>
         requires flies { is_flying ticket (children_in self.old.flying.items) ≡ true }
-        ensures fault { IfErr result (λ e. e ≢ StartFault.OutOfMemory → (e ≡ StartFault.Died) ⊎ (e ≡ StartFault.Capture)) }
-        ensures children { children_in self.new.flying.items ≡ without ticket (children_in self.old.flying.items) }
+        ensures fault { IfErr result (λ e. e ≢ StartFault.OutOfMemory
+            → (e ≡ StartFault.Died) ⊎ (e ≡ StartFault.Capture)) }
+        ensures children { children_in self.new.flying.items
+            ≡ without ticket (children_in self.old.flying.items) }
         ensures most { self.new.most ≡ self.old.most }
         ensures tally { self.new.tally ≡ self.old.tally }
     {
@@ -104,7 +112,7 @@ impl<'a, R: Files + Env + Processes + AllocGlobal> HostPlace<'a, R> {
     }
 }
 
-/// What a place keeps of a child in flight.
+/// Returns what a place keeps of a child in flight.
 fn kept_of<K: Drop>(flying: Flying<K>) -> K
     ensures { result ≡ flying.kept }
 {
@@ -113,7 +121,7 @@ fn kept_of<K: Drop>(flying: Flying<K>) -> K
     kept
 }
 
-/// What is told of a child in flight: its ticket and its command.
+/// Returns what the place tells of a child in flight: its ticket and its command.
 #[tactic(auto, using(crate::proofs::Silence::silence_laws))]
 fn child_in_flight(
     alloc: Global,
@@ -136,18 +144,19 @@ fn child_in_flight(
     })
 }
 
-/// Adds a child in flight for which there is room, and gives the most that ever were.
+/// Adds a child in flight for which there is room, and returns the most that ever were in flight.
 #[tactic(auto, using(pb_memory::proofs::InFlight::fly_laws))]
 fn add_child<K: Drop>(flying: &mut Vec<Flying<K>>, most: u64, one: Flying<K>) -> u64
     requires room { vec_len flying.old < vec_capacity flying.old }
-    ensures children { children_in flying.new.items ≡ children_in flying.old.items ++ one.child ∷ [] }
+    ensures children { children_in flying.new.items
+        ≡ children_in flying.old.items ++ one.child ∷ [] }
     ensures most { result ≡ max most (length (children_in flying.old.items) + 1) }
 {
     flying.push_reserved(one);
     most.max(flying.len() as u64)
 }
 
-/// The fault of a call for a view's fault: want of memory, or the call's own.
+/// Returns the fault of a call for a view's fault: out of memory, or the call's own.
 fn fault_of(fault: ViewFault, own: PlaceFault) -> PlaceFault
     ensures memory { fault ≡ view_fault.OutOfMemory → result ≡ place_fault.OutOfMemory }
     ensures own { fault ≡ view_fault.Failed → result ≡ own }
@@ -167,15 +176,14 @@ impl<'a, R: Files + Env + Processes + AllocGlobal> Place for HostPlace<'a, R> {
 
     ghost tells = { false };
 
-    ghost world = { λ _. no_world };
+    ghost at = { λ p. record {
+      world = no_world;
+      counts = with_children (children_in p.flying.items) p.tally;
+      most = p.most;
+      still = λ _. Unit {0};
+    } };
 
     ghost child = { silent };
-
-    ghost counts = { λ p. with_children (children_in p.flying.items) p.tally };
-
-    ghost most = { λ p. p.most };
-
-    ghost still = { λ _ _. Unit {0} };
 
     ghost fails = { λ _. Unit {0} };
 

@@ -1,9 +1,9 @@
 //! Listing real folders.
 
-ghost use Rattle.std.specs.Prelude.{◌≡◌, ◌≢◌, ◌+◌, ◌++◌, ◌∷◌, [], ℕ, List, true, Some, IfOk, IfErr, OnOk};
-ghost use Rattle.pb_place.specs.Paths.{is_below, is_at_or_below};
+ghost use Rattle.std.specs.Prelude.{◌≡◌, ◌≢◌, ◌+◌, ◌++◌, ◌∷◌, [], true, Some, IfOk, IfErr, OnOk};
+ghost use Rattle.pb_place.specs.Paths.{is_below};
 ghost use Rattle.std.specs.Option.{option_copied};
-ghost use Rattle.pb_host.specs.Listing.{AreBelow, AreOutside, AreOrdered, StaysBelow, is_left_out};
+ghost use Rattle.pb_host.specs.Listing.{AreBelow, AreOutside, AreOrdered, KeepsBelow, KeepsOutside, is_left_out};
 
 use crate::reading::{Standing, says_absent, standing_of};
 use crate::writing::fault_of;
@@ -99,7 +99,8 @@ fn add_file(found: &mut Found, path: PathText) -> Result<(), PlaceFault>
 
 /// Lets a folder wait. List where it lies too deep.
 fn add_folder(found: &mut Found, path: PathText, above: u8) -> Result<(), PlaceFault>
-    ensures waiting { OnOk result (found.new.waiting.items ≡ found.old.waiting.items ++ record { folder = path; depth = above + 1 } ∷ []) }
+    ensures waiting { OnOk result (found.new.waiting.items ≡ found.old.waiting.items
+        ++ record { folder = path; depth = above + 1 } ∷ []) }
     ensures files { found.new.files ≡ found.old.files }
     ensures fault { IfErr result (λ e. e ≢ PlaceFault.OutOfMemory → e ≡ PlaceFault.List) }
 {
@@ -123,8 +124,9 @@ fn take_entry<R: Files + AllocGlobal>(
     here: &Waiting,
     name: &str,
 ) -> Result<(), PlaceFault>
-    ensures below { OnOk result ((above : List ℕ) → is_at_or_below above here.now.folder ≡ true → StaysBelow above found.old → StaysBelow above found.new) }
-    ensures outside { OnOk result (AreOutside (option_copied left_out.entry) found.old.files.items → AreOutside (option_copied left_out.entry) found.new.files.items) }
+    ensures below { OnOk result (KeepsBelow here.now.folder found.old found.new) }
+    ensures outside { OnOk result
+        (KeepsOutside (option_copied left_out.entry) found.old found.new) }
     ensures fault { IfErr result (λ e. e ≢ PlaceFault.OutOfMemory → e ≡ PlaceFault.List) }
 {
     let path = path_of(alloc, &here.folder, name)?;
@@ -168,8 +170,9 @@ fn take_told<R: Files + AllocGlobal>(
     here: &Waiting,
     entry: io::Result<fs::DirEntry<&R>>,
 ) -> Result<(), PlaceFault>
-    ensures below { OnOk result ((above : List ℕ) → is_at_or_below above here.now.folder ≡ true → StaysBelow above found.old → StaysBelow above found.new) }
-    ensures outside { OnOk result (AreOutside (option_copied left_out.entry) found.old.files.items → AreOutside (option_copied left_out.entry) found.new.files.items) }
+    ensures below { OnOk result (KeepsBelow here.now.folder found.old found.new) }
+    ensures outside { OnOk result
+        (KeepsOutside (option_copied left_out.entry) found.old found.new) }
     ensures fault { IfErr result (λ e. e ≢ PlaceFault.OutOfMemory → e ≡ PlaceFault.List) }
 {
     match entry {
@@ -186,8 +189,9 @@ fn take_folder<R: Files + AllocGlobal>(
     found: &mut Found,
     here: &Waiting,
 ) -> Result<(), PlaceFault>
-    ensures below { OnOk result ((above : List ℕ) → is_at_or_below above here.now.folder ≡ true → StaysBelow above found.old → StaysBelow above found.new) }
-    ensures outside { OnOk result (AreOutside (option_copied left_out.entry) found.old.files.items → AreOutside (option_copied left_out.entry) found.new.files.items) }
+    ensures below { OnOk result (KeepsBelow here.now.folder found.old found.new) }
+    ensures outside { OnOk result
+        (KeepsOutside (option_copied left_out.entry) found.old found.new) }
     ensures fault { IfErr result (λ e. e ≢ PlaceFault.OutOfMemory → e ≡ PlaceFault.List) }
 {
     let Some(entries) = entries_of(runtime, here)? else {
@@ -243,7 +247,7 @@ fn take_named<R: Files + AllocGlobal>(
     found: &mut Found,
     here: &Waiting,
 ) -> Result<(), PlaceFault>
-    ensures below { OnOk result ((above : List ℕ) → is_at_or_below above here.now.folder ≡ true → StaysBelow above found.old → StaysBelow above found.new) }
+    ensures below { OnOk result (KeepsBelow here.now.folder found.old found.new) }
     ensures fault { IfErr result (λ e. e ≢ PlaceFault.OutOfMemory → e ≡ PlaceFault.List) }
 {
     let Some(entries) = entries_of(runtime, here)? else {

@@ -39,7 +39,10 @@ fn fault_of(error: io::Error) -> ViewFault
 /// Whether an error says that nothing stands at a path: there is no such name, a file stands where a folder should,
 /// or the links lead in a circle.
 pub(crate) fn says_absent(error: &io::Error) -> bool
-    ensures { IsTrue result ↔ ((error_kind error.now ≡ ErrorKind.NotFound) ⊎ (error_kind error.now ≡ ErrorKind.NotADirectory) ⊎ (error_kind error.now ≡ ErrorKind.FilesystemLoop)) }
+    ensures { IsTrue result
+        ↔ ((error_kind error.now ≡ ErrorKind.NotFound)
+        ⊎ (error_kind error.now ≡ ErrorKind.NotADirectory)
+        ⊎ (error_kind error.now ≡ ErrorKind.FilesystemLoop)) }
 {
     matches!(
         error.kind(),

@@ -42,7 +42,10 @@ fn add_words(made: &mut process::Command, words: &[Text]) -> Result<(), AllocErr
 /// Sets a variable of a process.
 #[tactic(auto, using(crate::proofs::Variables::set_law))]
 fn set_variable(made: &mut process::Command, name: &str, value: &str) -> Result<(), AllocError>
-    ensures set { OnOk result ((other : List ℕ) → command_var made.new other ≡ (if bytes_eq name.now other then Some (Some value.now) else command_var made.old other)) }
+    ensures set { OnOk result
+        ((other : List ℕ)
+        → command_var made.new other
+        ≡ (if bytes_eq name.now other then Some (Some value.now) else command_var made.old other)) }
     ensures call { OnOk result (SameProgramAndArgs made.old made.new) }
     ensures inherits { OnOk result (clears_env made.new ≡ clears_env made.old) }
     ensures folder { OnOk result (SameDir made.old made.new) }
@@ -53,7 +56,8 @@ fn set_variable(made: &mut process::Command, name: &str, value: &str) -> Result<
 
 /// Sets the variables of a process, one after another.
 fn add_pairs(made: &mut process::Command, pairs: &[(Text, Text)]) -> Result<(), AllocError>
-    ensures pairs { OnOk result ((name : List ℕ) → command_var made.new name ≡ value_over name (command_var made.old name) pairs.now) }
+    ensures pairs { OnOk result ((name : List ℕ)
+        → command_var made.new name ≡ value_over name (command_var made.old name) pairs.now) }
     ensures call { OnOk result (SameProgramAndArgs made.old made.new) }
     ensures inherits { OnOk result (clears_env made.new ≡ clears_env made.old) }
     ensures folder { OnOk result (SameDir made.old made.new) }
@@ -67,10 +71,12 @@ fn add_pairs(made: &mut process::Command, pairs: &[(Text, Text)]) -> Result<(), 
 /// Gives a process what a command says past its program.
 fn fill(made: &mut process::Command, command: &Command) -> Result<(), AllocError>
     ensures program { OnOk result (command_program made.new ≡ command_program made.old) }
-    ensures words { OnOk result (command_args made.new ≡ command_args made.old ++ command.now.words) }
+    ensures words { OnOk result
+        (command_args made.new ≡ command_args made.old ++ command.now.words) }
     ensures folder { OnOk result (command_dir made.new ≡ Some command.now.folder) }
     ensures inherits { OnOk result (clears_env made.new ≡ clears_env made.old) }
-    ensures pairs { OnOk result ((name : List ℕ) → command_var made.new name ≡ value_over name (command_var made.old name) command.now.pairs) }
+    ensures pairs { OnOk result ((name : List ℕ) → command_var made.new name
+        ≡ value_over name (command_var made.old name) command.now.pairs) }
 {
     add_words(made, command.words.as_slice())?;
     add_pairs(made, command.pairs.as_slice())?;
@@ -133,7 +139,8 @@ pub(crate) fn finish<S: OpenProcess + Drop>(
     alloc: Global,
     child: Child<S>,
 ) -> Result<Ended, StartFault>
-    ensures fault { IfErr result (λ e. e ≢ StartFault.OutOfMemory → (e ≡ StartFault.Died) ⊎ (e ≡ StartFault.Capture)) }
+    ensures fault { IfErr result (λ e. e ≢ StartFault.OutOfMemory → (e ≡ StartFault.Died)
+        ⊎ (e ≡ StartFault.Capture)) }
 {
     match child.wait_with_output(alloc) {
         Ok(output) => ended(output),
@@ -143,7 +150,8 @@ pub(crate) fn finish<S: OpenProcess + Drop>(
 
 /// How a child ended: with its status code and both its streams, as they were written. Died where it has no status code.
 fn ended(output: Output) -> Result<Ended, StartFault>
-    ensures ended { IfOk result (λ e. (exit_code output.status ≡ Some e.status) × (e.stdout ≡ output.stdout.items) × (e.stderr ≡ output.stderr.items)) }
+    ensures ended { IfOk result (λ e. (exit_code output.status ≡ Some e.status)
+        × (e.stdout ≡ output.stdout.items) × (e.stderr ≡ output.stderr.items)) }
     ensures fault { IfErr result (λ e. (exit_code output.status ≡ None) × (e ≡ StartFault.Died)) }
 {
     match output.status.code() {

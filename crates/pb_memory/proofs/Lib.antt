@@ -1,3 +1,4 @@
+pub mod Changing
 pub mod InFlight
 mod Quiet
 pub mod Starts

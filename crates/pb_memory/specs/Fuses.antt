@@ -1,7 +1,10 @@
 -- What a failing call leaves of a place in memory, and what it uses up of what was set to fail. Want of memory is no failure, and uses up neither a fuse nor a death.
-use Rattle.std.specs.Prelude.{◌≡◌, ◌⊎◌, ℕ, ◌+◌, ◌-◌, ◌/◌, ◌==◌, max, List, length, take, Option, Result, Ok, Err, if◌then◌else◌}
+use Rattle.std.specs.Prelude.{◌≡◌, ◌≢◌, ◌⊎◌, ℕ, ◌+◌, ◌-◌, ◌/◌, ◌==◌, max, List, length, take, Option, Result, Ok, Err, IfOk, IfErr, if◌then◌else◌}
 use Rattle.pb_place.specs.World.{World, written, removed}
+use Rattle.pb_place.specs.CallsInTurn.{own_fault}
 use Rattle.pb_place.specs.Copies.{half_removed}
+use Rattle.pb_place.specs.Counts.{counted}
+use Rattle.pb_place.specs.declared.call.Call.{Call}
 use Rattle.pb_memory.specs.InFlight.{children_in}
 use Rattle.pb_memory.specs.Memory.{Held, other_deaths}
 use Rattle.pb_memory.specs.declared.in_flight.Death.{Death}
@@ -18,6 +21,16 @@ fuse_past e fuse = fuse - 1
 abbrev pub fuse_after : {T : Type 0} → Result T PlaceFault → ℕ → ℕ
 fuse_after (Ok x) fuse = fuse - 1
 fuse_after (Err e) fuse = fuse_past e fuse
+
+-- a call on files or variables fails exactly if the fuse is 1, with the fault of that call. Memory may be refused to any
+pub record FailsByFuse {T : Type 0} (call : Call) (result : Result T PlaceFault) (old : Held) : Type 0 where
+  pub burns : old.fuse ≡ 1 → IfOk result (λ _. ⊥)
+  pub fault : IfErr result (λ e. e ≢ OutOfMemory → e ≡ own_fault call)
+  pub fails : IfErr result (λ e. e ≢ OutOfMemory → old.fuse ≡ 1)
+
+-- what a place holds after a call on files or variables, apart from what the call does to files
+abbrev pub called : {T : Type 0} → Call → Result T PlaceFault → Held → Held
+called call result old = record old { tally = counted call result old.tally; fuse = fuse_after result old.fuse }
 
 -- after a write that answered this fault: the first half of the bytes, rounded down; where memory was refused, all as it was
 abbrev pub torn_by : PlaceFault → List ℕ → List ℕ → World → World

@@ -4,4 +4,5 @@ pub mod InFlight
 pub mod Memory
 pub mod Private
 pub mod Seen
+pub mod Starts
 pub mod Tallies

@@ -4,6 +4,7 @@ use Rattle.std.specs.List.{list_any}
 use Rattle.std.specs.FinMap as map
 use Rattle.std.specs.Str.{bytes_eq}
 use Rattle.std.specs.Coded.{Coded, code_by, coded×, coded_ℕ, coded_list, coded_option}
+use Rattle.pb_place.specs.At.{At}
 use Rattle.pb_place.specs.Paths.{last_part}
 use Rattle.pb_place.specs.World.{World}
 use Rattle.pb_place.specs.Counts.{Counts, no_calls}
@@ -27,6 +28,10 @@ pub record Held : Type 0 where
 -- its counters
 abbrev pub counts_in : Held → Counts
 counts_in h = with_children (children_in h.flying) h.tally
+
+-- what clauses see of it as a place
+abbrev pub at_in : Held → At
+at_in h = record { world = h.world; counts = counts_in h; most = h.most; still = λ _. Unit {0} }
 
 -- a place in memory that holds nothing, of which no call was made
 abbrev pub no_held : Held

@@ -49,8 +49,10 @@ pub fn flies<K>(flying: &[Flying<K>], ticket: u64) -> bool
 #[tactic(auto, using(crate::proofs::InFlight::flying_laws))]
 pub fn free_ticket<K>(flying: &[Flying<K>]) -> Option<u64>
     ensures free { IfSome result (λ ticket. is_flying ticket (children_in flying.now) ≡ false) }
-    ensures lowest { IfSome result (λ ticket. (t : ℕ) → t < ticket → is_flying t (children_in flying.now) ≡ true) }
-    ensures taken { (t : ℕ) → t ≤ length flying.now → IfNone result (is_flying t (children_in flying.now) ≡ true) }
+    ensures lowest { IfSome result (λ ticket. (t : ℕ) → t < ticket
+        → is_flying t (children_in flying.now) ≡ true) }
+    ensures taken { (t : ℕ) → t ≤ length flying.now
+        → IfNone result (is_flying t (children_in flying.now) ≡ true) }
 {
     for ticket in 0..=flying.len() as u64 {
         if !flies(flying, ticket) {
@@ -62,7 +64,9 @@ pub fn free_ticket<K>(flying: &[Flying<K>]) -> Option<u64>
 
 /// The place of the first child of this ticket.
 fn place_of_ticket<K>(flying: &[Flying<K>], ticket: u64) -> Option<usize>
-    ensures some { IfSome result (λ i. (i < length flying.now) × (list_any (λ f. f.child.ticket == ticket) (take i flying.now) ≡ false) × (list_any (λ f. f.child.ticket == ticket) (take (i + 1) flying.now) ≡ true)) }
+    ensures some { IfSome result (λ i. (i < length flying.now)
+        × (list_any (λ f. f.child.ticket == ticket) (take i flying.now) ≡ false)
+        × (list_any (λ f. f.child.ticket == ticket) (take (i + 1) flying.now) ≡ true)) }
     ensures none { IfNone result (list_any (λ f. f.child.ticket == ticket) flying.now ≡ false) }
 {
     for i in 0..flying.len() {
@@ -75,8 +79,11 @@ fn place_of_ticket<K>(flying: &[Flying<K>], ticket: u64) -> Option<usize>
 
 /// Takes out the first child of this ticket. Where there is none, all stay.
 pub fn take_out<K: Drop>(flying: &mut Vec<Flying<K>>, ticket: u64) -> Option<Flying<K>>
-    ensures entry { IfSome result (λ f. (entry_at ticket flying.old.items ≡ Some f) × (flying.new.items ≡ other_entries ticket flying.old.items)) }
-    ensures some { IfSome result (λ f. (child_at ticket (children_in flying.old.items) ≡ Some f.child) × (children_in flying.new.items ≡ without ticket (children_in flying.old.items))) }
+    ensures entry { IfSome result (λ f. (entry_at ticket flying.old.items ≡ Some f)
+        × (flying.new.items ≡ other_entries ticket flying.old.items)) }
+    ensures some { IfSome result
+        (λ f. (child_at ticket (children_in flying.old.items) ≡ Some f.child)
+        × (children_in flying.new.items ≡ without ticket (children_in flying.old.items))) }
     ensures none { IfNone result (is_flying ticket (children_in flying.old.items) ≡ false) }
     ensures kept { IfNone result (flying.new.items ≡ flying.old.items) }
 {
@@ -98,7 +105,9 @@ fn is_for(out: &Option<PathText>, death: &Death) -> bool
 
 /// The place of the first death that waits for a child with this folder.
 fn place_of(deaths: &[Death], out: &Option<PathText>) -> Option<usize>
-    ensures some { IfSome result (λ i. (i < length deaths.now) × (list_any (is_for out.now) (take i deaths.now) ≡ false) × (list_any (is_for out.now) (take (i + 1) deaths.now) ≡ true)) }
+    ensures some { IfSome result (λ i. (i < length deaths.now)
+        × (list_any (is_for out.now) (take i deaths.now) ≡ false)
+        × (list_any (is_for out.now) (take (i + 1) deaths.now) ≡ true)) }
     ensures none { IfNone result (list_any (is_for out.now) deaths.now ≡ false) }
 {
     for i in 0..deaths.len() {

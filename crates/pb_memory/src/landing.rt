@@ -50,7 +50,10 @@ pub(crate) fn leave_half(
     out: &PathText,
     made: &[(RelativePath, Bytes)],
 ) -> Result<(), AllocError>
-    ensures ok { OnOk result (files.new ≡ put_from (put_files out.now made.now map.empty) (first_half (map.keys (map.retain_keys (put_files out.now made.now map.empty) (is_below out.now)))) files.old) }
+    ensures ok { OnOk result
+        (files.new ≡ put_from (put_files out.now made.now map.empty)
+        (first_half (map.keys
+        (map.retain_keys (put_files out.now made.now map.empty) (is_below out.now)))) files.old) }
     ensures only { AgreeBut (is_below out.now) files.old files.new }
 {
     let reply = made_in(alloc, out, made)?;
@@ -113,7 +116,9 @@ pub(crate) fn land(
     before: &FileMap,
     made: &[(RelativePath, Bytes)],
 ) -> Result<(), AllocError>
-    ensures ok { OnOk result (files.new ≡ put_files out.now made.now (put_back out.now (files_in out.now before.now) files.old)) }
+    ensures ok { OnOk result
+        (files.new ≡ put_files out.now made.now
+        (put_back out.now (files_in out.now before.now) files.old)) }
     ensures only { AgreeBut (is_below out.now) files.old files.new }
 {
     let inside = inner(alloc, before, out)?;

@@ -22,10 +22,9 @@ use std::mem;
 
 /// A place of maps over a child. Contracts see what it holds: its world and its counters.
 ///
-/// A call fails here for want of memory, or as it was told by `fuse` and `die`, which serve tests: each call of the place
-/// says in its contract when it does, and what it leaves then. Its own calls, those below, are no calls of a place and
-/// are not counted, but for how often `fuse` and `die` set something. A read or a write takes time logarithmic in the
-/// number of files.
+/// A call fails only if memory is refused, or as `fuse` and `die` set it, which serve tests. The contract of each call
+/// says when it fails, and what it leaves then. The calls below are no calls of a place. They are not counted, except
+/// how often `fuse` and `die` set something. A read or a write takes time logarithmic in the number of files.
 #[derive(Drop)]
 pub struct Memory<C> {
     files: FileMap,
@@ -45,11 +44,18 @@ impl<C> Model for Memory<C> {
 
     ghost coded = { held_code };
 
-    ghost view = { λ m. record { world = record { files = m.files; variables = m.variables }; tally = m.tally; flying = m.flying.items; most = m.most; fuse = m.fuse; deaths = m.deaths.items } };
+    ghost view = { λ m. record {
+      world = record { files = m.files; variables = m.variables };
+      tally = m.tally;
+      flying = m.flying.items;
+      most = m.most;
+      fuse = m.fuse;
+      deaths = m.deaths.items;
+    } };
 }
 
 impl<C> Memory<C> {
-    /// A place with no file and no variable, whose child is the one given. It takes no memory.
+    /// Returns a place over a child, with no file and no variable. It takes no memory.
     pub fn new(alloc: Global, child: C) -> Memory<C>
         ensures { result ≡ no_held }
     {
@@ -65,57 +71,73 @@ impl<C> Memory<C> {
         }
     }
 
-    /// Puts a file. Where memory is refused, nothing changes.
+    /// Puts a file.
+    ///
+    /// Errors: memory is refused, and nothing changes.
     pub fn put(&mut self, alloc: Global, path: &PathText, bytes: &[u8]) -> Result<(), AllocError>
-        ensures ok { OnOk result (self.new ≡ record self.old { world = written path.now bytes.now self.old.world }) }
+        ensures ok { OnOk result
+            (self.new ≡ record self.old { world = written path.now bytes.now self.old.world }) }
         ensures err { OnErr result (self.new ≡ self.old) }
     {
         self.files.insert(alloc, path, bytes)
     }
 
-    /// Removes the file at a path and all files below it. Where memory is refused, nothing changes.
+    /// Removes the file at a path and all files below it.
+    ///
+    /// Errors: memory is refused, and nothing changes.
     pub fn remove(&mut self, alloc: Global, path: &PathText) -> Result<(), AllocError>
-        ensures ok { OnOk result (self.new ≡ record self.old { world = removed path.now self.old.world }) }
+        ensures ok { OnOk result
+            (self.new ≡ record self.old { world = removed path.now self.old.world }) }
         ensures err { OnErr result (self.new ≡ self.old) }
     {
         self.files.remove(alloc, path)
     }
 
-    /// Sets a variable. Any name and value is taken. Where memory is refused, nothing changes.
+    /// Sets a variable to any value, under any name.
+    ///
+    /// Errors: memory is refused, and nothing changes.
     pub fn set(&mut self, alloc: Global, name: &str, value: &str) -> Result<(), AllocError>
-        ensures ok { OnOk result (self.new ≡ record self.old { world = set name.now value.now self.old.world }) }
+        ensures ok { OnOk result
+            (self.new ≡ record self.old { world = set name.now value.now self.old.world }) }
         ensures err { OnErr result (self.new ≡ self.old) }
     {
         self.variables.insert(alloc, name, value)
     }
 
-    /// Takes a variable away. Where memory is refused, nothing changes.
+    /// Unsets a variable.
+    ///
+    /// Errors: memory is refused, and nothing changes.
     pub fn unset(&mut self, alloc: Global, name: &str) -> Result<(), AllocError>
-        ensures ok { OnOk result (self.new ≡ record self.old { world = unset name.now self.old.world }) }
+        ensures ok { OnOk result
+            (self.new ≡ record self.old { world = unset name.now self.old.world }) }
         ensures err { OnErr result (self.new ≡ self.old) }
     {
         self.variables.remove(alloc, name)
     }
 
-    /// The bytes of a file, or none where no file is there. The one fault is want of memory.
+    /// Returns the bytes of a file, or none if no file is there.
+    ///
+    /// Errors: memory is refused.
     pub fn file(&self, alloc: Global, path: &PathText) -> Result<Option<Bytes>, AllocError>
         ensures { IfOk result (λ found. found ≡ map.get self.now.world.files path.now) }
     {
         file_in(alloc, &self.files, path)
     }
 
-    /// Whether a child of this ticket is in flight. It is no call of the place and takes no memory.
+    /// Returns whether a child of this ticket is in flight. It is no call of the place and takes no memory.
     pub fn flies(&self, ticket: u64) -> bool
         ensures { result ≡ is_flying ticket (children_in self.now.flying) }
     {
         flies(self.flying.as_slice(), ticket)
     }
 
-    /// Whether none of its calls can fail but for want of memory, and none has failed: the fuse is out, no death waits, and
-    /// no child is in flight. It is no call of the place and takes no memory.
+    /// Returns whether no call has failed, and none can fail unless memory is refused: the fuse is out, no death waits,
+    /// and no child is in flight. It is no call of the place and takes no memory.
     pub fn is_unfailing(&self) -> bool
-        ensures quiet { IsTrue result → (may_fail self.now ≡ false) × ((counts_in self.now).failures ≡ 0) }
-        ensures told { self.now.fuse ≡ 0 → self.now.deaths ≡ [] → self.now.flying ≡ [] → (counts_in self.now).failures ≡ 0 → result ≡ true }
+        ensures quiet { IsTrue result → (may_fail self.now ≡ false)
+            × ((counts_in self.now).failures ≡ 0) }
+        ensures told { self.now.fuse ≡ 0 → self.now.deaths ≡ [] → self.now.flying ≡ []
+            → (counts_in self.now).failures ≡ 0 → result ≡ true }
     {
         self.fuse == 0
             && self.deaths.is_empty()
@@ -123,12 +145,15 @@ impl<C> Memory<C> {
             && self.tally.failures() == 0
     }
 
-    /// Lets the call of this number, from 1 on, fail; 0 lets none. It takes the place of what was set before, and stays
-    /// until so many calls came. `spawn` and `finish` are calls, and `start` is both; `failures`, `starts`, `late` and
-    /// `most` are none.
-    /// The call that fails gives its own fault: a write leaves the first half of the bytes, a removal takes away the
-    /// first half of the files in byte order, both rounded down; a spawn is CannotStart and leaves nothing, a finish
-    /// is Died and leaves what stands. Where memory is refused to it, the next call is to fail. Our own choice.
+    /// Sets the number of the call that is to fail, counted from 1; 0 lets none fail. It replaces what was set before.
+    /// `spawn` and `finish` are calls, and `start` is both. `failures`, `starts`, `late` and `most` are none.
+    ///
+    /// The call that fails returns its own fault. What it leaves is our own choice:
+    /// - A write leaves the first half of the bytes, rounded down.
+    /// - A removal removes the first half of the files in byte order, rounded down.
+    /// - A spawn is `CannotStart` and changes nothing.
+    /// - A finish is `Died` and changes no file.
+    /// - If memory is refused to it, the next call is to fail.
     pub fn fuse(&mut self, number: u64)
         ensures { self.new ≡ record self.old { tally = one_setting self.old.tally; fuse = number } }
     {
@@ -136,13 +161,21 @@ impl<C> Memory<C> {
         self.fuse = number;
     }
 
-    /// Lets the next start whose folder has this name fail so: CannotStart at its spawn, which leaves nothing, and any
-    /// other at its end, which leaves the first half of the reply's files in byte order, rounded down. Of two for one
-    /// name the earlier comes first. A start that the fuse lets fail, or that is refused memory, leaves it for the next.
-    /// Where memory is refused, nothing changes. Want of memory is no failure of the outside, so no such death.
+    /// Sets that the next start whose folder has this name fails with this fault. Of two for one name the earlier comes
+    /// first. A start that the fuse lets fail, or to which memory is refused, leaves it for the next.
+    ///
+    /// `CannotStart` comes at the spawn, which changes nothing. Any other fault comes at the end, and leaves the first
+    /// half of the reply's files in byte order, rounded down.
+    ///
+    /// Requires: a fault of the outside, which out of memory is not.
+    ///
+    /// Errors: memory is refused, and nothing changes.
     pub fn die(&mut self, alloc: Global, key: &str, kind: StartFault) -> Result<(), AllocError>
         requires real { kind ≢ StartFault.OutOfMemory }
-        ensures ok { OnOk result (self.new ≡ record self.old { tally = one_setting self.old.tally; deaths = self.old.deaths ++ record { key = key.now; kind = kind } ∷ [] }) }
+        ensures ok { OnOk result (self.new ≡ record self.old {
+          tally = one_setting self.old.tally;
+          deaths = self.old.deaths ++ record { key = key.now; kind = kind } ∷ [];
+        }) }
         ensures err { OnErr result (self.new ≡ self.old) }
     {
         let key = Text::from_str(alloc, key)?;
@@ -153,7 +186,7 @@ impl<C> Memory<C> {
 }
 
 impl<C: Copy> Memory<C> {
-    /// The place as it is. In its stead an empty one is left, over the same child.
+    /// Returns the place as it is, and leaves an empty one over the same child.
     pub fn take(&mut self, alloc: Global) -> Memory<C>
         ensures taken { result ≡ self.old }
         ensures left { self.new ≡ no_held }

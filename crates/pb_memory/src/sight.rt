@@ -36,7 +36,8 @@ pub(crate) struct Sight<'a> {
 impl<'a> View for Sight<'a> {
     ghost use Rattle.pb_place.specs.World.{seen_by};
 
-    ghost shown = { λ s. seen_by s.command.now record { files = s.files.now; variables = s.variables.now } };
+    ghost shown = { λ s. seen_by s.command.now
+        record { files = s.files.now; variables = s.variables.now } };
 
     ghost fails = { λ _. ⊥ };
 

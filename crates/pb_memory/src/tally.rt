@@ -32,7 +32,14 @@ impl Model for Tally {
 
     ghost coded = { counts_code };
 
-    ghost view = { λ t. record { calls = t.calls; failures = t.failures; starts = record { count = t.starts; flying = []; settings = t.settings }; late = t.late; last = t.last; failing = t.failing } };
+    ghost view = { λ t. record {
+      calls = t.calls;
+      failures = t.failures;
+      starts = record { count = t.starts; flying = []; settings = t.settings };
+      late = t.late;
+      last = t.last;
+      failing = t.failing;
+    } };
 }
 
 impl Tally {

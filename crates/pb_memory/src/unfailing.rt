@@ -6,7 +6,7 @@ use pb_place::{Child, Command, Ended, PathText, Place, PlaceFault, StartFault};
 use std::alloc::Global;
 use std::marker::Model;
 
-/// A place in memory of which no call has failed, and none fails but for want of memory. What is built over it so ends
+/// A place in memory of which no call has failed, and none fails unless memory is refused. So what is built over it ends
 /// without a failing call. Contracts see the place in memory.
 #[derive(Drop)]
 pub struct Unfailing<C> {
@@ -30,7 +30,9 @@ impl<C> Unfailing<C> {
     ghost use Rattle.std.specs.Prelude.{◌≡◌, false};
     ghost use Rattle.pb_memory.specs.Memory.{counts_in, may_fail};
 
-    /// A place in memory where nothing is set to fail, and nothing has failed.
+    /// Returns the place in memory as one of which no call fails.
+    ///
+    /// Requires: nothing is set to fail, and nothing has failed.
     pub fn new(inside: Memory<C>) -> Unfailing<C>
         requires quiet { may_fail inside ≡ false }
         requires none { (counts_in inside).failures ≡ 0 }
@@ -39,7 +41,7 @@ impl<C> Unfailing<C> {
         Unfailing { inside }
     }
 
-    /// The place in memory itself.
+    /// Returns the place in memory itself.
     pub fn into_memory(self) -> Memory<C>
         ensures same { result ≡ self }
         ensures quiet { may_fail result ≡ false }
@@ -51,19 +53,13 @@ impl<C> Unfailing<C> {
 
 impl<C: Child> Place for Unfailing<C> {
     ghost use Rattle.std.specs.Prelude.{true};
-    ghost use Rattle.pb_memory.specs.Memory.{counts_in};
+    ghost use Rattle.pb_memory.specs.Memory.{at_in};
 
     ghost tells = { true };
 
-    ghost world = { λ u. u.world };
+    ghost at = { at_in };
 
     ghost child = { C.answers };
-
-    ghost counts = { counts_in };
-
-    ghost most = { λ u. u.most };
-
-    ghost still = { λ _ _. Unit {0} };
 
     ghost fails = { λ _. ⊥ };
 

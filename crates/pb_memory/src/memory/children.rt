@@ -1,15 +1,15 @@
-//! The children of a place in memory: how each is spawned and ends, as the fuse and the deaths will have it.
+//! The children of a place in memory: how each is spawned and ends, as the fuse and the deaths decide.
 
 ghost use Rattle.std.specs.Prelude.{is_some, Ok, ◌≡◌, ◌≢◌, ◌⊎◌, ◌+◌, ◌-◌, ◌++◌, ◌∷◌, [], length, max, true, false, IfOk, IfErr, OnOk, OnErr, IfSome, IfNone, Some, None, Err};
 ghost use Rattle.std.specs.List.{list_any};
 ghost use Rattle.pb_place.specs.World.{seen_by, ChangesOnlyInSome};
 ghost use Rattle.pb_place.specs.Counts.{without};
-ghost use Rattle.pb_place.specs.Children.{child_spawned, is_flying, child_at, most_after, LandsAs, inside_out, landing};
+ghost use Rattle.pb_place.specs.Children.{child_spawned, is_flying, child_at, most_after, inside_out, landing};
 ghost use Rattle.pb_place.specs.Copies.{put_half};
 ghost use Rattle.pb_memory.specs.InFlight.{children_in, other_entries};
 ghost use Rattle.pb_memory.specs.Tallies.{flown};
-ghost use Rattle.pb_memory.specs.Memory.{is_doomed, may_fail, fate_at, fate_of};
-ghost use Rattle.pb_memory.specs.Fuses.{deaths_after};
+ghost use Rattle.pb_memory.specs.Memory.{is_doomed, may_fail, fate_at};
+ghost use Rattle.pb_memory.specs.Starts.{SpawnFails, SpawnsIn, EndFails, EndsIn};
 
 use crate::in_flight::{Flying, drop_death, fate, free_ticket, take_out};
 use crate::landing::{inside_out, land, leave_half};
@@ -21,7 +21,7 @@ use pb_place::{
 };
 use std::alloc::{AllocError, Global};
 
-/// Adds a child in flight, and gives the most that ever were.
+/// Adds a child in flight, and returns the most that ever were in flight.
 #[tactic(auto, using(crate::proofs::InFlight::fly_laws))]
 fn add_child(
     flying: &mut Vec<Flying<Option<StartFault>>>,
@@ -29,7 +29,8 @@ fn add_child(
     one: Flying<Option<StartFault>>,
 ) -> Result<u64, AllocError>
     ensures items { OnOk result (flying.new.items ≡ flying.old.items ++ one ∷ []) }
-    ensures children { OnOk result (children_in flying.new.items ≡ children_in flying.old.items ++ one.child ∷ []) }
+    ensures children { OnOk result
+        (children_in flying.new.items ≡ children_in flying.old.items ++ one.child ∷ []) }
     ensures most { IfOk result (λ m. m ≡ max most (length (children_in flying.old.items) + 1)) }
     ensures err { OnErr result (flying.new.items ≡ flying.old.items) }
 {
@@ -37,22 +38,25 @@ fn add_child(
     Ok(most.max(flying.len() as u64))
 }
 
-/// Takes a child out of those in flight.
+/// Removes a child from those in flight, and returns it.
 #[tactic(auto, using(crate::proofs::InFlight::end_laws))]
 fn take_child(
     flying: &mut Vec<Flying<Option<StartFault>>>,
     ticket: u64,
 ) -> Option<Flying<Option<StartFault>>>
     ensures entry { IfSome result (λ _. flying.new.items ≡ other_entries ticket flying.old.items) }
-    ensures some { IfSome result (λ f. (child_at ticket (children_in flying.old.items) ≡ Some f.child) × (children_in flying.new.items ≡ without ticket (children_in flying.old.items))) }
+    ensures some { IfSome result
+        (λ f. (child_at ticket (children_in flying.old.items) ≡ Some f.child)
+        × (children_in flying.new.items ≡ without ticket (children_in flying.old.items))) }
     ensures fate { IfSome result (λ f. fate_at ticket flying.old.items ≡ f.kept) }
-    ensures doomed { IfSome result (λ f. is_doomed f ≡ true → list_any is_doomed flying.old.items ≡ true) }
+    ensures doomed { IfSome result (λ f. is_doomed f ≡ true
+        → list_any is_doomed flying.old.items ≡ true) }
     ensures none { IfNone result (is_flying ticket (children_in flying.old.items) ≡ false) }
 {
     take_out(flying, ticket)
 }
 
-/// The child of a command as it will end.
+/// Returns the child of a command with the reply that it will give.
 fn child_in_flight(
     alloc: Global,
     files: &FileMap,
@@ -60,7 +64,16 @@ fn child_in_flight(
     ticket: u64,
     reply: Reply,
 ) -> Result<ChildInFlight, AllocError>
-    ensures { IfOk result (λ child. child ≡ record { ticket = ticket; command = command.now; ended = record { status = reply.status; stdout = reply.stdout; stderr = reply.stderr }; files = reply.files; before = inside_out command.now.out files.now }) }
+    ensures { IfOk result
+        (λ child. child
+        ≡ record {
+          ticket = ticket;
+          command = command.now;
+          ended =
+              record { status = reply.status; stdout = reply.stdout; stderr = reply.stderr };
+          files = reply.files;
+          before = inside_out command.now.out files.now;
+        }) }
 {
     let before = inside_out(alloc, files, &command.out)?;
     let command = command.copy(alloc)?;
@@ -77,10 +90,11 @@ fn child_in_flight(
     })
 }
 
-/// How a child that flies ends so: that it cannot be started is no end, and no child in flight has that fate.
+/// Returns the fault with which a child in flight ends. `CannotStart` is no end, and no child in flight has that fate.
 fn ending(fault: StartFault) -> StartFault
     ensures kept { fault ≢ StartFault.CannotStart → result ≡ fault }
-    ensures end { (result ≡ StartFault.OutOfMemory) ⊎ ((result ≡ StartFault.Died) ⊎ (result ≡ StartFault.Capture)) }
+    ensures end { (result ≡ StartFault.OutOfMemory)
+        ⊎ ((result ≡ StartFault.Died) ⊎ (result ≡ StartFault.Capture)) }
 {
     match fault {
         StartFault::CannotStart => StartFault::Died,
@@ -90,13 +104,15 @@ fn ending(fault: StartFault) -> StartFault
     }
 }
 
-/// How a child will end whose end is asked for now: as the fuse has it, or its own fate.
+/// Returns the fault with which a child ends now: `Died` if the fuse is 1, or its own fate.
 fn fate_now(burns: bool, kept: Option<StartFault>) -> Option<StartFault>
     ensures burnt { burns ≡ true → result ≡ Some StartFault.Died }
     ensures none { burns ≡ false → kept ≡ None → result ≡ None }
-    ensures fated { burns ≡ false → IfSome kept (λ e. e ≢ StartFault.CannotStart → result ≡ Some e) }
+    ensures fated { burns ≡ false
+        → IfSome kept (λ e. e ≢ StartFault.CannotStart → result ≡ Some e) }
     ensures doomed { burns ≡ false → IfSome result (λ e. is_some kept ≡ true) }
-    ensures end { IfSome result (λ e. (e ≡ StartFault.OutOfMemory) ⊎ ((e ≡ StartFault.Died) ⊎ (e ≡ StartFault.Capture))) }
+    ensures end { IfSome result (λ e. (e ≡ StartFault.OutOfMemory)
+        ⊎ ((e ≡ StartFault.Died) ⊎ (e ≡ StartFault.Capture))) }
 {
     if burns {
         return Some(StartFault::Died);
@@ -107,7 +123,7 @@ fn fate_now(burns: bool, kept: Option<StartFault>) -> Option<StartFault>
     }
 }
 
-/// What a child answers whose files have landed.
+/// Returns the answer of a child whose files were put in its folder.
 fn ended_by(landed: Result<(), StartFault>, child: ChildInFlight) -> Result<Ended, StartFault>
     ensures ok { OnOk landed (result ≡ Ok child.ended) }
     ensures err { IfErr landed (λ e. result ≡ Err e) }
@@ -117,9 +133,10 @@ fn ended_by(landed: Result<(), StartFault>, child: ChildInFlight) -> Result<Ende
 }
 
 impl<C: Child> Memory<C> {
-    /// The reply of the child to a command, over what it sees now.
+    /// Returns the reply of the child to a command, over what it sees now.
     fn reply(&self, alloc: Global, command: &Command) -> Result<Reply, AllocError>
-        ensures { IfOk result (λ reply. reply ≡ C.answers command.now (seen_by command.now self.now.world)) }
+        ensures { IfOk result
+            (λ reply. reply ≡ C.answers command.now (seen_by command.now self.now.world)) }
     {
         let sight = Sight {
             files: &self.files,
@@ -132,20 +149,22 @@ impl<C: Child> Memory<C> {
         }
     }
 
-    /// The child of a command that is spawned now.
+    /// Returns the child of a command that is spawned now.
     fn spawned(
         &self,
         alloc: Global,
         command: &Command,
         ticket: u64,
     ) -> Result<ChildInFlight, AllocError>
-        ensures { IfOk result (λ child. child ≡ child_spawned (C.answers command.now) command.now self.now.world ticket) }
+        ensures { IfOk result
+            (λ child. child
+            ≡ child_spawned (C.answers command.now) command.now self.now.world ticket) }
     {
         let reply = self.reply(alloc, command)?;
         child_in_flight(alloc, &self.files, command, ticket, reply)
     }
 
-    /// Leaves the first half of a reply's files, in byte order, where the command says.
+    /// Writes the first half of a reply's files, in byte order, into the command's folder.
     fn leave(
         &mut self,
         alloc: Global,
@@ -162,7 +181,7 @@ impl<C: Child> Memory<C> {
         }
     }
 
-    /// Lets a child fly: half of its files stand.
+    /// Spawns a child and writes half of its files.
     #[tactic(auto, using(crate::proofs::InFlight::fly_laws))]
     fn fly(
         &mut self,
@@ -170,15 +189,30 @@ impl<C: Child> Memory<C> {
         command: &Command,
         fate: Option<StartFault>,
     ) -> Result<u64, StartFault>
-        ensures fresh { IfOk result (λ ticket. is_flying ticket (children_in self.old.flying) ≡ false) }
+        ensures fresh { IfOk result
+            (λ ticket. is_flying ticket (children_in self.old.flying) ≡ false) }
         ensures memory { IfErr result (λ e. e ≡ StartFault.OutOfMemory) }
-        ensures flying { IfOk result (λ ticket. self.new.flying ≡ self.old.flying ++ record { child = child_spawned (C.answers command.now) command.now self.old.world ticket; kept = fate } ∷ []) }
-        ensures children { children_in self.new.flying ≡ flown (child_spawned (C.answers command.now) command.now self.old.world) result (children_in self.old.flying) }
-        ensures most { self.new.most ≡ most_after result (length (children_in self.old.flying) + 1) self.old.most }
+        ensures flying { IfOk result
+            (λ ticket. self.new.flying ≡ self.old.flying
+            ++ record {
+              child = child_spawned
+                  (C.answers command.now) command.now self.old.world ticket;
+              kept = fate;
+            } ∷ []) }
+        ensures children { children_in self.new.flying
+            ≡ flown (child_spawned (C.answers command.now) command.now self.old.world) result
+            (children_in self.old.flying) }
+        ensures most { self.new.most
+            ≡ most_after result (length (children_in self.old.flying) + 1) self.old.most }
         ensures kept { OnErr result (self.new.flying ≡ self.old.flying) }
-        ensures half { OnOk result (self.new.world ≡ put_half command.now.out (C.answers command.now (seen_by command.now self.old.world)).files self.old.world) }
+        ensures half { OnOk result (self.new.world ≡ put_half command.now.out
+            (C.answers command.now (seen_by command.now self.old.world)).files self.old.world) }
         ensures only { ChangesOnlyInSome command.now.out self.old.world self.new.world }
-        ensures same { record self.new { world = self.old.world; flying = self.old.flying; most = self.old.most } ≡ self.old }
+        ensures same { record self.new {
+          world = self.old.world;
+          flying = self.old.flying;
+          most = self.old.most;
+        } ≡ self.old }
     {
         let Some(ticket) = free_ticket(self.flying.as_slice()) else {
             return Err(StartFault::OutOfMemory);
@@ -190,25 +224,16 @@ impl<C: Child> Memory<C> {
         Ok(ticket)
     }
 
-    /// Spawns a child, as the fuse and the deaths will have it.
+    /// Spawns a child, or fails, as the fuse and the deaths decide.
     pub(super) fn begin(&mut self, alloc: Global, command: &Command) -> Result<u64, StartFault>
-        ensures fresh { IfOk result (λ ticket. is_flying ticket (children_in self.old.flying) ≡ false) }
-        ensures fault { IfErr result (λ e. e ≢ StartFault.OutOfMemory → e ≡ StartFault.CannotStart) }
+        ensures answers { SpawnFails command.now.out result self.old }
+        ensures spawns { SpawnsIn C.answers command.now result self.old self.new }
+        ensures children { children_in self.new.flying
+            ≡ flown (child_spawned (C.answers command.now) command.now self.old.world)
+            result (children_in self.old.flying) }
+        ensures tally { self.new.tally ≡ self.old.tally }
         ensures fails { IfErr result (λ e. e ≢ StartFault.OutOfMemory → may_fail self.old ≡ true) }
         ensures later { may_fail self.new ≡ true → may_fail self.old ≡ true }
-        ensures burnt { self.old.fuse ≡ 1 → result ≡ Err StartFault.CannotStart }
-        ensures stillborn { self.old.fuse ≢ 1 → fate_of command.now.out self.old.deaths ≡ Some StartFault.CannotStart → result ≡ Err StartFault.CannotStart }
-        ensures quiet { self.old.fuse ≢ 1 → fate_of command.now.out self.old.deaths ≢ Some StartFault.CannotStart → IfErr result (λ e. e ≡ StartFault.OutOfMemory) }
-        ensures children { children_in self.new.flying ≡ flown (child_spawned (C.answers command.now) command.now self.old.world) result (children_in self.old.flying) }
-        ensures most { self.new.most ≡ most_after result (length (children_in self.old.flying) + 1) self.old.most }
-        ensures flying { IfOk result (λ ticket. self.new.flying ≡ self.old.flying ++ record { child = child_spawned (C.answers command.now) command.now self.old.world ticket; kept = fate_of command.now.out self.old.deaths } ∷ []) }
-        ensures kept { OnErr result (self.new.flying ≡ self.old.flying) }
-        ensures deaths { self.new.deaths ≡ deaths_after command.now.out self.old.fuse result self.old.deaths }
-        ensures half { OnOk result (self.new.world ≡ put_half command.now.out (C.answers command.now (seen_by command.now self.old.world)).files self.old.world) }
-        ensures nothing { IfErr result (λ e. e ≡ StartFault.CannotStart → self.new.world ≡ self.old.world) }
-        ensures only { ChangesOnlyInSome command.now.out self.old.world self.new.world }
-        ensures fuse { self.new.fuse ≡ self.old.fuse - 1 }
-        ensures tally { self.new.tally ≡ self.old.tally }
     {
         let burns = self.fuse == 1;
         self.fuse = self.fuse.saturating_sub(1);
@@ -225,15 +250,19 @@ impl<C: Child> Memory<C> {
         Ok(ticket)
     }
 
-    /// What the end of a child leaves, as its fate will have it: the files of one that answers.
+    /// Puts the files of a child that answers in its folder, or fails with its fate.
     fn land(
         &mut self,
         alloc: Global,
         fate: Option<StartFault>,
         child: &ChildInFlight,
     ) -> Result<(), StartFault>
-        ensures ok { OnOk result ((fate ≡ None) × (self.new.world ≡ landing child.now.command.out child.now.files child.now.before self.old.world)) }
-        ensures err { IfErr result (λ e. fate ≡ Some e ⊎ ((fate ≡ None) × (e ≡ StartFault.OutOfMemory))) }
+        ensures ok { OnOk result
+            ((fate ≡ None)
+            × (self.new.world
+            ≡ landing child.now.command.out child.now.files child.now.before self.old.world)) }
+        ensures err { IfErr result
+            (λ e. fate ≡ Some e ⊎ ((fate ≡ None) × (e ≡ StartFault.OutOfMemory))) }
         ensures stands { IfSome fate (λ e. self.new.world ≡ self.old.world) }
         ensures only { ChangesOnlyInSome child.now.command.out self.old.world self.new.world }
         ensures same { record self.new { world = self.old.world } ≡ self.old }
@@ -254,23 +283,15 @@ impl<C: Child> Memory<C> {
         }
     }
 
-    /// Ends a child, as the fuse and its fate will have it.
+    /// Ends a child, with its answer or a fault, as the fuse and its fate decide.
     pub(super) fn end(&mut self, alloc: Global, ticket: u64) -> Result<Ended, StartFault>
         requires flies { is_flying ticket (children_in self.old.flying) ≡ true }
-        ensures ok { IfOk result (λ ended. IfSome (child_at ticket (children_in self.old.flying)) (λ f. LandsAs f self.old.world ended self.new.world)) }
-        ensures only { IfSome (child_at ticket (children_in self.old.flying)) (λ f. ChangesOnlyInSome f.command.out self.old.world self.new.world) }
-        ensures children { children_in self.new.flying ≡ without ticket (children_in self.old.flying) }
-        ensures flying { self.new.flying ≡ other_entries ticket self.old.flying }
-        ensures most { self.new.most ≡ self.old.most }
-        ensures fuse { self.new.fuse ≡ self.old.fuse - 1 }
-        ensures fault { IfErr result (λ e. e ≢ StartFault.OutOfMemory → (e ≡ StartFault.Died) ⊎ (e ≡ StartFault.Capture)) }
-        ensures fails { IfErr result (λ e. e ≢ StartFault.OutOfMemory → may_fail self.old ≡ true) }
-        ensures burnt { self.old.fuse ≡ 1 → result ≡ Err StartFault.Died }
-        ensures fated { self.old.fuse ≢ 1 → IfSome (fate_at ticket self.old.flying) (λ e. e ≢ StartFault.CannotStart → result ≡ Err e) }
-        ensures quiet { self.old.fuse ≢ 1 → fate_at ticket self.old.flying ≡ None → IfErr result (λ e. e ≡ StartFault.OutOfMemory) }
-        ensures stands { IfErr result (λ e. e ≢ StartFault.OutOfMemory → self.new.world ≡ self.old.world) }
-        ensures deaths { self.new.deaths ≡ self.old.deaths }
+        ensures answers { EndFails ticket result self.old }
+        ensures ends { EndsIn ticket result self.old self.new }
+        ensures children { children_in self.new.flying
+            ≡ without ticket (children_in self.old.flying) }
         ensures tally { self.new.tally ≡ self.old.tally }
+        ensures fails { IfErr result (λ e. e ≢ StartFault.OutOfMemory → may_fail self.old ≡ true) }
     {
         let Some(flying) = take_child(&mut self.flying, ticket) else {
             unreachable!();

@@ -1,4 +1,4 @@
-use Rattle.std.proofs.Common.{◌≡◌, ◌∙◌, Option, Some, ap, subst}
+use Rattle.std.proofs.Common.{◌≡◌, ◌∙◌, Option, Some, ap, subst, rules}
 use Rattle.std.specs.Prelude.{◌≢◌, IfSome, Err}
 use Rattle.pb_place.specs.Children.{is_flying, child_at, child_spawned, LandsAs}
 use Rattle.pb_place.specs.Counts.{Counts, counted_finish}
@@ -24,47 +24,48 @@ returns-clause-ok g c =
     let u = c.finish.new.self.world in
     let spawned = child_spawned (g.C.Child.answers c.args.command.now) c.args.command.now w t in
     let found : child_at t (children_in c.spawn.new.self.flying) ≡ Some spawned =
-    ap (λ (k : Counts). child_at t k.starts.flying) c.in_ok-ticket.ensures.counts ∙ last_at t (children_in c.args.self.now.flying) spawned c.in_ok-ticket.ensures.fresh (same_number t) in
+    ap (λ (k : Counts). child_at t k.starts.flying) c.in_ok-ticket.ensures.counts ∙ last_at t (children_in c.args.self.now.flying) spawned c.in_ok-ticket.ensures.spawns.fresh (same_number t) in
     each_ok
     (λ ended. IfSome (child_at t (children_in c.spawn.new.self.flying)) (λ f. LandsAs f v ended u))
     (λ ended. Ends (g.C.Child.answers c.args.command.now) c.args.command.now w ended u)
     c.finish.result
-    (λ ended lands. started_ends (g.C.Child.answers c.args.command.now) c.args.command.now w v u t ended c.in_ok-ticket.ensures.only (of_some (λ f. LandsAs f v ended u) _ spawned found lands))
-    c.finish.ensures.ok
+    (λ ended lands. started_ends (g.C.Child.answers c.args.command.now) c.args.command.now w v u t ended c.in_ok-ticket.ensures.spawns.only (of_some (λ f. LandsAs f v ended u) _ spawned found lands))
+    c.finish.ensures.ends.lands
 
-pub returns-clause-fated : goal.returns-clause-fated
-returns-clause-fated g c no_spawn no_end =
+pub returns-clause-answers : goal.returns-clause-answers
+returns-clause-answers g c =
     let t = c.in_ok-ticket.ticket in
-    let entry = last_entry t c.args.self.now.flying c.spawn.new.self.flying _ c.in_ok-ticket.ensures.flying c.in_ok-ticket.ensures.fresh (same_number t) in
-    let fate : fate_at t c.spawn.new.self.flying ≡ fate_of c.args.command.now.out c.args.self.now.deaths = ap fate_in entry.0 in
-    let fuse = not_the_end c.args.self.now.fuse c.spawn.new.self.fuse c.in_ok-ticket.ensures.fuse no_end in
-    fated_start _ c.finish.result _ (subst (λ (o : Option StartFault). IfSome o (λ e. e ≢ start.CannotStart → c.finish.result ≡ Err e)) fate (c.finish.ensures.fated fuse))
+    let entry = last_entry t c.args.self.now.flying c.spawn.new.self.flying _ c.in_ok-ticket.ensures.spawns.flying c.in_ok-ticket.ensures.spawns.fresh (same_number t) in
+    let fate : fate_at t c.spawn.new.self.flying ≡ fate_of c.args.command.now.out c.args.self.now.deaths = ap fate_in entry.0 in record {
+      burns = search rules;
+      stillborn = search rules;
+      dies = search rules;
+      fated = λ no_spawn no_end.
+          let fuse = not_the_end c.args.self.now.fuse c.spawn.new.self.fuse c.in_ok-ticket.ensures.spawns.fuse no_end in
+          fated_start _ c.finish.result _ (subst (λ (o : Option StartFault). IfSome o (λ e. e ≢ start.CannotStart → c.finish.result ≡ Err e)) fate (c.finish.ensures.answers.fated fuse));
+      quiet = λ no_spawn no_end none.
+          let fuse = not_the_end c.args.self.now.fuse c.spawn.new.self.fuse c.in_ok-ticket.ensures.spawns.fuse no_end in
+          c.finish.ensures.answers.quiet fuse (fate ∙ none);
+    }
 
-pub returns-clause-quiet : goal.returns-clause-quiet
-returns-clause-quiet g c no_spawn no_end none =
-    let t = c.in_ok-ticket.ticket in
-    let entry = last_entry t c.args.self.now.flying c.spawn.new.self.flying _ c.in_ok-ticket.ensures.flying c.in_ok-ticket.ensures.fresh (same_number t) in
-    let fate : fate_at t c.spawn.new.self.flying ≡ fate_of c.args.command.now.out c.args.self.now.deaths = ap fate_in entry.0 in
-    let fuse = not_the_end c.args.self.now.fuse c.spawn.new.self.fuse c.in_ok-ticket.ensures.fuse no_end in
-    c.finish.ensures.quiet fuse (fate ∙ none)
-
-pub returns-clause-only : goal.returns-clause-only
-returns-clause-only g c =
+pub returns-clause-starts : goal.returns-clause-starts
+returns-clause-starts g c =
     let t = c.in_ok-ticket.ticket in
     let v = c.spawn.new.self.world in
     let u = c.finish.new.self.world in
     let spawned = child_spawned (g.C.Child.answers c.args.command.now) c.args.command.now c.args.self.now.world t in
+    let entry = last_entry t c.args.self.now.flying c.spawn.new.self.flying _ c.in_ok-ticket.ensures.spawns.flying c.in_ok-ticket.ensures.spawns.fresh (same_number t) in
     let found : child_at t (children_in c.spawn.new.self.flying) ≡ Some spawned =
-    ap (λ (k : Counts). child_at t k.starts.flying) c.in_ok-ticket.ensures.counts ∙ last_at t (children_in c.args.self.now.flying) spawned c.in_ok-ticket.ensures.fresh (same_number t) in
-    some_join c.args.command.now.out c.args.self.now.world v u c.in_ok-ticket.ensures.only (of_some (λ (f : ChildInFlight). ChangesOnlyInSome f.command.out v u) _ spawned found c.finish.ensures.only)
-
-pub returns-clause-flying : goal.returns-clause-flying
-returns-clause-flying g c =
-    let t = c.in_ok-ticket.ticket in
-    c.finish.ensures.flying ∙ (last_entry t c.args.self.now.flying c.spawn.new.self.flying _ c.in_ok-ticket.ensures.flying c.in_ok-ticket.ensures.fresh (same_number t)).1
+    ap (λ (k : Counts). child_at t k.starts.flying) c.in_ok-ticket.ensures.counts ∙ last_at t (children_in c.args.self.now.flying) spawned c.in_ok-ticket.ensures.spawns.fresh (same_number t) in record {
+      nothing = search rules;
+      half = search rules;
+      only = some_join c.args.command.now.out c.args.self.now.world v u c.in_ok-ticket.ensures.spawns.only (of_some (λ (f : ChildInFlight). ChangesOnlyInSome f.command.out v u) _ spawned found c.finish.ensures.ends.only);
+      flying = c.finish.ensures.ends.flying ∙ entry.1;
+      used = search rules;
+    }
 
 pub returns-clause-counts : goal.returns-clause-counts
 returns-clause-counts g c =
     c.finish.ensures.counts ∙ ap (λ (k : Counts). counted_finish c.in_ok-ticket.ticket c.finish.result k) c.in_ok-ticket.ensures.counts
     ∙ counted_both c.finish.result c.in_ok-ticket.ticket (child_spawned (g.C.Child.answers c.args.command.now) c.args.command.now c.args.self.now.world) (counts_in c.args.self.now)
-    (last_gone _ _ _ c.in_ok-ticket.ensures.fresh (same_number c.in_ok-ticket.ticket))
+    (last_gone _ _ _ c.in_ok-ticket.ensures.spawns.fresh (same_number c.in_ok-ticket.ticket))
