@@ -2,9 +2,10 @@
 use Rattle.std.proofs.Common.{◌≡◌, Result, Ok, Err, sym, ap, ◌∙◌, subst}
 use Rattle.std.proofs.lemmas.Bool.{false≢true}
 use Rattle.pb_data.specs.Gives.{Gives, ◌>>=◌}
+use Rattle.pb_place.specs.At.{At}
 use Rattle.pb_place.specs.Counts.{Counts, up}
 use Rattle.pb_place.specs.World.{World}
-use Rattle.pb_draft.specs.Causes.{Told, Reads, is_outside}
+use Rattle.pb_draft.specs.Causes.{Told, Reads, OnlyLooks, is_outside}
 use Rattle.pb_package.specs.declared.fault.LoadFault.{LoadFault}
 use Rattle.pb_package.specs.declared.fault.LoadFault.TheVariants.{OutOfMemory}
 
@@ -22,3 +23,12 @@ told_step next first w now x result is same told = subst (λ v. Told result (v >
 pub reads_step : {T : Type 0} (result : Result T LoadFault) (old mid new : Counts) → mid.failures ≡ old.failures → mid.starts ≡ old.starts → Reads result mid new → Reads result old new
 reads_step (Ok x) old mid new f s r = (r.0 ∙ f, r.1 ∙ s)
 reads_step (Err e) old mid new f s r = (r.0 ∙ s, (λ n. r.1 n ∙ f), (λ y. r.2 y ∙ ap up f), r.3, r.4, r.5, r.6)
+
+-- two steps that only look are one
+pub quiet_step : {A T : Type 0} (x : A) (result : Result T LoadFault) (old mid new : At) → OnlyLooks (Ok x) old mid → OnlyLooks result mid new → OnlyLooks result old new
+quiet_step x result old mid new one two = record {
+  world = two.world ∙ one.world;
+  most = two.most ∙ one.most;
+  still = λ ticket stood. two.still ticket (one.still ticket stood);
+  reads = reads_step result old.counts mid.counts new.counts one.reads.0 one.reads.1 two.reads;
+}

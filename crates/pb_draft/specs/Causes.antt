@@ -1,5 +1,7 @@
 -- How a step that reads files ends: which faults come from outside the rules, and how the counters of the place moved.
 use Rattle.std.specs.Prelude.{◌≡◌, ℕ, List, [], Bool, true, false, Option, Some, None, Result, Ok, Err, MatchResult}
+use Rattle.pb_place.specs.At.{At}
+use Rattle.pb_place.specs.Children.{KeepsStill}
 use Rattle.pb_place.specs.Counts.{Counts, named_in, up}
 use Rattle.pb_place.specs.declared.place.Failure.{Failure}
 use Rattle.pb_place.specs.declared.place.Failure.TheVariants.{Called}
@@ -114,3 +116,10 @@ Told result answer = MatchResult result (λ x. answer ≡ Ok x) (λ e. is_outsid
 abbrev pub Reads : {T : Type 0} → Result T LoadFault → Counts → Counts → Type 0
 Reads result old new = MatchResult result (λ _. (new.failures ≡ old.failures) × (new.starts ≡ old.starts))
     (λ e. (new.starts ≡ old.starts) × (is_failure e ≡ false → new.failures ≡ old.failures) × (is_failure e ≡ true → new.failures ≡ up old.failures) × (is_failure e ≡ true → new.late ≡ 0) × (is_failure e ≡ true → new.last ≡ failure_of e) × (is_failure e ≡ true → named_in new ≡ path_told e) × (is_read e ≡ true))
+
+-- a step that only looks: nothing changes but the counters, and a call that failed was the last
+pub record OnlyLooks {T : Type 0} (result : Result T LoadFault) (old new : At) : Type 0 where
+  pub world : new.world ≡ old.world
+  pub most : new.most ≡ old.most
+  pub still : KeepsStill old.still new.still
+  pub reads : Reads result old.counts new.counts

@@ -11,14 +11,16 @@ use std::alloc::{AllocError, Global};
 
 /// The parts of a text, between its slashes, of which some may be empty. The one fault is want of memory.
 pub fn cut_at_slashes(alloc: Global, text: &str) -> Result<Vec<&str>, AllocError>
-    ensures { IfOk result (λ parts. map (λ part. part.now) parts.items ≡ slice_split (λ b. b == 47) text.now) }
+    ensures { IfOk result
+        (λ parts. map (λ part. part.now) parts.items ≡ slice_split (λ b. b == 47) text.now) }
 {
     text.split('/').collect(alloc)
 }
 
 /// The parts that are not empty.
 fn words_in<'a>(alloc: Global, parts: &[&'a str]) -> Result<Vec<&'a str>, AllocError>
-    ensures { IfOk result (λ words. map (λ word. word.now) words.items ≡ filter is_word (map (λ part. part.now) parts.now)) }
+    ensures { IfOk result (λ words. map (λ word. word.now) words.items
+        ≡ filter is_word (map (λ part. part.now) parts.now)) }
 {
     let mut words = Vec::new(alloc);
     for part in parts {
@@ -39,7 +41,8 @@ pub fn names_in(alloc: Global, path: &str) -> Result<Vec<&str>, AllocError>
 
 /// Adds `..` so many times.
 fn add_upward<'a>(steps: &mut Vec<&'a str>, count: usize) -> Result<(), AllocError>
-    ensures { OnOk result (map (λ step. step.now) steps.new.items ≡ map (λ step. step.now) steps.old.items ++ replicate count (codes "..")) }
+    ensures { OnOk result (map (λ step. step.now) steps.new.items
+        ≡ map (λ step. step.now) steps.old.items ++ replicate count (codes "..")) }
 {
     for _done in 0..count {
         steps.push("..")?;
@@ -49,7 +52,8 @@ fn add_upward<'a>(steps: &mut Vec<&'a str>, count: usize) -> Result<(), AllocErr
 
 /// Adds names.
 fn add_names<'a>(steps: &mut Vec<&'a str>, names: &[&'a str]) -> Result<(), AllocError>
-    ensures { OnOk result (map (λ step. step.now) steps.new.items ≡ map (λ step. step.now) steps.old.items ++ map (λ name. name.now) names.now) }
+    ensures { OnOk result (map (λ step. step.now) steps.new.items
+        ≡ map (λ step. step.now) steps.old.items ++ map (λ name. name.now) names.now) }
 {
     for name in names {
         steps.push(*name)?;
@@ -63,7 +67,8 @@ fn up_and_down<'a>(
     names: &[&str],
     others: &[&'a str],
 ) -> Result<Vec<&'a str>, AllocError>
-    ensures { IfOk result (λ steps. map (λ step. step.now) steps.items ≡ upward (map (λ name. name.now) names.now) ++ map (λ name. name.now) others.now) }
+    ensures { IfOk result (λ steps. map (λ step. step.now) steps.items
+        ≡ upward (map (λ name. name.now) names.now) ++ map (λ name. name.now) others.now) }
 {
     let mut steps = Vec::new(alloc);
     add_upward(&mut steps, names.len())?;
@@ -77,7 +82,8 @@ fn steps_between<'a>(
     names: &[&str],
     others: &[&'a str],
 ) -> Result<Vec<&'a str>, AllocError>
-    ensures { IfOk result (λ steps. map (λ step. step.now) steps.items ≡ steps_between (map (λ name. name.now) names.now) (map (λ name. name.now) others.now)) }
+    ensures { IfOk result (λ steps. map (λ step. step.now) steps.items
+        ≡ steps_between (map (λ name. name.now) names.now) (map (λ name. name.now) others.now)) }
 {
     let mut from = names;
     let mut to = others;
@@ -98,7 +104,8 @@ fn steps_between<'a>(
 
 /// Adds each name after a slash.
 fn add_slashed(text: &mut String, names: &[&str]) -> Result<(), AllocError>
-    ensures { OnOk result (string_bytes text.new ≡ string_bytes text.old ++ slashed (map (λ name. name.now) names.now)) }
+    ensures { OnOk result (string_bytes text.new ≡ string_bytes text.old
+        ++ slashed (map (λ name. name.now) names.now)) }
 {
     for name in names {
         text.push_str("/")?;

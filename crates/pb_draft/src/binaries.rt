@@ -37,7 +37,8 @@ fn looked_in_bin(
     name: &str,
 ) -> Result<Option<PathText>, AllocError>
     requires { is_name name.now ≡ true }
-    ensures ok { (sources : World) → AreListingsOf folder.now sources listings.now → IfOk result (λ path. path ≡ looked_in_bin folder.now sources name.now) }
+    ensures ok { (sources : World) → AreListingsOf folder.now sources listings.now
+        → IfOk result (λ path. path ≡ looked_in_bin folder.now sources name.now) }
 {
     let flat = in_bin(alloc, name, ".rs")?;
     if let Some(path) = own_source(alloc, listings, folder, flat.as_str())? {
@@ -65,7 +66,8 @@ fn looked_for_other(
     name: &str,
 ) -> Result<PathText, AllocError>
     requires { is_name name.now ≡ true }
-    ensures ok { (sources : World) → AreListingsOf folder.now sources listings.now → IfOk result (λ path. path ≡ looked_for folder.now sources false name.now) }
+    ensures ok { (sources : World) → AreListingsOf folder.now sources listings.now
+        → IfOk result (λ path. path ≡ looked_for folder.now sources false name.now) }
 {
     if let Some(path) = looked_in_bin(alloc, listings, folder, name)? {
         return Ok(path);
@@ -82,7 +84,8 @@ fn looked_for_main(
     name: &str,
 ) -> Result<PathText, AllocError>
     requires { is_name name.now ≡ true }
-    ensures ok { (sources : World) → AreListingsOf folder.now sources listings.now → IfOk result (λ path. path ≡ looked_for folder.now sources true name.now) }
+    ensures ok { (sources : World) → AreListingsOf folder.now sources listings.now
+        → IfOk result (λ path. path ≡ looked_for folder.now sources true name.now) }
 {
     if let Some(path) = own_source(alloc, listings, folder, "src/main.rs")? {
         return Ok(path);
@@ -105,7 +108,8 @@ pub fn binary_source(
     path: &Option<WrittenPath>,
 ) -> Result<PathText, AllocError>
     requires { is_name name.now ≡ true }
-    ensures ok { (sources : World) → AreListingsOf folder.now sources listings.now → IfOk result (λ source. source ≡ binary_source folder.now sources package_name.now name.now path.now) }
+    ensures ok { (sources : World) → AreListingsOf folder.now sources listings.now → IfOk result
+        (λ source. source ≡ binary_source folder.now sources package_name.now name.now path.now) }
 {
     if let Some(path) = path {
         return resolved(alloc, folder, path);
@@ -125,7 +129,8 @@ pub fn written_binary(
     written: pb_manifest::Binary,
 ) -> Result<Binary, AllocError>
     requires { is_name written.name ≡ true }
-    ensures ok { (sources : World) → AreListingsOf folder.now sources listings.now → IfOk result (λ binary. binary ≡ written_binary folder.now sources package_name.now written) }
+    ensures ok { (sources : World) → AreListingsOf folder.now sources listings.now → IfOk result
+        (λ binary. binary ≡ written_binary folder.now sources package_name.now written) }
     ensures named { IfOk result IsBinaryNamed }
 {
     let source = binary_source(
@@ -152,7 +157,8 @@ pub fn written_binaries(
     written: Items<pb_manifest::Binary>,
 ) -> Result<Items<Binary>, AllocError>
     requires { All (λ b. is_name b.name ≡ true) written }
-    ensures ok { (sources : World) → AreListingsOf folder.now sources listings.now → IfOk result (λ binaries. binaries ≡ map (written_binary folder.now sources package_name.now) written) }
+    ensures ok { (sources : World) → AreListingsOf folder.now sources listings.now → IfOk result
+        (λ binaries. binaries ≡ map (written_binary folder.now sources package_name.now) written) }
     ensures named { IfOk result (AllByRecursion IsBinaryNamed) }
 {
     let mut binaries = Items::new(alloc);

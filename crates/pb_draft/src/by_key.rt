@@ -34,13 +34,15 @@ impl Model for WantedByKey {
 
     ghost view = { λ a. a.inside };
 
-    ghost invariant = { λ a. IsStrictlySortedBy (slice_cmp nat_cmp) (map (λ wanted. table_key wanted.kind wanted.key) a.inside) };
+    ghost invariant = { λ a. IsStrictlySortedBy (slice_cmp nat_cmp)
+        (map (λ wanted. table_key wanted.kind wanted.key) a.inside) };
 }
 
 impl WantedByKey {
     /// What entries ask for that stand in order.
     pub fn from_items(wanted: Items<Wanted>) -> WantedByKey
-        requires { IsStrictlySortedBy (slice_cmp nat_cmp) (map (λ one. table_key one.kind one.key) wanted) }
+        requires { IsStrictlySortedBy (slice_cmp nat_cmp)
+            (map (λ one. table_key one.kind one.key) wanted) }
         ensures { result ≡ wanted }
     {
         WantedByKey { inside: wanted }
@@ -56,7 +58,8 @@ impl WantedByKey {
     /// The items back, which takes no memory.
     pub fn into_items(self) -> Items<Wanted>
         ensures same { result ≡ self }
-        ensures order { IsStrictlySortedBy (slice_cmp nat_cmp) (map (λ one. table_key one.kind one.key) self) }
+        ensures order { IsStrictlySortedBy (slice_cmp nat_cmp)
+            (map (λ one. table_key one.kind one.key) self) }
     {
         self.inside
     }
@@ -80,7 +83,8 @@ impl Model for SharedByKey {
 
     ghost view = { λ a. a.inside };
 
-    ghost invariant = { λ a. IsStrictlySortedBy (slice_cmp nat_cmp) (map (λ entry. entry.key) a.inside) };
+    ghost invariant = { λ a. IsStrictlySortedBy (slice_cmp nat_cmp)
+        (map (λ entry. entry.key) a.inside) };
 }
 
 impl SharedByKey {

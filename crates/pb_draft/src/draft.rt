@@ -5,7 +5,7 @@ ghost use Rattle.pb_data.specs.Gives.{Gives};
 ghost use Rattle.pb_place.specs.World.{World, from_nothing};
 ghost use Rattle.pb_manifest.specs.Letters.{is_name};
 ghost use Rattle.pb_draft.specs.Looks.{Looks, listings_at};
-ghost use Rattle.pb_draft.specs.Causes.{is_failure, Told, Reads};
+ghost use Rattle.pb_draft.specs.Causes.{is_failure, Told, OnlyLooks};
 ghost use Rattle.pb_draft.specs.Listings.{AreListingsOf};
 ghost use Rattle.pb_draft.specs.Drafts.{lists_of, draft_from, draft_with, draft_of};
 ghost use Rattle.pb_package.specs.declared.fault.LoadFault.TheVariants as load_fault;
@@ -103,7 +103,8 @@ fn lists_of(
     requires build { AllByRecursion IsKeyed build.now }
     requires normal_order { IsAscending (map (λ d. d.key) dependencies.now) }
     requires build_order { IsAscending (map (λ d. d.key) build.now) }
-    ensures told { Gives load_fault.OutOfMemory (λ lists. lists) result (lists_of at.now given.now dependencies.now build.now features binaries.now) }
+    ensures told { Gives load_fault.OutOfMemory (λ lists. lists) result
+        (lists_of at.now given.now dependencies.now build.now features binaries.now) }
     ensures kept { IfOk result (λ lists. AreFeatures lists.features) }
     ensures keys { IfOk result (λ lists. AllByRecursion IsWantedKeyed lists.wanted) }
     ensures here { IfErr result (λ e. is_failure e ≡ false) }
@@ -162,7 +163,9 @@ fn draft_with(
     requires binaries { All (λ b. is_name b.name ≡ true) tables.binaries }
     requires name { is_name keys.name ≡ true }
     requires promised { ArePromised tables }
-    ensures told { (sources : World) → AreListingsOf at.folder sources listings.now → Gives load_fault.OutOfMemory (λ draft. draft) result (draft_with sources at is_member given.now tables keys) }
+    ensures told { (sources : World) → AreListingsOf at.folder sources listings.now
+        → Gives load_fault.OutOfMemory (λ draft. draft) result
+        (draft_with sources at is_member given.now tables keys) }
     ensures draft { IfOk result IsDraft }
     ensures folder { IfOk result (λ draft. draft.folder ≡ at.folder) }
     ensures here { IfErr result (λ e. is_failure e ≡ false) }
@@ -208,7 +211,9 @@ fn draft_seen(
     requires binaries { All (λ b. is_name b.name ≡ true) tables.binaries }
     requires name { is_name found.now.name ≡ true }
     requires promised { ArePromised tables }
-    ensures told { (sources : World) → AreListingsOf at.folder sources listings.now → Gives load_fault.OutOfMemory (λ draft. draft) result (draft_of sources at is_member given.now found.now tables) }
+    ensures told { (sources : World) → AreListingsOf at.folder sources listings.now
+        → Gives load_fault.OutOfMemory (λ draft. draft) result
+        (draft_of sources at is_member given.now found.now tables) }
     ensures draft { IfOk result IsDraft }
     ensures folder { IfOk result (λ draft. draft.folder ≡ at.folder) }
     ensures here { IfErr result (λ e. is_failure e ≡ false) }
@@ -218,12 +223,15 @@ fn draft_seen(
     draft_with(alloc, listings, at, is_member, given, tables, keys)
 }
 
-/// The package of a manifest: what it and its folder say, with all that it takes from its workspace (The Cargo
-/// Book, Manifest Format and Workspaces). It looks at its folder once. NoInherited where a key or an entry is taken
-/// from a workspace that has it not to give; the manifest with UnsupportedSource where the entry that it has to give
-/// has no path, or `git` or `registry`. The first is told: of the keys, then of `[dependencies]`, then of
-/// `[build-dependencies]`. Before all, Place, where a call failed, with its path; anywhere OutOfMemory, where memory is
-/// refused.
+/// Returns the package of a manifest: what the manifest and its folder say, with all that it takes from its workspace
+/// (The Cargo Book, Manifest Format and Workspaces). It looks at its folder once.
+///
+/// Errors, of which the first that occurs is returned. It takes the keys, then `[dependencies]`, then
+/// `[build-dependencies]`:
+/// - `Place`: a call failed. It contains the path of that call.
+/// - `NoInherited`: a key or an entry is taken that the workspace does not have.
+/// - `Manifest` with `UnsupportedSource`: the entry that is taken has no path, or `git` or `registry`.
+/// - `OutOfMemory`, at any time.
 pub fn draft_of<P: Place>(
     alloc: Global,
     place: &mut P,
@@ -237,13 +245,14 @@ pub fn draft_of<P: Place>(
     requires binaries { All (λ b. is_name b.name ≡ true) tables.binaries }
     requires name { is_name found.now.name ≡ true }
     requires promised { ArePromised tables }
-    ensures ok { IsTrue P.tells → Told result (draft_of (from_nothing target.now (P.world place.old)) at is_member given.now found.now tables) }
+    ensures ok { IsTrue P.tells → Told result
+        (draft_of (from_nothing target.now (P.at place.old).world) at is_member given.now
+        found.now tables) }
     ensures draft { IfOk result IsDraft }
     ensures folder { IfOk result (λ draft. draft.folder ≡ at.folder) }
-    ensures same { IsTrue P.tells → P.world place.new ≡ P.world place.old }
-    ensures most { P.most place.new ≡ P.most place.old }
-    ensures reads { Reads result (P.counts place.old) (P.counts place.new) }
-    ensures looks { Looks result (listings_at target.now at.folder) (P.counts place.old) (P.counts place.new) }
+    ensures quiet { OnlyLooks result (P.at place.old) (P.at place.new) }
+    ensures looks { Looks result (listings_at target.now at.folder)
+        (P.at place.old).counts (P.at place.new).counts }
 {
     match listings_of(alloc, place, target, &at.folder) {
         Ok(listings) => draft_seen(alloc, &listings, at, is_member, given, found, tables),

@@ -109,7 +109,8 @@ fn add_made(
     made: &mut Sorted<Items<FeatureItem>>,
     entries: &[Dependency],
 ) -> Result<(), AllocError>
-    ensures { OnOk result ((written : List Feature) → AreEnabledNames names.now written → made.new ≡ with_made written made.old entries.now) }
+    ensures { OnOk result ((written : List Feature) → AreEnabledNames names.now written
+        → made.new ≡ with_made written made.old entries.now) }
 {
     for entry in entries {
         add_one_made(alloc, names, made, entry)?;
@@ -152,7 +153,8 @@ fn add_all_made(
     dependencies: &[Dependency],
     build: &[Dependency],
 ) -> Result<(), AllocError>
-    ensures { OnOk result ((written : List Feature) → AreEnabledNames names.now written → made.new ≡ with_made written (with_made written made.old dependencies.now) build.now) }
+    ensures { OnOk result ((written : List Feature) → AreEnabledNames names.now written
+        → made.new ≡ with_made written (with_made written made.old dependencies.now) build.now) }
 {
     add_made(alloc, names, made, dependencies)?;
     add_made(alloc, names, made, build)?;
@@ -166,7 +168,8 @@ fn made_of(
     dependencies: &[Dependency],
     build: &[Dependency],
 ) -> Result<Sorted<Items<FeatureItem>>, AllocError>
-    ensures { IfOk result (λ made. made ≡ with_made written.now (with_made written.now [] dependencies.now) build.now) }
+    ensures { IfOk result (λ made. made
+        ≡ with_made written.now (with_made written.now [] dependencies.now) build.now) }
 {
     let names = enabled_names(alloc, written)?;
     let mut made = Sorted::new(alloc);
@@ -189,7 +192,8 @@ pub fn features_of(
     requires features { AllByRecursion IsWrittenFeature written }
     requires normal { AllByRecursion IsKeyed dependencies.now }
     requires build { AllByRecursion IsKeyed build.now }
-    ensures features { IfOk result (λ features. features ≡ features_of written dependencies.now build.now) }
+    ensures features { IfOk result
+        (λ features. features ≡ features_of written dependencies.now build.now) }
     ensures kept { IfOk result AreFeatures }
 {
     let made = made_of(alloc, written.as_slice(), dependencies, build);

@@ -23,7 +23,8 @@ pub fn found_readme(
     listings: &Listings,
     folder: &PathText,
 ) -> Result<Text, AllocError>
-    ensures ok { (sources : World) → AreListingsOf folder.now sources listings.now → IfOk result (λ text. text ≡ found_readme folder.now sources) }
+    ensures ok { (sources : World) → AreListingsOf folder.now sources listings.now
+        → IfOk result (λ text. text ≡ found_readme folder.now sources) }
 {
     if has_own_file(alloc, listings, folder, "README.md")? {
         return Text::from_str(alloc, "README.md");
@@ -46,7 +47,8 @@ pub fn script_of(
     folder: &PathText,
     build: &Build,
 ) -> Result<Option<PathText>, AllocError>
-    ensures ok { (sources : World) → AreListingsOf folder.now sources listings.now → IfOk result (λ script. script ≡ script_of folder.now sources build.now) }
+    ensures ok { (sources : World) → AreListingsOf folder.now sources listings.now
+        → IfOk result (λ script. script ≡ script_of folder.now sources build.now) }
 {
     match build {
         Build::Discovered => own_source(alloc, listings, folder, "build.rs"),
@@ -125,7 +127,8 @@ fn found_library(
     name: Text,
 ) -> Result<Option<Library>, AllocError>
     requires { is_crate_name name ≡ true }
-    ensures ok { (sources : World) → AreListingsOf folder.now sources listings.now → IfOk result (λ library. library ≡ found_library folder.now sources name) }
+    ensures ok { (sources : World) → AreListingsOf folder.now sources listings.now
+        → IfOk result (λ library. library ≡ found_library folder.now sources name) }
     ensures named { IfOk result (λ library. IfSome library IsLibraryNamed) }
 {
     let source = match own_source(alloc, listings, folder, "src/lib.rs")? {
@@ -152,7 +155,8 @@ pub fn library_of(
 ) -> Result<Option<Library>, AllocError>
     requires name { is_name package_name.now ≡ true }
     requires library { IfSome written IsWrittenLibrary }
-    ensures ok { (sources : World) → AreListingsOf folder.now sources listings.now → IfOk result (λ library. library ≡ library_of folder.now sources package_name.now written) }
+    ensures ok { (sources : World) → AreListingsOf folder.now sources listings.now → IfOk result
+        (λ library. library ≡ library_of folder.now sources package_name.now written) }
     ensures named { IfOk result (λ library. IfSome library IsLibraryNamed) }
 {
     let name = library_name(alloc, package_name, &written)?;

@@ -126,7 +126,8 @@ fn add_binaries(
     paths: &[PathText],
     binaries: &mut Items<Binary>,
 ) -> Result<(), AllocError>
-    ensures { OnOk result (binaries.new ≡ binaries.old ++ filter_map (binary_at nested bin.now) paths.now) }
+    ensures { OnOk result
+        (binaries.new ≡ binaries.old ++ filter_map (binary_at nested bin.now) paths.now) }
 {
     for path in paths {
         if let Some(binary) = binary_at(alloc, nested, bin, path)? {
@@ -163,7 +164,8 @@ fn binaries_from(
     paths: &[PathText],
     main: Option<PathText>,
 ) -> Result<Items<Binary>, AllocError>
-    ensures { IfOk result (λ binaries. binaries ≡ filter_map (binary_at true bin.now) paths.now ++ (filter_map (binary_at false bin.now) paths.now ++ main_binary name.now main)) }
+    ensures { IfOk result (λ binaries. binaries ≡ filter_map (binary_at true bin.now) paths.now
+        ++ (filter_map (binary_at false bin.now) paths.now ++ main_binary name.now main)) }
 {
     let mut binaries = Items::new(alloc);
     add_binaries(alloc, true, bin, paths, &mut binaries)?;
@@ -184,7 +186,8 @@ pub fn found_binaries(
     name: &Text,
 ) -> Result<Items<Binary>, AllocError>
     requires { is_name name.now ≡ true }
-    ensures ok { (sources : World) → AreListingsOf folder.now sources listings.now → IfOk result (λ binaries. binaries ≡ found_binaries folder.now sources name.now) }
+    ensures ok { (sources : World) → AreListingsOf folder.now sources listings.now
+        → IfOk result (λ binaries. binaries ≡ found_binaries folder.now sources name.now) }
     ensures named { IfOk result (AllByRecursion IsBinaryNamed) }
 {
     let bin = own_path(alloc, folder, "src/bin")?;

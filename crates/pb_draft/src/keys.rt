@@ -82,7 +82,8 @@ fn keys_from(
     readme: &Text,
     found: &Package,
 ) -> Result<Keys, LoadFault>
-    ensures told { Gives load_fault.OutOfMemory (λ keys. keys) result (keys_from at.now given.now readme.now found.now) }
+    ensures told { Gives load_fault.OutOfMemory (λ keys. keys) result
+        (keys_from at.now given.now readme.now found.now) }
     ensures name { IfOk result (λ keys. keys.name ≡ found.now.name) }
     ensures here { IfErr result (λ e. is_failure e ≡ false) }
 {
@@ -114,7 +115,9 @@ pub fn keys_of(
     given: &WorkspacePackage,
     found: &Package,
 ) -> Result<Keys, LoadFault>
-    ensures told { (sources : World) → AreListingsOf at.now.folder sources listings.now → Gives load_fault.OutOfMemory (λ keys. keys) result (keys_of sources at.now given.now found.now) }
+    ensures told { (sources : World) → AreListingsOf at.now.folder sources listings.now
+        → Gives load_fault.OutOfMemory (λ keys. keys) result
+        (keys_of sources at.now given.now found.now) }
     ensures name { IfOk result (λ keys. keys.name ≡ found.now.name) }
     ensures here { IfErr result (λ e. is_failure e ≡ false) }
 {

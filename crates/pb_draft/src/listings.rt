@@ -4,7 +4,7 @@ ghost use Rattle.std.specs.Prelude.{◌≡◌, IfOk, IfErr, IsTrue, true, if◌t
 ghost use Rattle.pb_place.specs.Paths.{is_relative};
 ghost use Rattle.pb_place.specs.World.{World, from_nothing};
 ghost use Rattle.pb_draft.specs.Looks.{Looks, listings_at};
-ghost use Rattle.pb_draft.specs.Causes.{is_outside, Reads};
+ghost use Rattle.pb_draft.specs.Causes.{is_outside, OnlyLooks};
 ghost use Rattle.pb_draft.specs.Listings.{AreListingsOf, is_listed, is_among, is_seen};
 ghost use Rattle.pb_draft.specs.Sources.{has_own_file, own_source};
 
@@ -25,19 +25,21 @@ pub struct Listings {
     pub in_bin: Items<PathText>,
 }
 
-/// Looks at the folder of a package. Nothing at or below the target folder is looked at.
+/// Returns the three listings of the folder of a package. It looks at nothing at or below the target folder.
+///
+/// Errors: `Place`, if a listing failed, with its path; `OutOfMemory`.
 pub fn listings_of<P: Place>(
     alloc: Global,
     place: &mut P,
     target: &PathText,
     folder: &PathText,
 ) -> Result<Listings, LoadFault>
-    ensures ok { IsTrue P.tells → IfOk result (AreListingsOf folder.now (from_nothing target.now (P.world place.old))) }
-    ensures same { IsTrue P.tells → P.world place.new ≡ P.world place.old }
-    ensures most { P.most place.new ≡ P.most place.old }
+    ensures ok { IsTrue P.tells → IfOk result
+        (AreListingsOf folder.now (from_nothing target.now (P.at place.old).world)) }
     ensures outside { IfErr result (λ e. is_outside e ≡ true) }
-    ensures reads { Reads result (P.counts place.old) (P.counts place.new) }
-    ensures looks { Looks result (listings_at target.now folder.now) (P.counts place.old) (P.counts place.new) }
+    ensures quiet { OnlyLooks result (P.at place.old) (P.at place.new) }
+    ensures looks { Looks result (listings_at target.now folder.now)
+        (P.at place.old).counts (P.at place.new).counts }
 {
     let src = own_path(alloc, folder, "src")?;
     let bin = own_path(alloc, folder, "src/bin")?;
@@ -80,7 +82,9 @@ fn is_seen(path: &PathText, listings: &Listings) -> bool
         || is_among(path, listings.in_bin.as_slice())
 }
 
-/// Whether a file of a package's folder is among the sources. It is one that the listings have where it is there.
+/// Returns whether a file of a package's folder is among the sources.
+///
+/// Requires: a name that the listings contain if its file is there.
 pub fn has_own_file(
     alloc: Global,
     listings: &Listings,
@@ -89,13 +93,16 @@ pub fn has_own_file(
 ) -> Result<bool, AllocError>
     requires path { is_relative name.now ≡ true }
     requires listed { is_listed folder.now name.now ≡ true }
-    ensures { (sources : World) → AreListingsOf folder.now sources listings.now → IfOk result (λ answer. answer ≡ has_own_file folder.now sources name.now) }
+    ensures { (sources : World) → AreListingsOf folder.now sources listings.now
+        → IfOk result (λ answer. answer ≡ has_own_file folder.now sources name.now) }
 {
     let path = own_path(alloc, folder, name)?;
     Ok(is_seen(&path, listings))
 }
 
-/// The path of a file of a package's folder, where it is one of the sources.
+/// Returns the path of a file of a package's folder, if it is one of the sources.
+///
+/// Requires: a name that the listings contain if its file is there.
 pub fn own_source(
     alloc: Global,
     listings: &Listings,
@@ -104,7 +111,8 @@ pub fn own_source(
 ) -> Result<Option<PathText>, AllocError>
     requires path { is_relative name.now ≡ true }
     requires listed { is_listed folder.now name.now ≡ true }
-    ensures { (sources : World) → AreListingsOf folder.now sources listings.now → IfOk result (λ path. path ≡ own_source folder.now sources name.now) }
+    ensures { (sources : World) → AreListingsOf folder.now sources listings.now
+        → IfOk result (λ path. path ≡ own_source folder.now sources name.now) }
 {
     if !has_own_file(alloc, listings, folder, name)? {
         return Ok(None);

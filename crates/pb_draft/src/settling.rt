@@ -55,7 +55,8 @@ pub fn readme_found(
     folder: &PathText,
     readme: &Inheritable<Readme>,
 ) -> Result<Text, AllocError>
-    ensures ok { (sources : World) → AreListingsOf folder.now sources listings.now → IfOk result (λ text. text ≡ readme_found folder.now sources readme.now) }
+    ensures ok { (sources : World) → AreListingsOf folder.now sources listings.now
+        → IfOk result (λ text. text ≡ readme_found folder.now sources readme.now) }
 {
     match readme {
         Inheritable::Written(_) => Text::from_str(alloc, ""),
@@ -89,7 +90,8 @@ pub fn wanted_in(
     requires build { IsAscending (map (λ d. d.key) build.now) }
     requires normal_keys { AllByRecursion IsKeyed dependencies.now }
     requires build_keys { AllByRecursion IsKeyed build.now }
-    ensures told { Gives load_fault.OutOfMemory (λ wanted. wanted) result (wanted_in at.now given.now dependencies.now build.now) }
+    ensures told { Gives load_fault.OutOfMemory (λ wanted. wanted) result
+        (wanted_in at.now given.now dependencies.now build.now) }
     ensures keys { IfOk result (AllByRecursion IsWantedKeyed) }
     ensures here { IfErr result (λ e. is_failure e ≡ false) }
 {
@@ -109,7 +111,8 @@ fn discovered(
     autobins: bool,
 ) -> Result<Items<Binary>, AllocError>
     requires { is_name name.now ≡ true }
-    ensures ok { (sources : World) → AreListingsOf folder.now sources listings.now → IfOk result (λ binaries. binaries ≡ discovered folder.now sources name.now autobins) }
+    ensures ok { (sources : World) → AreListingsOf folder.now sources listings.now
+        → IfOk result (λ binaries. binaries ≡ discovered folder.now sources name.now autobins) }
     ensures named { IfOk result (AllByRecursion IsBinaryNamed) }
 {
     if !autobins {
@@ -131,7 +134,9 @@ pub fn targets_of(
     requires binaries { All (λ b. is_name b.name ≡ true) binaries }
     requires name { is_name keys.now.name ≡ true }
     requires library { IfSome library IsWrittenLibrary }
-    ensures ok { (sources : World) → AreListingsOf folder.now sources listings.now → IfOk result (λ targets. targets ≡ targets_of folder.now sources keys.now.name keys.now.autobins keys.now.build library binaries) }
+    ensures ok { (sources : World) → AreListingsOf folder.now sources listings.now → IfOk result
+        (λ targets. targets ≡ targets_of folder.now sources keys.now.name keys.now.autobins
+        keys.now.build library binaries) }
     ensures targets { IfOk result AreTargets }
 {
     let name = &keys.name;
@@ -157,7 +162,8 @@ fn binaries_come_again(
     seen: &mut Mentions,
     binaries: &[pb_manifest::Binary],
 ) -> Result<bool, AllocError>
-    ensures { IfOk result (λ answer. answer ≡ comes_again seen.old (map (λ b. b.name) binaries.now)) }
+    ensures { IfOk result
+        (λ answer. answer ≡ comes_again seen.old (map (λ b. b.name) binaries.now)) }
 {
     for binary in binaries {
         if was_mentioned(alloc, seen, &binary.name)? {

@@ -6,7 +6,7 @@ ghost use Rattle.pb_place.specs.declared.call.Call.TheVariants as call;
 ghost use Rattle.pb_place.specs.Paths.{below, is_at_or_below, is_relative};
 ghost use Rattle.pb_place.specs.World.{from_nothing, listed, listed_directly};
 ghost use Rattle.pb_draft.specs.Looks.{Looks, looked};
-ghost use Rattle.pb_draft.specs.Causes.{is_outside, fault_at, Reads};
+ghost use Rattle.pb_draft.specs.Causes.{is_outside, fault_at, OnlyLooks};
 ghost use Rattle.pb_draft.specs.Sources.{resolved};
 
 use pb_data::{Bytes, Items, TryCopy};
@@ -15,7 +15,7 @@ use pb_package::LoadFault;
 use pb_place::{PathText, Place, PlaceFault, RelativePath};
 use std::alloc::{AllocError, Global};
 
-/// The fault of a call on a path that failed. Want of memory stays so. It takes no memory.
+/// Returns the fault of a call on a path that failed. Out of memory stays so. It takes no memory.
 pub fn failed(path: PathText, fault: PlaceFault) -> LoadFault
     ensures { result ≡ fault_at path fault }
 {
@@ -25,8 +25,9 @@ pub fn failed(path: PathText, fault: PlaceFault) -> LoadFault
     }
 }
 
-/// The file at a path, where it is one of the sources. A path at or below the target folder is not read. A call that
-/// failed is told as it failed, with its path; else the one fault is want of memory.
+/// Returns the file at a path, if it is one of the sources. It does not read a path at or below the target folder.
+///
+/// Errors: `Place`, if the read failed, with its path; `OutOfMemory`.
 #[tactic(auto, using(crate::proofs::SourceLemmas::source_laws))]
 pub fn source<P: Place>(
     alloc: Global,
@@ -34,12 +35,12 @@ pub fn source<P: Place>(
     target: &PathText,
     path: &PathText,
 ) -> Result<Option<Bytes>, LoadFault>
-    ensures ok { IsTrue P.tells → IfOk result (λ found. found ≡ finite.get (from_nothing target.now (P.world place.old)).files path.now) }
-    ensures same { IsTrue P.tells → P.world place.new ≡ P.world place.old }
-    ensures most { P.most place.new ≡ P.most place.old }
+    ensures ok { IsTrue P.tells → IfOk result (λ found. found
+        ≡ finite.get (from_nothing target.now (P.at place.old).world).files path.now) }
     ensures outside { IfErr result (λ e. is_outside e ≡ true) }
-    ensures reads { Reads result (P.counts place.old) (P.counts place.new) }
-    ensures looks { Looks result (looked target.now (call.Read path.now)) (P.counts place.old) (P.counts place.new) }
+    ensures quiet { OnlyLooks result (P.at place.old) (P.at place.new) }
+    ensures looks { Looks result (looked target.now (call.Read path.now))
+        (P.at place.old).counts (P.at place.new).counts }
 {
     if path.starts_with(target) {
         return Ok(None);
@@ -51,13 +52,14 @@ pub fn source<P: Place>(
     }
 }
 
-/// Those of some paths that are not at or below the target folder.
+/// Returns those of some paths that are not at or below the target folder.
 fn sources_among(
     alloc: Global,
     target: &PathText,
     paths: Items<PathText>,
 ) -> Result<Items<PathText>, AllocError>
-    ensures { IfOk result (λ kept. kept ≡ filter (λ path. not (is_at_or_below target.now path)) paths) }
+    ensures { IfOk result
+        (λ kept. kept ≡ filter (λ path. not (is_at_or_below target.now path)) paths) }
 {
     let mut kept = Items::new(alloc);
     for path in paths.into_vec() {
@@ -68,8 +70,10 @@ fn sources_among(
     Ok(kept)
 }
 
-/// The files of the sources directly in a folder, in byte order. A folder at or below the target folder is not
-/// listed. A call that failed is told as it failed, with its path; else the one fault is want of memory.
+/// Returns the files of the sources directly in a folder, in byte order. It does not list a folder at or below the
+/// target folder.
+///
+/// Errors: `Place`, if the listing failed, with its path; `OutOfMemory`.
 #[tactic(auto, using(crate::proofs::SourceLemmas::listing_laws))]
 pub fn sources_directly<P: Place>(
     alloc: Global,
@@ -77,12 +81,12 @@ pub fn sources_directly<P: Place>(
     target: &PathText,
     folder: &PathText,
 ) -> Result<Items<PathText>, LoadFault>
-    ensures ok { IsTrue P.tells → IfOk result (λ paths. paths ≡ listed_directly folder.now (from_nothing target.now (P.world place.old))) }
-    ensures same { IsTrue P.tells → P.world place.new ≡ P.world place.old }
-    ensures most { P.most place.new ≡ P.most place.old }
+    ensures ok { IsTrue P.tells → IfOk result (λ paths. paths
+        ≡ listed_directly folder.now (from_nothing target.now (P.at place.old).world)) }
     ensures outside { IfErr result (λ e. is_outside e ≡ true) }
-    ensures reads { Reads result (P.counts place.old) (P.counts place.new) }
-    ensures looks { Looks result (looked target.now (call.ListDirectly folder.now)) (P.counts place.old) (P.counts place.new) }
+    ensures quiet { OnlyLooks result (P.at place.old) (P.at place.new) }
+    ensures looks { Looks result (looked target.now (call.ListDirectly folder.now))
+        (P.at place.old).counts (P.at place.new).counts }
 {
     if folder.starts_with(target) {
         return Ok(Items::new(alloc));
@@ -95,8 +99,9 @@ pub fn sources_directly<P: Place>(
     Ok(sources_among(alloc, target, paths)?)
 }
 
-/// The files of the sources below a folder, in byte order. Nothing at or below the target folder is looked at. A call
-/// that failed is told as it failed, with its path; else the one fault is want of memory.
+/// Returns the files of the sources below a folder, in byte order. It looks at nothing at or below the target folder.
+///
+/// Errors: `Place`, if the listing failed, with its path; `OutOfMemory`.
 #[tactic(auto, using(crate::proofs::SourceLemmas::listing_laws))]
 pub fn listed_sources<P: Place>(
     alloc: Global,
@@ -104,12 +109,12 @@ pub fn listed_sources<P: Place>(
     target: &PathText,
     folder: &PathText,
 ) -> Result<Items<PathText>, LoadFault>
-    ensures ok { IsTrue P.tells → IfOk result (λ paths. paths ≡ listed folder.now (from_nothing target.now (P.world place.old))) }
-    ensures same { IsTrue P.tells → P.world place.new ≡ P.world place.old }
-    ensures most { P.most place.new ≡ P.most place.old }
+    ensures ok { IsTrue P.tells → IfOk result
+        (λ paths. paths ≡ listed folder.now (from_nothing target.now (P.at place.old).world)) }
     ensures outside { IfErr result (λ e. is_outside e ≡ true) }
-    ensures reads { Reads result (P.counts place.old) (P.counts place.new) }
-    ensures looks { Looks result (looked target.now (call.ListOutside folder.now target.now)) (P.counts place.old) (P.counts place.new) }
+    ensures quiet { OnlyLooks result (P.at place.old) (P.at place.new) }
+    ensures looks { Looks result (looked target.now (call.ListOutside folder.now target.now))
+        (P.at place.old).counts (P.at place.new).counts }
 {
     if folder.starts_with(target) {
         return Ok(Items::new(alloc));
@@ -121,7 +126,9 @@ pub fn listed_sources<P: Place>(
     }
 }
 
-/// The path of a name, or of names with slashes between them, from a folder. The one fault is want of memory.
+/// Returns the path of a name, or of names with slashes between them, from a folder.
+///
+/// Errors: memory is refused.
 pub fn own_path(alloc: Global, folder: &PathText, name: &str) -> Result<PathText, AllocError>
     requires { is_relative name.now ≡ true }
     ensures { IfOk result (λ path. path ≡ below folder.now name.now) }
@@ -130,8 +137,10 @@ pub fn own_path(alloc: Global, folder: &PathText, name: &str) -> Result<PathText
     folder.below(alloc, &name)
 }
 
-/// The path that a written one says, from a folder; an absolute one says its own. It holds no byte 0, so it is one, and
-/// the one fault is want of memory.
+/// Returns the path that a written one means from a folder; an absolute one means itself. A written path contains no
+/// byte 0, so it always means one.
+///
+/// Errors: memory is refused.
 #[tactic(auto, using(crate::proofs::Resolving::resolving_laws))]
 pub fn resolved(
     alloc: Global,

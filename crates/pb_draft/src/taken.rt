@@ -19,7 +19,8 @@ pub fn version_of(
     own: &Inherited<Version>,
     given: &Option<Version>,
 ) -> Result<Version, LoadFault>
-    ensures told { Gives load_fault.OutOfMemory (λ version. version) result (own_or_given own.now given.now) }
+    ensures told { Gives load_fault.OutOfMemory (λ version. version) result
+        (own_or_given own.now given.now) }
     ensures here { IfErr result (λ e. is_failure e ≡ false) }
 {
     match own {
@@ -62,7 +63,8 @@ fn text_of(alloc: Global, own: &Inheritable<Text>, given: &Option<Text>) -> Resu
 
 /// Adds each author after a colon.
 fn add_authors(text: &mut String, authors: &[Text]) -> Result<(), AllocError>
-    ensures { OnOk result (string_bytes text.new ≡ string_bytes text.old ++ further_authors authors.now) }
+    ensures { OnOk result
+        (string_bytes text.new ≡ string_bytes text.old ++ further_authors authors.now) }
 {
     for author in authors {
         text.push_str(":")?;
@@ -90,7 +92,8 @@ fn authors_of(
     own: &Inheritable<Items<Text>>,
     given: &Option<Items<Text>>,
 ) -> Result<Text, LoadFault>
-    ensures told { Gives load_fault.OutOfMemory (λ text. text) result (authors_of own.now given.now) }
+    ensures told { Gives load_fault.OutOfMemory (λ text. text) result
+        (authors_of own.now given.now) }
     ensures here { IfErr result (λ e. is_failure e ≡ false) }
 {
     match own {
@@ -128,7 +131,8 @@ fn license_file_of(
     own: &Inheritable<Text>,
     given: &Option<Text>,
 ) -> Result<Text, LoadFault>
-    ensures told { Gives load_fault.OutOfMemory (λ text. text) result (license_file_of root.now folder.now own.now given.now) }
+    ensures told { Gives load_fault.OutOfMemory (λ text. text) result
+        (license_file_of root.now folder.now own.now given.now) }
     ensures here { IfErr result (λ e. is_failure e ≡ false) }
 {
     match own {
@@ -177,7 +181,8 @@ fn readme_of(
     own: &Inheritable<Readme>,
     given: &Option<Readme>,
 ) -> Result<Text, LoadFault>
-    ensures told { Gives load_fault.OutOfMemory (λ text. text) result (readme_of root.now folder.now found.now own.now given.now) }
+    ensures told { Gives load_fault.OutOfMemory (λ text. text) result
+        (readme_of root.now folder.now found.now own.now given.now) }
     ensures here { IfErr result (λ e. is_failure e ≡ false) }
 {
     match own {
@@ -201,7 +206,8 @@ pub fn about_of(
     said: &Package,
     given: &WorkspacePackage,
 ) -> Result<About, LoadFault>
-    ensures told { Gives load_fault.OutOfMemory (λ about. about) result (about_of root.now folder.now found.now said.now given.now) }
+    ensures told { Gives load_fault.OutOfMemory (λ about. about) result
+        (about_of root.now folder.now found.now said.now given.now) }
     ensures here { IfErr result (λ e. is_failure e ≡ false) }
 {
     let authors = authors_of(alloc, &said.authors, &given.authors)?;

@@ -81,7 +81,9 @@ fn wanted_at(
     features: Items<Text>,
     source: &PathSource,
 ) -> Result<Wanted, AllocError>
-    ensures { IfOk result (λ wanted. wanted ≡ wanted_at base.now kind entry.now.key entry.now.optional default_features features source.now) }
+    ensures { IfOk result (λ wanted. wanted
+        ≡ wanted_at base.now kind entry.now.key entry.now.optional
+        default_features features source.now) }
 {
     let key = entry.key.copy(alloc)?;
     let folder = resolved(alloc, base, &source.path)?;
@@ -126,7 +128,8 @@ fn joined_features(
 
 /// The refusal of a source that is taken from the workspace.
 fn unsupported(alloc: Global, manifest: &PathText) -> Result<LoadFault, AllocError>
-    ensures { IfOk result (λ fault. fault ≡ load_fault.Manifest manifest.now ManifestFault.UnsupportedSource) }
+    ensures { IfOk result
+        (λ fault. fault ≡ load_fault.Manifest manifest.now ManifestFault.UnsupportedSource) }
 {
     let manifest = manifest.copy(alloc)?;
     Ok(LoadFault::Manifest(manifest, ManifestFault::UnsupportedSource))
@@ -141,7 +144,9 @@ fn taken_from(
     default_features: bool,
     shared: &WorkspaceDependency,
 ) -> Result<Wanted, LoadFault>
-    ensures told { Gives load_fault.OutOfMemory (λ wanted. wanted) result (taken_from at.now.root at.now.manifest kind entry.now default_features shared.now shared.now.source) }
+    ensures told { Gives load_fault.OutOfMemory (λ wanted. wanted) result
+        (taken_from at.now.root at.now.manifest kind entry.now default_features
+        shared.now shared.now.source) }
     ensures here { IfErr result (λ e. is_failure e ≡ false) }
 {
     let source = match &shared.source {
@@ -172,7 +177,8 @@ fn wanted_of(
     kind: DependencyKind,
     entry: &Dependency,
 ) -> Result<Wanted, LoadFault>
-    ensures told { Gives load_fault.OutOfMemory (λ wanted. wanted) result (wanted_of at.now.root at.now.folder at.now.manifest given.now kind entry.now) }
+    ensures told { Gives load_fault.OutOfMemory (λ wanted. wanted) result
+        (wanted_of at.now.root at.now.folder at.now.manifest given.now kind entry.now) }
     ensures here { IfErr result (λ e. is_failure e ≡ false) }
 {
     match &entry.source {
@@ -206,7 +212,9 @@ pub fn each_wanted(
     kind: DependencyKind,
     entries: &[Dependency],
 ) -> Result<Items<Wanted>, LoadFault>
-    ensures told { Gives load_fault.OutOfMemory (λ wanted. wanted) result (each_wanted (wanted_of at.now.root at.now.folder at.now.manifest given.now kind) entries.now) }
+    ensures told { Gives load_fault.OutOfMemory (λ wanted. wanted) result
+        (each_wanted (wanted_of at.now.root at.now.folder at.now.manifest given.now kind)
+        entries.now) }
     ensures here { IfErr result (λ e. is_failure e ≡ false) }
 {
     let mut made = Items::new(alloc);

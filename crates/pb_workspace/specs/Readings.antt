@@ -1,16 +1,25 @@
 -- What every reading of packages keeps to, whatever the files say, and what a root manifest promises of its workspace. These words serve the promise that a workspace which was read is settled.
-use Rattle.std.specs.Prelude.{◌≡◌, ℕ, ◌≤◌, List, map, length}
+use Rattle.std.specs.Prelude.{◌≡◌, ℕ, ◌≤◌, true, All, IfSome, List, map, length, Option}
 use Rattle.std.specs.List.{AllByRecursion}
+use Rattle.pb_manifest.specs.Letters.{is_name}
 use Rattle.pb_manifest.specs.declared.dependency.WorkspaceDependency.{WorkspaceDependency}
 use Rattle.pb_manifest.specs.declared.manifest.WorkspaceTable.{WorkspaceTable}
+use Rattle.pb_manifest.specs.declared.package.Package.{Package}
 use Rattle.pb_draft.specs.declared.draft.Draft.{Draft}
+use Rattle.pb_draft.specs.declared.draft.Tables.{Tables}
 use Rattle.pb_workspace.specs.declared.rounds.Reading.{Reading}
 use Rattle.pb_package.specs.Settled.{IsAscending}
-use Rattle.pb_draft.specs.Drafted.{IsDraft}
+use Rattle.pb_draft.specs.Drafted.{ArePromised, IsDraft}
 
 -- the entries of `[workspace.dependencies]`, in byte order of their keys
 abbrev pub HasSharedInOrder : WorkspaceTable → Type 0
 HasSharedInOrder w = IsAscending (map (λ (d : WorkspaceDependency). d.key) w.dependencies)
+
+-- what a manifest that was read promises of its `[package]`, if it has one, and of the other tables
+pub record AreRead (tables : Tables) (found : Option Package) : Type 0 where
+  pub named : IfSome found (λ p. is_name p.name ≡ true)
+  pub binaries : All (λ b. is_name b.name ≡ true) tables.binaries
+  pub promised : ArePromised tables
 
 -- a package stands at its own folder
 abbrev pub IsPut : List ℕ × Draft → Type 0

@@ -151,7 +151,8 @@ fn means_some(
     packages: &[Package],
     text: &WrittenPath,
 ) -> Result<bool, AllocError>
-    ensures { IfOk result (λ answer. answer ≡ list_any (λ p. is_meant_member root.now p text.now) packages.now) }
+    ensures { IfOk result
+        (λ answer. answer ≡ list_any (λ p. is_meant_member root.now p text.now) packages.now) }
 {
     for member in packages {
         if is_meant_member(alloc, root, member, text)? {
@@ -202,7 +203,8 @@ fn default_places(
     packages: &[Package],
     texts: &[WrittenPath],
 ) -> Result<Items<usize>, AllocError>
-    ensures { IfOk result (λ places. places ≡ places_where (is_default root.now texts.now) packages.now) }
+    ensures { IfOk result
+        (λ places. places ≡ places_where (is_default root.now texts.now) packages.now) }
 {
     let mut places = Items::new(alloc);
     for (place, member) in packages.iter().enumerate() {
@@ -220,7 +222,8 @@ fn default_members_of(
     packages: &[Package],
     texts: &Option<Items<WrittenPath>>,
 ) -> Result<DefaultMembers, AllocError>
-    ensures { IfOk result (λ members. members ≡ default_members_of root.now packages.now texts.now) }
+    ensures { IfOk result
+        (λ members. members ≡ default_members_of root.now packages.now texts.now) }
 {
     let texts = match texts {
         Some(texts) => texts.as_slice(),
@@ -242,7 +245,8 @@ fn members_of(
 ) -> Result<(Items<Package>, DefaultMembers), AllocError>
     requires { places.now ≡ places_of drafts }
     ensures packages { IfOk result (λ made. made.0 ≡ packages_of drafts) }
-    ensures defaults { IfOk result (λ made. made.1 ≡ default_members_of frame.now.root (packages_of drafts) frame.now.default_members) }
+    ensures defaults { IfOk result (λ made. made.1
+        ≡ default_members_of frame.now.root (packages_of drafts) frame.now.default_members) }
 {
     let packages = packages_of(alloc, places, drafts)?;
     let default_members = default_members_of(

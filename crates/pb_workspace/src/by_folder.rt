@@ -75,7 +75,8 @@ impl<V: Drop> ByFolder<V> {
 
     /// The folders themselves.
     fn lent_folders(&self, alloc: Global) -> Result<Vec<&PathText>, AllocError>
-        ensures { IfOk result (λ folders. map (λ folder. folder.now) folders.items ≡ folders_of self.now) }
+        ensures { IfOk result
+            (λ folders. map (λ folder. folder.now) folders.items ≡ folders_of self.now) }
     {
         self.inside.keys().collect(alloc)
     }

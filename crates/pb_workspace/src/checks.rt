@@ -23,7 +23,8 @@ fn names_come_again(
     seen: &mut Mentions,
     drafts: &[Draft],
 ) -> Result<bool, AllocError>
-    ensures { IfOk result (λ answer. answer ≡ comes_again seen.old (map (λ (d : Draft). d.name) drafts.now)) }
+    ensures { IfOk result
+        (λ answer. answer ≡ comes_again seen.old (map (λ (d : Draft). d.name) drafts.now)) }
 {
     for draft in drafts {
         if was_mentioned(alloc, seen, &draft.name)? {
@@ -49,7 +50,8 @@ fn links_come_again(
     seen: &mut Mentions,
     drafts: &[Draft],
 ) -> Result<bool, AllocError>
-    ensures { IfOk result (λ answer. answer ≡ comes_again seen.old (filter_map (λ (d : Draft). d.links) drafts.now)) }
+    ensures { IfOk result
+        (λ answer. answer ≡ comes_again seen.old (filter_map (λ (d : Draft). d.links) drafts.now)) }
 {
     for draft in drafts {
         if let Some(links) = &draft.links {
@@ -106,7 +108,8 @@ fn leads_to_other_version(drafts: &[Draft], places: &ByFolder<usize>, wanted: &W
 /// Whether one of some entries leads to a package of another name.
 fn one_other_name(drafts: &[Draft], places: &ByFolder<usize>, wanted: &[Wanted]) -> bool
     requires { places.now ≡ places_of drafts.now }
-    ensures { result ≡ list_any (λ (w : Wanted). has_other_name w (draft_in drafts.now w.folder)) wanted.now }
+    ensures { result
+        ≡ list_any (λ (w : Wanted). has_other_name w (draft_in drafts.now w.folder)) wanted.now }
 {
     for one in wanted {
         if leads_to_other_name(drafts, places, one) {
@@ -132,7 +135,8 @@ fn some_other_name(drafts: &[Draft], places: &ByFolder<usize>) -> bool
 /// Whether one of some entries leads to a package whose version does not match.
 fn one_other_version(drafts: &[Draft], places: &ByFolder<usize>, wanted: &[Wanted]) -> bool
     requires { places.now ≡ places_of drafts.now }
-    ensures { result ≡ list_any (λ (w : Wanted). has_other_version w (draft_in drafts.now w.folder)) wanted.now }
+    ensures { result
+        ≡ list_any (λ (w : Wanted). has_other_version w (draft_in drafts.now w.folder)) wanted.now }
 {
     for one in wanted {
         if leads_to_other_version(drafts, places, one) {

@@ -1,20 +1,18 @@
 //! The workspace of a manifest.
 
-ghost use Rattle.std.specs.Prelude.{◌≡◌, All, IfErr, IfOk, IsTrue, Some, false, true, IfSome};
+ghost use Rattle.std.specs.Prelude.{◌≡◌, IfErr, IfOk, IsTrue, Some, false, IfSome};
 ghost use Rattle.pb_place.specs.Paths.{folder_of};
 ghost use Rattle.pb_workspace.specs.Rounds.{with_draft};
 ghost use Rattle.pb_place.specs.World.{from_nothing};
-ghost use Rattle.pb_manifest.specs.Letters.{is_name};
 ghost use Rattle.pb_workspace.specs.ByFolder.{values_of};
 ghost use Rattle.pb_data.specs.Gives.{Gives};
 ghost use Rattle.pb_package.specs.declared.fault.LoadFault.TheVariants as load_fault;
 ghost use Rattle.pb_draft.specs.Looks.{Looks, listings_at};
 ghost use Rattle.pb_workspace.specs.LookedAt.{package_looked, root_looked, others_looked, packages_looked, looked_at};
-ghost use Rattle.pb_draft.specs.Causes.{is_failure, Told, Reads};
+ghost use Rattle.pb_draft.specs.Causes.{is_failure, Told, OnlyLooks};
 ghost use Rattle.pb_workspace.specs.Frames.{frame_of};
 ghost use Rattle.pb_workspace.specs.Loaded.{root_parts, at_root, nothing_read, root_read, others_read, packages_read, workspace_from, workspace_in, workspace_of};
-ghost use Rattle.pb_draft.specs.Drafted.{ArePromised};
-ghost use Rattle.pb_workspace.specs.Readings.{HasSharedInOrder, IsReading};
+ghost use Rattle.pb_workspace.specs.Readings.{AreRead, HasSharedInOrder, IsReading};
 ghost use Rattle.pb_workspace.specs.NormalPaths.{HasNormalPaths};
 
 use crate::assembled::assembled;
@@ -34,23 +32,22 @@ use pb_package::{LoadFault, SettledWorkspace, Workspace};
 use pb_place::{PathText, Place};
 use std::alloc::{AllocError, Global};
 
-/// What the root manifest says. NoManifest where it is not named `Cargo.toml` or no file of the sources is
-/// there.
+/// Returns what the root manifest says.
+///
+/// Errors: `NoManifest`, if it is not named `Cargo.toml` or no file of the sources is there; those of `parts_at`.
 fn root_parts<P: Place>(
     alloc: Global,
     place: &mut P,
     target: &PathText,
     path: &PathText,
 ) -> Result<Parts, LoadFault>
-    ensures ok { IsTrue P.tells → Told result (root_parts (from_nothing target.now (P.world place.old)) path.now) }
-    ensures promised { IfOk result (λ parts. ArePromised parts.tables) }
-    ensures named { IfOk result (λ parts. IfSome parts.found (λ p. is_name p.name ≡ true)) }
-    ensures names { IfOk result (λ parts. All (λ b. is_name b.name ≡ true) parts.tables.binaries) }
+    ensures ok { IsTrue P.tells → Told result
+        (root_parts (from_nothing target.now (P.at place.old).world) path.now) }
+    ensures read { IfOk result (λ parts. AreRead parts.tables parts.found) }
     ensures shared { IfOk result (λ parts. IfSome parts.workspace HasSharedInOrder) }
-    ensures same { IsTrue P.tells → P.world place.new ≡ P.world place.old }
-    ensures most { P.most place.new ≡ P.most place.old }
-    ensures reads { Reads result (P.counts place.old) (P.counts place.new) }
-    ensures looks { Looks result (root_looked target.now path.now) (P.counts place.old) (P.counts place.new) }
+    ensures quiet { OnlyLooks result (P.at place.old) (P.at place.new) }
+    ensures looks { Looks result (root_looked target.now path.now)
+        (P.at place.old).counts (P.at place.new).counts }
 {
     if !is_manifest(path) {
         return Err(no_manifest(alloc, path));
@@ -89,7 +86,7 @@ fn begun_with(alloc: Global, frame: &Frame, draft: Draft) -> Result<Reading, All
     frame.root.copy(alloc).and_then(|folder| with_draft(alloc, nothing_read(alloc), folder, draft))
 }
 
-/// The root package read.
+/// Reads the root package.
 #[tactic(auto, using(crate::proofs::Keeping::draft_laws), unfolding(crate::specs::Loaded::root_read))]
 fn root_package_read<P: Place>(
     alloc: Global,
@@ -99,15 +96,14 @@ fn root_package_read<P: Place>(
     tables: Tables,
     found: &Package,
 ) -> Result<Reading, LoadFault>
-    requires binaries { All (λ b. is_name b.name ≡ true) tables.binaries }
-    requires promised { ArePromised tables }
-    requires found_name { is_name found.now.name ≡ true }
-    ensures ok { IsTrue P.tells → Told result (root_read (from_nothing target.now (P.world place.old)) frame.now tables (Some found.now)) }
+    requires { AreRead tables (Some found.now) }
+    ensures ok { IsTrue P.tells → Told result
+        (root_read (from_nothing target.now (P.at place.old).world) frame.now tables
+        (Some found.now)) }
     ensures kept { IfOk result IsReading }
-    ensures same { IsTrue P.tells → P.world place.new ≡ P.world place.old }
-    ensures most { P.most place.new ≡ P.most place.old }
-    ensures reads { Reads result (P.counts place.old) (P.counts place.new) }
-    ensures looks { Looks result (listings_at target.now frame.now.root) (P.counts place.old) (P.counts place.new) }
+    ensures quiet { OnlyLooks result (P.at place.old) (P.at place.new) }
+    ensures looks { Looks result (listings_at target.now frame.now.root)
+        (P.at place.old).counts (P.at place.new).counts }
 {
     let (tables, at) = with_next(tables, at_root(alloc, frame))?;
     let draft = draft_of(alloc, place, target, at, true, &frame.given, found, tables)?;
@@ -115,7 +111,7 @@ fn root_package_read<P: Place>(
     Ok(begun)
 }
 
-/// The root package read, where there is one.
+/// Reads the root package, if there is one.
 #[tactic(auto, using(crate::proofs::Keeping::draft_laws), unfolding(crate::specs::Loaded::root_read))]
 fn root_read<P: Place>(
     alloc: Global,
@@ -125,15 +121,13 @@ fn root_read<P: Place>(
     tables: Tables,
     found: Option<Package>,
 ) -> Result<Reading, LoadFault>
-    requires binaries { All (λ b. is_name b.name ≡ true) tables.binaries }
-    requires promised { ArePromised tables }
-    requires found_name { IfSome found (λ p. is_name p.name ≡ true) }
-    ensures ok { IsTrue P.tells → Told result (root_read (from_nothing target.now (P.world place.old)) frame.now tables found) }
+    requires { AreRead tables found }
+    ensures ok { IsTrue P.tells → Told result
+        (root_read (from_nothing target.now (P.at place.old).world) frame.now tables found) }
     ensures kept { IfOk result IsReading }
-    ensures same { IsTrue P.tells → P.world place.new ≡ P.world place.old }
-    ensures most { P.most place.new ≡ P.most place.old }
-    ensures reads { Reads result (P.counts place.old) (P.counts place.new) }
-    ensures looks { Looks result (package_looked target.now frame.now.root found) (P.counts place.old) (P.counts place.new) }
+    ensures quiet { OnlyLooks result (P.at place.old) (P.at place.new) }
+    ensures looks { Looks result (package_looked target.now frame.now.root found)
+        (P.at place.old).counts (P.at place.new).counts }
 {
     match found {
         Some(found) => {
@@ -148,7 +142,7 @@ fn root_read<P: Place>(
     }
 }
 
-/// The members read, and then what path dependencies lead to, round for round.
+/// Reads the members, and then what path dependencies lead to, round for round.
 #[tactic(auto, unfolding(crate::specs::Loaded::others_read))]
 fn others_read<P: Place>(
     alloc: Global,
@@ -158,12 +152,13 @@ fn others_read<P: Place>(
     begun: Reading,
 ) -> Result<Reading, LoadFault>
     requires { IsReading begun }
-    ensures ok { IsTrue P.tells → Told result (others_read (from_nothing target.now (P.world place.old)) frame.now begun) }
+    ensures ok { IsTrue P.tells → Told result
+        (others_read (from_nothing target.now (P.at place.old).world) frame.now begun) }
     ensures kept { IfOk result IsReading }
-    ensures same { IsTrue P.tells → P.world place.new ≡ P.world place.old }
-    ensures most { P.most place.new ≡ P.most place.old }
-    ensures reads { Reads result (P.counts place.old) (P.counts place.new) }
-    ensures looks { IsTrue P.tells → Looks result (others_looked target.now (from_nothing target.now (P.world place.old)) frame.now begun) (P.counts place.old) (P.counts place.new) }
+    ensures quiet { OnlyLooks result (P.at place.old) (P.at place.new) }
+    ensures looks { IsTrue P.tells → Looks result
+        (others_looked target.now (from_nothing target.now (P.at place.old).world) frame.now begun)
+        (P.at place.old).counts (P.at place.new).counts }
 {
     let meant = member_folders(alloc, place, target, frame)?;
     let folders = meant.folders(alloc)?;
@@ -171,7 +166,7 @@ fn others_read<P: Place>(
     rounds(alloc, place, target, frame, &meant, read, ENOUGH_ROUNDS)
 }
 
-/// The packages of a workspace, by their folders.
+/// Returns the packages of a workspace, by their folders.
 #[tactic(auto, unfolding(crate::specs::Loaded::packages_read))]
 fn packages_read<P: Place>(
     alloc: Global,
@@ -181,15 +176,14 @@ fn packages_read<P: Place>(
     tables: Tables,
     found: Option<Package>,
 ) -> Result<Reading, LoadFault>
-    requires binaries { All (λ b. is_name b.name ≡ true) tables.binaries }
-    requires promised { ArePromised tables }
-    requires found_name { IfSome found (λ p. is_name p.name ≡ true) }
-    ensures ok { IsTrue P.tells → Told result (packages_read (from_nothing target.now (P.world place.old)) frame.now tables found) }
+    requires { AreRead tables found }
+    ensures ok { IsTrue P.tells → Told result
+        (packages_read (from_nothing target.now (P.at place.old).world) frame.now tables found) }
     ensures kept { IfOk result IsReading }
-    ensures same { IsTrue P.tells → P.world place.new ≡ P.world place.old }
-    ensures most { P.most place.new ≡ P.most place.old }
-    ensures reads { Reads result (P.counts place.old) (P.counts place.new) }
-    ensures looks { IsTrue P.tells → Looks result (packages_looked target.now (from_nothing target.now (P.world place.old)) frame.now tables found) (P.counts place.old) (P.counts place.new) }
+    ensures quiet { OnlyLooks result (P.at place.old) (P.at place.new) }
+    ensures looks { let sources = from_nothing target.now (P.at place.old).world in
+        IsTrue P.tells → Looks result (packages_looked target.now sources frame.now tables found)
+        (P.at place.old).counts (P.at place.new).counts }
 {
     let begun = root_read(alloc, place, target, frame, tables, found)?;
     others_read(alloc, place, target, frame, begun)
@@ -204,7 +198,8 @@ fn workspace_from(
     profiles: Items<Profile>,
     drafts: Items<Draft>,
 ) -> Result<Workspace, LoadFault>
-    ensures told { Gives load_fault.OutOfMemory (λ ws. ws) result (workspace_from target.now frame.now profiles drafts) }
+    ensures told { Gives load_fault.OutOfMemory (λ ws. ws) result
+        (workspace_from target.now frame.now profiles drafts) }
     ensures here { IfErr result (λ e. is_failure e ≡ false) }
 {
     let places = places_of(alloc, drafts.as_slice())?;
@@ -224,7 +219,8 @@ fn finished(
     read: Reading,
 ) -> Result<SettledWorkspace, LoadFault>
     requires { IsReading read }
-    ensures told { Gives load_fault.OutOfMemory (λ ws. ws) result (workspace_from target.now frame.now profiles (values_of read.found)) }
+    ensures told { Gives load_fault.OutOfMemory (λ ws. ws) result
+        (workspace_from target.now frame.now profiles (values_of read.found)) }
     ensures paths { IfOk result HasNormalPaths }
     ensures here { IfErr result (λ e. is_failure e ≡ false) }
 {
@@ -234,7 +230,7 @@ fn finished(
     Ok(SettledWorkspace::new(made))
 }
 
-/// The workspace of a root package and a frame.
+/// Returns the workspace of a root package and a frame.
 #[tactic(auto, unfolding(crate::specs::Loaded::workspace_in))]
 fn workspace_in<P: Place>(
     alloc: Global,
@@ -245,33 +241,38 @@ fn workspace_in<P: Place>(
     tables: Tables,
     found: Option<Package>,
 ) -> Result<SettledWorkspace, LoadFault>
-    requires binaries { All (λ b. is_name b.name ≡ true) tables.binaries }
-    requires promised { ArePromised tables }
-    requires found_name { IfSome found (λ p. is_name p.name ≡ true) }
-    ensures ok { IsTrue P.tells → Told result (workspace_in (from_nothing target.now (P.world place.old)) target.now frame.now profiles tables found) }
+    requires { AreRead tables found }
+    ensures ok { IsTrue P.tells → Told result
+        (workspace_in (from_nothing target.now (P.at place.old).world) target.now frame.now
+        profiles tables found) }
     ensures paths { IfOk result HasNormalPaths }
-    ensures same { IsTrue P.tells → P.world place.new ≡ P.world place.old }
-    ensures most { P.most place.new ≡ P.most place.old }
-    ensures reads { Reads result (P.counts place.old) (P.counts place.new) }
-    ensures looks { IsTrue P.tells → Looks result (packages_looked target.now (from_nothing target.now (P.world place.old)) frame.now tables found) (P.counts place.old) (P.counts place.new) }
+    ensures quiet { OnlyLooks result (P.at place.old) (P.at place.new) }
+    ensures looks { let sources = from_nothing target.now (P.at place.old).world in
+        IsTrue P.tells → Looks result (packages_looked target.now sources frame.now tables found)
+        (P.at place.old).counts (P.at place.new).counts }
 {
     let read = packages_read(alloc, place, target, frame, tables, found)?;
     let made = finished(alloc, target, frame, profiles, read)?;
     Ok(made)
 }
 
-/// Reads the workspace of a root manifest (The Cargo Book, Workspaces, Manifest Format, Specifying Dependencies):
-/// the root package, then the members in byte order of their folders, then what path dependencies lead to, in
-/// rounds, each in that order. Nothing at or below the target folder is looked at. A package is read once.
+/// Reads the workspace of a root manifest (The Cargo Book, Workspaces, Manifest Format, Specifying Dependencies).
 ///
-/// The reading stops at the first of these: NoManifest, where no file is there, it is not named `Cargo.toml`, or it
-/// lies at or below the target folder; Manifest, with what the manifest reader refuses, with BadKind of `package`
-/// where a package is looked for and the manifest has none, or with UnsupportedSource where an entry of the
-/// workspace is taken that has no path, or `git` or `registry`; NoInherited, where a key or an entry is taken that
-/// the workspace has not, or by a package that is no member; TooMany, where a 257th package would be read; Place,
-/// where a call failed, with its path. Then come SameName, NameMismatch, VersionMismatch, LinksTwice,
-/// LinksWithoutScript and SameBinary, in this order. OutOfMemory may come anywhere, where memory is refused. It starts no
-/// child and changes no file.
+/// It reads the root package first, then the members in byte order of their folders, then what path dependencies
+/// lead to, in rounds, each in that order. It reads no package twice, and looks at nothing at or below the target
+/// folder. It starts no child and changes no file.
+///
+/// Errors, of which the first that occurs is returned:
+/// - `NoManifest`: no file is there, it is not named `Cargo.toml`, or it is at or below the target folder.
+/// - `Manifest`: the manifest reader refuses it.
+/// - `Manifest` with `BadKind` of `package`: the manifest of a package has no `[package]`.
+/// - `Manifest` with `UnsupportedSource`: an entry of the workspace is taken that has no path, or `git` or `registry`.
+/// - `NoInherited`: a key or an entry is taken that the workspace does not have, or by a package that is no member.
+/// - `TooMany`: a 257th package would be read.
+/// - `Place`: a call failed. It contains the path of that call.
+/// - `SameName`, `NameMismatch`, `VersionMismatch`, `LinksTwice`, `LinksWithoutScript`, `SameBinary`, in this order,
+///   once all packages are read.
+/// - `OutOfMemory`, at any time.
 #[tactic(auto, unfolding(crate::specs::Loaded::workspace_of))]
 pub fn load<P: Place>(
     alloc: Global,
@@ -279,12 +280,13 @@ pub fn load<P: Place>(
     manifest: &PathText,
     target: &PathText,
 ) -> Result<SettledWorkspace, LoadFault>
-    ensures ok { IsTrue P.tells → Told result (workspace_of manifest.now target.now (P.world place.old)) }
+    ensures ok { IsTrue P.tells → Told result
+        (workspace_of manifest.now target.now (P.at place.old).world) }
     ensures paths { IfOk result HasNormalPaths }
-    ensures same { IsTrue P.tells → P.world place.new ≡ P.world place.old }
-    ensures most { P.most place.new ≡ P.most place.old }
-    ensures reads { Reads result (P.counts place.old) (P.counts place.new) }
-    ensures looks { IsTrue P.tells → Looks result (looked_at manifest.now target.now (P.world place.old)) (P.counts place.old) (P.counts place.new) }
+    ensures quiet { OnlyLooks result (P.at place.old) (P.at place.new) }
+    ensures looks { IsTrue P.tells → Looks result
+        (looked_at manifest.now target.now (P.at place.old).world)
+        (P.at place.old).counts (P.at place.new).counts }
 {
     let root = manifest.folder(alloc)?;
     let path = manifest.copy(alloc)?;

@@ -128,7 +128,8 @@ fn part_matches(alloc: Global, part: &Part, name: &str) -> Result<bool, AllocErr
 
 /// Whether names match parts, one for one.
 fn parts_match(alloc: Global, parts: &[Part], names: &[&str]) -> Result<bool, AllocError>
-    ensures { IfOk result (λ answer. answer ≡ parts_match parts.now (map (λ name. name.now) names.now)) }
+    ensures { IfOk result
+        (λ answer. answer ≡ parts_match parts.now (map (λ name. name.now) names.now)) }
 {
     let mut left = parts;
     let mut to_match = names;

@@ -7,7 +7,7 @@ ghost use Rattle.pb_place.specs.Paths.{folder_of};
 ghost use Rattle.pb_place.specs.World.{from_nothing, listed};
 ghost use Rattle.pb_draft.specs.Looks.{Looks, looked};
 ghost use Rattle.pb_workspace.specs.LookedAt.{text_looked, members_looked};
-ghost use Rattle.pb_draft.specs.Causes.{is_outside, Reads};
+ghost use Rattle.pb_draft.specs.Causes.{is_outside, OnlyLooks};
 ghost use Rattle.pb_draft.specs.Sources.{resolved};
 ghost use Rattle.pb_workspace.specs.MemberFolders.{is_fixed, fixed_text, base_of, is_manifest, is_taken, folders_taken, folders_meant, member_folders};
 
@@ -110,7 +110,7 @@ fn taken_among(
     Ok(taken)
 }
 
-/// The folders with a manifest that a glob takes. It lists the files below the glob's base once.
+/// Returns the folders with a manifest that a glob takes. It lists the files below the glob's base once.
 fn folders_taken<P: Place>(
     alloc: Global,
     place: &mut P,
@@ -118,12 +118,13 @@ fn folders_taken<P: Place>(
     frame: &Frame,
     parts: &[Part],
 ) -> Result<Items<PathText>, LoadFault>
-    ensures ok { IsTrue P.tells → IfOk result (λ folders. folders ≡ folders_taken (from_nothing target.now (P.world place.old)) frame.now parts.now) }
-    ensures same { IsTrue P.tells → P.world place.new ≡ P.world place.old }
-    ensures most { P.most place.new ≡ P.most place.old }
+    ensures ok { IsTrue P.tells → IfOk result (λ folders. folders
+        ≡ folders_taken (from_nothing target.now (P.at place.old).world) frame.now parts.now) }
     ensures outside { IfErr result (λ e. is_outside e ≡ true) }
-    ensures reads { Reads result (P.counts place.old) (P.counts place.new) }
-    ensures looks { Looks result (looked target.now (call.ListOutside (base_of parts.now) target.now)) (P.counts place.old) (P.counts place.new) }
+    ensures quiet { OnlyLooks result (P.at place.old) (P.at place.new) }
+    ensures looks { Looks result
+        (looked target.now (call.ListOutside (base_of parts.now) target.now))
+        (P.at place.old).counts (P.at place.new).counts }
 {
     let base = base_of(alloc, parts)?;
     let paths = listed_sources(alloc, place, target, &base)?;
@@ -145,7 +146,7 @@ fn folder_written(
     Ok(folders)
 }
 
-/// The folders that one text of `members` means.
+/// Returns the folders that one text of `members` means.
 fn folders_meant<P: Place>(
     alloc: Global,
     place: &mut P,
@@ -153,12 +154,12 @@ fn folders_meant<P: Place>(
     frame: &Frame,
     text: &WrittenPath,
 ) -> Result<Items<PathText>, LoadFault>
-    ensures ok { IsTrue P.tells → IfOk result (λ folders. folders ≡ folders_meant (from_nothing target.now (P.world place.old)) frame.now text.now) }
-    ensures same { IsTrue P.tells → P.world place.new ≡ P.world place.old }
-    ensures most { P.most place.new ≡ P.most place.old }
+    ensures ok { IsTrue P.tells → IfOk result (λ folders. folders
+        ≡ folders_meant (from_nothing target.now (P.at place.old).world) frame.now text.now) }
     ensures outside { IfErr result (λ e. is_outside e ≡ true) }
-    ensures reads { Reads result (P.counts place.old) (P.counts place.new) }
-    ensures looks { Looks result (text_looked target.now frame.now text.now) (P.counts place.old) (P.counts place.new) }
+    ensures quiet { OnlyLooks result (P.at place.old) (P.at place.new) }
+    ensures looks { Looks result (text_looked target.now frame.now text.now)
+        (P.at place.old).counts (P.at place.new).counts }
 {
     if is_glob(text.as_str()) {
         let parts = parts_meant(alloc, &frame.root, text)?;
@@ -178,7 +179,7 @@ fn add_folders(made: &mut Items<PathText>, folders: Items<PathText>) -> Result<(
     Ok(())
 }
 
-/// The folders that texts of `members` mean, text for text.
+/// Returns the folders that texts of `members` mean, text for text.
 fn folders_of_texts<P: Place>(
     alloc: Global,
     place: &mut P,
@@ -186,12 +187,13 @@ fn folders_of_texts<P: Place>(
     frame: &Frame,
     texts: &[WrittenPath],
 ) -> Result<Items<PathText>, LoadFault>
-    ensures ok { IsTrue P.tells → IfOk result (λ folders. folders ≡ flat_map (folders_meant (from_nothing target.now (P.world place.old)) frame.now) texts.now) }
-    ensures same { IsTrue P.tells → P.world place.new ≡ P.world place.old }
-    ensures most { P.most place.new ≡ P.most place.old }
+    ensures ok { let sources = from_nothing target.now (P.at place.old).world in
+        IsTrue P.tells → IfOk result
+        (λ folders. folders ≡ flat_map (folders_meant sources frame.now) texts.now) }
     ensures outside { IfErr result (λ e. is_outside e ≡ true) }
-    ensures reads { Reads result (P.counts place.old) (P.counts place.new) }
-    ensures looks { Looks result (flat_map (text_looked target.now frame.now) texts.now) (P.counts place.old) (P.counts place.new) }
+    ensures quiet { OnlyLooks result (P.at place.old) (P.at place.new) }
+    ensures looks { Looks result (flat_map (text_looked target.now frame.now) texts.now)
+        (P.at place.old).counts (P.at place.new).counts }
 {
     let mut made = Items::new(alloc);
     for text in texts {
@@ -201,21 +203,22 @@ fn folders_of_texts<P: Place>(
     Ok(made)
 }
 
-/// The folders that `members` means, each once, in byte order (The Cargo Book, Workspaces): those that are
-/// written out, and those with a manifest that a glob means and `exclude` does not leave out. What lies at or
-/// below the target folder is left out.
+/// Returns the folders that `members` means, each once, in byte order (The Cargo Book, Workspaces).
+///
+/// They are those that are written out, and those with a manifest that a glob means and `exclude` does not leave
+/// out. A folder at or below the target folder is left out.
 pub fn member_folders<P: Place>(
     alloc: Global,
     place: &mut P,
     target: &PathText,
     frame: &Frame,
 ) -> Result<ByFolder<()>, LoadFault>
-    ensures ok { IsTrue P.tells → IfOk result (λ folders. folders ≡ member_folders (from_nothing target.now (P.world place.old)) frame.now) }
-    ensures same { IsTrue P.tells → P.world place.new ≡ P.world place.old }
-    ensures most { P.most place.new ≡ P.most place.old }
+    ensures ok { IsTrue P.tells → IfOk result (λ folders. folders
+        ≡ member_folders (from_nothing target.now (P.at place.old).world) frame.now) }
     ensures outside { IfErr result (λ e. is_outside e ≡ true) }
-    ensures reads { Reads result (P.counts place.old) (P.counts place.new) }
-    ensures looks { Looks result (members_looked target.now frame.now) (P.counts place.old) (P.counts place.new) }
+    ensures quiet { OnlyLooks result (P.at place.old) (P.at place.new) }
+    ensures looks { Looks result (members_looked target.now frame.now)
+        (P.at place.old).counts (P.at place.new).counts }
 {
     let folders = folders_of_texts(alloc, place, target, frame, frame.members.as_slice())?;
     let mut made = ByFolder::new(alloc);

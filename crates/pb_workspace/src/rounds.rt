@@ -1,20 +1,19 @@
 //! The packages of a workspace, read folder by folder.
 
-ghost use Rattle.std.specs.Prelude.{◌≡◌, All, IfErr, IfOk, IsTrue, OnOk, false, true, IfSome};
+ghost use Rattle.std.specs.Prelude.{◌≡◌, IfErr, IfOk, IsTrue, OnOk, false, IfSome};
 ghost use Rattle.pb_place.specs.declared.call.Call.TheVariants as call;
 ghost use Rattle.pb_place.specs.World.{from_nothing};
 ghost use Rattle.pb_place.specs.Paths.{below};
-ghost use Rattle.pb_manifest.specs.Letters.{is_name};
 ghost use Rattle.pb_manifest_reader.specs.Promises.{IsManifest};
 ghost use Rattle.pb_workspace.specs.ByFolder.{folders_of, with_folders};
 ghost use Rattle.pb_draft.specs.Looks.{Looks, looked};
 ghost use Rattle.pb_workspace.specs.LookedAt.{package_looked, file_looked, folder_looked, one_looked, all_looked, round_looked, rounds_looked};
-ghost use Rattle.pb_draft.specs.Causes.{is_failure, is_outside, Told, Reads};
+ghost use Rattle.pb_draft.specs.Causes.{is_failure, is_outside, Told, OnlyLooks};
 ghost use Rattle.pb_workspace.specs.Frames.{given_to, nothing};
 ghost use Rattle.pb_package.specs.declared.fault.LoadFault.TheVariants as load_fault;
 ghost use Rattle.pb_workspace.specs.Rounds.{read_found, manifest_at, tables_in, parts_in, parts_at, no_package, draft_if, standing_in, draft_in_file, draft_at, leads_to, with_draft, one_read, all_read, round, rounds};
-ghost use Rattle.pb_draft.specs.Drafted.{ArePromised, IsDraft};
-ghost use Rattle.pb_workspace.specs.Readings.{HasSharedInOrder, IsReading};
+ghost use Rattle.pb_draft.specs.Drafted.{IsDraft};
+ghost use Rattle.pb_workspace.specs.Readings.{AreRead, HasSharedInOrder, IsReading};
 
 use crate::by_folder::{ByFolder, put_folders};
 use crate::frame::{Frame, is_member, nothing};
@@ -82,19 +81,22 @@ fn read_found(alloc: Global, path: &PathText, found: Option<Bytes>) -> Result<Ma
     }
 }
 
-/// What the manifest at a path says. NoManifest where no file of the sources is there.
+/// Returns what the manifest at a path says.
+///
+/// Errors: `NoManifest`, if no file of the sources is there; `Manifest`, if the reader refuses it; `Place`, if the
+/// read failed; `OutOfMemory`.
 fn manifest_at<P: Place>(
     alloc: Global,
     place: &mut P,
     target: &PathText,
     path: &PathText,
 ) -> Result<Manifest, LoadFault>
-    ensures ok { IsTrue P.tells → Told result (manifest_at (from_nothing target.now (P.world place.old)) path.now) }
+    ensures ok { IsTrue P.tells → Told result
+        (manifest_at (from_nothing target.now (P.at place.old).world) path.now) }
     ensures promised { IfOk result IsManifest }
-    ensures same { IsTrue P.tells → P.world place.new ≡ P.world place.old }
-    ensures most { P.most place.new ≡ P.most place.old }
-    ensures reads { Reads result (P.counts place.old) (P.counts place.new) }
-    ensures looks { Looks result (looked target.now (call.Read path.now)) (P.counts place.old) (P.counts place.new) }
+    ensures quiet { OnlyLooks result (P.at place.old) (P.at place.new) }
+    ensures looks { Looks result (looked target.now (call.Read path.now))
+        (P.at place.old).counts (P.at place.new).counts }
 {
     let found = source(alloc, place, target, path)?;
     let manifest = read_found(alloc, path, found)?;
@@ -109,7 +111,9 @@ fn given_to<'a>(frame: &'a Frame, none: &'a Given, is_member: bool) -> &'a Given
     if is_member { &frame.given } else { none }
 }
 
-/// The package of a manifest that was read; the manifest with BadKind of `package` where it has none.
+/// Returns the package of a manifest that was read.
+///
+/// Errors: `Manifest` with `BadKind` of `package`, if the manifest has no package; those of `draft_of`.
 #[tactic(auto, unfolding(crate::specs::Rounds::draft_if))]
 pub fn draft_if<P: Place>(
     alloc: Global,
@@ -121,16 +125,15 @@ pub fn draft_if<P: Place>(
     tables: Tables,
     found: Option<Package>,
 ) -> Result<Draft, LoadFault>
-    requires binaries { All (λ b. is_name b.name ≡ true) tables.binaries }
-    requires promised { ArePromised tables }
-    requires found_name { IfSome found (λ p. is_name p.name ≡ true) }
-    ensures ok { IsTrue P.tells → Told result (draft_if (from_nothing target.now (P.world place.old)) frame.now is_member at tables found) }
+    requires { AreRead tables found }
+    ensures ok { IsTrue P.tells → Told result
+        (draft_if (from_nothing target.now (P.at place.old).world) frame.now is_member at
+        tables found) }
     ensures draft { IfOk result IsDraft }
     ensures folder { IfOk result (λ draft. draft.folder ≡ at.folder) }
-    ensures same { IsTrue P.tells → P.world place.new ≡ P.world place.old }
-    ensures most { P.most place.new ≡ P.most place.old }
-    ensures reads { Reads result (P.counts place.old) (P.counts place.new) }
-    ensures looks { Looks result (package_looked target.now at.folder found) (P.counts place.old) (P.counts place.new) }
+    ensures quiet { OnlyLooks result (P.at place.old) (P.at place.new) }
+    ensures looks { Looks result (package_looked target.now at.folder found)
+        (P.at place.old).counts (P.at place.new).counts }
 {
     match found {
         Some(found) => {
@@ -180,9 +183,7 @@ pub struct Parts {
 pub fn parts_of(read: Manifest) -> Parts
     requires { IsManifest read }
     ensures parts { result ≡ parts_in read }
-    ensures promised { ArePromised result.tables }
-    ensures named { IfSome result.found (λ p. is_name p.name ≡ true) }
-    ensures names { All (λ b. is_name b.name ≡ true) result.tables.binaries }
+    ensures read { AreRead result.tables result.found }
     ensures shared { IfSome result.workspace HasSharedInOrder }
 {
     Parts {
@@ -200,28 +201,29 @@ pub fn parts_of(read: Manifest) -> Parts
     }
 }
 
-/// What the manifest at a path says, taken apart. NoManifest where no file of the sources is there.
+/// Returns what the manifest at a path says, taken apart.
+///
+/// Errors: `NoManifest`, if no file of the sources is there; `Manifest`, if the reader refuses it; `Place`, if the
+/// read failed; `OutOfMemory`.
 pub fn parts_at<P: Place>(
     alloc: Global,
     place: &mut P,
     target: &PathText,
     path: &PathText,
 ) -> Result<Parts, LoadFault>
-    ensures ok { IsTrue P.tells → Told result (parts_at (from_nothing target.now (P.world place.old)) path.now) }
-    ensures promised { IfOk result (λ parts. ArePromised parts.tables) }
-    ensures named { IfOk result (λ parts. IfSome parts.found (λ p. is_name p.name ≡ true)) }
-    ensures names { IfOk result (λ parts. All (λ b. is_name b.name ≡ true) parts.tables.binaries) }
+    ensures ok { IsTrue P.tells → Told result
+        (parts_at (from_nothing target.now (P.at place.old).world) path.now) }
+    ensures read { IfOk result (λ parts. AreRead parts.tables parts.found) }
     ensures shared { IfOk result (λ parts. IfSome parts.workspace HasSharedInOrder) }
-    ensures same { IsTrue P.tells → P.world place.new ≡ P.world place.old }
-    ensures most { P.most place.new ≡ P.most place.old }
-    ensures reads { Reads result (P.counts place.old) (P.counts place.new) }
-    ensures looks { Looks result (looked target.now (call.Read path.now)) (P.counts place.old) (P.counts place.new) }
+    ensures quiet { OnlyLooks result (P.at place.old) (P.at place.new) }
+    ensures looks { Looks result (looked target.now (call.Read path.now))
+        (P.at place.old).counts (P.at place.new).counts }
 {
     let found = manifest_at(alloc, place, target, path)?;
     Ok(parts_of(found))
 }
 
-/// The package of the manifest that stands here.
+/// Returns the package of the manifest of this folder.
 #[tactic(auto, unfolding(crate::specs::Rounds::draft_in_file))]
 fn draft_in_file<P: Place>(
     alloc: Global,
@@ -231,13 +233,14 @@ fn draft_in_file<P: Place>(
     is_member: bool,
     at: Standing,
 ) -> Result<Draft, LoadFault>
-    ensures ok { IsTrue P.tells → Told result (draft_in_file (from_nothing target.now (P.world place.old)) frame.now is_member at) }
+    ensures ok { IsTrue P.tells → Told result
+        (draft_in_file (from_nothing target.now (P.at place.old).world) frame.now is_member at) }
     ensures draft { IfOk result IsDraft }
     ensures folder { IfOk result (λ draft. draft.folder ≡ at.folder) }
-    ensures same { IsTrue P.tells → P.world place.new ≡ P.world place.old }
-    ensures most { P.most place.new ≡ P.most place.old }
-    ensures reads { Reads result (P.counts place.old) (P.counts place.new) }
-    ensures looks { IsTrue P.tells → Looks result (file_looked target.now (from_nothing target.now (P.world place.old)) at) (P.counts place.old) (P.counts place.new) }
+    ensures quiet { OnlyLooks result (P.at place.old) (P.at place.new) }
+    ensures looks { IsTrue P.tells → Looks result
+        (file_looked target.now (from_nothing target.now (P.at place.old).world) at)
+        (P.at place.old).counts (P.at place.new).counts }
 {
     let parts = parts_at(alloc, place, target, &at.manifest)?;
     drop(parts.workspace);
@@ -254,8 +257,9 @@ fn draft_in_file<P: Place>(
     )
 }
 
-/// The package of a folder: what its manifest and it say. NoManifest where no file of the sources is there;
-/// the manifest with its fault, which is BadKind of `package` where it has no `[package]`.
+/// Returns the package of a folder: what its manifest and its files say. The root's manifest is not read again.
+///
+/// Errors: those of `parts_at` and of `draft_if`.
 #[tactic(auto, unfolding(crate::specs::Rounds::draft_at, crate::specs::LookedAt::folder_looked))]
 fn draft_at<P: Place>(
     alloc: Global,
@@ -265,13 +269,14 @@ fn draft_at<P: Place>(
     meant: &ByFolder<()>,
     folder: &PathText,
 ) -> Result<Draft, LoadFault>
-    ensures ok { IsTrue P.tells → Told result (draft_at (from_nothing target.now (P.world place.old)) frame.now meant.now folder.now) }
+    ensures ok { IsTrue P.tells → Told result
+        (draft_at (from_nothing target.now (P.at place.old).world) frame.now meant.now folder.now) }
     ensures draft { IfOk result IsDraft }
     ensures folder { IfOk result (λ draft. draft.folder ≡ folder.now) }
-    ensures same { IsTrue P.tells → P.world place.new ≡ P.world place.old }
-    ensures most { P.most place.new ≡ P.most place.old }
-    ensures reads { Reads result (P.counts place.old) (P.counts place.new) }
-    ensures looks { IsTrue P.tells → Looks result (folder_looked target.now (from_nothing target.now (P.world place.old)) frame.now folder.now) (P.counts place.old) (P.counts place.new) }
+    ensures quiet { OnlyLooks result (P.at place.old) (P.at place.new) }
+    ensures looks { let sources = from_nothing target.now (P.at place.old).world in
+        IsTrue P.tells → Looks result (folder_looked target.now sources frame.now folder.now)
+        (P.at place.old).counts (P.at place.new).counts }
 {
     if *folder == frame.root {
         return Err(refused(alloc, &frame.manifest, ManifestFault::BadKind(Key::Package)));
@@ -329,7 +334,9 @@ pub fn with_draft(
     Ok(made)
 }
 
-/// Reads one folder, unless it was read before. TooMany where it would be one of more than 256.
+/// Reads one folder, unless it was read before.
+///
+/// Errors: `TooMany`, if it would be one of more than 256; those of `draft_at`.
 fn one_read<P: Place>(
     alloc: Global,
     place: &mut P,
@@ -340,12 +347,15 @@ fn one_read<P: Place>(
     folder: PathText,
 ) -> Result<Reading, LoadFault>
     requires { IsReading reading }
-    ensures ok { IsTrue P.tells → Told result (one_read (draft_at (from_nothing target.now (P.world place.old)) frame.now meant.now) reading folder) }
+    ensures ok { let sources = from_nothing target.now (P.at place.old).world in
+        IsTrue P.tells → Told result
+        (one_read (draft_at sources frame.now meant.now) reading folder) }
     ensures kept { IfOk result IsReading }
-    ensures same { IsTrue P.tells → P.world place.new ≡ P.world place.old }
-    ensures most { P.most place.new ≡ P.most place.old }
-    ensures reads { Reads result (P.counts place.old) (P.counts place.new) }
-    ensures looks { IsTrue P.tells → Looks result (one_looked (folder_looked target.now (from_nothing target.now (P.world place.old)) frame.now) reading folder) (P.counts place.old) (P.counts place.new) }
+    ensures quiet { OnlyLooks result (P.at place.old) (P.at place.new) }
+    ensures looks { let sources = from_nothing target.now (P.at place.old).world in
+        IsTrue P.tells → Looks result
+        (one_looked (folder_looked target.now sources frame.now) reading folder)
+        (P.at place.old).counts (P.at place.new).counts }
 {
     if reading.found.contains(&folder) {
         return Ok(reading);
@@ -376,12 +386,16 @@ pub fn all_read<P: Place>(
     folders: Items<PathText>,
 ) -> Result<Reading, LoadFault>
     requires { IsReading reading }
-    ensures ok { IsTrue P.tells → Told result (all_read (draft_at (from_nothing target.now (P.world place.old)) frame.now meant.now) reading folders) }
+    ensures ok { let sources = from_nothing target.now (P.at place.old).world in
+        IsTrue P.tells → Told result
+        (all_read (draft_at sources frame.now meant.now) reading folders) }
     ensures kept { IfOk result IsReading }
-    ensures same { IsTrue P.tells → P.world place.new ≡ P.world place.old }
-    ensures most { P.most place.new ≡ P.most place.old }
-    ensures reads { Reads result (P.counts place.old) (P.counts place.new) }
-    ensures looks { IsTrue P.tells → Looks result (all_looked (draft_at (from_nothing target.now (P.world place.old)) frame.now meant.now) (folder_looked target.now (from_nothing target.now (P.world place.old)) frame.now) reading folders) (P.counts place.old) (P.counts place.new) }
+    ensures quiet { OnlyLooks result (P.at place.old) (P.at place.new) }
+    ensures looks { let sources = from_nothing target.now (P.at place.old).world in
+        IsTrue P.tells → Looks result
+        (all_looked (draft_at sources frame.now meant.now)
+        (folder_looked target.now sources frame.now) reading folders)
+        (P.at place.old).counts (P.at place.new).counts }
 {
     let mut reading = reading;
     for folder in folders.into_vec() {
@@ -390,7 +404,7 @@ pub fn all_read<P: Place>(
     Ok(reading)
 }
 
-/// One round: the folders to which the packages of the last one lead, in byte order.
+/// Reads the folders to which the packages of the last round lead, in byte order.
 fn round<P: Place>(
     alloc: Global,
     place: &mut P,
@@ -400,12 +414,15 @@ fn round<P: Place>(
     reading: Reading,
 ) -> Result<Reading, LoadFault>
     requires { IsReading reading }
-    ensures ok { IsTrue P.tells → Told result (round (draft_at (from_nothing target.now (P.world place.old)) frame.now meant.now) reading) }
+    ensures ok { let sources = from_nothing target.now (P.at place.old).world in
+        IsTrue P.tells → Told result (round (draft_at sources frame.now meant.now) reading) }
     ensures kept { IfOk result IsReading }
-    ensures same { IsTrue P.tells → P.world place.new ≡ P.world place.old }
-    ensures most { P.most place.new ≡ P.most place.old }
-    ensures reads { Reads result (P.counts place.old) (P.counts place.new) }
-    ensures looks { IsTrue P.tells → Looks result (round_looked (draft_at (from_nothing target.now (P.world place.old)) frame.now meant.now) (folder_looked target.now (from_nothing target.now (P.world place.old)) frame.now) reading) (P.counts place.old) (P.counts place.new) }
+    ensures quiet { OnlyLooks result (P.at place.old) (P.at place.new) }
+    ensures looks { let sources = from_nothing target.now (P.at place.old).world in
+        IsTrue P.tells → Looks result
+        (round_looked (draft_at sources frame.now meant.now)
+        (folder_looked target.now sources frame.now) reading)
+        (P.at place.old).counts (P.at place.new).counts }
 {
     let Reading { found, ahead } = reading;
     let folders = ahead.folders(alloc)?;
@@ -416,7 +433,7 @@ fn round<P: Place>(
     all_read(alloc, place, target, frame, meant, begun, folders)
 }
 
-/// So many rounds.
+/// Reads n rounds, up to the first fault.
 #[tactic(auto, unfolding(crate::specs::Rounds::rounds))]
 pub fn rounds<P: Place>(
     alloc: Global,
@@ -428,12 +445,16 @@ pub fn rounds<P: Place>(
     count: usize,
 ) -> Result<Reading, LoadFault>
     requires { IsReading reading }
-    ensures ok { IsTrue P.tells → Told result (rounds count (draft_at (from_nothing target.now (P.world place.old)) frame.now meant.now) reading) }
+    ensures ok { let sources = from_nothing target.now (P.at place.old).world in
+        IsTrue P.tells → Told result
+        (rounds count (draft_at sources frame.now meant.now) reading) }
     ensures kept { IfOk result IsReading }
-    ensures same { IsTrue P.tells → P.world place.new ≡ P.world place.old }
-    ensures most { P.most place.new ≡ P.most place.old }
-    ensures reads { Reads result (P.counts place.old) (P.counts place.new) }
-    ensures looks { IsTrue P.tells → Looks result (rounds_looked count (draft_at (from_nothing target.now (P.world place.old)) frame.now meant.now) (folder_looked target.now (from_nothing target.now (P.world place.old)) frame.now) reading) (P.counts place.old) (P.counts place.new) }
+    ensures quiet { OnlyLooks result (P.at place.old) (P.at place.new) }
+    ensures looks { let sources = from_nothing target.now (P.at place.old).world in
+        IsTrue P.tells → Looks result
+        (rounds_looked count (draft_at sources frame.now meant.now)
+        (folder_looked target.now sources frame.now) reading)
+        (P.at place.old).counts (P.at place.new).counts }
 {
     let mut reading = reading;
     for done in 0..count {

@@ -69,7 +69,8 @@ fn members_named(
     names: &[Text],
     packages: &[Package],
 ) -> Result<Items<usize>, AllocError>
-    ensures { IfOk result (λ places. places ≡ places_where (is_named_member names.now) packages.now) }
+    ensures { IfOk result
+        (λ places. places ≡ places_where (is_named_member names.now) packages.now) }
 {
     let mut places = Items::new(alloc);
     for (place, found) in packages.iter().enumerate() {
@@ -86,7 +87,8 @@ fn named_members(
     names: &[Text],
     packages: &[Package],
 ) -> Result<Items<usize>, LoadFault>
-    ensures { Gives load_fault.OutOfMemory (λ places. places) result (named_members names.now packages.now) }
+    ensures { Gives load_fault.OutOfMemory (λ places. places) result
+        (named_members names.now packages.now) }
 {
     if !name_members(names, packages) {
         return Err(LoadFault::NoSuchPackage);
@@ -115,7 +117,9 @@ fn root_or_members(
 
 /// The packages that are selected where the options name none.
 fn by_default(alloc: Global, workspace: &Workspace) -> Result<Items<usize>, LoadFault>
-    ensures { Gives load_fault.OutOfMemory (λ places. places) result (by_default workspace.now.default_members workspace.now.root_package workspace.now.packages) }
+    ensures { Gives load_fault.OutOfMemory (λ places. places) result
+        (by_default workspace.now.default_members workspace.now.root_package
+        workspace.now.packages) }
 {
     match &workspace.default_members {
         DefaultMembers::Unwritten => {
@@ -144,7 +148,8 @@ fn selected_packages(
     workspace: &Workspace,
     options: &Options,
 ) -> Result<Items<usize>, LoadFault>
-    ensures { Gives load_fault.OutOfMemory (λ places. places) result (selected_packages workspace.now options.now.workspace options.now.packages) }
+    ensures { Gives load_fault.OutOfMemory (λ places. places) result
+        (selected_packages workspace.now options.now.workspace options.now.packages) }
 {
     let packages = workspace.packages.as_slice();
     if options.workspace {
@@ -159,21 +164,24 @@ fn selected_packages(
 
 /// The parts of a text, between its spaces.
 fn cut_at_spaces(alloc: Global, text: &str) -> Result<Vec<&str>, AllocError>
-    ensures { IfOk result (λ parts. map (λ part. part.now) parts.items ≡ slice_split (λ b. b == 32) text.now) }
+    ensures { IfOk result
+        (λ parts. map (λ part. part.now) parts.items ≡ slice_split (λ b. b == 32) text.now) }
 {
     text.split(' ').collect(alloc)
 }
 
 /// The parts of a text, between its commas.
 fn cut_at_commas(alloc: Global, text: &str) -> Result<Vec<&str>, AllocError>
-    ensures { IfOk result (λ parts. map (λ part. part.now) parts.items ≡ slice_split (λ b. b == 44) text.now) }
+    ensures { IfOk result
+        (λ parts. map (λ part. part.now) parts.items ≡ slice_split (λ b. b == 44) text.now) }
 {
     text.split(',').collect(alloc)
 }
 
 /// Adds the parts that are not empty.
 fn add_words(alloc: Global, parts: &[&str], words: &mut Items<Text>) -> Result<(), AllocError>
-    ensures { OnOk result (words.new ≡ words.old ++ filter is_word (map (λ part. part.now) parts.now)) }
+    ensures { OnOk result
+        (words.new ≡ words.old ++ filter is_word (map (λ part. part.now) parts.now)) }
 {
     for word in parts {
         if !word.is_empty() {
@@ -194,7 +202,8 @@ fn add_spaced_words(alloc: Global, part: &str, words: &mut Items<Text>) -> Resul
 
 /// Adds the words between the spaces of some parts.
 fn add_parts(alloc: Global, parts: &[&str], words: &mut Items<Text>) -> Result<(), AllocError>
-    ensures { OnOk result (words.new ≡ words.old ++ flat_map spaced_words (map (λ part. part.now) parts.now)) }
+    ensures { OnOk result
+        (words.new ≡ words.old ++ flat_map spaced_words (map (λ part. part.now) parts.now)) }
 {
     for part in parts {
         add_spaced_words(alloc, *part, words)?;
@@ -259,7 +268,8 @@ pub fn selected<'a>(
     workspace: &'a SettledWorkspace,
     options: &Options,
 ) -> Result<SelectedWorkspace<'a>, LoadFault>
-    ensures told { Gives load_fault.OutOfMemory (λ chosen. chosen.selection) result (selected workspace.now options.now) }
+    ensures told { Gives load_fault.OutOfMemory (λ chosen. chosen.selection) result
+        (selected workspace.now options.now) }
     ensures workspace { IfOk result (λ chosen. chosen.workspace ≡ workspace.now) }
 {
     let packages = selected_packages(alloc, workspace.get(), options)?;

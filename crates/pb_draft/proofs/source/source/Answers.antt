@@ -9,12 +9,16 @@ use Rattle.pb_draft.proofs.source.source.Goals as goal
 pub returns-in-Err-clause-outside : goal.returns-in-Err-clause-outside
 returns-in-Err-clause-outside g c = ap is_outside c.failed.ensures ∙ from_outside c.in_ok-named.named c.in-Err.fault
 
-pub returns-in-Err-clause-reads : goal.returns-in-Err-clause-reads
-returns-in-Err-clause-reads g c =
-    subst (λ e. Reads {T = ℕ} (Err e) (g.P.Place.counts c.args.place.now) (g.P.Place.counts c.read.new.self)) (sym (c.failed.ensures ∙ ap (λ p. fault_at p c.in-Err.fault) c.in_ok-named.ensures))
-    (call_reads (call.Read c.args.path.now) _ _ c.in-Err.fault (of_read c.args.path.now c.in-Err.fault c.in-Err.ensures.fault) c.in-Err.ensures.counts)
+pub returns-in-Err-clause-quiet : goal.returns-in-Err-clause-quiet
+returns-in-Err-clause-quiet g c = record {
+  world = c.in-Err.ensures.looks.world;
+  most = c.in-Err.ensures.looks.most;
+  still = c.in-Err.ensures.looks.still;
+  reads = subst (λ e. Reads {T = ℕ} (Err e) (g.P.Place.at c.args.place.now).counts (g.P.Place.at c.read.new.self).counts) (sym (c.failed.ensures ∙ ap (λ p. fault_at p c.in-Err.fault) c.in_ok-named.ensures))
+      (call_reads (call.Read c.args.path.now) _ _ c.in-Err.fault (of_read c.args.path.now c.in-Err.fault c.in-Err.ensures.looks.fault) c.in-Err.ensures.looks.counts);
+}
 
 pub returns-in-Err-clause-looks : goal.returns-in-Err-clause-looks
 returns-in-Err-clause-looks g c =
-    subst (λ e. Ends e (looked c.args.target.now (call.Read c.args.path.now)) (g.P.Place.counts c.args.place.now) (g.P.Place.counts c.read.new.self)) (sym (c.failed.ensures ∙ ap (λ p. fault_at p c.in-Err.fault) c.in_ok-named.ensures))
-    (call_looks (call.Read c.args.path.now) _ _ c.args.target.now c.in-Err.fault (sym c.starts_with.ensures ∙ c.if-starts_with.false) c.in-Err.ensures.fault c.in-Err.ensures.counts)
+    subst (λ e. Ends e (looked c.args.target.now (call.Read c.args.path.now)) (g.P.Place.at c.args.place.now).counts (g.P.Place.at c.read.new.self).counts) (sym (c.failed.ensures ∙ ap (λ p. fault_at p c.in-Err.fault) c.in_ok-named.ensures))
+    (call_looks (call.Read c.args.path.now) _ _ c.args.target.now c.in-Err.fault (sym c.starts_with.ensures ∙ c.if-starts_with.false) c.in-Err.ensures.looks.fault c.in-Err.ensures.looks.counts)

@@ -11,8 +11,8 @@ use Rattle.pb_workspace.proofs.member_folders.folders_of_texts.Goals as goal
 pub returns-in_err-folders-clause-looks : goal.returns-in_err-folders-clause-looks
 returns-in_err-folders-clause-looks g c =
     let is : c.from_residual.result ≡ Err c.in_err-folders.field-0.0 = search rules in
-    let h = c.loop-text.invariant.looks (Err c.in_err-folders.field-0.0) (g.P.Place.counts c.folders_meant.new.place) (texts_stop c.args.texts.now c.loop-text.text-index c.text-item.result c.loop-text-test.true c.text-item.is (text_looked c.args.target.now c.args.frame.now) c.in_err-folders.field-0.0 _ _ c.in_err-folders.ensures.outside c.in_err-folders.ensures.looks) in
-    subst (λ r. Looks r (flat_map (text_looked c.args.target.now c.args.frame.now) c.args.texts.now) (g.P.Place.counts c.args.place.now) (g.P.Place.counts c.folders_meant.new.place)) (sym is) h
+    let h = c.loop-text.invariant.looks (Err c.in_err-folders.field-0.0) (g.P.Place.at c.folders_meant.new.place).counts (texts_stop c.args.texts.now c.loop-text.text-index c.text-item.result c.loop-text-test.true c.text-item.is (text_looked c.args.target.now c.args.frame.now) c.in_err-folders.field-0.0 _ _ c.in_err-folders.ensures.outside c.in_err-folders.ensures.looks) in
+    subst (λ r. Looks r (flat_map (text_looked c.args.target.now c.args.frame.now) c.args.texts.now) (g.P.Place.at c.args.place.now).counts (g.P.Place.at c.folders_meant.new.place).counts) (sym is) h
 
 pub returns-in_err-add_folders-clause-looks : goal.returns-in_err-add_folders-clause-looks
 returns-in_err-add_folders-clause-looks g c =
@@ -21,15 +21,12 @@ returns-in_err-add_folders-clause-looks g c =
 
 pub loop-text-preserved : goal.loop-text-preserved
 loop-text-preserved g c = record {
-  made = λ told. texts_made c.args.texts.now c.loop-text.text-index c.text-item.result c.loop-text-test.true c.text-item.is (folders_meant (from_nothing c.args.target.now (g.P.Place.world c.args.place.now)) c.args.frame.now) _ _ _ _ c.in_ok-add_folders.ensures
-      (c.in_ok-folders.ensures.ok told ∙ ap (λ w. folders_meant (from_nothing c.args.target.now w) c.args.frame.now c.text-item.result) (c.loop-text.invariant.same told)) (c.loop-text.invariant.made told);
-  same = λ told. c.in_ok-folders.ensures.same told ∙ c.loop-text.invariant.same told;
-  failures = c.in_ok-folders.ensures.reads.0 ∙ c.loop-text.invariant.failures;
-  starts = c.in_ok-folders.ensures.reads.1 ∙ c.loop-text.invariant.starts;
+  made = λ told. texts_made c.args.texts.now c.loop-text.text-index c.text-item.result c.loop-text-test.true c.text-item.is (folders_meant (from_nothing c.args.target.now (g.P.Place.at c.args.place.now).world) c.args.frame.now) _ _ _ _ c.in_ok-add_folders.ensures
+      (c.in_ok-folders.ensures.ok told ∙ ap (λ w. folders_meant (from_nothing c.args.target.now w) c.args.frame.now c.text-item.result) (c.loop-text.invariant.quiet.world)) (c.loop-text.invariant.made told);
+  quiet = search rules;
   looks = λ r new more. c.loop-text.invariant.looks r new (texts_looks c.args.texts.now c.loop-text.text-index c.text-item.result c.loop-text-test.true c.text-item.is (text_looked c.args.target.now c.args.frame.now) r _ _ _ c.in_ok-folders.ensures.looks more);
-  most = c.in_ok-folders.ensures.most ∙ c.loop-text.invariant.most;
 }
 
 pub returns-clause-looks : goal.returns-clause-looks
 returns-clause-looks g c =
-    c.loop-text.invariant.looks (Ok []) (g.P.Place.counts c.loop-text.place) (texts_end (text_looked c.args.target.now c.args.frame.now) c.args.texts.now c.loop-text.text-index (g.P.Place.counts c.loop-text.place) c.loop-text-test.false)
+    c.loop-text.invariant.looks (Ok []) (g.P.Place.at c.loop-text.place).counts (texts_end (text_looked c.args.target.now c.args.frame.now) c.args.texts.now c.loop-text.text-index (g.P.Place.at c.loop-text.place).counts c.loop-text-test.false)

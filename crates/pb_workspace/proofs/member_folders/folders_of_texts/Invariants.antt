@@ -1,7 +1,8 @@
-use Rattle.std.proofs.Common.{◌≡◌, ◌++◌, drop, List, ℕ, Result}
+use Rattle.std.proofs.Common.{◌≡◌, ◌++◌, drop, List, ℕ, Ok, Result}
 use Rattle.std.specs.Prelude.{IsTrue}
 use Rattle.pb_package.specs.declared.fault.LoadFault.{LoadFault}
 use Rattle.pb_place.specs.Counts.{Counts}
+use Rattle.pb_draft.specs.Causes.{OnlyLooks}
 use Rattle.pb_draft.specs.Looks.{Looks}
 use Rattle.pb_workspace.specs.LookedAt.{text_looked}
 use Rattle.pb_place.specs.World.{from_nothing}
@@ -11,10 +12,7 @@ use Rattle.pb_workspace.proofs.member_folders.folders_of_texts.Given as goal
 
 abbrev pub invariant-loop-text : goal.invariant-loop-text
 invariant-loop-text g l = record {
-  made : IsTrue g.P.Place.tells → l.made ++ flat_map (folders_meant (from_nothing l.target (g.P.Place.world l.fn.place)) l.frame) (drop l.text-index l.texts) ≡ flat_map (folders_meant (from_nothing l.target (g.P.Place.world l.fn.place)) l.frame) l.texts;
-  same : IsTrue g.P.Place.tells → g.P.Place.world l.place ≡ g.P.Place.world l.fn.place;
-  failures : (g.P.Place.counts l.place).failures ≡ (g.P.Place.counts l.fn.place).failures;
-  starts : (g.P.Place.counts l.place).starts ≡ (g.P.Place.counts l.fn.place).starts;
-  looks : (r : Result (List (List ℕ)) LoadFault) (new : Counts) → Looks r (flat_map (text_looked l.target l.frame) (drop l.text-index l.texts)) (g.P.Place.counts l.place) new → Looks r (flat_map (text_looked l.target l.frame) l.texts) (g.P.Place.counts l.fn.place) new;
-  most : g.P.Place.most l.place ≡ g.P.Place.most l.fn.place;
+  made : IsTrue g.P.Place.tells → l.made ++ flat_map (folders_meant (from_nothing l.target (g.P.Place.at l.fn.place).world) l.frame) (drop l.text-index l.texts) ≡ flat_map (folders_meant (from_nothing l.target (g.P.Place.at l.fn.place).world) l.frame) l.texts;
+  quiet : OnlyLooks {T = ℕ} (Ok 0) (g.P.Place.at l.fn.place) (g.P.Place.at l.place);
+  looks : (r : Result (List (List ℕ)) LoadFault) (new : Counts) → Looks r (flat_map (text_looked l.target l.frame) (drop l.text-index l.texts)) (g.P.Place.at l.place).counts new → Looks r (flat_map (text_looked l.target l.frame) l.texts) (g.P.Place.at l.fn.place).counts new;
 }

@@ -8,6 +8,6 @@ use Rattle.pb_workspace.proofs.member_folders.member_folders.Goals as goal
 
 pub returns-in_err-put_folders-clause-looks : goal.returns-in_err-put_folders-clause-looks
 returns-in_err-put_folders-clause-looks g c =
-    let h = looks_all OutOfMemory (members_looked c.args.target.now c.args.frame.now) (g.P.Place.counts c.args.place.now) (g.P.Place.counts c.folders_of_texts.new.place) refl
-    (c.in_ok-folders.ensures.looks ∙ ap (λ texts. past_calls (flat_map (text_looked c.args.target.now c.args.frame.now) texts) (g.P.Place.counts c.args.place.now)) c.as_slice.ensures) in
+    let h = looks_all OutOfMemory (members_looked c.args.target.now c.args.frame.now) (g.P.Place.at c.args.place.now).counts (g.P.Place.at c.folders_of_texts.new.place).counts refl
+    (c.in_ok-folders.ensures.looks ∙ ap (λ texts. past_calls (flat_map (text_looked c.args.target.now c.args.frame.now) texts) (g.P.Place.at c.args.place.now).counts) c.as_slice.ensures) in
     search (rules, h)

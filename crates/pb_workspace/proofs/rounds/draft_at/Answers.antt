@@ -7,10 +7,10 @@ use Rattle.pb_workspace.proofs.rounds.draft_at.Goals as goal
 
 pub returns-in_err-at-clause-looks : goal.returns-in_err-at-clause-looks
 returns-in_err-at-clause-looks g c told =
-    let h = looks_none OutOfMemory (folder_looked c.args.target.now (from_nothing c.args.target.now (g.P.Place.world c.args.place.now)) c.args.frame.now c.args.folder.now) (g.P.Place.counts c.args.place.now) (g.P.Place.counts c.args.place.now) refl refl refl in
+    let h = looks_none OutOfMemory (folder_looked c.args.target.now (from_nothing c.args.target.now (g.P.Place.at c.args.place.now).world) c.args.frame.now c.args.folder.now) (g.P.Place.at c.args.place.now).counts (g.P.Place.at c.args.place.now).counts refl refl refl in
     search (rules, h)
 
 pub returns-in_err-member-clause-looks : goal.returns-in_err-member-clause-looks
 returns-in_err-member-clause-looks g c told =
-    let h = looks_none OutOfMemory (folder_looked c.args.target.now (from_nothing c.args.target.now (g.P.Place.world c.args.place.now)) c.args.frame.now c.args.folder.now) (g.P.Place.counts c.args.place.now) (g.P.Place.counts c.args.place.now) refl refl refl in
+    let h = looks_none OutOfMemory (folder_looked c.args.target.now (from_nothing c.args.target.now (g.P.Place.at c.args.place.now).world) c.args.frame.now c.args.folder.now) (g.P.Place.at c.args.place.now).counts (g.P.Place.at c.args.place.now).counts refl refl refl in
     search (rules, h)

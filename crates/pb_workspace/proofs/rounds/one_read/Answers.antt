@@ -14,5 +14,5 @@ returns-clause-kept g c = (
 
 pub returns-in_err-made-clause-looks : goal.returns-in_err-made-clause-looks
 returns-in_err-made-clause-looks g c told =
-    let h = looks_all OutOfMemory (folder_looked c.args.target.now (from_nothing c.args.target.now (g.P.Place.world c.args.place.now)) c.args.frame.now c.args.folder) (g.P.Place.counts c.args.place.now) (g.P.Place.counts c.draft_at.new.place) refl (c.in-Ok.ensures.looks told) in
+    let h = looks_all OutOfMemory (folder_looked c.args.target.now (from_nothing c.args.target.now (g.P.Place.at c.args.place.now).world) c.args.frame.now c.args.folder) (g.P.Place.at c.args.place.now).counts (g.P.Place.at c.draft_at.new.place).counts refl (c.in-Ok.ensures.looks told) in
     search (rules, h)

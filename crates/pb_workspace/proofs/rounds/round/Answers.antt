@@ -8,5 +8,5 @@ use Rattle.pb_workspace.proofs.rounds.round.Goals as goal
 
 pub returns-in_err-folders-clause-looks : goal.returns-in_err-folders-clause-looks
 returns-in_err-folders-clause-looks g c told =
-    let h = looks_none OutOfMemory (round_looked (draft_at (from_nothing c.args.target.now (g.P.Place.world c.args.place.now)) c.args.frame.now c.args.meant.now) (folder_looked c.args.target.now (from_nothing c.args.target.now (g.P.Place.world c.args.place.now)) c.args.frame.now) c.args.reading) (g.P.Place.counts c.args.place.now) (g.P.Place.counts c.args.place.now) refl refl refl in
+    let h = looks_none OutOfMemory (round_looked (draft_at (from_nothing c.args.target.now (g.P.Place.at c.args.place.now).world) c.args.frame.now c.args.meant.now) (folder_looked c.args.target.now (from_nothing c.args.target.now (g.P.Place.at c.args.place.now).world) c.args.frame.now) c.args.reading) (g.P.Place.at c.args.place.now).counts (g.P.Place.at c.args.place.now).counts refl refl refl in
     search (rules, h)

@@ -1,4 +1,4 @@
-use Rattle.std.proofs.Common.{◌≡◌, ◌-◌, Result}
+use Rattle.std.proofs.Common.{◌≡◌, ◌-◌, ℕ, Ok, Result}
 use Rattle.std.specs.Prelude.{IsTrue}
 use Rattle.pb_place.specs.World.{from_nothing}
 use Rattle.pb_place.specs.Counts.{Counts}
@@ -6,17 +6,15 @@ use Rattle.pb_package.specs.declared.fault.LoadFault.{LoadFault}
 use Rattle.pb_workspace.specs.declared.rounds.Reading.{Reading}
 use Rattle.pb_workspace.specs.Readings.{IsReading}
 use Rattle.pb_workspace.specs.LookedAt.{folder_looked, rounds_looked}
+use Rattle.pb_draft.specs.Causes.{OnlyLooks}
 use Rattle.pb_draft.specs.Looks.{Looks}
 use Rattle.pb_workspace.specs.Rounds.{rounds, draft_at}
 use Rattle.pb_workspace.proofs.rounds.rounds.Given as goal
 
 abbrev pub invariant-loop-done : goal.invariant-loop-done
 invariant-loop-done g l = record {
-  read : IsTrue g.P.Place.tells → rounds (l.count - l.done) (draft_at (from_nothing l.target (g.P.Place.world l.fn.place)) l.frame l.meant) l.reading ≡ rounds l.count (draft_at (from_nothing l.target (g.P.Place.world l.fn.place)) l.frame l.meant) l.fn.reading;
+  read : IsTrue g.P.Place.tells → rounds (l.count - l.done) (draft_at (from_nothing l.target (g.P.Place.at l.fn.place).world) l.frame l.meant) l.reading ≡ rounds l.count (draft_at (from_nothing l.target (g.P.Place.at l.fn.place).world) l.frame l.meant) l.fn.reading;
   kept : IsReading l.reading;
-  same : IsTrue g.P.Place.tells → g.P.Place.world l.place ≡ g.P.Place.world l.fn.place;
-  failures : (g.P.Place.counts l.place).failures ≡ (g.P.Place.counts l.fn.place).failures;
-  starts : (g.P.Place.counts l.place).starts ≡ (g.P.Place.counts l.fn.place).starts;
-  looks : IsTrue g.P.Place.tells → (r : Result Reading LoadFault) (new : Counts) → Looks r (rounds_looked (l.count - l.done) (draft_at (from_nothing l.target (g.P.Place.world l.fn.place)) l.frame l.meant) (folder_looked l.target (from_nothing l.target (g.P.Place.world l.fn.place)) l.frame) l.reading) (g.P.Place.counts l.place) new → Looks r (rounds_looked l.count (draft_at (from_nothing l.target (g.P.Place.world l.fn.place)) l.frame l.meant) (folder_looked l.target (from_nothing l.target (g.P.Place.world l.fn.place)) l.frame) l.fn.reading) (g.P.Place.counts l.fn.place) new;
-  most : g.P.Place.most l.place ≡ g.P.Place.most l.fn.place;
+  quiet : OnlyLooks {T = ℕ} (Ok 0) (g.P.Place.at l.fn.place) (g.P.Place.at l.place);
+  looks : IsTrue g.P.Place.tells → (r : Result Reading LoadFault) (new : Counts) → Looks r (rounds_looked (l.count - l.done) (draft_at (from_nothing l.target (g.P.Place.at l.fn.place).world) l.frame l.meant) (folder_looked l.target (from_nothing l.target (g.P.Place.at l.fn.place).world) l.frame) l.reading) (g.P.Place.at l.place).counts new → Looks r (rounds_looked l.count (draft_at (from_nothing l.target (g.P.Place.at l.fn.place).world) l.frame l.meant) (folder_looked l.target (from_nothing l.target (g.P.Place.at l.fn.place).world) l.frame) l.fn.reading) (g.P.Place.at l.fn.place).counts new;
 }
