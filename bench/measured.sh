@@ -51,6 +51,7 @@ pub fn number_in(words: &[String], place: usize) -> usize {
 }
 MEASURING
     if grep -q '^mod child;' "$1/main.rt"; then cp "$top/crates/pb_checks_files/src/child.rt" "$1/"; fi
+    if grep -q '^mod untold;' "$1/main.rt"; then cp "$top/crates/pb_checks_files/src/untold.rt" "$1/"; fi
     if grep -q '^mod files;' "$1/main.rt"; then files "$1"; fi
     if grep -q '^mod workspace;' "$1/main.rt"; then workspace "$1"; fi
     if grep -q '^mod making;' "$1/main.rt"; then making "$1"; fi

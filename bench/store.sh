@@ -2,10 +2,10 @@
 # Measures calls of a `Store` over files in memory.
 #
 #   open         `Store::open` on a folder with so many records
-#   needs        `differs` of an unchanged unit that needs so many units, whose numbers the store holds
-#   file         `differs` of an unchanged unit with one declared file of so many MiB
-#   files        `differs` of an unchanged unit with so many declared files of 16 KiB
-#   folder       `differs` of an unchanged unit with a declared folder of so many files of 16 KiB
+#   needs        `compare` of an unchanged unit that needs so many units, whose numbers the store holds
+#   file         `compare` of an unchanged unit with one declared file of so many MiB
+#   files        `compare` of an unchanged unit with so many declared files of 16 KiB
+#   folder       `compare` of an unchanged unit with a declared folder of so many files of 16 KiB
 #   keep         `keep` of a unit with so many declared files of 16 KiB
 #
 # Prints a line a size with how many records, files or MiB were looked at, and 0 where the answer is not the expected
@@ -26,10 +26,11 @@ program <<'PROGRAM'
 
 ghost use Rattle.std.specs.Prelude.{◌≡◌, true, IfOk, Some};
 ghost use Rattle.pb_record.specs.Sorted.{are_sorted};
-ghost use Rattle.pb_soundness.specs.Records.{is_key, out_of};
+ghost use Rattle.pb_soundness.specs.Records.{out_of};
 
 mod child;
 mod measuring;
+mod untold;
 
 use anyhow::Result;
 use child::Silent;
@@ -39,10 +40,11 @@ use pb_memory::Memory;
 use pb_place::{Command, Ended, PathFault, PathText, RelativePath};
 use pb_record::InputName;
 use pb_record::{Asked, Record, read_record};
-use pb_store::{Compared, OpenFault, Store, StoreFault};
+use pb_store::{Compared, Key, OpenFault, Store, StoreFault};
 use std::alloc::{AllocError, Global};
 use std::env;
 use std::time::CpuClock;
+use untold::Untold;
 
 /// What stands in a record between its number and its inputs, of a key that is behind its length.
 const ASKED: &str = "5\nrustc\n0\n2\n/w\n0\n21\n/t/debug/a.target.lib\n2\n/t\n0\n\n0\n";
@@ -92,12 +94,12 @@ fn put_count(alloc: Global, out: &mut String, count: usize) -> Result<(), AllocE
 /// Puts a file.
 fn put_file(
     alloc: Global,
-    place: &mut Memory<Silent>,
+    place: &mut Untold<Silent>,
     path: &str,
     text: &str,
 ) -> Result<(), PathFault> {
     let path = PathText::parse(alloc, path)?;
-    place.put(alloc, &path, text.as_bytes())?;
+    place.inside.put(alloc, &path, text.as_bytes())?;
     Ok(())
 }
 
@@ -112,7 +114,7 @@ fn front(alloc: Global, number: usize, key: &str) -> Result<String, AllocError> 
 }
 
 /// Puts the record of a needed unit.
-fn put_need(alloc: Global, place: &mut Memory<Silent>, number: usize) -> Result<(), PathFault> {
+fn put_need(alloc: Global, place: &mut Untold<Silent>, number: usize) -> Result<(), PathFault> {
     let key = format!(in alloc; "u{number}")?;
     let mut made = front(alloc, 3, key.as_str())?;
     made.push_str("0\n0\n")?;
@@ -122,7 +124,7 @@ fn put_need(alloc: Global, place: &mut Memory<Silent>, number: usize) -> Result<
 }
 
 /// So many records of needed units.
-fn put_needs(alloc: Global, place: &mut Memory<Silent>, count: usize) -> Result<(), PathFault> {
+fn put_needs(alloc: Global, place: &mut Untold<Silent>, count: usize) -> Result<(), PathFault> {
     for number in 0..count {
         put_need(alloc, place, number)?;
     }
@@ -132,7 +134,7 @@ fn put_needs(alloc: Global, place: &mut Memory<Silent>, count: usize) -> Result<
 /// Files of a folder, each with this text.
 fn put_files(
     alloc: Global,
-    place: &mut Memory<Silent>,
+    place: &mut Untold<Silent>,
     folder: &str,
     count: usize,
     text: &str,
@@ -208,7 +210,7 @@ fn record_text(
 /// Puts the files of a shape.
 fn put_sources(
     alloc: Global,
-    place: &mut Memory<Silent>,
+    place: &mut Untold<Silent>,
     shape: &str,
     count: usize,
     text: &str,
@@ -232,7 +234,7 @@ fn asked_of(found: Option<Record>) -> Result<Asked> {
 /// Puts all that a shape has. What was asked by the unit's record.
 fn prepare(
     alloc: Global,
-    place: &mut Memory<Silent>,
+    place: &mut Untold<Silent>,
     shape: &str,
     count: usize,
 ) -> Result<Asked> {
@@ -247,17 +249,16 @@ fn prepare(
 
 /// The key of the unit.
 #[tactic(auto, unfolding(pb_soundness::specs::Records::is_key))]
-fn own_key(alloc: Global) -> Result<Text, AllocError>
-    ensures { IfOk result (λ key. is_key key ≡ true) }
-{
-    Text::from_str(alloc, "a.target.lib")
+fn own_key(alloc: Global) -> Result<Key, AllocError> {
+    let text = Text::from_str(alloc, "a.target.lib")?;
+    Ok(Key::new(text))
 }
 
 /// The output folder of a unit.
-fn out_path(alloc: Global, folder: &PathText, key: &Text) -> Result<PathText>
+fn out_path(alloc: Global, folder: &PathText, key: &Key) -> Result<PathText>
     ensures { IfOk result (λ path. path ≡ out_of folder.now key.now) }
 {
-    match RelativePath::of(key.copy(alloc)?) {
+    match RelativePath::of(key.as_text().copy(alloc)?) {
         Some(relative) => {
             let path = folder.below(alloc, &relative)?;
             Ok(path)
@@ -288,7 +289,7 @@ fn own_command(
     alloc: Global,
     asked: Asked,
     folder: &PathText,
-    key: &Text,
+    key: &Key,
 ) -> Result<Command>
     ensures out { IfOk result (λ c. c.out ≡ Some (out_of folder.now key.now)) }
     ensures sorted { IfOk result (λ c. are_sorted c.pairs ≡ true) }
@@ -324,7 +325,7 @@ fn ended(alloc: Global) -> Result<Ended, AllocError> {
 }
 
 /// The store of the profile folder, opened.
-fn store_of(alloc: Global, place: &mut Memory<Silent>) -> Result<Store> {
+fn store_of(alloc: Global, place: &mut Untold<Silent>) -> Result<Store> {
     let folder = PathText::parse(alloc, "/t/debug")?;
     let store = Store::open(alloc, place, folder)?;
     Ok(store)
@@ -345,7 +346,7 @@ fn opened(store: Result<Store, OpenFault>, count: usize) -> usize {
 /// Opens the store; so many where it is the expected one.
 fn call_open(
     rt: &HostRuntime,
-    place: &mut Memory<Silent>,
+    place: &mut Untold<Silent>,
     count: usize,
 ) -> Result<(u128, usize)> {
     let folder = PathText::parse(rt.alloc(), "/t/debug")?;
@@ -371,23 +372,23 @@ fn compared(found: Result<Compared, StoreFault>, count: usize) -> usize {
 /// Compares the unit by a store; so many where nothing differs.
 fn compare_by(
     rt: &HostRuntime,
-    place: &mut Memory<Silent>,
+    place: &mut Untold<Silent>,
     store: &Store,
     command: &Command,
     count: usize,
 ) -> Result<(u128, usize)> {
     let key = own_key(rt.alloc())?;
     let start = rt.thread_cpu_time()?;
-    let found = store.differs(rt.alloc(), place, &key, command);
+    let found = store.compare(rt.alloc(), place, &key, command);
     let spent = since(rt, start);
     let answer = compared(found, count);
     Ok((spent?, answer))
 }
 
 /// Compares the unit; so many where nothing differs.
-fn call_differs(
+fn call_compare(
     rt: &HostRuntime,
-    place: &mut Memory<Silent>,
+    place: &mut Untold<Silent>,
     command: &Command,
     count: usize,
 ) -> Result<(u128, usize)> {
@@ -400,13 +401,12 @@ fn call_differs(
 /// Keeps the unit's record, with these inputs.
 fn keep_names(
     rt: &HostRuntime,
-    place: &mut Memory<Silent>,
+    place: &mut Untold<Silent>,
     store: &mut Store,
-    key: &Text,
+    key: &Key,
     command: &Command,
     names: &[InputName],
 ) -> Result<u128>
-    requires key { is_key key.now ≡ true }
     requires out { command.now.out ≡ Some (out_of store.old.folder key.now) }
     requires sorted { are_sorted command.now.pairs ≡ true }
 {
@@ -422,13 +422,12 @@ fn keep_names(
 /// The same, with so many inputs.
 fn keep_many(
     rt: &HostRuntime,
-    place: &mut Memory<Silent>,
+    place: &mut Untold<Silent>,
     store: &mut Store,
-    key: &Text,
+    key: &Key,
     command: &Command,
     count: usize,
 ) -> Result<u128>
-    requires key { is_key key.now ≡ true }
     requires out { command.now.out ≡ Some (out_of store.old.folder key.now) }
     requires sorted { are_sorted command.now.pairs ≡ true }
 {
@@ -441,13 +440,12 @@ fn keep_many(
 /// The same, for what was asked.
 fn keep_asked(
     rt: &HostRuntime,
-    place: &mut Memory<Silent>,
+    place: &mut Untold<Silent>,
     store: &mut Store,
-    key: &Text,
+    key: &Key,
     asked: Asked,
     count: usize,
 ) -> Result<u128>
-    requires { is_key key.now ≡ true }
 {
     let command = own_command(rt.alloc(), asked, &store.folder, key)?;
     let spent = keep_many(rt, place, store, key, &command, count);
@@ -458,7 +456,7 @@ fn keep_asked(
 /// The same, under the key of the unit.
 fn keep_by(
     rt: &HostRuntime,
-    place: &mut Memory<Silent>,
+    place: &mut Untold<Silent>,
     store: &mut Store,
     asked: Asked,
     count: usize,
@@ -475,7 +473,7 @@ fn keep_by(
 /// Keeps the unit's record; so many.
 fn call_keep(
     rt: &HostRuntime,
-    place: &mut Memory<Silent>,
+    place: &mut Untold<Silent>,
     asked: Asked,
     count: usize,
 ) -> Result<(u128, usize)> {
@@ -495,7 +493,7 @@ fn call_keep(
 /// A call over what is prepared.
 fn call(
     rt: &HostRuntime,
-    place: &mut Memory<Silent>,
+    place: &mut Untold<Silent>,
     shape: &str,
     asked: Asked,
     count: usize,
@@ -508,7 +506,7 @@ fn call(
         "keep" => call_keep(rt, place, asked, count),
         _ => {
             let command = asked.into_command();
-            let found = call_differs(rt, place, &command, count);
+            let found = call_compare(rt, place, &command, count);
             drop(command);
             found
         }
@@ -518,7 +516,7 @@ fn call(
 /// A call over what is prepared for it, in a place that is empty before.
 fn prepare_and_call(
     rt: &HostRuntime,
-    place: &mut Memory<Silent>,
+    place: &mut Untold<Silent>,
     shape: &str,
     count: usize,
 ) -> Result<(u128, usize)> {
@@ -529,7 +527,7 @@ fn prepare_and_call(
 /// What is prepared alone, where no call is made: so that the call is what the difference of two runs shows.
 fn prepare_alone(
     rt: &HostRuntime,
-    place: &mut Memory<Silent>,
+    place: &mut Untold<Silent>,
     shape: &str,
     count: usize,
 ) -> Result<(u128, usize)> {
@@ -542,7 +540,9 @@ fn prepare_alone(
 
 /// One of both, in a place of its own.
 fn once(rt: &HostRuntime, shape: &str, count: usize, is_called: bool) -> Result<(u128, usize)> {
-    let mut place = Memory::new(rt.alloc(), Silent);
+    let mut place = Untold {
+        inside: Memory::new(rt.alloc(), Silent),
+    };
     let found = if is_called {
         prepare_and_call(rt, &mut place, shape, count)
     } else {

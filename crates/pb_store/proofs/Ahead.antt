@@ -11,15 +11,16 @@ use Rattle.pb_place.specs.Paths.{stem}
 use Rattle.pb_place.specs.World.{World, Map, is_directly_in, listed_directly, is_same_path}
 use Rattle.pb_place.proofs.MapLemmas.{among_keys, get-kept}
 use Rattle.pb_place.proofs.Worlds.{same_path}
+use Rattle.pb_record.proofs.ReadingLemmas.{reading}
 use Rattle.pb_record.specs.declared.record.Needed.{Needed}
 use Rattle.pb_record.specs.declared.record.Needed.TheVariants.{Copies, Numbers}
 use Rattle.pb_record.specs.declared.record.Record.{Record}
 use Rattle.pb_soundness.specs.Numbers.{after, IsBefore, IsAhead}
-use Rattle.pb_soundness.specs.Records.{Reading, is_key, ends_as_record, place_of, record_at, read_text, if_of_key, number_in, numbered_in}
+use Rattle.pb_soundness.specs.Records.{is_key, ends_as_record, place_of, record_at, read_text, if_of_key, number_in, numbered_in}
 use Rattle.pb_soundness.proofs.Becoming.{one, none_some}
 use Rattle.pb_soundness.proofs.Elements.{any_at}
 use Rattle.pb_soundness.proofs.Places.{key_facts, record_plain, ends_so, place_in, its_key, text_at}
-use Rattle.pb_store.specs.Opening.{greatest_named, greatest_if, greatest_at, greatest_of, next_in}
+use Rattle.pb_store.specs.Folder.{greatest_named, greatest_if, greatest_at, greatest_of, next_in}
 use Rattle.pb_store.proofs.Earned.{contains_none, contains_cases}
 
 -- the greatest is at least each
@@ -76,12 +77,12 @@ place_ends folder key =
     joined [] = refl
     joined (c ∷ s) = ap (λ x. c ∷ x) (joined s)
 
-module _ (read : Reading) (folder : List ℕ) (w : World) where
+module _ (folder : List ℕ) (w : World) where
   -- a record that counts is a text in its key's place
-  text_there : (m : Map) (key : List ℕ) (r : Record) (o : Option (List ℕ)) → is_key key ≡ true → get m (place_of folder key) ≡ o → if_of_key key (read_text read o) ≡ Some r
-      → (text : List ℕ) × (get m (place_of folder key) ≡ Some text) × (read_text read o ≡ Some r)
+  text_there : (m : Map) (key : List ℕ) (r : Record) (o : Option (List ℕ)) → is_key key ≡ true → get m (place_of folder key) ≡ o → if_of_key key (read_text reading o) ≡ Some r
+      → (text : List ℕ) × (get m (place_of folder key) ≡ Some text) × (read_text reading o ≡ Some r)
   text_there m key r None is at there = absurd (none_some r there)
-  text_there m key r (Some text) is at there = (text, at, of_some (read text) there)
+  text_there m key r (Some text) is at there = (text, at, of_some (reading text) there)
     where
       of_some : (found : Option Record) → if_of_key key found ≡ Some r → found ≡ Some r
       of_some None h = absurd (none_some r h)
@@ -113,28 +114,28 @@ module _ (read : Reading) (folder : List ℕ) (w : World) where
       let (path, has, same) = any_at (is_same_path (place_of folder key)) (listed_directly folder w) (among_keys (retain_keys w.files (is_directly_in folder)) (place_of folder key) ∙ ap is_some found) in
       subst (Contains (listed_directly folder w)) (same_path (place_of folder key) path same) has
 
-  named_below : (key : List ℕ) (r : Record) → record_at read folder w.files key ≡ Some r → greatest_named r.needed ≤ greatest_of read w.files (listed_directly folder w)
+  named_below : (key : List ℕ) (r : Record) → record_at reading folder w.files key ≡ Some r → greatest_named r.needed ≤ greatest_of w.files (listed_directly folder w)
   named_below key r there =
-      let is = its_key read folder w.files key r there in
-      let (text, at, reads) = text_there w.files key r (get w.files (place_of folder key)) is refl (sym (text_at read folder w.files key (get w.files (place_of folder key)) is refl) ∙ there) in
-      let here : greatest_at read w.files (place_of folder key) ≡ greatest_named r.needed =
-      ap (λ b. cond b (greatest_if (read_text read (get w.files (place_of folder key)))) 0) (place_ends folder key) ∙ ap greatest_if reads in
-      subst (λ n. n ≤ greatest_of read w.files (listed_directly folder w)) here
-      (fold_each (greatest_at read w.files) 0 (listed_directly folder w) (place_of folder key) (place_listed key text is at))
+      let is = its_key reading folder w.files key r there in
+      let (text, at, reads) = text_there w.files key r (get w.files (place_of folder key)) is refl (sym (text_at reading folder w.files key (get w.files (place_of folder key)) is refl) ∙ there) in
+      let here : greatest_at w.files (place_of folder key) ≡ greatest_named r.needed =
+      ap (λ b. cond b (greatest_if (read_text reading (get w.files (place_of folder key)))) 0) (place_ends folder key) ∙ ap greatest_if reads in
+      subst (λ n. n ≤ greatest_of w.files (listed_directly folder w)) here
+      (fold_each (greatest_at w.files) 0 (listed_directly folder w) (place_of folder key) (place_listed key text is at))
 
-  pub open_ahead : IsAhead (record_at read folder w.files) (next_in read folder w)
+  pub open_ahead : IsAhead (record_at reading folder w.files) (next_in folder w)
   open_ahead key r there =
       let most = named_below key r there in
-      let g = greatest_of read w.files (listed_directly folder w) in
+      let g = greatest_of w.files (listed_directly folder w) in
       record {
         own = λ n is. before_le n g (le_trans n (greatest_named r.needed) g (own_most r.needed n is) most);
         named = λ need n has. before_le n g (le_trans n (greatest_named r.needed) g (named_most r.needed need n has) most);
       }
 
-pub opened_ahead : (read : Reading) (folder : List ℕ) (w : World) (next : Option ℕ) → next ≡ next_in read folder w → IsAhead (record_at read folder w.files) next
-opened_ahead read folder w next is = subst (IsAhead (record_at read folder w.files)) (sym is) (open_ahead read folder w)
+pub opened_ahead : (folder : List ℕ) (w : World) (next : Option ℕ) → next ≡ next_in folder w → IsAhead (record_at reading folder w.files) next
+opened_ahead folder w next is = subst (IsAhead (record_at reading folder w.files)) (sym is) (open_ahead folder w)
 
-pub opened_next : (read : Reading) (folder : List ℕ) (old mid : World) (paths : List (List ℕ)) (greatest : ℕ) (next : Option ℕ) → mid ≡ old → paths ≡ listed_directly folder old
-    → greatest ≡ greatest_of read mid.files paths → next ≡ after greatest → next ≡ next_in read folder old
-opened_next read folder old mid paths greatest next same are most is =
-    is ∙ ap after (most ∙ ap (λ (w : World). greatest_of read w.files paths) same ∙ ap (greatest_of read old.files) are)
+pub opened_next : (folder : List ℕ) (old mid : World) (paths : List (List ℕ)) (greatest : ℕ) (next : Option ℕ) → mid ≡ old → paths ≡ listed_directly folder old
+    → greatest ≡ greatest_of mid.files paths → next ≡ after greatest → next ≡ next_in folder old
+opened_next folder old mid paths greatest next same are most is =
+    is ∙ ap after (most ∙ ap (λ (w : World). greatest_of w.files paths) same ∙ ap (greatest_of old.files) are)

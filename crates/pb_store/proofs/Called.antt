@@ -1,6 +1,5 @@
 -- Which call of the place failed.
-use Rattle.std.proofs.Common.{◌≡◌, ◌≢◌, ◌∙◌, ℕ, Bool, true, IsTrue, List, ◌∷◌, Contains, Some, Result, Ok, Err, refl, sym, ap, subst, inl, inr}
-use Rattle.std.specs.Prelude.{IfErr}
+use Rattle.std.proofs.Common.{◌≡◌, ◌≢◌, ◌∙◌, ℕ, Bool, true, IsTrue, List, [], ◌∷◌, Contains, Some, refl, sym, ap, subst, inl, inr}
 use Rattle.std.proofs.lemmas.Bool.{false≢true}
 use Rattle.pb_place.specs.CallsInTurn.{own_fault}
 use Rattle.pb_place.specs.declared.call.Call.{Call}
@@ -10,8 +9,8 @@ use Rattle.pb_place.specs.declared.place.PlaceFault.{PlaceFault}
 use Rattle.pb_place.specs.declared.place.PlaceFault.TheVariants as place
 use Rattle.pb_soundness.specs.Records.{ends_as_record}
 use Rattle.pb_soundness.proofs.Flying.{contains_head, contains_tail}
-use Rattle.pb_store.specs.Calls.{EndsOnce, looked, is_look, ReadsAt, ReadsRecord, ReadsOneOf, OpensBy}
-use Rattle.pb_store.specs.Causes.{stored, opened, MayRead, MayLook, MayWrite}
+use Rattle.pb_store.specs.Calls.{EndsOnce, looked, is_look, ReadsOneOf, OpensBy, stored, opened, MayLook, MayRead, MayWrite}
+use Rattle.pb_store.proofs.Earned.{contains_cases, contains_none}
 use Rattle.pb_store.specs.declared.fault.OpenFault.{OpenFault}
 use Rattle.pb_store.specs.declared.fault.OpenFault.TheVariants as open_fault
 use Rattle.pb_store.specs.declared.fault.StoreFault.{StoreFault}
@@ -32,15 +31,15 @@ ends_once call fault e old new told kind is = subst (λ f. EndsOnce call f old n
 pub ends_there : (at : List ℕ → Call) (path other : List ℕ) (e : StoreFault) (old new : Counts) → path ≡ other → EndsOnce (at path) e old new → EndsOnce (at other) e old new
 ends_there at path other e old new same = subst (λ p. EndsOnce (at p) e old new) same
 
--- it is the one that failed last
-pub named_once : (call : Call) (e : StoreFault) (old new : Counts) → EndsOnce call e old new → e ≡ Place place.Write → new.failing ≡ Some call
-named_once call e old new ends is = ap (λ (c : Counts). c.failing) (subst (λ f. EndsOnce call f old new) is ends).1
-
 -- a call that writes is none that looks
 pub no_look : (e : StoreFault) → MayWrite e → looked e ≡ true → ⊥
 no_look (Place fault) may look = false≢true (sym (ap is_look may) ∙ look)
 no_look NumbersSpent may look = may
 no_look OutOfMemory may look = false≢true look
+
+-- which write failed
+pub named_once : (call : Call) (e : StoreFault) (old new : Counts) → EndsOnce call e old new → e ≡ Place place.Write → new.failing ≡ Some call
+named_once call e old new ends is = ap (λ (c : Counts). c.failing) (subst (λ f. EndsOnce call f old new) is ends).1
 
 pub no_write : (e : StoreFault) → MayLook e → e ≡ Place place.Write → ⊥
 no_write e may is = elim (subst MayLook is may) [
@@ -51,31 +50,20 @@ no_write e may is = elim (subst MayLook is may) [
   ]
 ]
 
-pub read_no_write : (e : StoreFault) → MayRead e → e ≡ Place place.Write → ⊥
-read_no_write e may is = let read : place.Write ≡ place.Read = subst MayRead is may in cc
-
 pub read_unwritten : {A : Type 0} (e : StoreFault) (failing told : A) → MayRead e → e ≡ Place place.Write → failing ≡ told
-read_unwritten e failing told may is = absurd (read_no_write e may is)
+read_unwritten e failing told may is = let read : place.Write ≡ place.Read = subst MayRead is may in cc
 
 -- opening
-reads : (path : List ℕ) (fault : PlaceFault) → (fault ≢ place.OutOfMemory → fault ≡ place.Read) → ReadsAt path (opened path fault)
-reads path place.Read is = (refl, refl)
-reads path place.List is = (is (λ e. cc), refl)
-reads path place.Write is = (is (λ e. cc), refl)
-reads path place.Remove is = (is (λ e. cc), refl)
-reads path place.Variable is = (is (λ e. cc), refl)
-reads path place.OutOfMemory is = tt
+reads : (path : List ℕ) (fault : PlaceFault) → ends_as_record path ≡ true → (fault ≢ place.OutOfMemory → fault ≡ place.Read) → ReadsOneOf (path ∷ []) (opened path fault)
+reads path place.Read named is = (refl, contains_head path [], named)
+reads path place.List named is = (is (λ e. cc), contains_head path [], named)
+reads path place.Write named is = (is (λ e. cc), contains_head path [], named)
+reads path place.Remove named is = (is (λ e. cc), contains_head path [], named)
+reads path place.Variable named is = (is (λ e. cc), contains_head path [], named)
+reads path place.OutOfMemory named is = tt
 
-pub reads_at : (path : List ℕ) (fault : PlaceFault) (e : OpenFault) → e ≡ opened path fault → (fault ≢ place.OutOfMemory → fault ≡ place.Read) → ReadsAt path e
-reads_at path fault e told is = subst (ReadsAt path) (sym told) (reads path fault is)
-
-pub reads_record : (path : List ℕ) (e : OpenFault) → ends_as_record path ≡ true → ReadsAt path e → ReadsRecord path e
-reads_record path (open_fault.Place at fault) named (read, same) = (read, same, named)
-reads_record path open_fault.OutOfMemory named told = tt
-
-pub record_if : (path : List ℕ) (r : Result ℕ OpenFault) → ends_as_record path ≡ true → IfErr r (ReadsAt path) → IfErr r (ReadsRecord path)
-record_if path (Ok n) named told = tt
-record_if path (Err e) named told = reads_record path e named told
+pub reads_at : (path : List ℕ) (fault : PlaceFault) (e : OpenFault) → ends_as_record path ≡ true → e ≡ opened path fault → (fault ≢ place.OutOfMemory → fault ≡ place.Read) → ReadsOneOf (path ∷ []) e
+reads_at path fault e named told is = subst (ReadsOneOf (path ∷ [])) (sym told) (reads path fault named is)
 
 -- one of a row of files, of which the last are left
 pub within_head : (paths items rest : List (List ℕ)) (path : List ℕ) → ((p : List ℕ) → Contains items p → Contains paths p) → items ≡ path ∷ rest → Contains paths path
@@ -84,8 +72,11 @@ within_head paths items rest path within cut = within path (subst (λ xs. Contai
 pub within_tail : (paths items rest : List (List ℕ)) (path : List ℕ) → ((p : List ℕ) → Contains items p → Contains paths p) → items ≡ path ∷ rest → (p : List ℕ) → Contains rest p → Contains paths p
 within_tail paths items rest path within cut p has = within p (subst (λ xs. Contains xs p) (sym cut) (contains_tail path rest p has))
 
-pub reads_one : (paths : List (List ℕ)) (path : List ℕ) (e : OpenFault) → Contains paths path → ReadsRecord path e → ReadsOneOf paths e
-reads_one paths path (open_fault.Place at fault) there (read, same, named) = (read, subst (Contains paths) (sym same) there, subst (λ p. ends_as_record p ≡ true) (sym same) named)
+pub reads_one : (paths : List (List ℕ)) (path : List ℕ) (e : OpenFault) → Contains paths path → ReadsOneOf (path ∷ []) e → ReadsOneOf paths e
+reads_one paths path (open_fault.Place at fault) there (read, has, named) = elim (contains_cases path [] at has) [
+  | inl same ↦ (read, subst (Contains paths) same there, named)
+  | inr more ↦ absurd (contains_none at more)
+]
 reads_one paths path open_fault.OutOfMemory there told = tt
 
 lists : (tells : Bool) (folder : List ℕ) (w : World) (fault : PlaceFault) → (fault ≢ place.OutOfMemory → fault ≡ place.List) → OpensBy tells folder w (opened folder fault)

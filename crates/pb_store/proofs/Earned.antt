@@ -17,12 +17,12 @@ use Rattle.pb_soundness.specs.Grounded.{Standing}
 use Rattle.pb_soundness.specs.Inputs.{Judge, Agrees, IsHonest, input_in, name_of, path_input, reply_in}
 use Rattle.pb_soundness.specs.Laws.{Unnamed}
 use Rattle.pb_soundness.specs.Numbers.{NoneNames, IsBefore, NamesBefore}
-use Rattle.pb_soundness.specs.Records.{Reading, is_key, out_of, record_at, needs_of, number_of}
+use Rattle.pb_soundness.specs.Records.{is_key, out_of, reading, records, needs_of, number_of}
 use Rattle.pb_soundness.specs.Reuse.{number_if, NamesNeeds, ReadByNeeds, own, beyond}
 use Rattle.pb_soundness.specs.Sound.{Backs, replied_files}
 use Rattle.pb_soundness.proofs.Becoming.{one}
 use Rattle.pb_soundness.proofs.Flying.{contains_head, contains_tail}
-use Rattle.pb_store.specs.Keeping.{ReadBy, itself, further, HasNeeds, IsEarned, IsKept, MayPut, kept_of, numbered, or_zero}
+use Rattle.pb_store.specs.Folder.{ReadBy, itself, further, HasNeeds, IsEarned, IsKept, MayPut, kept_of, numbered, or_zero}
 
 pub contains_none : {X : Type 0} (v : X) → Contains [] v → ⊥
 contains_none v (k, lt, at) = omega (arith, lt)
@@ -126,10 +126,10 @@ present_agree target w [] = tt
 present_agree target w (name ∷ names) = (ap (input_in target w) (name_back target w name), present_agree target w names)
 
 -- so its reply backs the record
-earned_backs : (read : Reading) (judge : Judge) (child : Answers) (folder key : List ℕ) (c : Command) (names : List InputName) (number : ℕ) (needs : List (List ℕ)) (ended : Ended) (w : World)
+earned_backs : (judge : Judge) (child : Answers) (folder key : List ℕ) (c : Command) (names : List InputName) (number : ℕ) (needs : List (List ℕ)) (ended : Ended) (w : World)
     → c.out ≡ Some (out_of folder key) → IsEarned judge child folder key c names ended w
-    → Backs judge (kept_of folder key c (map (input_in c.target w) names) number (numbered (record_at read folder w.files) needs) ended) (out_of folder key) (files_in (out_of folder key) w.files) (reply_in child (command_of (of_parts c (out_of folder key))) w)
-earned_backs read judge child folder key c names number needs ended w there earned =
+    → Backs judge (kept_of folder key c (map (input_in c.target w) names) number (numbered (records folder w) needs) ended) (out_of folder key) (files_in (out_of folder key) w.files) (reply_in child (command_of (of_parts c (out_of folder key))) w)
+earned_backs judge child folder key c names number needs ended w there earned =
     let back = command_back c (out_of folder key) there in
     record {
       good = ap (λ (d : Command). judge d (reply_in child d w)) back ∙ earned.good ∙ ap Some (sym (names_back c.target w names));
@@ -139,22 +139,22 @@ earned_backs read judge child folder key c names number needs ended w there earn
       files = ap (λ (d : Command). replied_files (out_of folder key) (reply_in child d w)) back ∙ earned.files;
     }
 
-pub may_keep : (read : Reading) (judge : Judge) (child : Answers) (folder key : List ℕ) (c : Command) (names : List InputName) (number : ℕ) (needs : List (List ℕ)) (ended : Ended) (old now : World) (r : Record)
-    → now ≡ old → is_path folder ≡ true → is_key key ≡ true → c.out ≡ Some (out_of folder key) → IsKept read judge child folder key c needs names ended number old
-    → r ≡ kept_of folder key c (map (input_in c.target old) names) number (numbered (record_at read folder old.files) needs) ended → MayPut read judge child folder key now r number
-may_keep read judge child folder key c names number needs ended old now r same path is there may kept =
-    let made = kept_of folder key c (map (input_in c.target old) names) number (numbered (record_at read folder old.files) needs) ended in
-    subst (λ (w : World). MayPut read judge child folder key w r number) (sym same)
-    (subst (λ (s : Record). MayPut read judge child folder key old s number) (sym kept) record {
+pub may_keep : (judge : Judge) (child : Answers) (folder key : List ℕ) (c : Command) (names : List InputName) (number : ℕ) (needs : List (List ℕ)) (ended : Ended) (old now : World) (r : Record)
+    → now ≡ old → is_path folder ≡ true → is_key key ≡ true → c.out ≡ Some (out_of folder key) → IsKept judge child folder key c needs names ended number old
+    → r ≡ kept_of folder key c (map (input_in c.target old) names) number (numbered (records folder old) needs) ended → MayPut reading judge child folder key now r number
+may_keep judge child folder key c names number needs ended old now r same path is there may kept =
+    let made = kept_of folder key c (map (input_in c.target old) names) number (numbered (records folder old) needs) ended in
+    subst (λ (w : World). MayPut reading judge child folder key w r number) (sym same)
+    (subst (λ (s : Record). MayPut reading judge child folder key old s number) (sym kept) record {
       honest = subst (λ (d : Command). IsHonest judge child d old) (sym (command_back c (out_of folder key) there)) may.earned.honest;
       agree = present_agree c.target old names;
-      backs = earned_backs read judge child folder key c names number needs ended old there may.earned;
-      names = names_stand (record_at read folder old.files) folder needs made number may.needs_stand refl;
+      backs = earned_backs judge child folder key c names number needs ended old there may.earned;
+      names = names_stand (records folder old) folder needs made number may.needs_stand refl;
       path = path;
       key_is = is;
       its_key = refl;
       numbered = refl;
-      unnamed = unnamed_of (record_at read folder old.files) key number may.unnamed;
+      unnamed = unnamed_of (records folder old) key number may.unnamed;
     })
 
 -- it names only numbers below the next one

@@ -2,23 +2,21 @@
 use Rattle.std.proofs.Common.{◌≡◌, ◌∙◌, ◌++◌, ◌&&◌, ℕ, zero, suc, Bool, true, false, List, [], ◌∷◌, take, drop, Contains, Option, Some, None, refl, sym, ap, subst, arith, ◌+◌, ◌<◌, length, get_or}
 use Rattle.std.proofs.Math.Seq.{take-suc}
 use Rattle.std.proofs.lemmas.List.{take-append-drop, drop_more, get_or_default}
-use Rattle.std.specs.Prelude.{Decides, IfNone}
+use Rattle.std.specs.Prelude.{Decides}
 use Rattle.std.specs.List.{AllByRecursion}
 use Rattle.std.specs.Str.{bytes_eq}
 use Rattle.std.proofs.lemmas.Bool.{and_parts, and_from}
 use Rattle.std.proofs.lemmas.Slice.Eq.{bytes_eq-Decides}
 use Rattle.pb_place.specs.World.{World}
-use Rattle.pb_record.proofs.LawLemmas.{one_reading}
-use Rattle.pb_record.proofs.ReadingLemmas.{reading, reading_reads}
-use Rattle.pb_record.specs.Parts.{IsReading}
+use Rattle.pb_record.proofs.ReadingLemmas.{reading}
 use Rattle.pb_place.specs.declared.command.Command.{Command}
 use Rattle.pb_record.specs.declared.record.Needed.{Needed}
 use Rattle.pb_record.specs.declared.record.Needed.TheVariants.{Copies, Numbers}
 use Rattle.pb_record.specs.declared.record.Record.{Record}
 use Rattle.pb_soundness.specs.Grounded.{Standing}
-use Rattle.pb_soundness.specs.Records.{Reading, record_at}
+use Rattle.pb_soundness.specs.Records.{record_at, records}
 use Rattle.pb_soundness.specs.Reuse.{IsSame, NeededNow}
-use Rattle.pb_store.specs.Differences.{IsFirst, AreNeeded, HasFiles, HasNumber, FirstFrom, FirstOf, FirstDifference, same_files}
+use Rattle.pb_store.specs.Differences.{IsFirst, AreNeeded, HasFiles, HasNumber, FirstFrom, FirstOf, same_files}
 use Rattle.pb_store.specs.declared.difference.Difference.{Difference}
 use Rattle.pb_store.specs.declared.difference.Difference.TheVariants.{NoRecord}
 
@@ -54,29 +52,9 @@ needed_now : (folder : List ℕ) (at : Standing) (w : World) (needed : Needed) �
 needed_now folder at w (Copies copies) all = λ need files there. (all_contained (HasFiles folder w.files) copies all (need, files) there).1
 needed_now folder at w (Numbers number needs) all = λ need n there. all_contained (HasNumber at) needs all (need, n) there
 
-same_by : (read : Reading) (folder key : List ℕ) (c : Command) (w : World) (o : Option Record) → record_at read folder w.files key ≡ o → FirstOf folder (record_at read folder w.files) c w o None → (r : Record) × IsSame read folder key c w r
-same_by read folder key c w None is told = cc
-same_by read folder key c w (Some r) is told = (r, record { stands = is; asked = told.asked; inputs = told.inputs; needed = needed_now folder (record_at read folder w.files) w r.needed told.needed })
-
-pub none_is_same : (read : Reading) (folder key : List ℕ) (c : Command) (w : World) (found : Option Difference) → FirstDifference read folder key c w found → IfNone found ((r : Record) × IsSame read folder key c w r)
-none_is_same read folder key c w None told = same_by read folder key c w (record_at read folder w.files key) refl told
-none_is_same read folder key c w (Some d) told = tt
-
--- the reading of texts is one
-
-pub one_read : (read : Reading) → IsReading read → reading ≡ read
-one_read read is = λ i text. one_reading text (reading text) (read text) (reading_reads text) (is text) i
-
-pub first_for : (read : Reading) (folder key : List ℕ) (c : Command) (w : World) (found : Option Difference) → IsReading read → FirstDifference reading folder key c w found → FirstDifference read folder key c w found
-first_for read folder key c w found is told = subst (λ r. FirstDifference r folder key c w found) (one_read read is) told
-
-pub same_for : (read : Reading) (folder key : List ℕ) (c : Command) (w : World) (found : Option Difference) → IsReading read → FirstDifference reading folder key c w found → IfNone found ((r : Record) × IsSame read folder key c w r)
-same_for read folder key c w found is told = none_is_same read folder key c w found (first_for read folder key c w found is told)
-
-pub is_the_reading : IsReading reading
-is_the_reading = reading_reads
-
-pub ruleset number_laws = (is_the_reading)
+pub none_is_same : (folder key : List ℕ) (c : Command) (w : World) (o : Option Record) → records folder w key ≡ o → FirstOf folder (records folder w) c w o None → (r : Record) × IsSame reading folder key c w r
+none_is_same folder key c w None is told = cc
+none_is_same folder key c w (Some r) is told = (r, record { stands = is; asked = told.asked; inputs = told.inputs; needed = needed_now folder (records folder w) w r.needed told.needed })
 
 -- what is told of the record there, by the records of needed units
 module _ (folder key : List ℕ) (at : Standing) (c : Command) (w : World) (found : Option Record) (is : found ≡ record_at reading folder w.files key) where

@@ -5,6 +5,7 @@ use Rattle.std.proofs.lemmas.List.{append_cancel_right}
 use Rattle.std.proofs.lemmas.Slice.Eq.{bytes_eq-Decides}
 use Rattle.std.specs.FinMap.{get}
 use Rattle.std.specs.List.{AllByRecursion, fold}
+use Rattle.std.specs.Option.{option_and_then}
 use Rattle.std.specs.Prelude.{MatchOption}
 use Rattle.std.specs.Str.{bytes_eq}
 use Rattle.pb_data.specs.Table.{value_at, with_entry}
@@ -12,7 +13,6 @@ use Rattle.pb_place.specs.Paths.{is_at_or_below}
 use Rattle.pb_place.specs.World.{World, Map, AgreeBut, ChangesOnly, listed_directly}
 use Rattle.pb_place.proofs.PathLemmas.{and_left, and_right}
 use Rattle.pb_record.proofs.ReadingLemmas.{reading}
-use Rattle.pb_record.specs.Parts.{IsReading}
 use Rattle.pb_record.specs.declared.record.Needed.{Needed}
 use Rattle.pb_record.specs.declared.record.Needed.TheVariants.{Numbers}
 use Rattle.pb_record.specs.declared.record.Record.{Record}
@@ -21,13 +21,10 @@ use Rattle.pb_soundness.specs.Records.{Reading, ends_as_record, if_of_key, is_ke
 use Rattle.pb_soundness.specs.Reuse.{number_if}
 use Rattle.pb_soundness.proofs.Places.{is_same, no_key, one_key, places_differ, record_same, text_at}
 use Rattle.pb_store.specs.Differences.{AreNeeded, FirstNeed, FirstOrAll, HasNumber, IsFirst}
-use Rattle.pb_store.specs.Held.{GoesBy, HasNumbers, HoldsNumbers, held_if, number_by, number_held, number_in}
-use Rattle.pb_store.specs.Keeping.{numbered, or_zero}
-use Rattle.pb_store.specs.Presence.{IsHeld, counted_by, held_of, noted, noted_at, numbered_by}
-use Rattle.pb_store.specs.declared.store.RunNumbers.{RunNumbers}
+use Rattle.pb_store.specs.Folder.{HasNumbers, number_in, numbered, or_zero}
+use Rattle.pb_store.specs.Presence.{IsHeld, noted, noted_at, numbered_by}
 use Rattle.pb_store.proofs.Ahead.{place_ends, place_listed}
 use Rattle.pb_store.proofs.Earned.{contains_cases, contains_none}
-use Rattle.pb_store.proofs.Firsts.{one_read}
 
 -- The numbers that are held stand for the records of needed units.
 module _ (at : Standing) (numbers : List (List ℕ × Option ℕ)) (holds : HasNumbers at numbers) where
@@ -88,9 +85,8 @@ value_elsewhere (e ∷ es) key n other apart = elim (cases_Bool (bytes_eq key e.
   | inr more ↦ ap (λ b. value_at other (if b then (e.0, n) ∷ es else e ∷ with_entry es key n)) more ∙ ap (λ v. if bytes_eq other e.0 then Some e.1 else v) (value_elsewhere es key n other apart)
 ]
 
--- what is held of another key stays
-pub held_elsewhere : (numbers later : List (List ℕ × Option ℕ)) (key : List ℕ) (n : Option ℕ) (l : List ℕ) → later ≡ with_entry numbers key n → l ≢ key → number_in later l ≡ number_in numbers l
-held_elsewhere numbers later key n l is apart = ap (λ ns. number_in ns l) is ∙ ap held_if (value_elsewhere numbers key n l apart)
+pub noted_so : (numbers later : List (List ℕ × Option ℕ)) (text key : List ℕ) (n : Option ℕ) → text ≡ key → later ≡ with_entry numbers text n → later ≡ with_entry numbers key n
+noted_so numbers later text key n is noted = noted ∙ ap (λ k. with_entry numbers k n) is
 
 -- Where only the place of a record changes, and what stands there has this number.
 module _ (read : Reading) (folder key : List ℕ) (is : is_key key ≡ true) where
@@ -103,8 +99,8 @@ module _ (read : Reading) (folder key : List ℕ) (is : is_key key ≡ true) whe
   held_on : (old new : Map) (numbers : List (List ℕ × Option ℕ)) (n : Option ℕ) → AgreeBut (is_at_or_below (place_of folder key)) old new → number_if (record_at read folder new key) ≡ n
       → HasNumbers (record_at read folder old) numbers → HasNumbers (record_at read folder new) (with_entry numbers key n)
   held_on old new numbers n only here holds l = elim (is_same key l) [
-    | inl same ↦ subst (λ k. number_in (with_entry numbers key n) k ≡ number_if (record_at read folder new k)) same (ap held_if (value_there numbers key n) ∙ sym here)
-    | inr apart ↦ ap held_if (value_elsewhere numbers key n l (λ e. apart (sym e))) ∙ holds l ∙ ap number_if (sym (stays old new l only apart))
+    | inl same ↦ subst (λ k. number_in (with_entry numbers key n) k ≡ number_if (record_at read folder new k)) same (ap (option_and_then (λ (number : Option ℕ). number)) (value_there numbers key n) ∙ sym here)
+    | inr apart ↦ ap (option_and_then (λ (number : Option ℕ). number)) (value_elsewhere numbers key n l (λ e. apart (sym e))) ∙ holds l ∙ ap number_if (sym (stays old new l only apart))
   ]
 
   pub held_dropped : (old mid new : World) (numbers later : List (List ℕ × Option ℕ)) → mid ≡ old → ChangesOnly (is_at_or_below (place_of folder key)) mid new → record_at read folder new.files key ≡ None → later ≡ with_entry numbers key None
@@ -119,31 +115,27 @@ module _ (read : Reading) (folder key : List ℕ) (is : is_key key ≡ true) whe
       subst (HasNumbers (record_at read folder new.files)) (sym is_later)
       (held_on mid.files new.files numbers (Some number) only.files (ap number_if there ∙ has) (subst (λ (w : World). HasNumbers (record_at read folder w.files) numbers) (sym same) holds))
 
--- whatever reading it is
-pub held_for : (read : Reading) (folder : List ℕ) (m : Map) (numbers : List (List ℕ × Option ℕ)) → IsReading read → HasNumbers (record_at read folder m) numbers → HasNumbers (record_at reading folder m) numbers
-held_for read folder m numbers is holds = subst (λ r. HasNumbers (record_at r folder m) numbers) (sym (one_read read is)) holds
-
 -- The store is opened.
 place_is : (folder k l : List ℕ) → place_of folder k ≡ place_of folder l → k ≡ l
 place_is folder k l same = append_cancel_right k l (codes ".record") (one_key folder (k ++ codes ".record") (l ++ codes ".record") same)
 
-module _ (read : Reading) (folder : List ℕ) (m : Map) where
+module _ (folder : List ℕ) (m : Map) where
   abbrev number_there : List ℕ → Option ℕ
-  number_there key = number_if (record_at read folder m key)
+  number_there key = number_if (record_at reading folder m key)
 
   -- a record that is read elsewhere changes nothing of a key
   noted_apart : (path key : List ℕ) (o : Option Record) (numbers : List (List ℕ × Option ℕ)) → ((k : List ℕ) → is_key k ≡ true → place_of folder k ≡ path → key ≢ k) → number_in (noted folder path o numbers) key ≡ number_in numbers key
   noted_apart path key None numbers apart = refl
   noted_apart path key (Some r) numbers apart = elim (cases_Bool (is_key r.key && bytes_eq (place_of folder r.key) path)) [
     | inl here ↦ ap (λ b. number_in (if b then with_entry numbers r.key (number_of r) else numbers) key) here
-        ∙ ap held_if (value_elsewhere numbers r.key (number_of r) key (apart r.key (and_left _ _ here) ((bytes_eq-Decides (place_of folder r.key) path).0 (and_right _ _ here))))
+        ∙ ap (option_and_then (λ (number : Option ℕ). number)) (value_elsewhere numbers r.key (number_of r) key (apart r.key (and_left _ _ here) ((bytes_eq-Decides (place_of folder r.key) path).0 (and_right _ _ here))))
     | inr other ↦ ap (λ b. number_in (if b then with_entry numbers r.key (number_of r) else numbers) key) other
   ]
 
-  step_apart : (path key : List ℕ) (numbers : List (List ℕ × Option ℕ)) → ((k : List ℕ) → is_key k ≡ true → place_of folder k ≡ path → key ≢ k) → number_in (noted_at read folder m numbers path) key ≡ number_in numbers key
+  step_apart : (path key : List ℕ) (numbers : List (List ℕ × Option ℕ)) → ((k : List ℕ) → is_key k ≡ true → place_of folder k ≡ path → key ≢ k) → number_in (noted_at folder m numbers path) key ≡ number_in numbers key
   step_apart path key numbers apart = elim (cases_Bool (ends_as_record path)) [
-    | inl named ↦ ap (λ b. number_in (if b then noted folder path (read_text read (get m path)) numbers else numbers) key) named ∙ noted_apart path key (read_text read (get m path)) numbers apart
-    | inr other ↦ ap (λ b. number_in (if b then noted folder path (read_text read (get m path)) numbers else numbers) key) other
+    | inl named ↦ ap (λ b. number_in (if b then noted folder path (read_text reading (get m path)) numbers else numbers) key) named ∙ noted_apart path key (read_text reading (get m path)) numbers apart
+    | inr other ↦ ap (λ b. number_in (if b then noted folder path (read_text reading (get m path)) numbers else numbers) key) other
   ]
 
   -- the one that is read in its place gives the number of the record that counts there
@@ -155,7 +147,7 @@ module _ (read : Reading) (folder : List ℕ) (m : Map) where
     | inl here ↦
         let own : r.key ≡ key = place_is folder r.key key ((bytes_eq-Decides (place_of folder r.key) (place_of folder key)).0 (and_right _ _ here)) in
         ap (λ b. number_in (if b then with_entry numbers r.key (number_of r) else numbers) key) here
-        ∙ subst (λ k. number_in (with_entry numbers r.key (number_of r)) k ≡ number_of r) own (ap held_if (value_there numbers r.key (number_of r)))
+        ∙ subst (λ k. number_in (with_entry numbers r.key (number_of r)) k ≡ number_of r) own (ap (option_and_then (λ (number : Option ℕ). number)) (value_there numbers r.key (number_of r)))
         ∙ sym (ap (λ b. number_if (if b then Some r else None)) ((bytes_eq-Decides r.key key).1 own))
     | inr other ↦
         let apart : bytes_eq r.key key ≡ false = unlike r.key key (λ own. false≢true (sym other ∙ and_from _ _ (ap is_key own ∙ is) ((bytes_eq-Decides (place_of folder r.key) (place_of folder key)).1 (ap (place_of folder) own)))) in
@@ -168,98 +160,59 @@ module _ (read : Reading) (folder : List ℕ) (m : Map) where
   ]
 
   module _ (key : List ℕ) (is : is_key key ≡ true) where
-    there_is : number_there key ≡ number_if (if_of_key key (read_text read (get m (place_of folder key))))
-    there_is = ap number_if (text_at read folder m key (get m (place_of folder key)) is refl)
+    there_is : number_there key ≡ number_if (if_of_key key (read_text reading (get m (place_of folder key))))
+    there_is = ap number_if (text_at reading folder m key (get m (place_of folder key)) is refl)
 
-    step_here : (numbers : List (List ℕ × Option ℕ)) → (number_in numbers key ≡ None) ⊎ (number_in numbers key ≡ number_there key) → number_in (noted_at read folder m numbers (place_of folder key)) key ≡ number_there key
+    step_here : (numbers : List (List ℕ × Option ℕ)) → (number_in numbers key ≡ None) ⊎ (number_in numbers key ≡ number_there key) → number_in (noted_at folder m numbers (place_of folder key)) key ≡ number_there key
     step_here numbers before =
-        ap (λ b. number_in (if b then noted folder (place_of folder key) (read_text read (get m (place_of folder key))) numbers else numbers) key) (place_ends folder key)
-        ∙ noted_here key (read_text read (get m (place_of folder key))) numbers is (elim before [
+        ap (λ b. number_in (if b then noted folder (place_of folder key) (read_text reading (get m (place_of folder key))) numbers else numbers) key) (place_ends folder key)
+        ∙ noted_here key (read_text reading (get m (place_of folder key))) numbers is (elim before [
           | inl none ↦ inl none
           | inr same ↦ inr (same ∙ there_is)
         ])
         ∙ sym there_is
 
-    step_at : (numbers : List (List ℕ × Option ℕ)) (path : List ℕ) → path ≡ place_of folder key → (number_in numbers key ≡ None) ⊎ (number_in numbers key ≡ number_there key) → number_in (noted_at read folder m numbers path) key ≡ number_there key
-    step_at numbers path at before = subst (λ p. number_in (noted_at read folder m numbers p) key ≡ number_there key) (sym at) (step_here numbers before)
+    step_at : (numbers : List (List ℕ × Option ℕ)) (path : List ℕ) → path ≡ place_of folder key → (number_in numbers key ≡ None) ⊎ (number_in numbers key ≡ number_there key) → number_in (noted_at folder m numbers path) key ≡ number_there key
+    step_at numbers path at before = subst (λ p. number_in (noted_at folder m numbers p) key ≡ number_there key) (sym at) (step_here numbers before)
 
-    step_off : (numbers : List (List ℕ × Option ℕ)) (path : List ℕ) → path ≢ place_of folder key → number_in (noted_at read folder m numbers path) key ≡ number_in numbers key
+    step_off : (numbers : List (List ℕ × Option ℕ)) (path : List ℕ) → path ≢ place_of folder key → number_in (noted_at folder m numbers path) key ≡ number_in numbers key
     step_off numbers path off = step_apart path key numbers (λ k is_k at same. off (sym at ∙ ap (place_of folder) (sym same)))
 
-    all_keep : (paths : List (List ℕ)) (numbers : List (List ℕ × Option ℕ)) → number_in numbers key ≡ number_there key → number_in (fold (noted_at read folder m) numbers paths) key ≡ number_there key
+    all_keep : (paths : List (List ℕ)) (numbers : List (List ℕ × Option ℕ)) → number_in numbers key ≡ number_there key → number_in (fold (noted_at folder m) numbers paths) key ≡ number_there key
     all_keep [] numbers same = same
     all_keep (p ∷ ps) numbers same = elim (is_same p (place_of folder key)) [
-      | inl at ↦ all_keep ps (noted_at read folder m numbers p) (step_at numbers p at (inr same))
-      | inr off ↦ all_keep ps (noted_at read folder m numbers p) (step_off numbers p off ∙ same)
+      | inl at ↦ all_keep ps (noted_at folder m numbers p) (step_at numbers p at (inr same))
+      | inr off ↦ all_keep ps (noted_at folder m numbers p) (step_off numbers p off ∙ same)
     ]
 
-    one_finds : (paths : List (List ℕ)) (numbers : List (List ℕ × Option ℕ)) → number_in numbers key ≡ None → Contains paths (place_of folder key) → number_in (fold (noted_at read folder m) numbers paths) key ≡ number_there key
+    one_finds : (paths : List (List ℕ)) (numbers : List (List ℕ × Option ℕ)) → number_in numbers key ≡ None → Contains paths (place_of folder key) → number_in (fold (noted_at folder m) numbers paths) key ≡ number_there key
     one_finds [] numbers none has = absurd (contains_none (place_of folder key) has)
     one_finds (p ∷ ps) numbers none has = elim (is_same p (place_of folder key)) [
-      | inl at ↦ all_keep ps (noted_at read folder m numbers p) (step_at numbers p at (inl none))
+      | inl at ↦ all_keep ps (noted_at folder m numbers p) (step_at numbers p at (inl none))
       | inr off ↦ elim (contains_cases p ps (place_of folder key) has) [
         | inl at ↦ absurd (off at)
-        | inr more ↦ one_finds ps (noted_at read folder m numbers p) (step_off numbers p off ∙ none) more
+        | inr more ↦ one_finds ps (noted_at folder m numbers p) (step_off numbers p off ∙ none) more
       ]
     ]
 
-  none_wrong : (key : List ℕ) → is_key key ≡ false → (paths : List (List ℕ)) (numbers : List (List ℕ × Option ℕ)) → number_in (fold (noted_at read folder m) numbers paths) key ≡ number_in numbers key
+  none_wrong : (key : List ℕ) → is_key key ≡ false → (paths : List (List ℕ)) (numbers : List (List ℕ × Option ℕ)) → number_in (fold (noted_at folder m) numbers paths) key ≡ number_in numbers key
   none_wrong key wrong [] numbers = refl
-  none_wrong key wrong (p ∷ ps) numbers = none_wrong key wrong ps (noted_at read folder m numbers p) ∙ step_apart p key numbers (λ k is_k at same. false≢true (sym wrong ∙ ap is_key same ∙ is_k))
+  none_wrong key wrong (p ∷ ps) numbers = none_wrong key wrong ps (noted_at folder m numbers p) ∙ step_apart p key numbers (λ k is_k at same. false≢true (sym wrong ∙ ap is_key same ∙ is_k))
 
-module _ (read : Reading) (folder : List ℕ) (w : World) where
-  by_text : (key : List ℕ) (o : Option (List ℕ)) → is_key key ≡ true → get w.files (place_of folder key) ≡ o → number_in (held_of read folder w.files (listed_directly folder w)) key ≡ number_if (record_at read folder w.files key)
-  by_text key None is at = all_keep read folder w.files key is (listed_directly folder w) [] (sym (ap number_if (text_at read folder w.files key None is at)))
-  by_text key (Some text) is at = one_finds read folder w.files key is (listed_directly folder w) [] refl (place_listed read folder w key text is at)
+module _ (folder : List ℕ) (w : World) where
+  by_text : (key : List ℕ) (o : Option (List ℕ)) → is_key key ≡ true → get w.files (place_of folder key) ≡ o → number_in (fold (noted_at folder w.files) [] (listed_directly folder w)) key ≡ number_if (record_at reading folder w.files key)
+  by_text key None is at = all_keep folder w.files key is (listed_directly folder w) [] (sym (ap number_if (text_at reading folder w.files key None is at)))
+  by_text key (Some text) is at = one_finds folder w.files key is (listed_directly folder w) [] refl (place_listed folder w key text is at)
 
-  open_held : HasNumbers (record_at read folder w.files) (held_of read folder w.files (listed_directly folder w))
+  open_held : HasNumbers (record_at reading folder w.files) (fold (noted_at folder w.files) [] (listed_directly folder w))
   open_held key = elim (cases_Bool (is_key key)) [
     | inl is ↦ by_text key (get w.files (place_of folder key)) is refl
-    | inr wrong ↦ none_wrong read folder w.files key wrong (listed_directly folder w) [] ∙ sym (ap number_if (no_key read folder w.files key wrong))
+    | inr wrong ↦ none_wrong folder w.files key wrong (listed_directly folder w) [] ∙ sym (ap number_if (no_key reading folder w.files key wrong))
   ]
 
-pub opened_held : (read : Reading) (folder : List ℕ) (old mid : World) (paths : List (List ℕ)) (empty numbers : List (List ℕ × Option ℕ)) → mid ≡ old → paths ≡ listed_directly folder old → empty ≡ [] → numbers ≡ fold (noted_at read folder mid.files) empty paths
-    → HasNumbers (record_at read folder old.files) numbers
-opened_held read folder old mid paths empty numbers same are none is =
-    subst (HasNumbers (record_at read folder old.files))
-    (sym (is ∙ ap (λ (w : World). fold (noted_at read folder w.files) empty paths) same ∙ ap (λ ps. fold (noted_at read folder old.files) empty ps) are ∙ ap (λ ns. fold (noted_at read folder old.files) ns (listed_directly folder old)) none))
-    (open_held read folder old)
-
--- A store goes by the numbers that it holds, where it knows them, and else by those that it reads anew.
-module _ (there : Standing) (numbers : RunNumbers) where
-  known_by : numbers.known ≡ true → (key : List ℕ) → number_by there numbers key ≡ number_held numbers key
-  known_by is key = ap (λ b. if b then number_held numbers key else number_if (there key)) is
-
-  unknown_by : numbers.known ≡ false → (key : List ℕ) → number_by there numbers key ≡ number_if (there key)
-  unknown_by not key = ap (λ b. if b then number_held numbers key else number_if (there key)) not
-
-  -- where it holds their numbers, it goes by these
-  pub goes_by_held : HoldsNumbers there numbers → GoesBy there numbers there
-  goes_by_held holds key = elim (cases_Bool numbers.known) [
-    | inl is ↦ known_by is key ∙ holds is key
-    | inr not ↦ unknown_by not key
-  ]
-
-  module _ (at : Standing) (goes : GoesBy there numbers at) where
-    pub known_has : numbers.known ≡ true → HasNumbers at numbers.held
-    known_has is key = sym (known_by is key) ∙ goes key
-
-    pub unknown_same : numbers.known ≡ false → (key : List ℕ) → number_if (there key) ≡ number_if (at key)
-    unknown_same not key = sym (unknown_by not key) ∙ goes key
-
-    -- the needed units have these numbers
-    pub counted_at : (needs : List (List ℕ)) → counted_by there numbers needs ≡ numbered at needs
-    counted_at [] = refl
-    counted_at (need ∷ needs) = ap (λ n. (need, or_zero n) ∷ counted_by there numbers needs) (goes need) ∙ ap (λ ns. (need, or_zero (number_if (at need))) ∷ ns) (counted_at needs)
-
-  -- once they are read
-  module _ (table : List (List ℕ × Option ℕ)) (settled : (key : List ℕ) → number_in table key ≡ number_by there numbers key) where
-    pub settled_has : (at : Standing) → GoesBy there numbers at → HasNumbers at table
-    settled_has at goes key = settled key ∙ goes key
-
-    pub settled_counted : (needs : List (List ℕ)) → numbered_by table needs ≡ counted_by there numbers needs
-    settled_counted [] = refl
-    settled_counted (need ∷ needs) = ap (λ n. (need, or_zero n) ∷ numbered_by table needs) (settled need) ∙ ap (λ ns. (need, or_zero (number_by there numbers need)) ∷ ns) (settled_counted needs)
-
-pub same_there : (at : Standing) (key : List ℕ) → number_if (at key) ≡ number_if (at key)
-same_there at key = refl
+pub opened_held : (folder : List ℕ) (old mid : World) (paths : List (List ℕ)) (empty numbers : List (List ℕ × Option ℕ)) → mid ≡ old → paths ≡ listed_directly folder old → empty ≡ [] → numbers ≡ fold (noted_at folder mid.files) empty paths
+    → HasNumbers (record_at reading folder old.files) numbers
+opened_held folder old mid paths empty numbers same are none is =
+    subst (HasNumbers (record_at reading folder old.files))
+    (sym (is ∙ ap (λ (w : World). fold (noted_at folder w.files) empty paths) same ∙ ap (λ ps. fold (noted_at folder old.files) empty ps) are ∙ ap (λ ns. fold (noted_at folder old.files) ns (listed_directly folder old)) none))
+    (open_held folder old)

@@ -4,7 +4,6 @@ pub mod Ahead
 pub mod Migrated
 pub mod Present
 pub mod Firsts
-pub mod Still
 pub mod Once
 pub mod Names
 pub mod Called
@@ -14,5 +13,4 @@ pub mod Alike
 pub mod LookingOver
 pub mod LookingBy
 pub mod Held
-pub mod Unopened
-pub mod Settling
+pub mod Put

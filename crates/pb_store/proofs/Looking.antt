@@ -8,7 +8,7 @@ use Rattle.pb_place.specs.World.{World}
 use Rattle.pb_place.specs.declared.place.PlaceFault.{PlaceFault}
 use Rattle.pb_place.specs.declared.place.PlaceFault.TheVariants as place
 use Rattle.pb_place.proofs.CallsInTurn.{append_none, fails_left, fails_right, made_both, some_all, some_left, some_right}
-use Rattle.pb_store.specs.Causes.{stored}
+use Rattle.pb_store.specs.Calls.{stored}
 use Rattle.pb_store.specs.Looking.{Looks, StopsAt, looked_up_to}
 use Rattle.pb_store.specs.declared.fault.StoreFault.{StoreFault}
 use Rattle.pb_store.specs.declared.fault.StoreFault.TheVariants.{Place, NumbersSpent, OutOfMemory}

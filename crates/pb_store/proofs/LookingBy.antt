@@ -10,8 +10,7 @@ use Rattle.pb_place.specs.declared.place.PlaceFault.{PlaceFault}
 use Rattle.pb_place.specs.declared.place.PlaceFault.TheVariants as place
 use Rattle.pb_place.proofs.CallsInTurn.{fails_left, fails_right, some_all, some_left, some_right}
 use Rattle.pb_soundness.specs.Records.{ends_as_record}
-use Rattle.pb_store.specs.Calls.{EndsOnce}
-use Rattle.pb_store.specs.Causes.{MayWrite, opened}
+use Rattle.pb_store.specs.Calls.{EndsOnce, MayWrite, opened}
 use Rattle.pb_store.specs.Looking.{OpeningStopsAt, StopsAt, opened_looked, records_looked}
 use Rattle.pb_store.specs.declared.fault.OpenFault.{OpenFault}
 use Rattle.pb_store.specs.declared.fault.OpenFault.TheVariants as open_fault

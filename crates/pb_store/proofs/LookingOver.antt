@@ -2,27 +2,25 @@
 use Rattle.std.proofs.Common.{◌≡◌, ◌∙◌, ◌++◌, ℕ, Bool, true, false, cond, List, [], ◌∷◌, Option, Some, None, Result, refl, sym, ap, subst}
 use Rattle.std.specs.Prelude.{Decides, MatchOption}
 use Rattle.std.specs.List.{list_all}
+use Rattle.std.specs.Option.{option_map_or}
 use Rattle.pb_place.specs.CallsInTurn.{past_calls}
 use Rattle.pb_place.specs.declared.call.Call.TheVariants as call
 use Rattle.pb_place.specs.Counts.{Counts}
 use Rattle.pb_place.specs.World.{World}
 use Rattle.pb_place.specs.declared.command.Command as commands
 use Rattle.pb_place.proofs.CallsInTurn.{append_none}
-use Rattle.pb_record.proofs.ReadingLemmas.{reading}
 use Rattle.pb_record.specs.Commands.{command_of}
-use Rattle.pb_record.specs.Parts.{IsReading}
 use Rattle.pb_record.specs.declared.record.Input.{Input}
 use Rattle.pb_record.specs.declared.record.InputName.{InputName}
 use Rattle.pb_record.specs.declared.record.Record.{Record}
 use Rattle.pb_soundness.specs.Inputs.{Agrees, name_of}
-use Rattle.pb_soundness.specs.Records.{Reading, place_of, record_at}
+use Rattle.pb_soundness.specs.Records.{place_of, records}
 use Rattle.pb_store.specs.Asking.{IsFirstName, SamePart, parts}
-use Rattle.pb_store.specs.Differences.{IsFirst, IsPresent}
+use Rattle.pb_store.specs.Differences.{FirstInput, IsFirst, IsPresent}
 use Rattle.pb_store.specs.declared.difference.CommandPart.{CommandPart}
 use Rattle.pb_store.specs.declared.fault.StoreFault.{StoreFault}
-use Rattle.pb_store.specs.Looking.{Looks, StopsAt, is_present, inputs_looked, needed_looked, around_looked, from_looked, kept_looked, unit_looked}
+use Rattle.pb_store.specs.Looking.{Looks, StopsAt, is_present, inputs_looked, needed_looked, around_looked, from_looked, unit_looked}
 use Rattle.pb_store.proofs.Alike.{all_decided, asked_decides, present_decides}
-use Rattle.pb_store.proofs.Firsts.{one_read}
 use Rattle.pb_store.proofs.Looking.{looks_both, stops_first}
 use Rattle.pb_store.proofs.Once.{asks_of, name_apart, none_fails, part_apart}
 
@@ -46,17 +44,17 @@ module _ (folder target : List ℕ) (w : World) (r : Record) (inputs : List Inpu
   unfolding around_looked
   around_unread e new stops = stops_first e (inputs_looked target w r.inputs) _ old new (subst (λ xs. StopsAt e (inputs_looked target w xs) old new) are stops)
 
-  pub around_ends : (found : Option InputName) (name : InputName) (new : Counts) → found ≡ Some name → MatchOption found (Agrees target inputs w) (IsFirst (IsPresent target w) name_of inputs) → new ≡ past_calls (inputs_looked target w inputs) old
+  pub around_ends : (found : Option InputName) (name : InputName) (new : Counts) → found ≡ Some name → FirstInput target inputs w found → new ≡ past_calls (inputs_looked target w inputs) old
       → new ≡ past_calls (around_looked folder target w r) old
   around_ends found name new some told made =
-      let first : IsFirst (IsPresent target w) name_of inputs name = subst (λ o. MatchOption o (Agrees target inputs w) (IsFirst (IsPresent target w) name_of inputs)) some told in
+      let first : IsFirst (IsPresent target w) name_of inputs name = subst (λ o. FirstInput target inputs w o) some told in
       let differs : list_all (is_present target w) r.inputs ≡ false = refuted _ (all_decided (IsPresent target w) (is_present target w) (present_decides target w) r.inputs) (λ all. none_fails (IsPresent target w) name_of inputs name (subst (λ xs. Agrees target xs w) (sym are) all) first) in
       made ∙ ap (λ names. past_calls names old) (sym (around_inputs differs))
 
-  pub around_then : {T : Type 0} (result : Result T StoreFault) (found : Option InputName) (now : World) (mid new : Counts) → now ≡ w → found ≡ None → MatchOption found (Agrees target inputs w) (IsFirst (IsPresent target w) name_of inputs)
+  pub around_then : {T : Type 0} (result : Result T StoreFault) (found : Option InputName) (now : World) (mid new : Counts) → now ≡ w → found ≡ None → FirstInput target inputs w found
       → mid ≡ past_calls (inputs_looked target w inputs) old → Looks result (needed_looked folder now r.needed) mid new → Looks result (around_looked folder target w r) old new
   around_then result found now mid new same none told first second =
-      let agrees : Agrees target inputs w = subst (λ o. MatchOption o (Agrees target inputs w) (IsFirst (IsPresent target w) name_of inputs)) none told in
+      let agrees : Agrees target inputs w = subst (λ o. FirstInput target inputs w o) none told in
       subst (λ names. Looks result names old new) (sym (around_names agrees))
       (looks_both result (inputs_looked target w inputs) (needed_looked folder w r.needed) old mid new first
       (subst (λ (v : World). Looks result (needed_looked folder v r.needed) mid new) same second))
@@ -84,26 +82,22 @@ module _ (folder : List ℕ) (c : commands.Command) (w : World) (r : Record) whe
   from_then result old new same looks = subst (λ names. Looks result names old new) (sym (from_around same)) looks
 
 -- the place of a record, and the record that counts there
-module _ (read : Reading) (folder key : List ℕ) (c : commands.Command) (w : World) (old : Counts) where
-  pub at_unread : (e : StoreFault) (new : Counts) → StopsAt e (call.Read (place_of folder key) ∷ []) old new → StopsAt e (unit_looked read folder key c w) old new
+module _ (folder key : List ℕ) (c : commands.Command) (w : World) (old : Counts) where
+  pub at_unread : (e : StoreFault) (new : Counts) → StopsAt e (call.Read (place_of folder key) ∷ []) old new → StopsAt e (unit_looked folder key c w) old new
   unfolding unit_looked
   at_unread e new stops = stops_first e (call.Read (place_of folder key) ∷ []) _ old new stops
 
-  pub at_none : (found : Option Record) (new : Counts) → found ≡ record_at read folder w.files key → found ≡ None → new ≡ past_calls (call.Read (place_of folder key) ∷ []) old → new ≡ past_calls (unit_looked read folder key c w) old
+  pub at_none : (found : Option Record) (new : Counts) → found ≡ records folder w key → found ≡ None → new ≡ past_calls (call.Read (place_of folder key) ∷ []) old → new ≡ past_calls (unit_looked folder key c w) old
   unfolding unit_looked
-  at_none found new is none made = made ∙ ap (λ o. past_calls (call.Read (place_of folder key) ∷ kept_looked folder c w o) old) (sym none ∙ is)
+  at_none found new is none made = made ∙ ap (λ o. past_calls (call.Read (place_of folder key) ∷ option_map_or (from_looked folder c w) o []) old) (sym none ∙ is)
 
-  at_names : (found : Option Record) (r : Record) → found ≡ record_at read folder w.files key → found ≡ Some r → unit_looked read folder key c w ≡ (call.Read (place_of folder key) ∷ []) ++ from_looked folder c w r
+  at_names : (found : Option Record) (r : Record) → found ≡ records folder w key → found ≡ Some r → unit_looked folder key c w ≡ (call.Read (place_of folder key) ∷ []) ++ from_looked folder c w r
   unfolding unit_looked
-  at_names found r is some = ap (λ o. call.Read (place_of folder key) ∷ kept_looked folder c w o) (sym is ∙ some)
+  at_names found r is some = ap (λ o. call.Read (place_of folder key) ∷ option_map_or (from_looked folder c w) o []) (sym is ∙ some)
 
-  pub at_then : {T : Type 0} (result : Result T StoreFault) (found : Option Record) (r : Record) (now : World) (mid new : Counts) → found ≡ record_at read folder w.files key → found ≡ Some r → now ≡ w → mid ≡ past_calls (call.Read (place_of folder key) ∷ []) old
-      → Looks result (from_looked folder c now r) mid new → Looks result (unit_looked read folder key c w) old new
+  pub at_then : {T : Type 0} (result : Result T StoreFault) (found : Option Record) (r : Record) (now : World) (mid new : Counts) → found ≡ records folder w key → found ≡ Some r → now ≡ w → mid ≡ past_calls (call.Read (place_of folder key) ∷ []) old
+      → Looks result (from_looked folder c now r) mid new → Looks result (unit_looked folder key c w) old new
   at_then result found r now mid new is some same first second =
       subst (λ names. Looks result names old new) (sym (at_names found r is some))
       (looks_both result (call.Read (place_of folder key) ∷ []) (from_looked folder c w r) old mid new first
       (subst (λ (v : World). Looks result (from_looked folder c v r) mid new) same second))
-
--- whatever reading it is
-pub looks_for : {T : Type 0} (result : Result T StoreFault) (read : Reading) (folder key : List ℕ) (c : commands.Command) (w : World) (old new : Counts) → IsReading read → Looks result (unit_looked reading folder key c w) old new → Looks result (unit_looked read folder key c w) old new
-looks_for result read folder key c w old new is looks = subst (λ r. Looks result (unit_looked r folder key c w) old new) (one_read read is) looks

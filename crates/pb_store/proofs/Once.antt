@@ -1,11 +1,10 @@
 -- A unit has one first difference, and none where nothing differs.
-use Rattle.std.proofs.Common.{◌≡◌, ◌∙◌, ◌++◌, ℕ, true, List, [], ◌∷◌, Contains, Option, Some, None, Result, Ok, Err, IfOk, refl, sym, ap, subst}
+use Rattle.std.proofs.Common.{◌≡◌, ◌∙◌, ◌++◌, ℕ, true, List, [], ◌∷◌, Contains, Option, Some, None, refl, sym, ap, subst}
 use Rattle.std.specs.List.{AllByRecursion}
 use Rattle.pb_place.specs.Paths.{is_relative}
 use Rattle.pb_place.specs.World.{World, Map}
 use Rattle.pb_place.specs.declared.command.Command as commands
 use Rattle.pb_record.specs.Commands.{AsksAs, command_of}
-use Rattle.pb_record.specs.Parts.{IsReading}
 use Rattle.pb_record.specs.declared.asked.Asked.{Asked}
 use Rattle.pb_record.specs.declared.record.Needed.{Needed}
 use Rattle.pb_record.specs.declared.record.Needed.TheVariants.{Copies, Numbers}
@@ -13,16 +12,16 @@ use Rattle.pb_record.specs.declared.record.Record.{Record}
 use Rattle.pb_record.proofs.ReadingLemmas.{reading}
 use Rattle.pb_soundness.specs.Grounded.{Standing}
 use Rattle.pb_soundness.specs.Inputs.{name_of}
-use Rattle.pb_soundness.specs.Records.{Reading, record_at}
+use Rattle.pb_soundness.specs.Records.{records}
 use Rattle.pb_soundness.specs.Reuse.{IsSame, NeededNow}
 use Rattle.pb_soundness.proofs.Flying.{contains_head, contains_tail}
 use Rattle.pb_store.specs.Asking.{IsFirstName, SamePart, parts}
-use Rattle.pb_store.specs.Differences.{AreNeeded, DifferencesAreOne, DiffersFrom, FirstDifference, FirstFrom, FirstNeed, FirstOf, HasFiles, HasNumber, IsAsRecorded, IsFirst, IsPresent, NamesPaths}
+use Rattle.pb_store.specs.Differences.{AreNeeded, DifferencesAreOne, UnchangedIsSame, DiffersFrom, FirstDifference, FirstFrom, FirstNeed, FirstOf, HasFiles, HasNumber, IsAsRecorded, IsFirst, IsPresent, NamesPaths}
 use Rattle.pb_store.specs.declared.difference.CommandPart.{CommandPart}
 use Rattle.pb_store.specs.declared.difference.Difference.{Difference}
 use Rattle.pb_store.specs.declared.difference.Difference.TheVariants.{NoRecord, Command, Pair, Input, Dependency}
 use Rattle.pb_store.proofs.Names.{names_apart, one_name}
-use Rattle.pb_store.proofs.Firsts.{first_for, same_for}
+use Rattle.pb_store.proofs.Firsts.{none_is_same}
 
 -- the first of a row of which something does not hold
 
@@ -128,7 +127,7 @@ module _ (folder : List ℕ) (at : Standing) (c : commands.Command) (w : World) 
   one_of (Some r) found other told second = one_from r found other told second
 
 pub one_difference : DifferencesAreOne
-one_difference read folder key c w found other told second = one_of folder (record_at read folder w.files) c w (record_at read folder w.files key) found other told second
+one_difference folder key c w found other told second = one_of folder (records folder w) c w (records folder w key) found other told second
 
 -- it is none where nothing differs
 
@@ -144,21 +143,16 @@ needed_still : (folder : List ℕ) (at : Standing) (files : Map) (needed : Neede
 needed_still folder at files (Copies copies) named now = all_of (λ c. is_relative c.0 ≡ true) (HasFiles folder files) copies (λ c there relative. (relative, now c.0 c.1 there)) named
 needed_still folder at files (Numbers number needs) named now = each_of (HasNumber at) needs (λ n there. now n.0 n.1 there)
 
-none_first : (read : Reading) (folder key : List ℕ) (c : commands.Command) (w : World) (r : Record) → IsSame read folder key c w r → NamesPaths r.needed → FirstDifference read folder key c w None
-none_first read folder key c w r same named =
-    subst (λ o. FirstOf folder (record_at read folder w.files) c w o None) (sym same.stands) record {
+none_first : (folder key : List ℕ) (c : commands.Command) (w : World) (r : Record) → IsSame reading folder key c w r → NamesPaths r.needed → FirstDifference folder key c w None
+none_first folder key c w r same named =
+    subst (λ o. FirstOf folder (records folder w) c w o None) (sym same.stands) record {
       asked = same.asked;
       inputs = same.inputs;
-      needed = needed_still folder (record_at read folder w.files) w.files r.needed named same.needed;
+      needed = needed_still folder (records folder w) w.files r.needed named same.needed;
     }
 
-pub none_for : (read : Reading) (folder key : List ℕ) (c : commands.Command) (w : World) (r : Record) (found : Option Difference) → FirstDifference reading folder key c w found → IsReading read → IsSame read folder key c w r → NamesPaths r.needed → found ≡ None
-none_for read folder key c w r found told is same named =
-    one_difference read folder key c w found None (first_for read folder key c w found is told) (none_first read folder key c w r same named)
-
--- what holds of an answer that is there
-pub if_ok : {T E : Type 0} {P Q : T → Type 0} (result : Result T E) → ((x : T) → P x → Q x) → IfOk result P → IfOk result Q
-if_ok (Ok x) on is = on x is
-if_ok (Err e) on is = tt
-
-pub ruleset difference_laws = (first_for, same_for, none_for)
+pub unchanged_is_same : UnchangedIsSame
+unchanged_is_same = record {
+  same = λ folder key c w told. none_is_same folder key c w (records folder w key) refl told;
+  none = none_first;
+}

@@ -7,8 +7,8 @@ use Rattle.std.specs.List.{list_all}
 use Rattle.std.specs.FinMap.{get}
 use Rattle.std.specs.Str.{bytes_eq}
 use Rattle.pb_place.specs.Paths.{is_path, is_relative, is_name, is_at_or_below}
-use Rattle.pb_place.specs.World.{World, Map, Answers, AgreeBut, ChangesOnly, Torn, PartlyRemoved, written, removed}
-use Rattle.pb_place.proofs.Folders.{only_written, only_torn, only_removed, only_partly}
+use Rattle.pb_place.specs.World.{World, Map, Answers, AgreeBut, Torn, PartlyRemoved, written, removed}
+use Rattle.pb_place.proofs.Folders.{only_written, only_torn, only_removed}
 use Rattle.pb_place.proofs.TakenApart.{parts_lone}
 use Rattle.pb_place.proofs.Within.{at_itself}
 use Rattle.pb_place.proofs.Worlds.{written-read, removed-read}
@@ -21,7 +21,7 @@ use Rattle.pb_soundness.specs.Inputs.{Judge}
 use Rattle.pb_soundness.specs.Records.{Reading, is_key, out_of, place_of, record_at, read_text, if_of_key}
 use Rattle.pb_soundness.specs.Sound.{Sound, IsTrueRecord}
 use Rattle.pb_soundness.specs.Laws.{Became, stays}
-use Rattle.pb_store.specs.Keeping.{Leaves, MayPut}
+use Rattle.pb_store.specs.Folder.{Leaves, MayPut}
 use Rattle.pb_soundness.proofs.Becoming.{stays_sound, one, none_some}
 use Rattle.pb_soundness.proofs.Four.{by_key, other_stays, without_record}
 use Rattle.pb_soundness.proofs.Places.{key_facts, record_named, record_plain, record_same, text_at, is_same, no_key, places_differ, folder_still, out_place_apart}
@@ -245,19 +245,6 @@ module _ (read : Reading) (folder key : List ℕ) (is : is_key key ≡ true) whe
 
   pub torn_left_at : (p passed text : List ℕ) (old new : World) (r : Record) → Torn p passed old new → p ≡ place_of folder key → passed ≡ text → IsReading read → Says text r → r.key ≡ key → Leaves (Some r) (record_at read folder old.files key) (record_at read folder new.files key)
   torn_left_at p passed text old new r torn at given = torn_left text old new r (subst (λ x. Torn (place_of folder key) x old new) given (subst (λ x. Torn x passed old new) at torn))
-
--- a change at a record's place, whatever it was
-pub removed_only_at : (folder key p : List ℕ) (old new : World) → new ≡ removed p old → p ≡ place_of folder key → ChangesOnly (is_at_or_below (place_of folder key)) old new
-removed_only_at folder key p old new same at = only_removed (place_of folder key) old new (same ∙ ap (λ x. removed x old) at)
-
-pub written_only_at : (folder key p passed : List ℕ) (old new : World) → new ≡ written p passed old → p ≡ place_of folder key → ChangesOnly (is_at_or_below (place_of folder key)) old new
-written_only_at folder key p passed old new same at = only_written (place_of folder key) (place_of folder key) passed old new (at_itself (place_of folder key) (place_of folder key) refl) (same ∙ ap (λ x. written x passed old) at)
-
-pub torn_only_at : (folder key p passed : List ℕ) (old new : World) → Torn p passed old new → p ≡ place_of folder key → ChangesOnly (is_at_or_below (place_of folder key)) old new
-torn_only_at folder key p passed old new torn at = only_torn (place_of folder key) (place_of folder key) passed old new (at_itself (place_of folder key) (place_of folder key) refl) (subst (λ x. Torn x passed old new) at torn)
-
-pub partly_only_at : (folder key p : List ℕ) (old new : World) → PartlyRemoved p old new → p ≡ place_of folder key → ChangesOnly (is_at_or_below (place_of folder key)) old new
-partly_only_at folder key p old new partly at = only_partly (place_of folder key) old new (subst (λ x. PartlyRemoved x old new) at partly)
 
 -- where the number is given after what was done, and the one after it is the next
 pub dropped_ahead : (old new : Standing) (before then : Option ℕ) (number : ℕ) → before ≡ Some number → then ≡ after number → ((next : Option ℕ) → IsAhead old next → IsAhead new next) → IsAhead old before → IsAhead new then

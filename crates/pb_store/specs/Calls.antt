@@ -1,9 +1,14 @@
--- Which call of the place failed: of which kind and on which path, and what was done before it.
-use Rattle.std.specs.Prelude.{◌≡◌, ◌⊎◌, ℕ, Bool, true, false, IsTrue, List, Contains, Result, MatchResult}
+-- What a call of the store does to the place, which call of the place failed, and why.
+use Rattle.std.specs.Prelude.{◌≡◌, ◌⊎◌, ℕ, List, Option, Some, None, Result, MatchResult, Bool, true, false, IsTrue, Contains, IfErr}
+use Rattle.pb_place.specs.At.{At}
 use Rattle.pb_place.specs.CallsInTurn.{Fails}
+use Rattle.pb_place.specs.Children.{KeepsStill, KeepsStillOutside}
+use Rattle.pb_place.specs.Counts.{Counts, named_in, up, past_call}
+use Rattle.pb_place.specs.World.{World, listed_directly, ChangesOnly}
 use Rattle.pb_place.specs.declared.call.Call.{Call}
-use Rattle.pb_place.specs.Counts.{Counts, past_call}
-use Rattle.pb_place.specs.World.{World, listed_directly}
+use Rattle.pb_place.specs.declared.call.Call.TheVariants as call
+use Rattle.pb_place.specs.declared.place.Failure.{Failure}
+use Rattle.pb_place.specs.declared.place.Failure.TheVariants.{Called}
 use Rattle.pb_place.specs.declared.place.PlaceFault.{PlaceFault}
 use Rattle.pb_place.specs.declared.place.PlaceFault.TheVariants as place
 use Rattle.pb_soundness.specs.Records.{ends_as_record}
@@ -11,6 +16,90 @@ use Rattle.pb_store.specs.declared.fault.OpenFault.{OpenFault}
 use Rattle.pb_store.specs.declared.fault.OpenFault.TheVariants as open_fault
 use Rattle.pb_store.specs.declared.fault.StoreFault.{StoreFault}
 use Rattle.pb_store.specs.declared.fault.StoreFault.TheVariants.{Place, NumbersSpent, OutOfMemory}
+
+-- a fault of the place as one of the store; want of memory stays so
+abbrev pub stored : PlaceFault → StoreFault
+stored place.Read = Place place.Read
+stored place.List = Place place.List
+stored place.Write = Place place.Write
+stored place.Remove = Place place.Remove
+stored place.Variable = Place place.Variable
+stored place.OutOfMemory = OutOfMemory
+
+-- a fault of a call of the place on this path as one of opening; want of memory stays so
+abbrev pub opened : List ℕ → PlaceFault → OpenFault
+opened path place.Read = open_fault.Place path place.Read
+opened path place.List = open_fault.Place path place.List
+opened path place.Write = open_fault.Place path place.Write
+opened path place.Remove = open_fault.Place path place.Remove
+opened path place.Variable = open_fault.Place path place.Variable
+opened path place.OutOfMemory = open_fault.OutOfMemory
+
+-- a call failed, with this fault, and none came after it
+abbrev pub FailedLast : Failure → Counts → Counts → Type 0
+FailedLast failure old new = (new.failures ≡ up old.failures) × (new.late ≡ 0) × (new.last ≡ Some failure)
+
+-- where the fault is one of a call, that call failed with this very fault and was the last; where it is the store's own, or want of memory, none failed
+abbrev pub HasCause : StoreFault → Counts → Counts → Type 0
+HasCause (Place fault) old new = FailedLast (Called fault) old new
+HasCause NumbersSpent old new = new.failures ≡ old.failures
+HasCause OutOfMemory old new = new.failures ≡ old.failures
+
+-- what a call of the store says of the counters: it starts no child; where it ended well, no call failed; else it may tell this fault, which has its cause
+abbrev pub Takes : {T : Type 0} → (StoreFault → Type 0) → Result T StoreFault → Counts → Counts → Type 0
+Takes May result old new = (new.starts ≡ old.starts) × MatchResult result (λ x. new.failures ≡ old.failures) (λ e. May e × HasCause e old new)
+
+-- the faults of a call that reads files
+abbrev pub MayRead : StoreFault → Type 0
+MayRead (Place fault) = fault ≡ place.Read
+MayRead NumbersSpent = ⊥
+MayRead OutOfMemory = Unit {0}
+
+-- of one that looks at inputs: it reads files, lists folders and reads variables
+abbrev pub MayLook : StoreFault → Type 0
+MayLook (Place fault) = (fault ≡ place.Read) ⊎ ((fault ≡ place.List) ⊎ (fault ≡ place.Variable))
+MayLook NumbersSpent = ⊥
+MayLook OutOfMemory = Unit {0}
+
+-- of one that removes a record
+abbrev pub MayRemove : StoreFault → Type 0
+MayRemove (Place fault) = fault ≡ place.Remove
+MayRemove NumbersSpent = ⊥
+MayRemove OutOfMemory = Unit {0}
+
+-- of one that takes a run number first: it tells that none is left exactly where none is
+abbrev pub MayDrop : Option ℕ → StoreFault → Type 0
+MayDrop None NumbersSpent = Unit {0}
+MayDrop None (Place fault) = ⊥
+MayDrop None OutOfMemory = ⊥
+MayDrop (Some number) e = MayRemove e
+
+-- of one that writes a record
+abbrev pub MayWrite : StoreFault → Type 0
+MayWrite (Place fault) = fault ≡ place.Write
+MayWrite NumbersSpent = ⊥
+MayWrite OutOfMemory = Unit {0}
+
+-- of one that looks at inputs, and then writes a record
+abbrev pub MayKeep : StoreFault → Type 0
+MayKeep (Place fault) = (fault ≡ place.Write) ⊎ MayLook (Place fault)
+MayKeep NumbersSpent = ⊥
+MayKeep OutOfMemory = Unit {0}
+
+-- of one that takes a run number after it has read, and writes a record: it tells that none is left only where none is
+abbrev pub MayMigrate : Option ℕ → StoreFault → Type 0
+MayMigrate next (Place fault) = (fault ≡ place.Write) ⊎ (fault ≡ place.Read)
+MayMigrate next NumbersSpent = next ≡ None
+MayMigrate next OutOfMemory = Unit {0}
+
+-- the cause of a fault of opening: the call on this path failed, with this fault, and was the last; or memory was refused, and none failed
+abbrev pub FailsToOpen : OpenFault → Counts → Counts → Type 0
+FailsToOpen (open_fault.Place path fault) old new = ((fault ≡ place.List) ⊎ (fault ≡ place.Read)) × FailedLast (Called fault) old new × (named_in new ≡ path)
+FailsToOpen open_fault.OutOfMemory old new = new.failures ≡ old.failures
+
+-- what opening says of the counters: it starts no child; where it ended well, no call failed; else its fault has its cause
+abbrev pub TakesOpen : {T : Type 0} → Result T OpenFault → Counts → Counts → Type 0
+TakesOpen result old new = (new.starts ≡ old.starts) × MatchResult result (λ x. new.failures ≡ old.failures) (λ e. FailsToOpen e old new)
 
 -- this one call failed, with this fault; none was made where the fault is the store's own, and one at most where memory was refused
 abbrev pub EndsOnce : Call → StoreFault → Counts → Counts → Type 0
@@ -21,6 +110,10 @@ EndsOnce call OutOfMemory old new = (new ≡ old) ⊎ (new ≡ past_call old)
 -- this one call of the place was made, and how it ended is told
 abbrev pub CallsOnce : {T : Type 0} → Call → Result T StoreFault → Counts → Counts → Type 0
 CallsOnce call result old new = MatchResult result (λ x. new ≡ past_call old) (λ e. EndsOnce call e old new)
+
+-- if a write failed, it was that of this file
+abbrev pub FailsToWrite : {T : Type 0} → List ℕ → Result T StoreFault → Counts → Type 0
+FailsToWrite path result new = IfErr result (λ e. e ≡ Place place.Write → new.failing ≡ Some (call.Write path))
 
 -- a call that looks: it reads a file, lists a folder or reads a variable
 abbrev pub is_look : PlaceFault → Bool
@@ -37,17 +130,7 @@ looked (Place fault) = is_look fault
 looked NumbersSpent = false
 looked OutOfMemory = false
 
--- the file at this path could not be read
-abbrev pub ReadsAt : List ℕ → OpenFault → Type 0
-ReadsAt path (open_fault.Place at fault) = (fault ≡ place.Read) × (at ≡ path)
-ReadsAt path open_fault.OutOfMemory = Unit {0}
-
--- nor was it another than a record's
-abbrev pub ReadsRecord : List ℕ → OpenFault → Type 0
-ReadsRecord path (open_fault.Place at fault) = (fault ≡ place.Read) × (at ≡ path) × (ends_as_record path ≡ true)
-ReadsRecord path open_fault.OutOfMemory = Unit {0}
-
--- the record that could not be read is one of these files
+-- a record could not be read, one of these files
 abbrev pub ReadsOneOf : List (List ℕ) → OpenFault → Type 0
 ReadsOneOf paths (open_fault.Place at fault) = (fault ≡ place.Read) × Contains paths at × (ends_as_record at ≡ true)
 ReadsOneOf paths open_fault.OutOfMemory = Unit {0}
@@ -56,3 +139,24 @@ ReadsOneOf paths open_fault.OutOfMemory = Unit {0}
 abbrev pub OpensBy : Bool → List ℕ → World → OpenFault → Type 0
 OpensBy tells folder w (open_fault.Place at fault) = ((fault ≡ place.List) × (at ≡ folder)) ⊎ ((fault ≡ place.Read) × (ends_as_record at ≡ true) × (IsTrue tells → Contains (listed_directly folder w) at))
 OpensBy tells folder w open_fault.OutOfMemory = Unit {0}
+
+-- it only looks: nothing changes but the counters; a call that failed was the last, and told one of these faults
+pub record OnlyLooks {T : Type 0} (May : StoreFault → Type 0) (result : Result T StoreFault) (old new : At) : Type 0 where
+  pub world : new.world ≡ old.world
+  pub most : new.most ≡ old.most
+  pub still : KeepsStill old.still new.still
+  pub takes : Takes May result old.counts new.counts
+
+-- opening likewise
+pub record OnlyOpens {T : Type 0} (result : Result T OpenFault) (old new : At) : Type 0 where
+  pub world : new.world ≡ old.world
+  pub most : new.most ≡ old.most
+  pub still : KeepsStill old.still new.still
+  pub takes : TakesOpen result old.counts new.counts
+
+-- it changes files of these paths alone, and starts no child; a call that failed was the last, and told one of these faults
+pub record ChangesOnlyAt {T : Type 0} (inside : List ℕ → Bool) (May : StoreFault → Type 0) (result : Result T StoreFault) (old new : At) : Type 0 where
+  pub only : ChangesOnly inside old.world new.world
+  pub most : new.most ≡ old.most
+  pub still : KeepsStillOutside inside old.counts.starts.flying old.still new.still
+  pub takes : Takes May result old.counts new.counts

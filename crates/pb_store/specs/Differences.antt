@@ -1,22 +1,27 @@
--- What differs of a unit against the present: the first that does, in this order.
-use Rattle.std.specs.Prelude.{◌≡◌, ◌++◌, ◌∷◌, ◌&&◌, ℕ, Bool, true, false, List, [], Option, Some, None}
+-- What differs first of a unit, in this order; and what its record replays if nothing does.
+use Rattle.std.specs.Prelude.{◌≡◌, ◌++◌, ◌∷◌, ◌&&◌, ℕ, Bool, true, false, List, [], Option, Some, None, pos, is_some, option_map}
 use Rattle.std.specs.List.{AllByRecursion}
 use Rattle.std.specs.Str.{bytes_eq}
 use Rattle.pb_place.specs.Paths.{is_relative}
 use Rattle.pb_place.specs.World.{World, Map}
 use Rattle.pb_place.specs.declared.command.Command as commands
+use Rattle.pb_place.specs.declared.command.Ended.{Ended}
 use Rattle.pb_record.specs.Commands.{AsksAs, command_of}
 use Rattle.pb_record.specs.declared.record.Input as inputs
+use Rattle.pb_record.specs.declared.record.InputName.{InputName}
 use Rattle.pb_record.specs.declared.record.Needed.{Needed}
 use Rattle.pb_record.specs.declared.record.Needed.TheVariants.{Copies, Numbers}
 use Rattle.pb_record.specs.declared.record.Record.{Record}
 use Rattle.pb_soundness.specs.Grounded.{Standing}
 use Rattle.pb_soundness.specs.Inputs.{Agrees, contents, input_in, name_of}
-use Rattle.pb_soundness.specs.Records.{Reading, out_of, record_at}
-use Rattle.pb_soundness.specs.Reuse.{number_if}
+use Rattle.pb_soundness.specs.Records.{out_of, reading, records, number_of}
+use Rattle.pb_soundness.specs.Reuse.{IsSame, number_if}
 use Rattle.pb_store.specs.Asking.{IsFirstName, SamePart, parts}
 use Rattle.pb_store.specs.declared.difference.Difference.{Difference}
 use Rattle.pb_store.specs.declared.difference.Difference.TheVariants.{NoRecord, Command, Pair, Input, Dependency}
+use Rattle.pb_store.specs.declared.replaying.Compared.{Compared}
+use Rattle.pb_store.specs.declared.replaying.Compared.TheVariants.{Differs, Same}
+use Rattle.pb_store.specs.declared.replaying.Replayed.{Replayed}
 
 -- the first of a row of which this does not hold: it holds of all before it; and what is told of it
 pub record IsFirst {A B : Type 0} (Holds : A → Type 0) (told : A → B) (row : List A) (b : B) : Type 0 where
@@ -36,6 +41,11 @@ FirstOrAll Holds row (Some b) = IsFirst Holds (λ x. x.0) row b
 -- an input has its present value
 abbrev pub IsPresent : List ℕ → World → inputs.Input → Type 0
 IsPresent target w i = input_in target w (name_of i) ≡ i
+
+-- what is told of a row of inputs: none where each has its present value, else the name of the first that has not
+abbrev pub FirstInput : List ℕ → List inputs.Input → World → Option InputName → Type 0
+FirstInput target row w None = Agrees target row w
+FirstInput target row w (Some name) = IsFirst (IsPresent target w) name_of row name
 
 -- the record of a needed unit has the number with which it is named
 abbrev pub HasNumber : Standing → (List ℕ × ℕ) → Type 0
@@ -78,17 +88,26 @@ abbrev pub FirstOf : List ℕ → Standing → commands.Command → World → Op
 FirstOf folder at c w None found = found ≡ Some NoRecord
 FirstOf folder at c w (Some r) found = FirstFrom folder at c w r found
 
-abbrev pub FirstDifference : Reading → List ℕ → List ℕ → commands.Command → World → Option Difference → Type 0
-FirstDifference read folder key c w found = FirstOf folder (record_at read folder w.files) c w (record_at read folder w.files key) found
+abbrev pub FirstDifference : List ℕ → List ℕ → commands.Command → World → Option Difference → Type 0
+FirstDifference folder key c w found = FirstOf folder (records folder w) c w (records folder w key) found
 
 -- where a record names units by copies, it names each by a path in a folder
 abbrev pub NamesPaths : Needed → Type 0
 NamesPaths (Copies copies) = AllByRecursion (λ c. is_relative c.0 ≡ true) copies
 NamesPaths (Numbers number needs) = Unit {0}
 
+-- nothing differs of a unit, for some command that would build it again
+abbrev pub NothingDiffers : List ℕ → List ℕ → World → Type 0
+NothingDiffers folder key w = (c : commands.Command) × FirstDifference folder key c w None
+
+-- If nothing differs of a unit, its record says what a child would answer; and nothing differs if it does, unless it names a unit by no path.
+pub record UnchangedIsSame : Type 0 where
+  pub same : (folder key : List ℕ) (c : commands.Command) (w : World) → FirstDifference folder key c w None → (r : Record) × IsSame reading folder key c w r
+  pub none : (folder key : List ℕ) (c : commands.Command) (w : World) (r : Record) → IsSame reading folder key c w r → NamesPaths r.needed → FirstDifference folder key c w None
+
 -- A unit has one first difference, or none, in one world.
 abbrev pub DifferencesAreOne : Type 0
-DifferencesAreOne = (read : Reading) (folder key : List ℕ) (c : commands.Command) (w : World) (found other : Option Difference) → FirstDifference read folder key c w found → FirstDifference read folder key c w other → found ≡ other
+DifferencesAreOne = (folder key : List ℕ) (c : commands.Command) (w : World) (found other : Option Difference) → FirstDifference folder key c w found → FirstDifference folder key c w other → found ≡ other
 
 -- whether two lists of files are the same
 abbrev pub same_files : List (List ℕ × List ℕ) → List (List ℕ × List ℕ) → Bool
@@ -96,3 +115,25 @@ same_files [] [] = true
 same_files [] (y ∷ ys) = false
 same_files (x ∷ xs) [] = false
 same_files (x ∷ xs) (y ∷ ys) = (bytes_eq x.0 y.0 && bytes_eq x.1 y.1) && same_files xs ys
+
+-- the child ended well, with the recorded streams; and whether the record has a number
+abbrev pub replayed : Record → Replayed
+replayed r = record { ended = record { status = pos 0; stdout = r.stdout; stderr = r.stderr }; numbered = is_some (number_of r) }
+
+-- this is what the record that counts in a unit's place gives again
+abbrev pub IsReplayed : Option Record → Replayed → Type 0
+IsReplayed found again = option_map replayed found ≡ Some again
+
+-- the difference that a comparison tells; none where nothing differs
+abbrev pub difference_in : Compared → Option Difference
+difference_in (Differs difference) = Some difference
+difference_in (Same again) = None
+
+-- where nothing differs, what a comparison carries is what the record gives again
+abbrev pub CarriesReplayed : Option Record → Compared → Type 0
+CarriesReplayed found (Differs difference) = Unit {0}
+CarriesReplayed found (Same again) = IsReplayed found again
+
+-- a record gives this answer again
+abbrev pub IsAnswered : Option Record → Ended → Type 0
+IsAnswered found ended = option_map (λ (r : Record). (replayed r).ended) found ≡ Some ended

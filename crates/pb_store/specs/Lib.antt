@@ -1,11 +1,6 @@
-pub mod Causes
-pub mod Keeping
-pub mod Migrating
-pub mod Opening
+pub mod Calls
 pub mod Asking
 pub mod Differences
-pub mod Presence
-pub mod Replaying
-pub mod Calls
+pub mod Folder
 pub mod Looking
-pub mod Held
+pub mod Presence

@@ -1,8 +1,9 @@
 -- Where a call of the store looks and writes, how often and in which order: the calls of the place, in turn, each with what it is given.
-use Rattle.std.specs.Prelude.{◌≡◌, ◌++◌, ◌∷◌, ◌==◌, ◌&&◌, if◌then◌else◌, ℕ, Bool, true, false, map, List, [], Option, Some, None, Result, MatchResult, Decides}
+use Rattle.std.specs.Prelude.{◌≡◌, ◌⊎◌, ◌++◌, ◌∷◌, ◌==◌, ◌&&◌, if◌then◌else◌, ℕ, Bool, true, false, map, List, [], Option, Some, None, Result, Err, MatchResult, Decides}
 use Rattle.std.specs.Cmp.Lexicographic.{pointwise}
 use Rattle.std.specs.FinMap as finite
 use Rattle.std.specs.List.{filter, list_all}
+use Rattle.std.specs.Option.{option_map_or}
 use Rattle.std.specs.Str.{bytes_eq}
 use Rattle.pb_place.specs.CallsInTurn.{FailsAt, MakesSome, past_calls}
 use Rattle.pb_place.specs.declared.call.Call.{Call}
@@ -21,9 +22,9 @@ use Rattle.pb_record.specs.declared.record.Needed.{Needed}
 use Rattle.pb_record.specs.declared.record.Needed.TheVariants.{Copies, Numbers}
 use Rattle.pb_record.specs.declared.record.Record.{Record}
 use Rattle.pb_soundness.specs.Inputs.{contents, input_in, name_of}
-use Rattle.pb_soundness.specs.Records.{Reading, ends_as_record, out_of, place_of, record_at}
+use Rattle.pb_soundness.specs.Records.{ends_as_record, out_of, place_of, records}
 use Rattle.pb_store.specs.Differences.{HasFiles, IsPresent, same_files}
-use Rattle.pb_store.specs.Migrating.{lacks_number}
+use Rattle.pb_store.specs.Folder.{lacks_number}
 use Rattle.pb_store.specs.declared.fault.OpenFault.{OpenFault}
 use Rattle.pb_store.specs.declared.fault.OpenFault.TheVariants as open_fault
 use Rattle.pb_store.specs.declared.fault.StoreFault.{StoreFault}
@@ -125,13 +126,9 @@ is_asked a c = bytes_eq a.program c.program && (same_texts a.words c.words && (b
 unfoldable pub from_looked : List ℕ → commands.Command → World → Record → List Call
 from_looked folder c w r = if is_asked r.asked c then around_looked folder c.target w r else []
 
-abbrev pub kept_looked : List ℕ → commands.Command → World → Option Record → List Call
-kept_looked folder c w None = []
-kept_looked folder c w (Some r) = from_looked folder c w r
-
 -- for a unit: the place of its record is read, and then it is looked where the record that counts there leads
-unfoldable pub unit_looked : Reading → List ℕ → List ℕ → commands.Command → World → List Call
-unit_looked read folder key c w = call.Read (place_of folder key) ∷ kept_looked folder c w (record_at read folder w.files key)
+unfoldable pub unit_looked : List ℕ → List ℕ → commands.Command → World → List Call
+unit_looked folder key c w = call.Read (place_of folder key) ∷ option_map_or (from_looked folder c w) (records folder w key) []
 
 -- those of some files that have the name of a record are read, in their order
 abbrev pub records_looked : List (List ℕ) → List Call
@@ -141,30 +138,21 @@ records_looked paths = map call.Read (filter ends_as_record paths)
 abbrev pub opened_looked : List ℕ → World → List Call
 opened_looked folder w = call.ListDirectly folder ∷ records_looked (listed_directly folder w)
 
--- for the run numbers: nowhere where the store knows them; else the records are read anew, as where it is opened
-abbrev pub numbers_looked : Bool → List ℕ → World → List Call
-numbers_looked true folder w = []
-numbers_looked false folder w = opened_looked folder w
-
--- to compare a unit with its record: for the numbers, and then for the unit
-abbrev pub looked_at : Reading → Bool → List ℕ → List ℕ → commands.Command → World → List Call
-looked_at read known folder key c w = numbers_looked known folder w ++ unit_looked read folder key c w
-
 -- it is looked at each of some inputs, in their order
 abbrev pub names_looked : List ℕ → World → List InputName → List Call
 names_looked target w names = looked_up_to (λ name. true) (name_looked target w) names
 
--- to keep a record it is looked for the numbers, then at the inputs, and then it is written in its place
-abbrev pub kept_called : Bool → List ℕ → List ℕ → List ℕ → World → List InputName → List Call
-kept_called known folder key target w names = numbers_looked known folder w ++ (names_looked target w names ++ (call.Write (place_of folder key) ∷ []))
+-- to keep a record it is looked at the inputs, and then it is written in its place
+abbrev pub kept_called : List ℕ → List ℕ → List ℕ → World → List InputName → List Call
+kept_called folder key target w names = names_looked target w names ++ (call.Write (place_of folder key) ∷ [])
 
--- to write a record again with a number it is looked for those of the units that it needs
-abbrev pub renumbered_called : Bool → List ℕ → List ℕ → World → List Call
-renumbered_called known folder key w = numbers_looked known folder w ++ (call.Write (place_of folder key) ∷ [])
+-- to migrate a record its place is read; if a record without a number counts there, it is written again
+abbrev pub migrated_called : List ℕ → List ℕ → World → List Call
+migrated_called folder key w = call.Read (place_of folder key) ∷ (if lacks_number (records folder w key) then call.Write (place_of folder key) ∷ [] else [])
 
--- to migrate a record its place is read, and where one without a number counts there, it is written again
-abbrev pub migrated_called : Bool → List ℕ → List ℕ → World → Option Record → List Call
-migrated_called known folder key w found = call.Read (place_of folder key) ∷ (if lacks_number found then renumbered_called known folder key w else [])
+-- these calls were made, and more only if a run number was left
+abbrev pub LooksOrSpent : {T : Type 0} → Result T StoreFault → List Call → List Call → Counts → Counts → Type 0
+LooksOrSpent result first calls old new = ((result ≡ Err NumbersSpent) × (new ≡ past_calls first old)) ⊎ Looks result calls old new
 
 -- The tests by which it is said how far it looks decide just that by which a difference is told.
 pub record TestsDecide : Type 0 where

@@ -1,7 +1,6 @@
 -- What serves private functions alone: the files below a folder, read one by one; and how the numbers of records are gathered and looked up.
 use Rattle.std.specs.Prelude.{◌≡◌, ◌&&◌, ℕ, if◌then◌else◌, true, map, List, [], ◌∷◌, Option, Some, None}
 use Rattle.std.specs.FinMap as finite
-use Rattle.std.specs.List.{fold}
 use Rattle.std.specs.Str.{bytes_eq}
 use Rattle.pb_data.specs.Table.{with_entry}
 use Rattle.pb_place.specs.declared.call.Call.{Call}
@@ -9,13 +8,9 @@ use Rattle.pb_place.specs.declared.call.Call.TheVariants as call
 use Rattle.pb_place.specs.Paths.{inside}
 use Rattle.pb_place.specs.World.{Map}
 use Rattle.pb_record.specs.declared.record.Record.{Record}
-use Rattle.pb_soundness.specs.Grounded.{Standing}
-use Rattle.pb_soundness.specs.Records.{Reading, ends_as_record, is_key, number_of, place_of, read_text}
-use Rattle.pb_soundness.specs.Reuse.{number_if}
-use Rattle.pb_store.specs.Held.{number_by, number_in}
-use Rattle.pb_store.specs.Keeping.{or_zero}
+use Rattle.pb_soundness.specs.Records.{ends_as_record, is_key, number_of, place_of, read_text, reading}
+use Rattle.pb_store.specs.Folder.{number_in, or_zero}
 use Rattle.pb_store.specs.Looking.{looked_up_to}
-use Rattle.pb_store.specs.declared.store.RunNumbers.{RunNumbers}
 
 -- two things that are both there
 abbrev pub both_of : Option (List ℕ) → Option (List ℕ) → Option (List ℕ × List ℕ)
@@ -44,23 +39,11 @@ IsHeld numbers need = number_in numbers need.0 ≡ Some need.1
 abbrev pub numbered_by : List (List ℕ × Option ℕ) → List (List ℕ) → List (List ℕ × ℕ)
 numbered_by numbers needs = map (λ (need : List ℕ). (need, or_zero (number_in numbers need))) needs
 
--- and with those by which a store goes
-abbrev pub counted_by : Standing → RunNumbers → List (List ℕ) → List (List ℕ × ℕ)
-counted_by there numbers needs = map (λ (need : List ℕ). (need, or_zero (number_by there numbers need))) needs
-
--- records have the numbers of these
-abbrev pub SameNumbers : Standing → Standing → Type 0
-SameNumbers there at = (key : List ℕ) → number_if (there key) ≡ number_if (at key)
-
 -- with the number of a record that was read at a path, where that is the place of its key
 abbrev pub noted : List ℕ → List ℕ → Option Record → List (List ℕ × Option ℕ) → List (List ℕ × Option ℕ)
 noted folder path None numbers = numbers
 noted folder path (Some r) numbers = if is_key r.key && bytes_eq (place_of folder r.key) path then with_entry numbers r.key (number_of r) else numbers
 
 -- and where the path has the name of a record's
-abbrev pub noted_at : Reading → List ℕ → Map → List (List ℕ × Option ℕ) → List ℕ → List (List ℕ × Option ℕ)
-noted_at read folder m numbers path = if ends_as_record path then noted folder path (read_text read (finite.get m path)) numbers else numbers
-
--- those of the records at some paths
-abbrev pub held_of : Reading → List ℕ → Map → List (List ℕ) → List (List ℕ × Option ℕ)
-held_of read folder m paths = fold (noted_at read folder m) [] paths
+abbrev pub noted_at : List ℕ → Map → List (List ℕ × Option ℕ) → List ℕ → List (List ℕ × Option ℕ)
+noted_at folder m numbers path = if ends_as_record path then noted folder path (read_text reading (finite.get m path)) numbers else numbers

@@ -23,7 +23,7 @@ const PARTS: &[CommandPart] = &[
     CommandPart::Reads,
 ];
 
-/// Whether two lists of texts are the same.
+/// Returns whether two lists of texts are the same.
 #[tactic(auto, using(pb_record::proofs::CommandLemmas::texts_same))]
 fn are_same_texts(texts: &[Text], others: &[Text]) -> bool
     ensures { Decides result (texts.now ≡ others.now) }
@@ -31,7 +31,7 @@ fn are_same_texts(texts: &[Text], others: &[Text]) -> bool
     texts == others
 }
 
-/// Whether two lists of paths are the same.
+/// Returns whether two lists of paths are the same.
 #[tactic(auto, using(pb_record::proofs::CommandLemmas::texts_same))]
 fn are_same_paths(paths: &[PathText], others: &[PathText]) -> bool
     ensures { Decides result (paths.now ≡ others.now) }
@@ -39,7 +39,7 @@ fn are_same_paths(paths: &[PathText], others: &[PathText]) -> bool
     paths == others
 }
 
-/// Whether a command has this output folder.
+/// Returns whether a command has this output folder.
 fn has_out(out: &PathText, other: &Option<PathText>) -> bool
     ensures { Decides result (Some out.now ≡ other.now) }
 {
@@ -49,7 +49,7 @@ fn has_out(out: &PathText, other: &Option<PathText>) -> bool
     }
 }
 
-/// Whether a part of a command is the one that was asked.
+/// Returns whether a part of a command is the one that was asked.
 fn is_same_part(asked: &Asked, command: &Command, part: CommandPart) -> bool
     ensures { Decides result (SamePart asked.now command.now part) }
 {
@@ -64,9 +64,10 @@ fn is_same_part(asked: &Asked, command: &Command, part: CommandPart) -> bool
     }
 }
 
-/// The first part of a command, its variables apart, that is another than what was asked. It takes no memory.
+/// Returns the first part of a command, its variables apart, that is another than what was asked. It takes no memory.
 pub(crate) fn first_part(asked: &Asked, command: &Command) -> Option<CommandPart>
-    ensures { MatchOption result (AsksAs asked.now command.now) (IsFirst (SamePart asked.now command.now) (λ part. part) parts) }
+    ensures { MatchOption result (AsksAs asked.now command.now)
+        (IsFirst (SamePart asked.now command.now) (λ part. part) parts) }
 {
     for part in PARTS {
         if !is_same_part(asked, command, *part) {
@@ -76,21 +77,21 @@ pub(crate) fn first_part(asked: &Asked, command: &Command) -> Option<CommandPart
     None
 }
 
-/// The lesser of two names in byte order.
+/// Returns the lesser of two names in byte order.
 fn lesser<'a>(name: &'a Text, other: &'a Text) -> &'a Text
     ensures { result.now ≡ lesser name.now other.now }
 {
     if other.cmp(name).is_lt() { other } else { name }
 }
 
-/// Whether two variables are the same, by name and by text.
+/// Returns whether two variables are the same, by name and by text.
 fn is_same_variable(pair: &(Text, Text), other: &(Text, Text)) -> bool
     ensures { result ≡ bytes_eq pair.now.0 other.now.0 && bytes_eq pair.now.1 other.now.1 }
 {
     pair.0.as_bytes() == other.0.as_bytes() && pair.1.as_bytes() == other.1.as_bytes()
 }
 
-/// The first name at which two rows of variables are not the same. It takes no memory.
+/// Returns the first name at which two rows of variables are not the same. It takes no memory.
 fn first_name<'a>(pairs: &'a [(Text, Text)], others: &'a [(Text, Text)]) -> Option<&'a Text>
     ensures { option_map (λ name. name.now) result ≡ first_name pairs.now others.now }
 {
@@ -114,15 +115,16 @@ fn first_name<'a>(pairs: &'a [(Text, Text)], others: &'a [(Text, Text)]) -> Opti
     }
 }
 
-/// The name of the first variable, in byte order of names, that one of two rows sets and the other does not, or to
-/// another text. Both are sorted by name.
+/// Returns the name of the first variable, in byte order of names, that one of two rows sets and the other does not, or
+/// sets to another text. Both rows are sorted by name.
 #[tactic(auto, using(crate::proofs::Names::name_laws))]
 pub(crate) fn first_variable(
     alloc: Global,
     pairs: &[(Text, Text)],
     others: &[(Text, Text)],
 ) -> Result<Option<Text>, AllocError>
-    ensures { IfOk result (λ found. MatchOption found (pairs.now ≡ others.now) (IsFirstName pairs.now others.now)) }
+    ensures { IfOk result (λ found. MatchOption found (pairs.now ≡ others.now)
+        (IsFirstName pairs.now others.now)) }
 {
     match first_name(pairs, others) {
         None => Ok(None),

@@ -8,7 +8,7 @@ use pb_data::Bytes;
 use pb_place::RelativePath;
 use pb_record::Input;
 
-/// Whether two files are the same.
+/// Returns whether two files are the same.
 fn is_same_file(file: &(RelativePath, Bytes), other: &(RelativePath, Bytes)) -> bool
     ensures { result ≡ bytes_eq file.now.0 other.now.0 && bytes_eq file.now.1 other.now.1 }
 {
@@ -16,7 +16,7 @@ fn is_same_file(file: &(RelativePath, Bytes), other: &(RelativePath, Bytes)) -> 
         && file.1.as_slice() == other.1.as_slice()
 }
 
-/// Whether two lists of files are the same. It takes no memory.
+/// Returns whether two lists of files are the same. It takes no memory.
 fn same_files(files: &[(RelativePath, Bytes)], others: &[(RelativePath, Bytes)]) -> bool
     ensures { result ≡ same_files files.now others.now }
 {
@@ -37,7 +37,7 @@ fn same_files(files: &[(RelativePath, Bytes)], others: &[(RelativePath, Bytes)])
     right.is_empty()
 }
 
-/// Whether two lists of files are the same.
+/// Returns whether two lists of files are the same.
 #[tactic(auto, using(crate::proofs::Firsts::files_same))]
 pub(crate) fn are_same_files(
     files: &[(RelativePath, Bytes)],
@@ -48,7 +48,7 @@ pub(crate) fn are_same_files(
     same_files(files, others)
 }
 
-/// Whether two inputs are the same: their kind, their name and their value.
+/// Returns whether two inputs are the same: their kind, their name and their value.
 pub(crate) fn is_same_input(input: &Input, other: &Input) -> bool
     ensures { Decides result (input.now ≡ other.now) }
 {

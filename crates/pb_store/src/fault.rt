@@ -1,7 +1,7 @@
 //! Why a call of the store fails.
 
 ghost use Rattle.std.specs.Prelude.{◌≡◌};
-ghost use Rattle.pb_store.specs.Causes.{stored, opened, unopened};
+ghost use Rattle.pb_store.specs.Calls.{stored, opened};
 
 use pb_place::{PathText, PlaceFault};
 use thiserror::Error;
@@ -21,7 +21,7 @@ pub enum StoreFault {
     OutOfMemory,
 }
 
-/// The fault of a call of the place. Want of memory stays so.
+/// Returns the fault of a call of the place. Want of memory stays so.
 pub(crate) fn stored(fault: PlaceFault) -> StoreFault
     ensures { result ≡ stored fault }
 {
@@ -42,25 +42,12 @@ pub enum OpenFault {
     OutOfMemory,
 }
 
-/// The fault of a call of the place on this path. Want of memory stays so.
+/// Returns the fault of a call of the place on this path. Want of memory stays so.
 pub(crate) fn opened(path: PathText, fault: PlaceFault) -> OpenFault
     ensures { result ≡ opened path fault }
 {
     match fault {
         PlaceFault::OutOfMemory => OpenFault::OutOfMemory,
         fault => OpenFault::Place(path, fault),
-    }
-}
-
-/// The fault of opening as one of a call of the store, without its path.
-pub(crate) fn unopened(fault: OpenFault) -> StoreFault
-    ensures { result ≡ unopened fault }
-{
-    match fault {
-        OpenFault::Place(path, fault) => {
-            drop(path);
-            StoreFault::Place(fault)
-        }
-        OpenFault::OutOfMemory => StoreFault::OutOfMemory,
     }
 }

@@ -1,15 +1,14 @@
 //! The present values of inputs, beside the recorded ones.
 
-ghost use Rattle.std.specs.Prelude.{◌≡◌, ◌∷◌, true, IsTrue, IfOk, Decides, List, [], ℕ, map};
+ghost use Rattle.std.specs.Prelude.{◌≡◌, ◌∷◌, IsTrue, IfOk, List, [], map};
 ghost use Rattle.std.specs.FinMap as finite;
 ghost use Rattle.std.specs.List.{filter_map};
 ghost use Rattle.pb_place.specs.declared.call.Call.TheVariants as call;
 ghost use Rattle.pb_place.specs.Paths.{inside};
 ghost use Rattle.pb_place.specs.World.{from_nothing, listed, removed};
 ghost use Rattle.pb_record.specs.declared.record.InputName.TheVariants.{Path, Variable};
-ghost use Rattle.pb_soundness.specs.Apart.{KeepsStill};
-ghost use Rattle.pb_soundness.specs.Inputs.{contents, input_in, name_of, path_input};
-ghost use Rattle.pb_store.specs.Causes.{Takes, MayRead, MayLook};
+ghost use Rattle.pb_soundness.specs.Inputs.{contents, input_in, path_input};
+ghost use Rattle.pb_store.specs.Calls.{OnlyLooks, MayRead, MayLook};
 ghost use Rattle.pb_store.specs.Looking.{Looks, name_looked, names_looked, source_looked};
 ghost use Rattle.pb_store.specs.Presence.{file_in, file_looked, files_looked};
 
@@ -20,8 +19,8 @@ use pb_place::{PathText, Place, RelativePath};
 use pb_record::{Input, InputName};
 use std::alloc::Global;
 
-/// The bytes of a file of the sources: none where no file is there, or the path is at or below the target folder, and
-/// then the place is not asked.
+/// Returns the bytes of a file of the sources, or none if no file is there. If the path is at or below the target
+/// folder, it returns none and does not ask the place.
 #[tactic(auto, using(crate::proofs::Present::source_laws))]
 fn source_at<P: Place>(
     alloc: Global,
@@ -29,12 +28,13 @@ fn source_at<P: Place>(
     target: &PathText,
     path: &PathText,
 ) -> Result<Option<Bytes>, StoreFault>
-    ensures ok { IsTrue P.tells → IfOk result (λ found. found ≡ finite.get (from_nothing target.now (P.world place.old)).files path.now) }
-    ensures same { IsTrue P.tells → P.world place.new ≡ P.world place.old }
-    ensures most { P.most place.new ≡ P.most place.old }
-    ensures still { IsTrue P.tells → KeepsStill (P.still place.old) (P.still place.new) }
-    ensures takes { Takes MayRead result (P.counts place.old) (P.counts place.new) }
-    ensures looks { Looks result (source_looked target.now path.now) (P.counts place.old) (P.counts place.new) }
+    ensures ok { IsTrue P.tells →
+        IfOk result
+        (λ found. found ≡ finite.get (from_nothing target.now (P.at place.old).world).files
+        path.now) }
+    ensures quiet { OnlyLooks MayRead result (P.at place.old) (P.at place.new) }
+    ensures looks { Looks result (source_looked target.now path.now) (P.at place.old).counts
+        (P.at place.new).counts }
 {
     if path.starts_with(target) {
         return Ok(None);
@@ -45,19 +45,18 @@ fn source_at<P: Place>(
     }
 }
 
-/// The file at a path, by its path in a folder; none where the path is not below the folder, or no file is there.
+/// Returns the file at a path, by its path in a folder, or none if the path is not below the folder or no file is there.
 fn file_at<P: Place>(
     alloc: Global,
     place: &mut P,
     folder: &PathText,
     path: &PathText,
 ) -> Result<Option<(RelativePath, Bytes)>, StoreFault>
-    ensures ok { IsTrue P.tells → IfOk result (λ found. found ≡ file_in folder.now (P.world place.old).files path.now) }
-    ensures same { IsTrue P.tells → P.world place.new ≡ P.world place.old }
-    ensures most { P.most place.new ≡ P.most place.old }
-    ensures still { IsTrue P.tells → KeepsStill (P.still place.old) (P.still place.new) }
-    ensures takes { Takes MayRead result (P.counts place.old) (P.counts place.new) }
-    ensures looks { Looks result (file_looked path.now (inside folder.now path.now)) (P.counts place.old) (P.counts place.new) }
+    ensures ok { IsTrue P.tells →
+        IfOk result (λ found. found ≡ file_in folder.now (P.at place.old).world.files path.now) }
+    ensures quiet { OnlyLooks MayRead result (P.at place.old) (P.at place.new) }
+    ensures looks { Looks result (file_looked path.now (inside folder.now path.now))
+        (P.at place.old).counts (P.at place.new).counts }
 {
     let relative = match path.inside(alloc, folder) {
         Ok(Some(relative)) => relative,
@@ -71,19 +70,19 @@ fn file_at<P: Place>(
     }
 }
 
-/// The files at these paths, by their paths in a folder.
+/// Returns the files at these paths, by their paths in a folder.
 fn files_at<P: Place>(
     alloc: Global,
     place: &mut P,
     folder: &PathText,
     paths: &[PathText],
 ) -> Result<Items<(RelativePath, Bytes)>, StoreFault>
-    ensures ok { IsTrue P.tells → IfOk result (λ files. files ≡ filter_map (file_in folder.now (P.world place.old).files) paths.now) }
-    ensures same { IsTrue P.tells → P.world place.new ≡ P.world place.old }
-    ensures most { P.most place.new ≡ P.most place.old }
-    ensures still { IsTrue P.tells → KeepsStill (P.still place.old) (P.still place.new) }
-    ensures takes { Takes MayRead result (P.counts place.old) (P.counts place.new) }
-    ensures looks { Looks result (files_looked folder.now paths.now) (P.counts place.old) (P.counts place.new) }
+    ensures ok { IsTrue P.tells →
+        IfOk result (λ files. files ≡ filter_map (file_in folder.now (P.at place.old).world.files)
+        paths.now) }
+    ensures quiet { OnlyLooks MayRead result (P.at place.old) (P.at place.new) }
+    ensures looks { Looks result (files_looked folder.now paths.now) (P.at place.old).counts
+        (P.at place.new).counts }
 {
     let mut made = Items::new(alloc);
     for path in paths {
@@ -98,20 +97,20 @@ fn files_at<P: Place>(
     Ok(made)
 }
 
-/// The paths of the files below a folder that are not at or below the target folder.
-#[tactic(auto, using(crate::proofs::Still::stands_same, crate::proofs::Looking::stops_once))]
+/// Returns the paths of the files below a folder that are not at or below the target folder.
+#[tactic(auto, using(crate::proofs::Looking::stops_once))]
 fn paths_outside<P: Place>(
     alloc: Global,
     place: &mut P,
     target: &PathText,
     folder: &PathText,
 ) -> Result<Items<PathText>, StoreFault>
-    ensures ok { IsTrue P.tells → IfOk result (λ paths. paths ≡ listed folder.now (removed target.now (P.world place.old))) }
-    ensures same { IsTrue P.tells → P.world place.new ≡ P.world place.old }
-    ensures most { P.most place.new ≡ P.most place.old }
-    ensures still { IsTrue P.tells → KeepsStill (P.still place.old) (P.still place.new) }
-    ensures takes { Takes MayLook result (P.counts place.old) (P.counts place.new) }
-    ensures looks { Looks result (call.ListOutside folder.now target.now ∷ []) (P.counts place.old) (P.counts place.new) }
+    ensures ok { IsTrue P.tells →
+        IfOk result
+        (λ paths. paths ≡ listed folder.now (removed target.now (P.at place.old).world)) }
+    ensures quiet { OnlyLooks MayLook result (P.at place.old) (P.at place.new) }
+    ensures looks { Looks result (call.ListOutside folder.now target.now ∷ [])
+        (P.at place.old).counts (P.at place.new).counts }
 {
     match place.list_outside(alloc, folder, target) {
         Ok(paths) => Ok(paths),
@@ -119,19 +118,18 @@ fn paths_outside<P: Place>(
     }
 }
 
-/// The paths of the files below a folder.
-#[tactic(auto, using(crate::proofs::Still::stands_same, crate::proofs::Looking::stops_once))]
+/// Returns the paths of the files below a folder.
+#[tactic(auto, using(crate::proofs::Looking::stops_once))]
 fn paths_below<P: Place>(
     alloc: Global,
     place: &mut P,
     folder: &PathText,
 ) -> Result<Items<PathText>, StoreFault>
-    ensures ok { IsTrue P.tells → IfOk result (λ paths. paths ≡ listed folder.now (P.world place.old)) }
-    ensures same { IsTrue P.tells → P.world place.new ≡ P.world place.old }
-    ensures most { P.most place.new ≡ P.most place.old }
-    ensures still { IsTrue P.tells → KeepsStill (P.still place.old) (P.still place.new) }
-    ensures takes { Takes MayLook result (P.counts place.old) (P.counts place.new) }
-    ensures looks { Looks result (call.List folder.now ∷ []) (P.counts place.old) (P.counts place.new) }
+    ensures ok { IsTrue P.tells →
+        IfOk result (λ paths. paths ≡ listed folder.now (P.at place.old).world) }
+    ensures quiet { OnlyLooks MayLook result (P.at place.old) (P.at place.new) }
+    ensures looks { Looks result (call.List folder.now ∷ []) (P.at place.old).counts
+        (P.at place.new).counts }
 {
     match place.list(alloc, folder) {
         Ok(paths) => Ok(paths),
@@ -139,7 +137,7 @@ fn paths_below<P: Place>(
     }
 }
 
-/// The sources below a folder, by their paths in it, in byte order.
+/// Returns the sources below a folder, by their paths in it, in byte order.
 #[tactic(auto, using(crate::proofs::Present::sources_in))]
 fn sources_in<P: Place>(
     alloc: Global,
@@ -147,12 +145,15 @@ fn sources_in<P: Place>(
     target: &PathText,
     folder: &PathText,
 ) -> Result<Items<(RelativePath, Bytes)>, StoreFault>
-    ensures ok { IsTrue P.tells → IfOk result (λ files. files ≡ contents folder.now (from_nothing target.now (P.world place.old)).files) }
-    ensures same { IsTrue P.tells → P.world place.new ≡ P.world place.old }
-    ensures most { P.most place.new ≡ P.most place.old }
-    ensures still { IsTrue P.tells → KeepsStill (P.still place.old) (P.still place.new) }
-    ensures takes { Takes MayLook result (P.counts place.old) (P.counts place.new) }
-    ensures looks { IsTrue P.tells → Looks result (call.ListOutside folder.now target.now ∷ map call.Read (listed folder.now (removed target.now (P.world place.old)))) (P.counts place.old) (P.counts place.new) }
+    ensures ok { IsTrue P.tells →
+        IfOk result
+        (λ files. files ≡ contents folder.now
+        (from_nothing target.now (P.at place.old).world).files) }
+    ensures quiet { OnlyLooks MayLook result (P.at place.old) (P.at place.new) }
+    ensures looks { IsTrue P.tells →
+        Looks result (call.ListOutside folder.now target.now ∷ map call.Read
+        (listed folder.now (removed target.now (P.at place.old).world))) (P.at place.old).counts
+        (P.at place.new).counts }
 {
     let paths = paths_outside(alloc, place, target, folder)?;
     match files_at(alloc, place, folder, paths.as_slice()) {
@@ -161,19 +162,20 @@ fn sources_in<P: Place>(
     }
 }
 
-/// The files below a folder, by their paths in it, in byte order.
+/// Returns the files below a folder, by their paths in it, in byte order.
 #[tactic(auto, using(crate::proofs::Present::files_in_it))]
 pub(crate) fn files_in<P: Place>(
     alloc: Global,
     place: &mut P,
     folder: &PathText,
 ) -> Result<Items<(RelativePath, Bytes)>, StoreFault>
-    ensures ok { IsTrue P.tells → IfOk result (λ files. files ≡ contents folder.now (P.world place.old).files) }
-    ensures same { IsTrue P.tells → P.world place.new ≡ P.world place.old }
-    ensures most { P.most place.new ≡ P.most place.old }
-    ensures still { IsTrue P.tells → KeepsStill (P.still place.old) (P.still place.new) }
-    ensures takes { Takes MayLook result (P.counts place.old) (P.counts place.new) }
-    ensures looks { IsTrue P.tells → Looks result (call.List folder.now ∷ map call.Read (listed folder.now (P.world place.old))) (P.counts place.old) (P.counts place.new) }
+    ensures ok { IsTrue P.tells →
+        IfOk result (λ files. files ≡ contents folder.now (P.at place.old).world.files) }
+    ensures quiet { OnlyLooks MayLook result (P.at place.old) (P.at place.new) }
+    ensures looks { IsTrue P.tells →
+        Looks result
+        (call.List folder.now ∷ map call.Read (listed folder.now (P.at place.old).world))
+        (P.at place.old).counts (P.at place.new).counts }
 {
     let paths = paths_below(alloc, place, folder)?;
     match files_at(alloc, place, folder, paths.as_slice()) {
@@ -182,15 +184,14 @@ pub(crate) fn files_in<P: Place>(
     }
 }
 
-/// The text of a variable; none where it is not set.
-#[tactic(auto, using(crate::proofs::Still::stands_same, crate::proofs::Looking::stops_once))]
+/// Returns the text of a variable, or none if it is not set.
+#[tactic(auto, using(crate::proofs::Looking::stops_once))]
 fn text_in<P: Place>(alloc: Global, place: &mut P, name: &Text) -> Result<Option<Text>, StoreFault>
-    ensures ok { IsTrue P.tells → IfOk result (λ found. found ≡ finite.get (P.world place.old).variables name.now) }
-    ensures same { IsTrue P.tells → P.world place.new ≡ P.world place.old }
-    ensures most { P.most place.new ≡ P.most place.old }
-    ensures still { IsTrue P.tells → KeepsStill (P.still place.old) (P.still place.new) }
-    ensures takes { Takes MayLook result (P.counts place.old) (P.counts place.new) }
-    ensures looks { Looks result (call.Variable name.now ∷ []) (P.counts place.old) (P.counts place.new) }
+    ensures ok { IsTrue P.tells →
+        IfOk result (λ found. found ≡ finite.get (P.at place.old).world.variables name.now) }
+    ensures quiet { OnlyLooks MayLook result (P.at place.old) (P.at place.new) }
+    ensures looks { Looks result (call.Variable name.now ∷ []) (P.at place.old).counts
+        (P.at place.new).counts }
 {
     match place.variable(alloc, name.as_str()) {
         Ok(found) => Ok(found),
@@ -198,19 +199,21 @@ fn text_in<P: Place>(alloc: Global, place: &mut P, name: &Text) -> Result<Option
     }
 }
 
-/// The present value of a path: a file, or a folder.
+/// Returns the present value of a path: a file, or a folder.
 fn path_now<P: Place>(
     alloc: Global,
     place: &mut P,
     target: &PathText,
     path: &PathText,
 ) -> Result<Input, StoreFault>
-    ensures ok { IsTrue P.tells → IfOk result (λ input. input ≡ path_input path.now (from_nothing target.now (P.world place.old)).files (finite.get (from_nothing target.now (P.world place.old)).files path.now)) }
-    ensures same { IsTrue P.tells → P.world place.new ≡ P.world place.old }
-    ensures most { P.most place.new ≡ P.most place.old }
-    ensures still { IsTrue P.tells → KeepsStill (P.still place.old) (P.still place.new) }
-    ensures takes { Takes MayLook result (P.counts place.old) (P.counts place.new) }
-    ensures looks { IsTrue P.tells → Looks result (name_looked target.now (P.world place.old) (Path path.now)) (P.counts place.old) (P.counts place.new) }
+    ensures ok { IsTrue P.tells →
+        IfOk result
+        (λ input. input ≡ path_input path.now (from_nothing target.now (P.at place.old).world).files
+        (finite.get (from_nothing target.now (P.at place.old).world).files path.now)) }
+    ensures quiet { OnlyLooks MayLook result (P.at place.old) (P.at place.new) }
+    ensures looks { IsTrue P.tells →
+        Looks result (name_looked target.now (P.at place.old).world (Path path.now))
+        (P.at place.old).counts (P.at place.new).counts }
 {
     let name = match path.copy(alloc) {
         Ok(name) => name,
@@ -227,19 +230,19 @@ fn path_now<P: Place>(
     }
 }
 
-/// The present value of a variable.
+/// Returns the present value of a variable.
 fn value_now<P: Place>(
     alloc: Global,
     place: &mut P,
     target: &PathText,
     name: &Text,
 ) -> Result<Input, StoreFault>
-    ensures ok { IsTrue P.tells → IfOk result (λ input. input ≡ input_in target.now (P.world place.old) (Variable name.now)) }
-    ensures same { IsTrue P.tells → P.world place.new ≡ P.world place.old }
-    ensures most { P.most place.new ≡ P.most place.old }
-    ensures still { IsTrue P.tells → KeepsStill (P.still place.old) (P.still place.new) }
-    ensures takes { Takes MayLook result (P.counts place.old) (P.counts place.new) }
-    ensures looks { Looks result (call.Variable name.now ∷ []) (P.counts place.old) (P.counts place.new) }
+    ensures ok { IsTrue P.tells →
+        IfOk result (λ input. input ≡ input_in target.now (P.at place.old).world
+        (Variable name.now)) }
+    ensures quiet { OnlyLooks MayLook result (P.at place.old) (P.at place.new) }
+    ensures looks { Looks result (call.Variable name.now ∷ []) (P.at place.old).counts
+        (P.at place.new).counts }
 {
     let copied = match name.copy(alloc) {
         Ok(copied) => copied,
@@ -251,19 +254,19 @@ fn value_now<P: Place>(
     }
 }
 
-/// The input of this name with its present value: nothing at or below the target folder is looked at.
+/// Returns the input of this name with its present value: nothing at or below the target folder is looked at.
 pub(crate) fn input_now<P: Place>(
     alloc: Global,
     place: &mut P,
     target: &PathText,
     name: &InputName,
 ) -> Result<Input, StoreFault>
-    ensures ok { IsTrue P.tells → IfOk result (λ input. input ≡ input_in target.now (P.world place.old) name.now) }
-    ensures same { IsTrue P.tells → P.world place.new ≡ P.world place.old }
-    ensures most { P.most place.new ≡ P.most place.old }
-    ensures still { IsTrue P.tells → KeepsStill (P.still place.old) (P.still place.new) }
-    ensures takes { Takes MayLook result (P.counts place.old) (P.counts place.new) }
-    ensures looks { IsTrue P.tells → Looks result (name_looked target.now (P.world place.old) name.now) (P.counts place.old) (P.counts place.new) }
+    ensures ok { IsTrue P.tells →
+        IfOk result (λ input. input ≡ input_in target.now (P.at place.old).world name.now) }
+    ensures quiet { OnlyLooks MayLook result (P.at place.old) (P.at place.new) }
+    ensures looks { IsTrue P.tells →
+        Looks result (name_looked target.now (P.at place.old).world name.now)
+        (P.at place.old).counts (P.at place.new).counts }
 {
     match name {
         InputName::Path(path) => path_now(alloc, place, target, path),
@@ -271,19 +274,20 @@ pub(crate) fn input_now<P: Place>(
     }
 }
 
-/// The inputs of these names with their present values.
+/// Returns the inputs of these names with their present values.
 pub(crate) fn present<P: Place>(
     alloc: Global,
     place: &mut P,
     target: &PathText,
     names: &[InputName],
 ) -> Result<Items<Input>, StoreFault>
-    ensures ok { IsTrue P.tells → IfOk result (λ inputs. inputs ≡ map (input_in target.now (P.world place.old)) names.now) }
-    ensures same { IsTrue P.tells → P.world place.new ≡ P.world place.old }
-    ensures most { P.most place.new ≡ P.most place.old }
-    ensures still { IsTrue P.tells → KeepsStill (P.still place.old) (P.still place.new) }
-    ensures takes { Takes MayLook result (P.counts place.old) (P.counts place.new) }
-    ensures looks { IsTrue P.tells → Looks result (names_looked target.now (P.world place.old) names.now) (P.counts place.old) (P.counts place.new) }
+    ensures ok { IsTrue P.tells →
+        IfOk result
+        (λ inputs. inputs ≡ map (input_in target.now (P.at place.old).world) names.now) }
+    ensures quiet { OnlyLooks MayLook result (P.at place.old) (P.at place.new) }
+    ensures looks { IsTrue P.tells →
+        Looks result (names_looked target.now (P.at place.old).world names.now)
+        (P.at place.old).counts (P.at place.new).counts }
 {
     let mut made = Items::new(alloc);
     for name in names {

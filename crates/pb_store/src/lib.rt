@@ -10,7 +10,7 @@ mod dropping;
 pub mod fault;
 mod inputs;
 mod keeping;
-mod keys;
+pub mod keys;
 mod laws;
 mod migrating;
 mod numbers;
@@ -20,6 +20,7 @@ mod store;
 
 pub use difference::{CommandPart, Difference};
 pub use fault::{OpenFault, StoreFault};
-pub use laws::{differences_are_one, first_name_is_first};
+pub use keys::Key;
+pub use laws::{differences_are_one, first_name_is_first, unchanged_is_same};
 pub use replaying::{Compared, Replayed};
-pub use store::{RunNumbers, Store};
+pub use store::Store;

@@ -4,22 +4,21 @@ ghost use Rattle.std.specs.Prelude.{◌≡◌, ◌&&◌, Decides, IfErr, IfOk, O
 ghost use Rattle.std.specs.Str.{bytes_eq};
 ghost use Rattle.pb_data.specs.Table.{with_entry};
 ghost use Rattle.pb_store.specs.Differences.{FirstOrAll};
-ghost use Rattle.pb_store.specs.Held.{number_in};
-ghost use Rattle.pb_store.specs.Keeping.{or_zero};
+ghost use Rattle.pb_store.specs.Folder.{number_in, or_zero};
 ghost use Rattle.pb_soundness.specs.Records.{is_key, place_of};
 ghost use Rattle.pb_store.specs.Presence.{IsHeld, noted, numbered_by};
 ghost use Rattle.pb_store.specs.declared.fault.StoreFault.TheVariants as store_fault;
 
 use crate::fault::StoreFault;
 use crate::keeping::number_of;
-use crate::keys::is_key;
+use crate::keys::Key;
 use crate::store::place_path;
 use pb_data::{Items, Table, Text, TryCopy};
 use pb_place::PathText;
 use pb_record::Record;
 use std::alloc::{AllocError, Global};
 
-/// The run number that a table has of a unit, where there is one.
+/// Returns the run number that a table has of a unit, or none.
 fn number_in(numbers: &Table<Option<u64>>, key: &Text) -> Option<u64>
     ensures { result ≡ number_in numbers.now key.now }
 {
@@ -29,7 +28,7 @@ fn number_in(numbers: &Table<Option<u64>>, key: &Text) -> Option<u64>
     }
 }
 
-/// Whether this is the number.
+/// Returns whether this is the number.
 fn is_number(found: Option<u64>, number: u64) -> bool
     ensures { Decides result (found ≡ Some number) }
 {
@@ -39,14 +38,14 @@ fn is_number(found: Option<u64>, number: u64) -> bool
     }
 }
 
-/// Whether a needed unit has the number with which it is named.
+/// Returns whether a needed unit has the number with which it is named.
 fn is_held(numbers: &Table<Option<u64>>, need: &(Text, u64)) -> bool
     ensures { Decides result (IsHeld numbers.now need.now) }
 {
     is_number(number_in(numbers, &need.0), need.1)
 }
 
-/// The key of the first needed unit that has not the number with which it is named.
+/// Returns the key of the first needed unit that has not the number with which it is named.
 pub(crate) fn first_number(
     alloc: Global,
     numbers: &Table<Option<u64>>,
@@ -65,7 +64,7 @@ pub(crate) fn first_number(
     Ok(None)
 }
 
-/// A number; 0 where there is none.
+/// Returns a number, or 0 if there is none.
 fn or_zero(found: Option<u64>) -> u64
     ensures { result ≡ or_zero found }
 {
@@ -75,7 +74,7 @@ fn or_zero(found: Option<u64>) -> u64
     }
 }
 
-/// A needed unit with the number that is held of it.
+/// Returns a needed unit with its number in a table.
 fn numbered_one(
     alloc: Global,
     numbers: &Table<Option<u64>>,
@@ -87,7 +86,7 @@ fn numbered_one(
     Ok((name, or_zero(number_in(numbers, key))))
 }
 
-/// The needed units with the numbers that are held of them.
+/// Returns the needed units with the numbers that are held of them.
 pub(crate) fn numbered(
     alloc: Global,
     numbers: &Table<Option<u64>>,
@@ -102,7 +101,7 @@ pub(crate) fn numbered(
     Ok(pairs)
 }
 
-/// Notes the number of a unit's record, or that it has none. Its one fault is OutOfMemory.
+/// Notes the number of a unit's record, or that it has none. It fails only with `OutOfMemory`.
 pub(crate) fn note(
     alloc: Global,
     numbers: &mut Table<Option<u64>>,
@@ -123,24 +122,26 @@ pub(crate) fn note(
     }
 }
 
-/// Whether a path is the place of a unit's record.
+/// Returns whether a path is the place of a unit's record.
 fn is_place(
     alloc: Global,
     folder: &PathText,
     key: &Text,
     path: &PathText,
 ) -> Result<bool, AllocError>
-    ensures { IfOk result (λ is. is ≡ is_key key.now && bytes_eq (place_of folder.now key.now) path.now) }
+    ensures { IfOk result
+        (λ is. is ≡ is_key key.now && bytes_eq (place_of folder.now key.now) path.now) }
 {
-    if !is_key(key) {
-        return Ok(false);
-    }
-    let place = place_path(alloc, folder, key)?;
+    let key = match Key::parse(key.copy(alloc)?) {
+        Some(key) => key,
+        None => return Ok(false),
+    };
+    let place = place_path(alloc, folder, &key)?;
     Ok(place.as_str().as_bytes() == path.as_str().as_bytes())
 }
 
-/// Notes the number of a record that was read at a path, where that is the place of its key. Its one fault is
-/// OutOfMemory.
+/// Notes the number of a record that was read at a path, if that is the place of its key. It fails only with
+/// `OutOfMemory`.
 pub(crate) fn note_read(
     alloc: Global,
     numbers: &mut Table<Option<u64>>,

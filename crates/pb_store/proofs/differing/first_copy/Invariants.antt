@@ -1,6 +1,6 @@
-use Rattle.std.proofs.Common.{◌≡◌, take, drop, IsTrue}
+use Rattle.std.proofs.Common.{Ok, ℕ, take, drop, IsTrue}
 use Rattle.std.specs.List.{AllByRecursion}
-use Rattle.pb_soundness.specs.Apart.{KeepsStill}
+use Rattle.pb_store.specs.Calls.{MayLook, OnlyLooks}
 use Rattle.pb_store.specs.Differences.{HasFiles}
 use Rattle.pb_store.specs.Looking.{copies_looked}
 use Rattle.pb_store.proofs.Looking.{Reached}
@@ -8,11 +8,7 @@ use Rattle.pb_store.proofs.differing.first_copy.Given as goal
 
 abbrev pub invariant-loop-need : goal.invariant-loop-need
 invariant-loop-need g l = record {
-  same : IsTrue g.P.Place.tells → g.P.Place.world l.place ≡ g.P.Place.world l.fn.place;
-  most : g.P.Place.most l.place ≡ g.P.Place.most l.fn.place;
-  still : IsTrue g.P.Place.tells → KeepsStill (g.P.Place.still l.fn.place) (g.P.Place.still l.place);
-  all : IsTrue g.P.Place.tells → AllByRecursion (HasFiles l.folder (g.P.Place.world l.fn.place).files) (take l.need-index l.copies);
-  looks : IsTrue g.P.Place.tells → Reached (copies_looked l.folder (g.P.Place.world l.fn.place) l.copies) (copies_looked l.folder (g.P.Place.world l.fn.place) (drop l.need-index l.copies)) (g.P.Place.counts l.fn.place) (g.P.Place.counts l.place);
-  starts : (g.P.Place.counts l.place).starts ≡ (g.P.Place.counts l.fn.place).starts;
-  failures : (g.P.Place.counts l.place).failures ≡ (g.P.Place.counts l.fn.place).failures;
+  quiet : OnlyLooks {T = ℕ} MayLook (Ok 0) (g.P.Place.at l.fn.place) (g.P.Place.at l.place);
+  all : IsTrue g.P.Place.tells → AllByRecursion (HasFiles l.folder (g.P.Place.at l.fn.place).world.files) (take l.need-index l.copies);
+  looks : IsTrue g.P.Place.tells → Reached (copies_looked l.folder (g.P.Place.at l.fn.place).world l.copies) (copies_looked l.folder (g.P.Place.at l.fn.place).world (drop l.need-index l.copies)) (g.P.Place.at l.fn.place).counts (g.P.Place.at l.place).counts;
 }

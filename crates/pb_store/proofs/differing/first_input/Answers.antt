@@ -1,4 +1,4 @@
-use Rattle.std.proofs.Common.{rules, ◌∙◌}
+use Rattle.std.proofs.Common.{rules}
 use Rattle.pb_place.specs.World.{World}
 use Rattle.pb_soundness.specs.Inputs.{name_of}
 use Rattle.pb_store.specs.Differences.{IsPresent}
@@ -11,37 +11,33 @@ use Rattle.pb_store.proofs.differing.first_input.Goals as goal
 
 pub returns-in-Ok-clause-ok : goal.returns-in-Ok-clause-ok
 returns-in-Ok-clause-ok g c tells =
-    one_fails (λ (w : World). IsPresent c.args.target.now w) name_of (g.P.Place.world c.args.place.now) (g.P.Place.world c.loop-input.place) c.args.inputs.now c.loop-input.input-index c.input-item.result c.loop-input-test.true c.input-item.is (c.loop-input.invariant.same tells) _ c.in-Ok.name
+    one_fails (λ (w : World). IsPresent c.args.target.now w) name_of (g.P.Place.at c.args.place.now).world (g.P.Place.at c.loop-input.place).world c.args.inputs.now c.loop-input.input-index c.input-item.result c.loop-input-test.true c.input-item.is (c.loop-input.invariant.quiet.world) _ c.in-Ok.name
     (c.loop-input.invariant.all tells) (c.in-Ok-false.ensures.ok tells) c.in-Ok-false.field-0-test (search rules)
 
 pub returns-in-Ok-clause-looks : goal.returns-in-Ok-clause-looks
 returns-in-Ok-clause-looks g c tells =
     differs_here (λ (w : World). IsPresent c.args.target.now w) (λ (w : World). is_present c.args.target.now w) (λ (w : World) (i : Input). name_looked c.args.target.now w (name_of i)) (λ w i. present_decides c.args.target.now w i)
-    (g.P.Place.world c.args.place.now) (g.P.Place.world c.loop-input.place) c.args.inputs.now c.loop-input.input-index c.input-item.result c.loop-input-test.true c.input-item.is (c.loop-input.invariant.same tells) _ _ _ _ _
+    (g.P.Place.at c.args.place.now).world (g.P.Place.at c.loop-input.place).world c.args.inputs.now c.loop-input.input-index c.input-item.result c.loop-input-test.true c.input-item.is (c.loop-input.invariant.quiet.world) _ _ _ _ _
     (c.loop-input.invariant.looks tells) (c.in-Ok-false.ensures.looks tells) (c.in-Ok-false.ensures.ok tells) c.in-Ok-false.field-0-test
 
 pub returns-in-Err-name_of-clause-looks : goal.returns-in-Err-name_of-clause-looks
 returns-in-Err-name_of-clause-looks g c tells =
     row_refused (λ (w : World). is_present c.args.target.now w) (λ (w : World) (i : Input). name_looked c.args.target.now w (name_of i))
-    (g.P.Place.world c.args.place.now) (g.P.Place.world c.loop-input.place) c.args.inputs.now c.loop-input.input-index c.input-item.result c.loop-input-test.true c.input-item.is (c.loop-input.invariant.same tells) _ _ _ _
+    (g.P.Place.at c.args.place.now).world (g.P.Place.at c.loop-input.place).world c.args.inputs.now c.loop-input.input-index c.input-item.result c.loop-input-test.true c.input-item.is (c.loop-input.invariant.quiet.world) _ _ _ _
     (c.loop-input.invariant.looks tells) (c.in-Ok-false.ensures.looks tells)
 
 pub returns-in-Err-clause-looks : goal.returns-in-Err-clause-looks
 returns-in-Err-clause-looks g c tells =
     row_stops (λ (w : World). is_present c.args.target.now w) (λ (w : World) (i : Input). name_looked c.args.target.now w (name_of i))
-    (g.P.Place.world c.args.place.now) (g.P.Place.world c.loop-input.place) c.args.inputs.now c.loop-input.input-index c.input-item.result c.loop-input-test.true c.input-item.is (c.loop-input.invariant.same tells) _ _ _ _ _
+    (g.P.Place.at c.args.place.now).world (g.P.Place.at c.loop-input.place).world c.args.inputs.now c.loop-input.input-index c.input-item.result c.loop-input-test.true c.input-item.is (c.loop-input.invariant.quiet.world) _ _ _ _ _
     (c.loop-input.invariant.looks tells) (c.in-Err.ensures.looks tells)
 
 pub loop-input-preserved : goal.loop-input-preserved
 loop-input-preserved g c = record {
-  same = λ tells. c.in-Ok-true.ensures.same tells ∙ c.loop-input.invariant.same tells;
-  most = search rules;
-  still = search rules;
-  all = λ tells. one_holds (λ (w : World). IsPresent c.args.target.now w) name_of (g.P.Place.world c.args.place.now) (g.P.Place.world c.loop-input.place) c.args.inputs.now c.loop-input.input-index c.input-item.result c.loop-input-test.true c.input-item.is (c.loop-input.invariant.same tells) _
+  quiet = search rules;
+  all = λ tells. one_holds (λ (w : World). IsPresent c.args.target.now w) name_of (g.P.Place.at c.args.place.now).world (g.P.Place.at c.loop-input.place).world c.args.inputs.now c.loop-input.input-index c.input-item.result c.loop-input-test.true c.input-item.is (c.loop-input.invariant.quiet.world) _
       (c.loop-input.invariant.all tells) (c.in-Ok-true.ensures.ok tells) c.in-Ok-true.field-0-test;
   looks = λ tells. same_here (λ (w : World). IsPresent c.args.target.now w) (λ (w : World). is_present c.args.target.now w) (λ (w : World) (i : Input). name_looked c.args.target.now w (name_of i)) (λ w i. present_decides c.args.target.now w i)
-      (g.P.Place.world c.args.place.now) (g.P.Place.world c.loop-input.place) c.args.inputs.now c.loop-input.input-index c.input-item.result c.loop-input-test.true c.input-item.is (c.loop-input.invariant.same tells) _ _ _ _ _
+      (g.P.Place.at c.args.place.now).world (g.P.Place.at c.loop-input.place).world c.args.inputs.now c.loop-input.input-index c.input-item.result c.loop-input-test.true c.input-item.is (c.loop-input.invariant.quiet.world) _ _ _ _ _
       (c.loop-input.invariant.looks tells) (c.in-Ok-true.ensures.looks tells) (c.in-Ok-true.ensures.ok tells) c.in-Ok-true.field-0-test;
-  starts = search rules;
-  failures = search rules;
 }

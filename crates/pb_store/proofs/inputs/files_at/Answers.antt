@@ -9,25 +9,21 @@ use Rattle.pb_store.proofs.inputs.files_at.Goals.{in-Some+in-Ok, in_default}
 
 pub returns-in_err-found-clause-looks : goal.returns-in_err-found-clause-looks
 returns-in_err-found-clause-looks g c = looks_told c.from_residual.result c.in_err-found.field-0.0 _ _ _ (search rules)
-    (row_stops (λ (w : World) (p : List ℕ). true) (λ (w : World) (p : List ℕ). file_looked p (inside c.args.folder.now p)) (g.P.Place.world c.args.place.now) (g.P.Place.world c.args.place.now) c.args.paths.now c.loop-path.path-index c.path-item.result c.loop-path-test.true c.path-item.is refl _ _ _ _ _
+    (row_stops (λ (w : World) (p : List ℕ). true) (λ (w : World) (p : List ℕ). file_looked p (inside c.args.folder.now p)) (g.P.Place.at c.args.place.now).world (g.P.Place.at c.args.place.now).world c.args.paths.now c.loop-path.path-index c.path-item.result c.loop-path-test.true c.path-item.is refl _ _ _ _ _
     c.loop-path.invariant.looks c.in_err-found.ensures.looks)
 
 pub returns-in-Err-clause-looks : goal.returns-in-Err-clause-looks
 returns-in-Err-clause-looks g c =
-    row_refused (λ (w : World) (p : List ℕ). true) (λ (w : World) (p : List ℕ). file_looked p (inside c.args.folder.now p)) (g.P.Place.world c.args.place.now) (g.P.Place.world c.args.place.now) c.args.paths.now c.loop-path.path-index c.path-item.result c.loop-path-test.true c.path-item.is refl _ _ _ _
+    row_refused (λ (w : World) (p : List ℕ). true) (λ (w : World) (p : List ℕ). file_looked p (inside c.args.folder.now p)) (g.P.Place.at c.args.place.now).world (g.P.Place.at c.args.place.now).world c.args.paths.now c.loop-path.path-index c.path-item.result c.loop-path-test.true c.path-item.is refl _ _ _ _
     c.loop-path.invariant.looks c.in_ok-found.ensures.looks
 
 pub loop-path-preserved : goal.loop-path-preserved
 loop-path-preserved g c = record {
-  same = search rules;
-  most = search rules;
-  still = search rules;
+  quiet = search rules;
   files = λ tells. elim c.match-found.branch [
     | in-Some+in-Ok w ↦ grind (arith, common_steps)
     | in_default w ↦ grind (arith, common_steps)
   ];
-  looks = row_on (λ (w : World) (p : List ℕ). true) (λ (w : World) (p : List ℕ). file_looked p (inside c.args.folder.now p)) (g.P.Place.world c.args.place.now) (g.P.Place.world c.args.place.now) c.args.paths.now c.loop-path.path-index c.path-item.result c.loop-path-test.true c.path-item.is refl _ _ _ _
+  looks = row_on (λ (w : World) (p : List ℕ). true) (λ (w : World) (p : List ℕ). file_looked p (inside c.args.folder.now p)) (g.P.Place.at c.args.place.now).world (g.P.Place.at c.args.place.now).world c.args.paths.now c.loop-path.path-index c.path-item.result c.loop-path-test.true c.path-item.is refl _ _ _ _
       c.loop-path.invariant.looks c.in_ok-found.ensures.looks refl;
-  starts = search rules;
-  failures = search rules;
 }

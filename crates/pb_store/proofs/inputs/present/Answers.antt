@@ -8,22 +8,18 @@ use Rattle.pb_store.proofs.inputs.present.Goals as goal
 
 pub returns-in_err-input-clause-looks : goal.returns-in_err-input-clause-looks
 returns-in_err-input-clause-looks g c tells = looks_told c.from_residual.result c.in_err-input.field-0.0 _ _ _ (search rules)
-    (row_stops (λ (w : World) (name : InputName). true) (name_looked c.args.target.now) (g.P.Place.world c.args.place.now) (g.P.Place.world c.loop-name.place) c.args.names.now c.loop-name.name-index c.name-item.result c.loop-name-test.true c.name-item.is (c.loop-name.invariant.same tells) _ _ _ _ _
+    (row_stops (λ (w : World) (name : InputName). true) (name_looked c.args.target.now) (g.P.Place.at c.args.place.now).world (g.P.Place.at c.loop-name.place).world c.args.names.now c.loop-name.name-index c.name-item.result c.loop-name-test.true c.name-item.is (c.loop-name.invariant.quiet.world) _ _ _ _ _
     (c.loop-name.invariant.looks tells) (c.in_err-input.ensures.looks tells))
 
 pub returns-in-Err-clause-looks : goal.returns-in-Err-clause-looks
 returns-in-Err-clause-looks g c tells =
-    row_refused (λ (w : World) (name : InputName). true) (name_looked c.args.target.now) (g.P.Place.world c.args.place.now) (g.P.Place.world c.loop-name.place) c.args.names.now c.loop-name.name-index c.name-item.result c.loop-name-test.true c.name-item.is (c.loop-name.invariant.same tells) _ _ _ _
+    row_refused (λ (w : World) (name : InputName). true) (name_looked c.args.target.now) (g.P.Place.at c.args.place.now).world (g.P.Place.at c.loop-name.place).world c.args.names.now c.loop-name.name-index c.name-item.result c.loop-name-test.true c.name-item.is (c.loop-name.invariant.quiet.world) _ _ _ _
     (c.loop-name.invariant.looks tells) (c.in_ok-input.ensures.looks tells)
 
 pub loop-name-preserved : goal.loop-name-preserved
 loop-name-preserved g c = record {
-  same = first_of (search rules, grind (arith, common_steps));
-  most = first_of (search rules, grind (arith, common_steps));
-  still = first_of (search rules, grind (arith, common_steps));
+  quiet = search rules;
   inputs = first_of (search rules, grind (arith, common_steps));
-  looks = λ tells. row_on (λ (w : World) (name : InputName). true) (name_looked c.args.target.now) (g.P.Place.world c.args.place.now) (g.P.Place.world c.loop-name.place) c.args.names.now c.loop-name.name-index c.name-item.result c.loop-name-test.true c.name-item.is (c.loop-name.invariant.same tells) _ _ _ _
+  looks = λ tells. row_on (λ (w : World) (name : InputName). true) (name_looked c.args.target.now) (g.P.Place.at c.args.place.now).world (g.P.Place.at c.loop-name.place).world c.args.names.now c.loop-name.name-index c.name-item.result c.loop-name-test.true c.name-item.is (c.loop-name.invariant.quiet.world) _ _ _ _
       (c.loop-name.invariant.looks tells) (c.in_ok-input.ensures.looks tells) refl;
-  starts = first_of (search rules, grind (arith, common_steps));
-  failures = first_of (search rules, grind (arith, common_steps));
 }

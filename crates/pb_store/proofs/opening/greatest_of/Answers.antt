@@ -16,14 +16,10 @@ returns-in_err-number-clause-looks g c =
 
 pub loop-path-preserved : goal.loop-path-preserved
 loop-path-preserved g c = record {
-  same = first_of (search rules, grind (arith, common_steps));
-  most = first_of (search rules, grind (arith, common_steps));
-  still = first_of (search rules, grind (arith, common_steps));
+  quiet = search rules;
   found = first_of (search rules, grind (arith, common_steps));
   held = first_of (search rules, grind (arith, common_steps));
   within = within_tail _ _ _ _ c.loop-path.invariant.within c.in-Some.ensures.steps.0;
   looks = row_read _ _ _ _ _ _ c.loop-path.invariant.looks c.in-Some.ensures.steps.0 c.in_ok-number.ensures.looks;
   reached = row_reached _ _ _ _ _ _ _ c.loop-path.invariant.reached c.in-Some.ensures.steps.0 c.in_ok-number.ensures.looks;
-  starts = first_of (search rules, grind (arith, common_steps));
-  failures = first_of (search rules, grind (arith, common_steps));
 }
