@@ -1,15 +1,12 @@
 -- A unit that begins, in the words of its calls.
 use Rattle.std.proofs.Common.{◌≡◌, ◌∙◌, ℕ, Bool, false, List, [], ◌∷◌, Option, Some, None, refl, sym, ap, subst, inl, inr, slice_get, slice_set}
-use Rattle.pb_answer.specs.declared.fault.BuildFault.{BuildFault}
-use Rattle.pb_answer.specs.declared.fault.BuildFault.TheVariants.{Plan, Toolchain, Child, Device, Sink, OutOfMemory}
-use Rattle.pb_answer.specs.declared.fault.DeviceFault.TheVariants.{Place, NumbersSpent}
 use Rattle.pb_command.specs.Command.{command_of}
 use Rattle.pb_command.specs.Judge.{judge}
 use Rattle.pb_directive.specs.declared.directive.Directive.{Directive}
 use Rattle.pb_flight.specs.declared.flight.State.{State}
 use Rattle.pb_flight.specs.declared.flight.State.TheVariants.{Begun as begun_state}
 use Rattle.pb_flight.specs.Table.{is_good_at}
-use Rattle.pb_place.specs.Children.{StandsStill, child_at}
+use Rattle.pb_place.specs.Children.{StandsStill, child_at, KeepsStill, KeepsStillOutside}
 use Rattle.pb_place.specs.Counts.{Starts}
 use Rattle.pb_place.specs.World.{World, ChangesOnly, seen_by}
 use Rattle.pb_place.specs.declared.child_in_flight.ChildInFlight.{ChildInFlight}
@@ -21,26 +18,28 @@ use Rattle.pb_project.specs.declared.project.Project.{Project}
 use Rattle.pb_project.specs.declared.project.Setup.{Setup}
 use Rattle.pb_record.specs.declared.record.Record.{Record}
 use Rattle.pb_unit.specs.declared.plan.Planned.{Planned}
-use Rattle.pb_run.specs.Causes.{IsLifted, MayBeginUnit}
+use Rattle.pb_run.specs.Steps.{IsLifted, MayBegin}
 use Rattle.pb_run.specs.Halves.{Basis, BeginsApart, CanBegin, IsBegun, Keeps, begun_with, command_in, records_in, view_in}
-use Rattle.pb_run.specs.Launching.{IsSpawned}
+use Rattle.pb_run.specs.Running.{IsSpawned}
 use Rattle.pb_run.specs.Standing.{IsCommandOf, IsInOrder, records_folder}
 use Rattle.pb_run.specs.declared.begun.Awaited.TheVariants as awaited
 use Rattle.pb_run.specs.declared.begun.Begun.{Begun}
 use Rattle.pb_run.specs.declared.begun.Launched.{Launched}
+use Rattle.pb_run.specs.declared.faults.StepFault.{StepFault}
+use Rattle.pb_run.specs.declared.faults.StepFault.TheVariants.{Store, Start}
 use Rattle.pb_run.proofs.Answering.{reached_stand}
 use Rattle.pb_run.proofs.RecordedBegin.{begun_child, begun_same, keeps_begun}
 use Rattle.pb_run.proofs.RecordedOthers.{Left, flies_beside, if_records, left_dropped, stays_begun}
 use Rattle.pb_run.proofs.Shown.{AllStand, commanded, sees_view}
 use Rattle.pb_run.proofs.Views.{is_for}
-use Rattle.pb_soundness.specs.Apart.{KeepsStill, KeepsStillOutside, is_of}
+use Rattle.pb_soundness.specs.Apart.{is_of}
 use Rattle.pb_soundness.specs.Numbers.{IsAhead, after}
-use Rattle.pb_soundness.specs.Records.{out_of, record_at}
+use Rattle.pb_soundness.specs.Records.{out_of, reading, records}
 use Rattle.pb_soundness.specs.Reuse.{IsSame}
 use Rattle.pb_soundness.specs.Sound.{Sound}
-use Rattle.pb_store.specs.Keeping.{Leaves}
-use Rattle.pb_store.specs.Migrating.{TakesNumber}
-use Rattle.pb_store.specs.Replaying.{IsReplayed}
+use Rattle.pb_store.specs.Folder.{Leaves, TakesNumber}
+use Rattle.pb_store.specs.Differences.{IsReplayed}
+use Rattle.pb_store.specs.declared.fault.StoreFault.TheVariants as store
 use Rattle.pb_store.specs.declared.replaying.Replayed.{Replayed}
 
 -- a unit's command writes into its folder
@@ -71,44 +70,41 @@ module _ (b : Basis) (order : IsInOrder b.project) (i : ℕ) (u : Planned) (at :
   keeps_same w' same = subst (Keeps b (slice_set states i begun_state) done next) (sym same) keeps_here
 
   pub begun_none : (key : List ℕ) (c : Command) (again : Replayed) (w' : World) (folder : List ℕ) (flying : List ChildInFlight) (still : ℕ → Type 0) → w' ≡ w → folder ≡ records_folder b.project → c ≡ command_of b.setup b.project u done
-      → (r : Record) × IsSame b.read folder u.key c w r → IsReplayed (record_at b.read folder w.files u.key) again → IsBegun b i (begun_with key c (awaited.Record again)) next w' flying still
+      → (r : Record) × IsSame reading folder u.key c w r → IsReplayed (records folder w u.key) again → IsBegun b i (begun_with key c (awaited.Record again)) next w' flying still
   begun_none key c again w' folder flying still same is_folder is found gives =
       subst (λ (v : World). IsBegun b i (begun_with key c (awaited.Record again)) next v flying still) (sym same)
       (begun_same b order states done i u at next w w (only_same _ w) can (begun_with key c (awaited.Record again)) again flying still (is_command c is) refl
-      (found.0, subst (λ f. IsSame b.read f u.key c w found.0) is_folder found.1)
-      (subst (λ f. IsReplayed (record_at b.read f w.files u.key) again) is_folder gives))
+      (found.0, subst (λ f. IsSame reading f u.key c w found.0) is_folder found.1)
+      (subst (λ f. IsReplayed (records f w u.key) again) is_folder gives))
 
   -- its child was launched, or a step on the way failed
   module _ (folder : List ℕ) (is_folder : folder ≡ records_folder b.project) (w' : World) (next' : Option ℕ) (only : ChangesOnly (is_of folder u.key) w w') where
     only_its : ChangesOnly (is_of (records_folder b.project) u.key) w w'
     only_its = subst (λ f. ChangesOnly (is_of f u.key) w w') is_folder only
 
-    pub keeps_launched : (Sound b.read judge b.child folder w.files → Sound b.read judge b.child folder w'.files) → (IsAhead (record_at b.read folder w.files) next → IsAhead (record_at b.read folder w'.files) next')
+    pub keeps_launched : (Sound reading judge b.child folder w.files → Sound reading judge b.child folder w'.files) → (IsAhead (records folder w) next → IsAhead (records folder w') next')
         → Keeps b (slice_set states i begun_state) done next' w'
     keeps_launched sound ahead = keeps_begun b order states done i u at next w w' only_its can next'
-        (subst (λ f. Sound b.read judge b.child f w.files → Sound b.read judge b.child f w'.files) is_folder sound)
-        (subst (λ f. IsAhead (record_at b.read f w.files) next → IsAhead (record_at b.read f w'.files) next') is_folder ahead)
+        (subst (λ f. Sound reading judge b.child f w.files → Sound reading judge b.child f w'.files) is_folder sound)
+        (subst (λ f. IsAhead (records f w) next → IsAhead (records f w') next') is_folder ahead)
 
     pub begun_some : (key : List ℕ) (c : Command) (l : Launched) (flying : List ChildInFlight) (still : ℕ → Type 0) → c ≡ command_of b.setup b.project u done → IsSpawned (is_of folder u.key) b.child c w l.ticket flying still
-        → record_at b.read folder w'.files u.key ≡ None → next ≡ Some l.number → next' ≡ after l.number → IsBegun b i (begun_with key c (awaited.Child l)) next' w' flying still
+        → records folder w' u.key ≡ None → next ≡ Some l.number → next' ≡ after l.number → IsBegun b i (begun_with key c (awaited.Child l)) next' w' flying still
     begun_some key c l flying still is spawned gone given then' =
         begun_child b order states done i u at next w w' only_its can (begun_with key c (awaited.Child l)) l spawned.spawned next' flying still (is_command c is) refl (is_shown_view c is)
         (subst (λ f. ChangesOnly (is_of f u.key) w spawned.spawned) is_folder spawned.only) spawned.flies spawned.emptied spawned.stands
-        (subst (λ f. record_at b.read f w'.files u.key ≡ None) is_folder gone) given then'
+        (subst (λ f. records f w' u.key ≡ None) is_folder gone) given then'
 
 -- Another unit that has begun.
 
-pub flying_begun : (next : Option ℕ) (key : List ℕ) (e : BuildFault) (old new : Starts) → MayBeginUnit next key e old new → new.flying ≡ old.flying
-flying_begun next key (Plan refusal) old new may = absurd may
-flying_begun next key Toolchain old new may = absurd may
-flying_begun next key (Child unit fault) old new (named, kind, starts) = ap (λ (s : Starts). s.flying) starts
-flying_begun next key (Device unit (Place fault)) old new (named, kind, starts) = ap (λ (s : Starts). s.flying) starts
-flying_begun next key (Device unit NumbersSpent) old new (named, spent, starts) = ap (λ (s : Starts). s.flying) starts
-flying_begun next key Sink old new may = absurd may
-flying_begun next key OutOfMemory old new may = elim may [
+pub flying_begun : (next : Option ℕ) (e : StepFault) (old new : Starts) → MayBegin next e old new → new.flying ≡ old.flying
+flying_begun next (Store (store.Place fault)) old new (kind, starts) = ap (λ (s : Starts). s.flying) starts
+flying_begun next (Store store.NumbersSpent) old new (spent, starts) = ap (λ (s : Starts). s.flying) starts
+flying_begun next (Store store.OutOfMemory) old new may = elim may [
   | inl starts ↦ ap (λ (s : Starts). s.flying) starts
   | inr starts ↦ ap (λ (s : Starts). s.flying) starts
 ]
+flying_begun next (Start fault) old new (kind, starts) = ap (λ (s : Starts). s.flying) starts
 
 pub flies_lifted : (ticket t : ℕ) (old new : Starts) (f : ChildInFlight) → IsLifted ticket old new → child_at t old.flying ≡ Some f → child_at t new.flying ≡ Some f
 flies_lifted ticket t old new f lifted there = ap (λ (s : Starts). child_at t s.flying) lifted.lifted ∙ flies_beside t old.flying (lifted.child ∷ []) f there
@@ -122,7 +118,7 @@ module _ (b : Basis) (order : IsInOrder b.project) (i : ℕ) (u : Planned) (at :
   no_number n e = cc
 
   others_at_folder : (w' : World) (next' : Option ℕ) (flying' : List ChildInFlight) (still' : ℕ → Type 0) → ChangesOnly (is_of (records_folder b.project) u.key) w w' → TakesNumber next next'
-      → Leaves None (record_at b.read (records_folder b.project) w.files u.key) (record_at b.read (records_folder b.project) w'.files u.key)
+      → Leaves None (records (records_folder b.project) w u.key) (records (records_folder b.project) w' u.key)
       → ((t : ℕ) (f : ChildInFlight) → child_at t flying ≡ Some f → child_at t flying' ≡ Some f) → KeepsStillOutside (is_of (records_folder b.project) u.key) flying still still' → IsBegun b other its next' w' flying' still'
   others_at_folder w' next' flying' still' only taken left flies keeps =
       stays_begun b order states done i u None other its next next' None w w' flying flying' still still' at bad can.keeps apart only taken
@@ -130,17 +126,17 @@ module _ (b : Basis) (order : IsInOrder b.project) (i : ℕ) (u : Planned) (at :
       (λ theirs is e. no_number theirs.number e) (λ theirs is f there. flies theirs.ticket f there) (λ theirs is stands stood. keeps theirs.ticket stands stood)
 
   pub others_begun : (folder : List ℕ) (w' : World) (next' : Option ℕ) (flying' : List ChildInFlight) (still' : ℕ → Type 0) → folder ≡ records_folder b.project → ChangesOnly (is_of folder u.key) w w' → TakesNumber next next'
-      → Leaves None (record_at b.read folder w.files u.key) (record_at b.read folder w'.files u.key)
+      → Leaves None (records folder w u.key) (records folder w' u.key)
       → ((t : ℕ) (f : ChildInFlight) → child_at t flying ≡ Some f → child_at t flying' ≡ Some f) → KeepsStillOutside (is_of folder u.key) flying still still' → IsBegun b other its next' w' flying' still'
   others_begun folder w' next' flying' still' is_folder only taken left flies keeps =
       others_at_folder w' next' flying' still' (subst (λ f. ChangesOnly (is_of f u.key) w w') is_folder only) taken
-      (subst (λ f. Leaves None (record_at b.read f w.files u.key) (record_at b.read f w'.files u.key)) is_folder left) flies (subst (λ f. KeepsStillOutside (is_of f u.key) flying still still') is_folder keeps)
+      (subst (λ f. Leaves None (records f w u.key) (records f w' u.key)) is_folder left) flies (subst (λ f. KeepsStillOutside (is_of f u.key) flying still still') is_folder keeps)
 
   -- nothing was changed
   pub others_same : (w' : World) (flying' : List ChildInFlight) (still' : ℕ → Type 0) → w' ≡ w → flying' ≡ flying → KeepsStill still still' → IsBegun b other its next w' flying' still'
   others_same w' flying' still' same flies keeps =
       others_at_folder w' next flying' still' (subst (ChangesOnly (is_of (records_folder b.project) u.key) w) (sym same) (only_same _ w)) (inl refl)
-      (inr (inl (ap (λ (v : World). record_at b.read (records_folder b.project) v.files u.key) same)))
+      (inr (inl (ap (λ (v : World). records (records_folder b.project) v u.key) same)))
       (λ t f there. ap (child_at t) flies ∙ there) (λ t stands stood. keeps t stood)
 
 -- what stood still over a call that changes nothing, and then over one that changes these paths

@@ -14,8 +14,8 @@ use Rattle.pb_place.proofs.Within.{at_itself, at_below, at_or_below_on, outside_
 use Rattle.pb_project.specs.Targets.{unit_at}
 use Rattle.pb_project.specs.declared.project.Project.{Project}
 use Rattle.pb_run.specs.Halves.{Basis, key_in, needed_keys, command_in}
-use Rattle.pb_run.specs.Standing.{IsInOrder, HasPackage, records_folder}
-use Rattle.pb_run.proofs.Views.{IsFor, is_for}
+use Rattle.pb_run.specs.Standing.{IsInOrder, records_folder}
+use Rattle.pb_run.proofs.Views.{IsFor, is_for, HasPackage}
 use Rattle.pb_soundness.specs.Apart.{is_of, ReadsOthers}
 use Rattle.pb_soundness.specs.Records.{Reading, is_key, out_of, place_of, record_at}
 use Rattle.pb_soundness.proofs.Flying.{unit_files, unit_record, unit_seen}

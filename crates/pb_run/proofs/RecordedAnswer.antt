@@ -42,12 +42,12 @@ use Rattle.pb_run.proofs.Views.{IsFor}
 use Rattle.pb_soundness.specs.Apart.{is_of}
 use Rattle.pb_soundness.specs.Grounded.{Standing, Grounded, grounded}
 use Rattle.pb_soundness.specs.Numbers.{IsAhead}
-use Rattle.pb_soundness.specs.Records.{is_key, place_of}
+use Rattle.pb_soundness.specs.Records.{is_key, place_of, reading}
 use Rattle.pb_soundness.specs.Sound.{Sound}
 use Rattle.pb_soundness.proofs.Becoming.{one, none_some}
 use Rattle.pb_soundness.proofs.Four.{in_output}
 use Rattle.pb_soundness.proofs.Places.{place_outside, no_key, record_same}
-use Rattle.pb_store.specs.Replaying.{IsReplayed}
+use Rattle.pb_store.specs.Differences.{IsReplayed}
 use Rattle.pb_store.specs.declared.replaying.Replayed.{Replayed}
 use Rattle.pb_unit.specs.declared.plan.Planned.{Planned}
 
@@ -110,14 +110,14 @@ module _ (b : Basis) (order : IsInOrder b.project) (place : ℕ) (u : Planned) (
   -- a change in its folder changes no record
   pub records_out : (old new : World) → ChangesOnly (is_at_or_below u.out) old new → (l : List ℕ) → records_in b new l ≡ records_in b old l
   records_out old new only l = elim (cases_Bool (is_key l)) [
-    | inl is_l ↦ record_same b.read Folder old.files new.files l
+    | inl is_l ↦ record_same reading Folder old.files new.files l
         (only.files (place_of Folder l) (subst (λ f. is_at_or_below f (place_of Folder l) ≡ false) (sym (order.folders place u there)) (place_outside Folder u.key l (order.keys place u there) is_l)))
-    | inr wrong ↦ no_key b.read Folder new.files l wrong ∙ sym (no_key b.read Folder old.files l wrong)
+    | inr wrong ↦ no_key reading Folder new.files l wrong ∙ sym (no_key reading Folder old.files l wrong)
   ]
 
-  pub sound_out : (old new : World) → ChangesOnly (is_at_or_below u.out) old new → records_in b old u.key ≡ None → Sound b.read judge b.child Folder old.files → Sound b.read judge b.child Folder new.files
+  pub sound_out : (old new : World) → ChangesOnly (is_at_or_below u.out) old new → records_in b old u.key ≡ None → Sound reading judge b.child Folder old.files → Sound reading judge b.child Folder new.files
   sound_out old new only gone sound =
-      in_output b.read judge b.child Folder old.files new.files u.key order.folder (order.keys place u there) gone
+      in_output reading judge b.child Folder old.files new.files u.key order.folder (order.keys place u there) gone
       (λ q outside. only.files q (subst (λ f. is_at_or_below f q ≡ false) (sym (order.folders place u there)) outside)) sound
 
   -- What a unit that can answer waits for.
@@ -161,7 +161,7 @@ module _ (b : Basis) (order : IsInOrder b.project) (place : ℕ) (u : Planned) (
 
     -- after a fault: no unit's state is changed
     pub keeps_fault : (w' : World) (next' : Option ℕ) → ChangesOnly (is_of Folder u.key) w w'
-        → IfRecords b.footing (Sound b.read judge b.child Folder w'.files) → IfRecords b.footing (IsAhead (records_in b w') next') → Keeps b states done next' w'
+        → IfRecords b.footing (Sound reading judge b.child Folder w'.files) → IfRecords b.footing (IsAhead (records_in b w') next') → Keeps b states done next' w'
     keeps_fault w' next' only sound ahead = keeps_over b order states done place u there begun_bad next w w' can.keeps only states done next' (λ p apart. refl) (λ p apart. refl) can.keeps.long
         record {
           stands = λ good. absurd (false≢true (sym begun_bad ∙ good));
@@ -176,7 +176,7 @@ module _ (b : Basis) (order : IsInOrder b.project) (place : ℕ) (u : Planned) (
     -- after its answer, good or bad: a good one stands, and has its record
     pub keeps_answered : (w' : World) (next' : Option ℕ) (ran : Ran) (lines : List ℕ) → ChangesOnly (is_of Folder u.key) w w'
         → slice_get (outcomes_in b) place ≡ Some (outcome_by (files_in u.out w'.files) ran)
-        → IfRecords b.footing (Sound b.read judge b.child Folder w'.files) → IfRecords b.footing (IsAhead (records_in b w') next') → IfRecords b.footing (ran.bad ≡ None → HasRecord b w' place)
+        → IfRecords b.footing (Sound reading judge b.child Folder w'.files) → IfRecords b.footing (IsAhead (records_in b w') next') → IfRecords b.footing (ran.bad ≡ None → HasRecord b w' place)
         → Keeps b (slice_set states place (Answered record { fault = ran.bad; lines = lines })) (slice_set done place ran.directives) next' w'
     keeps_answered w' next' ran lines only outcome sound ahead recorded =
         keeps_over b order states done place u there begun_bad next w w' can.keeps only (slice_set states place (Answered answer)) (slice_set done place ran.directives) next'

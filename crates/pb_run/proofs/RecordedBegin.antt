@@ -30,16 +30,17 @@ use Rattle.pb_soundness.specs.Reuse.{IsSame}
 use Rattle.pb_soundness.specs.Sound.{Sound}
 use Rattle.pb_soundness.proofs.Ahead.{given_ahead, next_is_new}
 use Rattle.pb_soundness.proofs.Becoming.{none_some}
-use Rattle.pb_store.specs.Replaying.{IsReplayed}
+use Rattle.pb_store.specs.Differences.{IsReplayed}
 use Rattle.pb_store.specs.declared.replaying.Replayed.{Replayed}
 use Rattle.pb_unit.specs.declared.plan.Planned.{Planned}
+use Rattle.pb_soundness.specs.Records.{reading}
 
 untouched_begun : (s : State BadUnit) → s ≡ begun_state → Some s ≡ Some Untouched → ⊥
 untouched_begun s is e = cc
 
 -- by what a build rests on
 pub by_footing : (footing : Footing) (b : Basis) (states : List (State BadUnit)) (next : Option ℕ) (w : World) (Fact : Type 0) → HoldsBy footing b states next w
-    → (Sound b.read judge b.child (records_folder b.project) w.files → IsAhead (records_in b w) next → Fact) → IfRecords footing Fact
+    → (Sound reading judge b.child (records_folder b.project) w.files → IsAhead (records_in b w) next → Fact) → IfRecords footing Fact
 by_footing OnRecords b states next w Fact holds gives = gives holds.sound holds.ahead
 by_footing OnNothing b states next w Fact holds gives = tt
 
@@ -68,7 +69,7 @@ module _ (b : Basis) (order : IsInOrder b.project) (states : List (State BadUnit
     not_good good = false≢true (sym (ap is_good_at now_begun) ∙ good)
 
     -- what is kept while it begins, and after each fault on the way
-    pub keeps_begun : (next' : Option ℕ) → (Sound b.read judge b.child (records_folder b.project) w.files → Sound b.read judge b.child (records_folder b.project) w'.files)
+    pub keeps_begun : (next' : Option ℕ) → (Sound reading judge b.child (records_folder b.project) w.files → Sound reading judge b.child (records_folder b.project) w'.files)
         → (IsAhead (records_in b w) next → IsAhead (records_in b w') next') → Keeps b (slice_set states place begun_state) done next' w'
     keeps_begun next' sound ahead = keeps_over b order states done place u there untouched_bad next w w' can.keeps only (slice_set states place begun_state) done next'
         (λ p apart. get_set_other states place p begun_state (λ e. apart (sym e))) (λ p apart. refl) (can.keeps.long ∙ sym (length_set states place begun_state))
@@ -78,7 +79,7 @@ module _ (b : Basis) (order : IsInOrder b.project) (states : List (State BadUnit
           recorded = never_by b.footing (is_good_at (slice_get (slice_set states place begun_state) place) ≡ true) (HasRecord b w' place) not_good;
           begun = λ untouched. untouched_begun begun_state refl (sym now_begun ∙ untouched);
         }
-        (by_footing b.footing b states next w (Sound b.read judge b.child (records_folder b.project) w'.files) can.keeps.records (λ was more. sound was))
+        (by_footing b.footing b states next w (Sound reading judge b.child (records_folder b.project) w'.files) can.keeps.records (λ was more. sound was))
         (by_footing b.footing b states next w (IsAhead (records_in b w') next') can.keeps.records (λ was more. ahead more))
 
     -- a record of it may be kept with the number that was given
@@ -118,12 +119,12 @@ module _ (b : Basis) (order : IsInOrder b.project) (states : List (State BadUnit
     }
 
     -- and without one, where nothing differs
-    unchanged_by : (footing : Footing) (c : _) → HoldsBy footing b states next w → (r : Record) × IsSame b.read (records_folder b.project) u.key c w r → IsUnchanged footing b u c w
+    unchanged_by : (footing : Footing) (c : _) → HoldsBy footing b states next w → (r : Record) × IsSame reading (records_folder b.project) u.key c w r → IsUnchanged footing b u c w
     unchanged_by OnRecords c holds same = same
     unchanged_by OnNothing c holds (r, same) = none_some r (sym (holds place u there can.untouched) ∙ same.stands)
 
     pub begun_same : (begun : Begun) (again : Replayed) (flying : List ChildInFlight) (still : ℕ → Type 0) → begun.command ≡ command_in b place u → begun.awaited ≡ awaited.Record again
-        → (r : Record) × IsSame b.read (records_folder b.project) u.key begun.command w r → IsReplayed (records_in b w u.key) again → IsBegun b place begun next w flying still
+        → (r : Record) × IsSame reading (records_folder b.project) u.key begun.command w r → IsReplayed (records_in b w u.key) again → IsBegun b place begun next w flying still
     begun_same begun again flying still is_command is_awaited same gives = record {
       unit = u;
       there = there;

@@ -21,13 +21,13 @@ use Rattle.pb_soundness.specs.Apart.{is_of}
 use Rattle.pb_soundness.specs.Grounded.{Standing, Grounded, Reaches}
 use Rattle.pb_soundness.specs.Inputs.{Judge}
 use Rattle.pb_soundness.specs.Numbers.{IsAhead}
-use Rattle.pb_soundness.specs.Records.{out_of, number_in, number_of}
+use Rattle.pb_soundness.specs.Records.{number_in, number_of, out_of, reading}
 use Rattle.pb_soundness.specs.Reuse.{AreGrounded}
 use Rattle.pb_soundness.specs.Sound.{Sound, TrueBy, Rests}
 use Rattle.pb_soundness.proofs.Becoming.{one, none_some, grounded_number}
 use Rattle.pb_soundness.proofs.Flying.{unit_record}
 use Rattle.pb_soundness.proofs.Renewing.{spares}
-use Rattle.pb_store.specs.Keeping.{ReadBy, itself, further, HasNeeds}
+use Rattle.pb_store.specs.Folder.{ReadBy, itself, further, HasNeeds}
 use Rattle.pb_unit.specs.declared.plan.Planned.{Planned}
 
 -- a grounded record rests on what stands
@@ -140,11 +140,11 @@ module _ (b : Basis) (order : IsInOrder b.project) (states : List (State BadUnit
         unit = h.unit;
         there = h.there;
         kept = h.kept;
-        here = record_still b.project order place u there w w' only b.read p h.unit h.there (good_apart p good) ∙ h.here;
+        here = record_still b.project order place u there w w' only reading p h.unit h.there (good_apart p good) ∙ h.here;
         number = h.number;
         numbered = h.numbered;
         grounded = spares (records_in b w) (records_in b w') u.key h.unit.key h.number
-            (λ l ne. unit_record (records_folder b.project) u.key w w' order.folder (order.keys place u there) only b.read l ne) h.grounded
+            (λ l ne. unit_record (records_folder b.project) u.key w w' order.folder (order.keys place u there) only reading l ne) h.grounded
             (keys_differ b.project order p place h.unit u h.there there (good_apart p good)) (not_reached holds p good h);
         reads = h.reads;
         same = same_still b order place u there w w' only p h.unit h.there (far_of states place h.unit.reaches bad (keeps.closed p h.unit good h.there)) (good_apart p good)
@@ -162,7 +162,7 @@ module _ (b : Basis) (order : IsInOrder b.project) (states : List (State BadUnit
         (λ p has. let it = all_at (λ q. is_good_at (slice_get states q)) places p good has in ap is_good_at (others p (good_apart p it)) ∙ it)
 
     holds_over : (footing : Footing) → HoldsBy footing b states next w → IfRecords footing (is_good_at (slice_get states' place) ≡ true → HasRecord b w' place)
-        → IfRecords footing (Sound b.read judge b.child (records_folder b.project) w'.files) → IfRecords footing (IsAhead (records_in b w') next') → HoldsBy footing b states' next' w'
+        → IfRecords footing (Sound reading judge b.child (records_folder b.project) w'.files) → IfRecords footing (IsAhead (records_in b w') next') → HoldsBy footing b states' next' w'
     holds_over OnRecords holds its sound ahead = record {
       honest = holds.honest;
       sound = sound;
@@ -174,10 +174,10 @@ module _ (b : Basis) (order : IsInOrder b.project) (states : List (State BadUnit
     }
     holds_over OnNothing holds its sound ahead = λ p v at untouched. elim (cases_eq p place) [
       | inl e ↦ absurd (this.begun (ap (slice_get states') (sym e) ∙ untouched))
-      | inr apart ↦ record_still b.project order place u there w w' only b.read p v at apart ∙ holds p v at (sym (others p apart) ∙ untouched)
+      | inr apart ↦ record_still b.project order place u there w w' only reading p v at apart ∙ holds p v at (sym (others p apart) ∙ untouched)
     ]
 
-    pub keeps_over : IfRecords b.footing (Sound b.read judge b.child (records_folder b.project) w'.files) → IfRecords b.footing (IsAhead (records_in b w') next') → Keeps b states' done' next' w'
+    pub keeps_over : IfRecords b.footing (Sound reading judge b.child (records_folder b.project) w'.files) → IfRecords b.footing (IsAhead (records_in b w') next') → Keeps b states' done' next' w'
     keeps_over sound ahead = record {
       long = long;
       sources_stay = sources_still b.project order place u there w w' only ∙ keeps.sources_stay;

@@ -28,12 +28,12 @@ use Rattle.pb_run.proofs.Views.{IsFor}
 use Rattle.pb_soundness.specs.Grounded.{Standing, Grounded}
 use Rattle.pb_soundness.specs.Inputs.{IsHonest, input_in, reply_in}
 use Rattle.pb_soundness.specs.Numbers.{NoneNames, IsAhead, IsBefore}
-use Rattle.pb_soundness.specs.Records.{out_of, place_of, number_of}
+use Rattle.pb_soundness.specs.Records.{number_of, out_of, place_of, reading}
 use Rattle.pb_soundness.specs.Reuse.{AreGrounded, IsSame, NamesNeeds, own}
 use Rattle.pb_soundness.specs.Sound.{Sound}
 use Rattle.pb_soundness.proofs.Becoming.{one, none_some, grounded_number, grounded_stands}
 use Rattle.pb_soundness.proofs.Renewing.{put_grounds}
-use Rattle.pb_store.specs.Keeping.{Leaves, HasNeeds, IsKept, kept_of, numbered}
+use Rattle.pb_store.specs.Folder.{Leaves, HasNeeds, IsKept, kept_of, numbered}
 use Rattle.pb_store.proofs.Earned.{names_stand}
 use Rattle.pb_unit.specs.declared.plan.Planned.{Planned}
 
@@ -60,7 +60,7 @@ module _ (b : Basis) (order : IsInOrder b.project) (place : ℕ) (u : Planned) (
   for = its_for b order place u there states done begun next w flying still can
 
   -- what is kept where the child has landed
-  pub landed_sound : (footing : Footing) (number : ℕ) → HoldsBy footing b states next w → AwaitsBy footing b u number next w → IfRecords footing (Sound b.read judge b.child Folder w1.files)
+  pub landed_sound : (footing : Footing) (number : ℕ) → HoldsBy footing b states next w → AwaitsBy footing b u number next w → IfRecords footing (Sound reading judge b.child Folder w1.files)
   landed_sound OnRecords number holds waits = sound_out b order place u there w w1 landed waits.gone holds.sound
   landed_sound OnNothing number holds waits = tt
 
@@ -81,7 +81,7 @@ module _ (b : Basis) (order : IsInOrder b.project) (place : ℕ) (u : Planned) (
   pub is_kept : (number : ℕ) (names : List InputName) (ended : Ended) → HoldsRecords b states next w → AwaitsRecord b u number next w
       → seen_by begun.command w ≡ view_in b place u → judge begun.command (b.child begun.command (view_in b place u)) ≡ Some names
       → ended ≡ ended_by (b.child begun.command (view_in b place u)) → files_in u.out w1.files ≡ replied_files u.out (b.child begun.command (view_in b place u))
-      → IsKept b.read judge b.child Folder u.key begun.command (needed_keys b.project u) names ended number w1
+      → IsKept judge b.child Folder u.key begun.command (needed_keys b.project u) names ended number w1
   is_kept number names ended holds waits sees good is_ended made =
       let command = its_command b order place u there states done begun next w flying still can in
       let only = only_out b order place u there w w1 landed in
@@ -111,8 +111,8 @@ module _ (b : Basis) (order : IsInOrder b.project) (place : ℕ) (u : Planned) (
     pub kept_sound : (footing : Footing) (number : ℕ) (names : List InputName) (ended : Ended) → HoldsBy footing b states next w → AwaitsBy footing b u number next w
         → seen_by begun.command w ≡ view_in b place u → judge begun.command (b.child begun.command (view_in b place u)) ≡ Some names
         → ended ≡ ended_by (b.child begun.command (view_in b place u)) → files_in u.out w1.files ≡ replied_files u.out (b.child begun.command (view_in b place u))
-        → (IsKept b.read judge b.child Folder u.key begun.command (needed_keys b.project u) names ended number w1 → Sound b.read judge b.child Folder w1.files → Sound b.read judge b.child Folder w2.files)
-        → IfRecords footing (Sound b.read judge b.child Folder w2.files)
+        → (IsKept judge b.child Folder u.key begun.command (needed_keys b.project u) names ended number w1 → Sound reading judge b.child Folder w1.files → Sound reading judge b.child Folder w2.files)
+        → IfRecords footing (Sound reading judge b.child Folder w2.files)
     kept_sound OnRecords number names ended holds waits sees good is_ended made gives = gives (is_kept number names ended holds waits sees good is_ended made) (landed_sound OnRecords number holds waits)
     kept_sound OnNothing number names ended holds waits sees good is_ended made gives = tt
 
@@ -129,12 +129,12 @@ module _ (b : Basis) (order : IsInOrder b.project) (place : ℕ) (u : Planned) (
     -- nothing differs from it
     kept_same : (number : ℕ) (names : List InputName) (ended : Ended) → AwaitsRecord b u number next w
         → records_in b w2 u.key ≡ Some (kept_of Folder u.key begun.command (map (input_in begun.command.target w1) names) number (numbered (records_in b w1) (needed_keys b.project u)) ended)
-        → IsSame b.read Folder u.key (command_in b place u) w2 (kept_of Folder u.key begun.command (map (input_in begun.command.target w1) names) number (numbered (records_in b w1) (needed_keys b.project u)) ended)
+        → IsSame reading Folder u.key (command_in b place u) w2 (kept_of Folder u.key begun.command (map (input_in begun.command.target w1) names) number (numbered (records_in b w1) (needed_keys b.project u)) ended)
     kept_same number names ended waits stands =
         let inputs = map (input_in begun.command.target w1) names in
         let r = kept_of Folder u.key begun.command inputs number (numbered (records_in b w1) (needed_keys b.project u)) ended in
         let only = only_place b order place u there w1 w2 kept in
-        subst (λ (c : Command). IsSame b.read Folder u.key c w2 r) (its_command b order place u there states done begun next w flying still can) record {
+        subst (λ (c : Command). IsSame reading Folder u.key c w2 r) (its_command b order place u there states done begun next w flying still can) record {
           stands = stands;
           asked = command_back begun.command (out_of Folder u.key) (for.out ∙ ap Some (order.folders place u there));
           inputs = agrees_still begun.command.target inputs w1 w2 (subst (λ t. from_nothing t w2 ≡ from_nothing t w1) (sym for.target) (sources_still b.project order place u there w1 w2 only)) (present_agree begun.command.target w1 names);

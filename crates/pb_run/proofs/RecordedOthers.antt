@@ -9,7 +9,7 @@ use Rattle.pb_command.specs.Judge.{judge}
 use Rattle.pb_directive.specs.declared.directive.Directive.{Directive}
 use Rattle.pb_flight.specs.declared.flight.State.{State}
 use Rattle.pb_flight.specs.Table.{is_good_at, are_good}
-use Rattle.pb_place.specs.Children.{child_spawned, child_at, inside_out, StandsStill, SeesStill, StaysStillBut}
+use Rattle.pb_place.specs.Children.{child_spawned, child_at, inside_out, StandsStill, SeesStill, StaysStillBut, KeepsStillOutside}
 use Rattle.pb_place.specs.Counts.{without}
 use Rattle.pb_place.specs.Folders.{files_in}
 use Rattle.pb_place.specs.Paths.{stem}
@@ -32,19 +32,18 @@ use Rattle.pb_run.specs.declared.begun.Begun.{Begun}
 use Rattle.pb_run.specs.declared.begun.Launched.{Launched}
 use Rattle.pb_run.proofs.Recorded.{all_at, read_reached, key_needed, key_by_folder, keys_differ, command_for, sources_still, files_still, record_still, seen_still}
 use Rattle.pb_run.proofs.Views.{IsFor}
-use Rattle.pb_soundness.specs.Apart.{is_of, KeepsStillOutside}
+use Rattle.pb_soundness.specs.Apart.{is_of}
 use Rattle.pb_soundness.specs.Grounded.{Standing}
 use Rattle.pb_soundness.specs.Inputs.{Judge, Agrees, path_input, input_in, contents, name_of}
 use Rattle.pb_soundness.specs.Numbers.{NoneNames, IsBefore, after}
-use Rattle.pb_soundness.specs.Records.{out_of, number_of, needs_of}
+use Rattle.pb_soundness.specs.Records.{needs_of, number_of, out_of, reading}
 use Rattle.pb_soundness.specs.Reuse.{IsSame, NeededNow, number_if}
 use Rattle.pb_soundness.specs.Sound.{Sound, TrueBy}
 use Rattle.pb_soundness.proofs.Becoming.{one, none_some}
 use Rattle.pb_soundness.proofs.Flying.{unit_record}
 use Rattle.pb_soundness.proofs.Places.{is_same}
-use Rattle.pb_store.specs.Keeping.{Leaves, ReadBy, itself, further, HasNeeds}
-use Rattle.pb_store.specs.Migrating.{TakesNumber}
-use Rattle.pb_store.specs.Replaying.{replayed}
+use Rattle.pb_store.specs.Folder.{Leaves, ReadBy, itself, further, HasNeeds, TakesNumber}
+use Rattle.pb_store.specs.Differences.{replayed}
 use Rattle.pb_unit.specs.declared.plan.Planned.{Planned}
 
 -- what is asked only where a build rests on records
@@ -136,7 +135,7 @@ module _ (b : Basis) (order : IsInOrder b.project) (place : ℕ) (u : Planned) (
   At' = records_in b w'
 
   pub others_at : (l : List ℕ) → l ≢ u.key → At' l ≡ At l
-  others_at l ne = unit_record Folder u.key w w' order.folder (order.keys place u there) only b.read l ne
+  others_at l ne = unit_record Folder u.key w w' order.folder (order.keys place u there) only reading l ne
 
   module _ (other : ℕ) (v : Planned) (at : unit_at b.project other ≡ Some v) (far : (p : ℕ) → Contains v.reaches p → p ≢ place) where
     -- what a unit needs that does not reach this one stands as it stood
@@ -162,7 +161,7 @@ module _ (b : Basis) (order : IsInOrder b.project) (place : ℕ) (u : Planned) (
   module _ (other : ℕ) (v : Planned) (at : unit_at b.project other ≡ Some v) (far : (p : ℕ) → Contains v.reaches p → p ≢ place) (another : other ≢ place) where
     pub awaits_still : (next next' : Option ℕ) (given : Option ℕ) (number : ℕ) → TakesNumber next next' → Left At At' u.key given → given ≢ Some number → AwaitsRecord b v number next w → AwaitsRecord b v number next' w'
     awaits_still next next' given number taken left apart waits = record {
-      gone = record_still b.project order place u there w w' only b.read other v at another ∙ waits.gone;
+      gone = record_still b.project order place u there w w' only reading other v at another ∙ waits.gone;
       unnamed = names_still At At' u.key given number others_at left apart waits.unnamed;
       needs_stand = needs_still other v at far number waits.needs_stand;
       before = before_taken next next' number taken waits.before;
@@ -195,9 +194,9 @@ module _ (b : Basis) (order : IsInOrder b.project) (place : ℕ) (u : Planned) (
         ap number_if (others_at need (read_apart c for need (subst (λ (l : List (List ℕ)). Contains l (out_of Folder need)) (sym reads) (named_read judge b.child Folder At w.files v.key r number needs says need n has))))
         ∙ now need n has
 
-    pub same_still : (c : Command) (r : Record) → IsFor b.project v c → Sound b.read judge b.child Folder w.files → IsSame b.read Folder v.key c w r → IsSame b.read Folder v.key c w' r
+    pub same_still : (c : Command) (r : Record) → IsFor b.project v c → Sound reading judge b.child Folder w.files → IsSame reading Folder v.key c w r → IsSame reading Folder v.key c w' r
     same_still c r for sound is = record {
-      stands = record_still b.project order place u there w w' only b.read other v at another ∙ is.stands;
+      stands = record_still b.project order place u there w w' only reading other v at another ∙ is.stands;
       asked = is.asked;
       inputs = agrees_still c.target r.inputs w w' (subst (λ t. from_nothing t w' ≡ from_nothing t w) (sym for.target) (sources_still b.project order place u there w w' only)) is.inputs;
       needed = needed_still c for r r.needed (sound.each v.key r is.stands).says (sym (ap (λ (d : Command). d.reads) is.asked)) is.needed;
@@ -236,7 +235,7 @@ module _ (b : Basis) (order : IsInOrder b.project) (place : ℕ) (u : Planned) (
         → WaitsBy b v c view by next w flying still → WaitsBy b v c view by next' w' flying' still'
     waits_still c view (awaited.Record again) states next next' given flying flying' still still' for holds taken left numbers flies_on stands_on (same, gives) = (
       unchanged_by b.footing states next c for holds same,
-      ap (option_map replayed) (record_still b.project order place u there w w' only b.read other v at another) ∙ gives,
+      ap (option_map replayed) (record_still b.project order place u there w w' only reading other v at another) ∙ gives,
     )
     waits_still c view (awaited.Child theirs) states next next' given flying flying' still still' for holds taken left numbers flies_on stands_on (in_flight, awaits) = (
       in_flight_still c view theirs.ticket flying flying' still still' for (flies_on theirs refl) (stands_on theirs refl) in_flight,

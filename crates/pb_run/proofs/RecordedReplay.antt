@@ -28,15 +28,14 @@ use Rattle.pb_run.proofs.RecordedSame.{named_now, needed_alike}
 use Rattle.pb_run.proofs.Views.{IsFor}
 use Rattle.pb_soundness.specs.Inputs.{Agrees, IsHonest}
 use Rattle.pb_soundness.specs.Numbers.{IsAhead, IsBefore}
-use Rattle.pb_soundness.specs.Records.{out_of, place_of, number_of}
+use Rattle.pb_soundness.specs.Records.{number_of, out_of, place_of, reading}
 use Rattle.pb_soundness.specs.Reuse.{IsSame, AreGrounded, NamesNeeds}
 use Rattle.pb_soundness.specs.Sound.{Sound, Backs}
 use Rattle.pb_soundness.proofs.Ahead.{next_is_new}
 use Rattle.pb_soundness.proofs.Becoming.{one, none_some, grounded_number}
 use Rattle.pb_soundness.proofs.Places.{is_same}
 use Rattle.pb_soundness.proofs.Renewing.{grounds, reuse}
-use Rattle.pb_store.specs.Keeping.{Leaves, HasNeeds, numbered}
-use Rattle.pb_store.specs.Migrating.{IsMigrated, numbered_record, migrated, migrated_by}
+use Rattle.pb_store.specs.Folder.{Leaves, HasNeeds, numbered, IsMigrated, numbered_record, migrated, migrated_by}
 use Rattle.pb_store.proofs.Earned.{names_stand}
 use Rattle.pb_unit.specs.declared.plan.Planned.{Planned}
 
@@ -68,13 +67,13 @@ module _ (b : Basis) (order : IsInOrder b.project) (place : ℕ) (u : Planned) (
     same.stands,
     subst (λ f. Backs judge r f (files_in f w.files) (b.child begun.command (view_in b place u))) (sym (order.folders place u there))
         (subst (λ (y : Reply). Backs judge r (out_of Folder u.key) (files_in (out_of Folder u.key) w.files) y) (ap (b.child begun.command) sees)
-        (reuse b.read judge b.child Folder u.key begun.command w r holds.sound same (all_grounded holds))),
+        (reuse reading judge b.child Folder u.key begun.command w r holds.sound same (all_grounded holds))),
   )
   replay_backs OnNothing holds same sees = absurd same
 
   -- what makes the migrated record true
-  pub is_migrated : HoldsRecords b states next w → (r : Record) → IsSame b.read Folder u.key begun.command w r → seen_by begun.command w ≡ view_in b place u
-      → (number : ℕ) → next ≡ Some number → IsMigrated b.read judge b.child Folder u.key begun.command (needed_keys b.project u) number w r
+  pub is_migrated : HoldsRecords b states next w → (r : Record) → IsSame reading Folder u.key begun.command w r → seen_by begun.command w ≡ view_in b place u
+      → (number : ℕ) → next ≡ Some number → IsMigrated judge b.child Folder u.key begun.command (needed_keys b.project u) number w r
   is_migrated holds r same sees number given =
       let command = its_command b order place u there states done begun next w flying still can in
       let new = next_is_new (records_in b w) number (subst (IsAhead (records_in b w)) given holds.ahead) in
@@ -93,13 +92,13 @@ module _ (b : Basis) (order : IsInOrder b.project) (place : ℕ) (u : Planned) (
   module _ (w' : World) (next' : Option ℕ) (only : ChangesOnly (is_at_or_below (place_of (records_folder b.project) u.key)) w w') where
     -- in the words of the call: sound, and ahead
     pub migrated_sound : (footing : Footing) → HoldsBy footing b states next w → IsUnchanged footing b u begun.command w → seen_by begun.command w ≡ view_in b place u
-        → ((r : Record) → ((number : ℕ) → next ≡ Some number → IsMigrated b.read judge b.child Folder u.key begun.command (needed_keys b.project u) number w r) → Sound b.read judge b.child Folder w.files → Sound b.read judge b.child Folder w'.files)
-        → IfRecords footing (Sound b.read judge b.child Folder w'.files)
+        → ((r : Record) → ((number : ℕ) → next ≡ Some number → IsMigrated judge b.child Folder u.key begun.command (needed_keys b.project u) number w r) → Sound reading judge b.child Folder w.files → Sound reading judge b.child Folder w'.files)
+        → IfRecords footing (Sound reading judge b.child Folder w'.files)
     migrated_sound OnRecords holds (r, same) sees gives = gives r (is_migrated holds r same sees) holds.sound
     migrated_sound OnNothing holds same sees gives = tt
 
     pub migrated_ahead : (footing : Footing) → HoldsBy footing b states next w → IsUnchanged footing b u begun.command w → seen_by begun.command w ≡ view_in b place u
-        → ((r : Record) → ((number : ℕ) → next ≡ Some number → IsMigrated b.read judge b.child Folder u.key begun.command (needed_keys b.project u) number w r) → IsAhead (records_in b w) next → IsAhead (records_in b w') next')
+        → ((r : Record) → ((number : ℕ) → next ≡ Some number → IsMigrated judge b.child Folder u.key begun.command (needed_keys b.project u) number w r) → IsAhead (records_in b w) next → IsAhead (records_in b w') next')
         → IfRecords footing (IsAhead (records_in b w') next')
     migrated_ahead OnRecords holds (r, same) sees gives = gives r (is_migrated holds r same sees) holds.ahead
     migrated_ahead OnNothing holds same sees gives = tt
@@ -107,7 +106,7 @@ module _ (b : Basis) (order : IsInOrder b.project) (place : ℕ) (u : Planned) (
     others_stand : (l : List ℕ) → l ≢ u.key → records_in b w' l ≡ records_in b w l
     others_stand = others_at b order place u there w w' (only_place b order place u there w w' only)
 
-    its_reads : (r : Record) → IsSame b.read Folder u.key begun.command w r → r.asked.reads ≡ reads_of b.project u
+    its_reads : (r : Record) → IsSame reading Folder u.key begun.command w r → r.asked.reads ≡ reads_of b.project u
     its_reads r same = ap (λ (c : Command). c.reads) same.asked ∙ for.reads
 
     -- the inputs have the values that they had
@@ -116,21 +115,21 @@ module _ (b : Basis) (order : IsInOrder b.project) (place : ℕ) (u : Planned) (
         (subst (λ t. from_nothing t w' ≡ from_nothing t w) (sym for.target) (sources_still b.project order place u there w w' (only_place b order place u there w w' only))) agree
 
     -- one with a number stays, with all others
-    all_stand : (r : Record) → IsSame b.read Folder u.key begun.command w r → records_in b w' u.key ≡ Some r → (l : List ℕ) → records_in b w' l ≡ records_in b w l
+    all_stand : (r : Record) → IsSame reading Folder u.key begun.command w r → records_in b w' u.key ≡ Some r → (l : List ℕ) → records_in b w' l ≡ records_in b w l
     all_stand r same stands l = elim (is_same l u.key) [
       | inl this ↦ ap (records_in b w') this ∙ stands ∙ sym same.stands ∙ ap (records_in b w) (sym this)
       | inr apart ↦ others_stand l apart
     ]
 
-    same_kept : (r : Record) → IsSame b.read Folder u.key begun.command w r → (n : ℕ) → number_of r ≡ Some n → records_in b w' u.key ≡ Some r → IsSame b.read Folder u.key (command_in b place u) w' r
-    same_kept r same n is stands = subst (λ (c : Command). IsSame b.read Folder u.key c w' r) (its_command b order place u there states done begun next w flying still can) record {
+    same_kept : (r : Record) → IsSame reading Folder u.key begun.command w r → (n : ℕ) → number_of r ≡ Some n → records_in b w' u.key ≡ Some r → IsSame reading Folder u.key (command_in b place u) w' r
+    same_kept r same n is stands = subst (λ (c : Command). IsSame reading Folder u.key c w' r) (its_command b order place u there states done begun next w flying still can) record {
       stands = stands;
       asked = same.asked;
       inputs = inputs_now r.inputs same.inputs;
       needed = needed_alike Folder (records_in b w) (records_in b w') w.files w'.files r.needed n is (all_stand r same stands) same.needed;
     }
 
-    record_kept : HoldsRecords b states next w → (r : Record) → IsSame b.read Folder u.key begun.command w r → (n : ℕ) → number_of r ≡ Some n → records_in b w' u.key ≡ Some r → HasRecord b w' place
+    record_kept : HoldsRecords b states next w → (r : Record) → IsSame reading Folder u.key begun.command w r → (n : ℕ) → number_of r ≡ Some n → records_in b w' u.key ≡ Some r → HasRecord b w' place
     record_kept holds r same n is stands = record {
       unit = u;
       there = there;
@@ -138,12 +137,12 @@ module _ (b : Basis) (order : IsInOrder b.project) (place : ℕ) (u : Planned) (
       here = stands;
       number = n;
       numbered = is;
-      grounded = grounded_alike (records_in b w) (records_in b w') u.key n (all_stand r same stands) (grounds b.read judge b.child Folder u.key begun.command w r n holds.sound same (all_grounded holds) is);
+      grounded = grounded_alike (records_in b w) (records_in b w') u.key n (all_stand r same stands) (grounds reading judge b.child Folder u.key begun.command w r n holds.sound same (all_grounded holds) is);
       reads = its_reads r same;
       same = same_kept r same n is stands;
     }
 
-    new_names : HoldsRecords b states next w → (r : Record) → IsSame b.read Folder u.key begun.command w r → (number : ℕ) → next ≡ Some number
+    new_names : HoldsRecords b states next w → (r : Record) → IsSame reading Folder u.key begun.command w r → (number : ℕ) → next ≡ Some number
         → NamesNeeds (records_in b w) Folder (numbered_record r number (numbered (records_in b w) (needed_keys b.project u))) number
     new_names holds r same number given =
         let new = next_is_new (records_in b w) number (subst (IsAhead (records_in b w)) given holds.ahead) in
@@ -152,12 +151,12 @@ module _ (b : Basis) (order : IsInOrder b.project) (place : ℕ) (u : Planned) (
         (has_needs b order states next w holds place u number there can.reaches new.1)) refl
 
     -- one without gets the next
-    same_made : HoldsRecords b states next w → (r : Record) → IsSame b.read Folder u.key begun.command w r → number_of r ≡ None → (number : ℕ) → next ≡ Some number
+    same_made : HoldsRecords b states next w → (r : Record) → IsSame reading Folder u.key begun.command w r → number_of r ≡ None → (number : ℕ) → next ≡ Some number
         → records_in b w' u.key ≡ Some (numbered_record r number (numbered (records_in b w) (needed_keys b.project u)))
-        → IsSame b.read Folder u.key (command_in b place u) w' (numbered_record r number (numbered (records_in b w) (needed_keys b.project u)))
+        → IsSame reading Folder u.key (command_in b place u) w' (numbered_record r number (numbered (records_in b w) (needed_keys b.project u)))
     same_made holds r same is number given stands =
         let made = numbered_record r number (numbered (records_in b w) (needed_keys b.project u)) in
-        subst (λ (c : Command). IsSame b.read Folder u.key c w' made) (its_command b order place u there states done begun next w flying still can) record {
+        subst (λ (c : Command). IsSame reading Folder u.key c w' made) (its_command b order place u there states done begun next w flying still can) record {
           stands = stands;
           asked = same.asked;
           inputs = inputs_now r.inputs same.inputs;
@@ -165,7 +164,7 @@ module _ (b : Basis) (order : IsInOrder b.project) (place : ℕ) (u : Planned) (
               (λ s n at numbered_s. none_some n (sym is ∙ ap number_of (one r s (sym same.stands ∙ at)) ∙ numbered_s)) (new_names holds r same number given).stand;
         }
 
-    record_made : HoldsRecords b states next w → (r : Record) → IsSame b.read Folder u.key begun.command w r → number_of r ≡ None → (number : ℕ) → next ≡ Some number
+    record_made : HoldsRecords b states next w → (r : Record) → IsSame reading Folder u.key begun.command w r → number_of r ≡ None → (number : ℕ) → next ≡ Some number
         → records_in b w' u.key ≡ Some (numbered_record r number (numbered (records_in b w) (needed_keys b.project u))) → HasRecord b w' place
     record_made holds r same is number given stands =
         let made = numbered_record r number (numbered (records_in b w) (needed_keys b.project u)) in
@@ -183,7 +182,7 @@ module _ (b : Basis) (order : IsInOrder b.project) (place : ℕ) (u : Planned) (
           same = same_made holds r same is number given stands;
         }
 
-    record_by : HoldsRecords b states next w → (r : Record) → IsSame b.read Folder u.key begun.command w r → (has : Option ℕ) → number_of r ≡ has → (given : Option ℕ) → next ≡ given
+    record_by : HoldsRecords b states next w → (r : Record) → IsSame reading Folder u.key begun.command w r → (has : Option ℕ) → number_of r ≡ has → (given : Option ℕ) → next ≡ given
         → records_in b w' u.key ≡ migrated_by has given (numbered (records_in b w) (needed_keys b.project u)) r
         → ((s : Record) → records_in b w' u.key ≡ Some s → is_some (number_of s) ≡ true) → HasRecord b w' place
     record_by holds r same (Some n) is given next_is stands numbered_now = record_kept holds r same n is stands
@@ -199,7 +198,7 @@ module _ (b : Basis) (order : IsInOrder b.project) (place : ℕ) (u : Planned) (
     migrated_record OnNothing holds same stands numbered_now = tt
 
     -- what others find in its place
-    left_by : HoldsRecords b states next w → (r : Record) → IsSame b.read Folder u.key begun.command w r → (has : Option ℕ) → number_of r ≡ has → (given : Option ℕ) → next ≡ given
+    left_by : HoldsRecords b states next w → (r : Record) → IsSame reading Folder u.key begun.command w r → (has : Option ℕ) → number_of r ≡ has → (given : Option ℕ) → next ≡ given
         → records_in b w' u.key ≡ migrated_by has given (numbered (records_in b w) (needed_keys b.project u)) r → Left (records_in b w) (records_in b w') u.key next
     left_by holds r same (Some n) is given next_is stands = as_before (stands ∙ sym same.stands)
     left_by holds r same None is None next_is stands = as_before (stands ∙ sym same.stands)

@@ -3,19 +3,16 @@ use Rattle.std.proofs.Common.{◌≡◌, ◌∙◌, ℕ, Bool, true, false, List
 use Rattle.std.proofs.lemmas.Bool.{false≢true}
 use Rattle.std.specs.Prelude.{not}
 use Rattle.std.specs.Option.{is_some, option_map}
-use Rattle.pb_answer.specs.declared.fault.BuildFault.{BuildFault}
-use Rattle.pb_answer.specs.declared.fault.BuildFault.TheVariants.{Plan, Toolchain, Child, Device, Sink, OutOfMemory}
-use Rattle.pb_answer.specs.declared.fault.DeviceFault.TheVariants.{Place, NumbersSpent}
 use Rattle.pb_judging.specs.Answers.{answered_of}
 use Rattle.pb_command.specs.Judge.{ended_by, file_at, judge, replied_files}
 use Rattle.pb_directive.specs.declared.directive.Directive.{Directive}
 use Rattle.pb_flight.specs.declared.flight.State.{State}
 use Rattle.pb_flight.specs.declared.flight.State.TheVariants.{Answered}
-use Rattle.pb_place.specs.Children.{child_at}
+use Rattle.pb_place.specs.Children.{child_at, KeepsStill, KeepsStillOutside}
 use Rattle.pb_place.specs.Counts.{Starts}
 use Rattle.pb_place.specs.Folders.{files_in}
 use Rattle.pb_place.specs.Paths.{is_at_or_below}
-use Rattle.pb_place.specs.World.{World, Map, ChangesOnly, seen_by}
+use Rattle.pb_place.specs.World.{World, Map, Answers, ChangesOnly, seen_by}
 use Rattle.pb_place.specs.declared.child.Reply.{Reply}
 use Rattle.pb_place.specs.declared.child_in_flight.ChildInFlight.{ChildInFlight}
 use Rattle.pb_place.specs.declared.command.Command.{Command}
@@ -25,82 +22,83 @@ use Rattle.pb_project.specs.Targets.{dep_info_of, unit_at}
 use Rattle.pb_answer.specs.declared.bad_unit.BadUnit.{BadUnit}
 use Rattle.pb_record.specs.declared.record.Record.{Record}
 use Rattle.pb_unit.specs.declared.plan.Planned.{Planned}
-use Rattle.pb_run.specs.Causes.{MayAnswerUnit, MayFollow}
 use Rattle.pb_run.specs.Halves.{Footing, OnRecords, OnNothing, Basis, BeginsApart, CanAnswer, HasRecord, HoldsBy, IsBegun, IsUnchanged, Keeps, awaits_number, begun_with, child_in, child_of, command_in, needed_keys, outcomes_in, records_in, view_in}
 use Rattle.pb_run.specs.Outcome.{judgement_by, outcome_by, unstarted}
 use Rattle.pb_run.specs.Standing.{IsInOrder, records_folder}
+use Rattle.pb_run.specs.Steps.{MayAnswer}
 use Rattle.pb_run.specs.declared.begun.Awaited.{Awaited}
 use Rattle.pb_run.specs.declared.begun.Awaited.TheVariants as awaited
 use Rattle.pb_run.specs.declared.begun.Begun.{Begun}
 use Rattle.pb_run.specs.declared.begun.Launched.{Launched}
+use Rattle.pb_run.specs.declared.faults.StepFault.{StepFault}
+use Rattle.pb_run.specs.declared.faults.StepFault.TheVariants.{Store, Start}
 use Rattle.pb_run.specs.declared.ran.Judgement.{Judgement}
 use Rattle.pb_run.specs.declared.ran.Ran.{Ran}
 use Rattle.pb_run.proofs.Answering.{files_kept, judged_gives, reached_stand}
-use Rattle.pb_run.proofs.Halving.{still_after}
 use Rattle.pb_run.proofs.RecordedAnswer.{begun_bad, its_again, its_command, its_same, keeps_answered, keeps_fault, only_place}
 use Rattle.pb_run.proofs.RecordedOthers.{IfRecords, Left, as_before, if_records, stays_begun}
 use Rattle.pb_run.proofs.RecordedReplay.{left_migrated, migrated_ahead, migrated_record, migrated_sound, numbers_apart, replay_backs}
 use Rattle.pb_run.proofs.Settling.{not_none, on_good}
 use Rattle.pb_run.proofs.Shown.{AllStand, sees_view}
-use Rattle.pb_run.proofs.Spawning.{place_within, still_widen, widen}
-use Rattle.pb_soundness.specs.Apart.{KeepsStill, KeepsStillOutside, is_of}
+use Rattle.pb_soundness.specs.Apart.{is_of}
 use Rattle.pb_soundness.specs.Numbers.{IsAhead}
-use Rattle.pb_soundness.specs.Records.{Reading, number_of, place_of, record_at}
+use Rattle.pb_soundness.specs.Records.{number_of, place_of, reading, records}
 use Rattle.pb_soundness.specs.Sound.{Backs, Sound}
 use Rattle.pb_soundness.proofs.Becoming.{one}
-use Rattle.pb_store.specs.Keeping.{Leaves, numbered}
-use Rattle.pb_store.specs.Migrating.{IsMigrated, TakesNumber, lacks_number, migrated, migrated_by}
-use Rattle.pb_store.specs.Replaying.{IsReplayed, replayed}
+use Rattle.pb_store.specs.Folder.{Leaves, numbered, IsMigrated, TakesNext, TakesNumber, lacks_number, migrated, migrated_by, numbered_record}
+use Rattle.pb_store.specs.Differences.{IsReplayed, replayed}
+use Rattle.pb_store.specs.declared.fault.StoreFault.TheVariants as store
 use Rattle.pb_store.specs.declared.replaying.Replayed.{Replayed}
 
--- what the call that gives a record a number gives
-pub record Renewing (b : Basis) (folder : List ℕ) (u : Planned) (c : Command) (next next' : Option ℕ) (w w' : World) : Type 0 where
-  pub sound : (r : Record) → ((number : ℕ) → next ≡ Some number → IsMigrated b.read judge b.child folder u.key c (needed_keys b.project u) number w r) → Sound b.read judge b.child folder w.files → Sound b.read judge b.child folder w'.files
-  pub ahead : (r : Record) → ((number : ℕ) → next ≡ Some number → IsMigrated b.read judge b.child folder u.key c (needed_keys b.project u) number w r) → IsAhead (record_at b.read folder w.files) next → IsAhead (record_at b.read folder w'.files) next'
-  pub only : ChangesOnly (is_at_or_below (place_of folder u.key)) w w'
-  pub left : Leaves (migrated next (numbered (record_at b.read folder w.files) (needed_keys b.project u)) (record_at b.read folder w.files u.key)) (record_at b.read folder w.files u.key) (record_at b.read folder w'.files u.key)
+-- what the call that gives a record a number does
+pub record Renewing (child : Answers) (folder key : List ℕ) (needs : List (List ℕ)) (c : Command) (next next' : Option ℕ) (w w' : World) : Type 0 where
+  pub sound : (r : Record) → ((number : ℕ) → next ≡ Some number → IsMigrated judge child folder key c needs number w r) → Sound reading judge child folder w.files → Sound reading judge child folder w'.files
+  pub ahead : (r : Record) → ((number : ℕ) → next ≡ Some number → IsMigrated judge child folder key c needs number w r) → IsAhead (records folder w) next → IsAhead (records folder w') next'
+  pub only : ChangesOnly (is_at_or_below (place_of folder key)) w w'
+  pub left : Leaves (migrated next (numbered (records folder w) needs) (records folder w key)) (records folder w key) (records folder w' key)
+  pub same : lacks_number (records folder w key) ≡ false → w' ≡ w
 
--- and what it gives where it ends well
-pub record Renewed (b : Basis) (folder : List ℕ) (u : Planned) (next : Option ℕ) (w w' : World) : Type 0 where
-  pub stands : record_at b.read folder w'.files u.key ≡ migrated next (numbered (record_at b.read folder w.files) (needed_keys b.project u)) (record_at b.read folder w.files u.key)
-  pub numbered_now : (s : Record) → record_at b.read folder w'.files u.key ≡ Some s → is_some (number_of s) ≡ true
+-- and where it ended well
+pub record Renewed (folder key : List ℕ) (needs : List (List ℕ)) (next next' : Option ℕ) (w w' : World) : Type 0 where
+  pub stands : records folder w' key ≡ migrated next (numbered (records folder w) needs) (records folder w key)
+  pub taken : lacks_number (records folder w key) ≡ true → TakesNext next next'
+
+-- the same, by other names
+module _ (folder root key k : List ℕ) (needs ns : List (List ℕ)) (next next' : Option ℕ) (v w w' : World) (is_folder : folder ≡ root) (its : key ≡ k) (are : needs ≡ ns) (same : v ≡ w) where
+  pub renewing_moved : (child : Answers) (c : Command) → Renewing child folder key needs c next next' v w' → Renewing child root k ns c next next' w w'
+  renewing_moved child c renewing =
+      subst (λ f. Renewing child f k ns c next next' w w') is_folder
+      (subst (λ x. Renewing child folder x ns c next next' w w') its
+      (subst (λ xs. Renewing child folder key xs c next next' w w') are (subst (λ (x : World). Renewing child folder key needs c next next' x w') same renewing)))
+
+  pub renewed_moved : Renewed folder key needs next next' v w' → Renewed root k ns next next' w w'
+  renewed_moved renewed =
+      subst (λ f. Renewed f k ns next next' w w') is_folder
+      (subst (λ x. Renewed folder x ns next next' w w') its
+      (subst (λ xs. Renewed folder key xs next next' w w') are (subst (λ (x : World). Renewed folder key needs next next' x w') same renewed)))
+
+-- then it has a number
+number_none : (next : Option ℕ) (number : ℕ) → next ≡ None → next ≡ Some number → ⊥
+number_none next number none some = cc
+
+numbered_if : (r : Record) (has next next' : Option ℕ) (pairs : List (List ℕ × ℕ)) → number_of r ≡ has → (not (is_some has) ≡ true → TakesNext next next') → (s : Record) → migrated_by has next pairs r ≡ Some s → is_some (number_of s) ≡ true
+numbered_if r (Some own) next next' pairs is taken s there = ap is_some (ap number_of (one s r (sym there)) ∙ is)
+numbered_if r None (Some number) next' pairs is taken s there = ap (λ (x : Record). is_some (number_of x)) (one s (numbered_record r number pairs) (sym there))
+numbered_if r None None next' pairs is taken s there = let (number, some, then') = taken refl in absurd (number_none None number refl some)
+
+numbered_by : (found : Option Record) (next next' : Option ℕ) (pairs : List (List ℕ × ℕ)) → (lacks_number found ≡ true → TakesNext next next') → (s : Record) → migrated next pairs found ≡ Some s → is_some (number_of s) ≡ true
+numbered_by None next next' pairs taken s there = cc
+numbered_by (Some r) next next' pairs taken s there = numbered_if r (number_of r) next next' pairs refl taken s there
+
+pub numbered_now : (folder key : List ℕ) (needs : List (List ℕ)) (next next' : Option ℕ) (w w' : World) → Renewed folder key needs next next' w w' → (s : Record) → records folder w' key ≡ Some s → is_some (number_of s) ≡ true
+numbered_now folder key needs next next' w w' renewed s there = numbered_by (records folder w key) next next' (numbered (records folder w) needs) renewed.taken s (sym renewed.stands ∙ there)
 
 -- what flies after the faults of the calls
-pub flying_follow : (key : List ℕ) (e : BuildFault) (old new : Starts) → MayFollow key e old new → new.flying ≡ old.flying
-flying_follow key (Plan refusal) old new may = absurd may
-flying_follow key Toolchain old new may = absurd may
-flying_follow key (Child unit fault) old new may = absurd may
-flying_follow key (Device unit (Place fault)) old new (named, kind, starts) = ap (λ (s : Starts). s.flying) starts
-flying_follow key (Device unit NumbersSpent) old new may = absurd may
-flying_follow key Sink old new may = absurd may
-flying_follow key OutOfMemory old new may = ap (λ (s : Starts). s.flying) may
-
-pub flying_alone : (next : Option ℕ) (key : List ℕ) (e : BuildFault) (old new : Starts) → MayAnswerUnit next key None e old new → new.flying ≡ old.flying
-flying_alone next key (Plan refusal) old new may = absurd may
-flying_alone next key Toolchain old new may = absurd may
-flying_alone next key (Child unit fault) old new (named, has, kind, starts) = ap (λ (s : Starts). s.flying) starts
-flying_alone next key (Device unit (Place fault)) old new (named, kind, starts) = ap (λ (s : Starts). s.flying) starts
-flying_alone next key (Device unit NumbersSpent) old new (named, spent, none, starts) = ap (λ (s : Starts). s.flying) starts
-flying_alone next key Sink old new may = absurd may
-flying_alone next key OutOfMemory old new may = ap (λ (s : Starts). s.flying) may
-
--- what changes, and what stands still, where nothing changes before the record is renewed
-pub reused_only : (folder root key : List ℕ) (w w2 w3 : World) → folder ≡ root → w2 ≡ w → ChangesOnly (is_at_or_below (place_of folder key)) w2 w3 → ChangesOnly (is_of root key) w w3
-reused_only folder root key w w2 w3 is_folder same only =
-    subst (λ f. ChangesOnly (is_of f key) w w3) is_folder
-    (subst (λ (v : World). ChangesOnly (is_of folder key) v w3) same (widen (is_at_or_below (place_of folder key)) (is_of folder key) w2 w3 (place_within folder key) only))
-
-pub reused_still : (folder root key : List ℕ) (flying between : List ChildInFlight) (still still2 still3 : ℕ → Type 0) → folder ≡ root → between ≡ flying → KeepsStill still still2
-    → KeepsStillOutside (is_at_or_below (place_of folder key)) between still2 still3 → KeepsStillOutside (is_of root key) flying still still3
-reused_still folder root key flying between still still2 still3 is_folder same first last =
-    subst (λ f. KeepsStillOutside (is_of f key) flying still still3) is_folder
-    (still_after (is_of folder key) flying between still still2 still3 first same
-    (still_widen (is_at_or_below (place_of folder key)) (is_of folder key) between still2 still3 (place_within folder key) last))
-
--- nothing does where the record has a number
-pub reused_same : (read : Reading) (folder root key : List ℕ) (w w2 w3 : World) → folder ≡ root → w2 ≡ w → (lacks_number (record_at read folder w2.files key) ≡ false → w3 ≡ w2) → lacks_number (record_at read root w.files key) ≡ false → w3 ≡ w
-reused_same read folder root key w w2 w3 is_folder same gives has =
-    gives (ap (λ f. lacks_number (record_at read f w2.files key)) is_folder ∙ ap (λ (v : World). lacks_number (record_at read root v.files key)) same ∙ has) ∙ same
+pub flying_alone : (next : Option ℕ) (e : StepFault) (old new : Starts) → MayAnswer next None e old new → new ≡ old
+flying_alone next (Store (store.Place fault)) old new (kind, same) = same
+flying_alone next (Store store.NumbersSpent) old new (spent, none, same) = same
+flying_alone next (Store store.OutOfMemory) old new may = may
+flying_alone next (Start fault) old new (has, kind, same) = absurd (false≢true has)
 
 -- and it stays as it is
 number_stays : (next : Option ℕ) (pairs : List (List ℕ × ℕ)) (r : Record) (has : Option ℕ) → is_some has ≡ true → Some r ≡ migrated_by has next pairs r
@@ -111,8 +109,8 @@ stays_numbered : (next : Option ℕ) (pairs : List (List ℕ × ℕ)) (found : O
 stays_numbered next pairs None again is has = refl
 stays_numbered next pairs (Some r) again is has = number_stays next pairs r (number_of r) (sym (ap (λ (x : Replayed). x.numbered) (one again (replayed r) (sym is))) ∙ has)
 
-pub no_child : (l : Launched) (o : Option Launched) (Fact : Type 0) → o ≡ Some l → o ≡ None → Fact
-no_child l o Fact is none = absurd (some_none (sym is ∙ none))
+pub no_child : (l : Launched) (Fact : Type 0) → Some l ≡ None → Fact
+no_child l Fact none = absurd (some_none none)
   where
     some_none : Some l ≡ None → ⊥
     some_none e = cc
@@ -125,22 +123,14 @@ child_numbered begun some = by begun.awaited some
     by (awaited.Child launched) has = refl
     by (awaited.Record again) has = absurd (false≢true has)
 
-pub numbered_awaited : (o : Awaited) (again : Replayed) → o ≡ awaited.Record again → awaits_number o ≡ false → again.numbered ≡ true
-numbered_awaited o again is none = by again.numbered (sym (ap awaits_number is) ∙ none)
-  where
-    by : (flag : Bool) → not flag ≡ false → flag ≡ true
-    by true e = refl
-    by false e = absurd (false≢true (sym e))
+-- nor does one whose record has a number
+pub numbered_awaited : (flag : Bool) → not flag ≡ false → flag ≡ true
+numbered_awaited true e = refl
+numbered_awaited false e = absurd (false≢true (sym e))
 
-pub unnumbered_awaited : (o : Awaited) (again : Replayed) → o ≡ awaited.Record again → awaits_number o ≡ true → again.numbered ≡ false
-unnumbered_awaited o again is waits = by again.numbered (sym (ap awaits_number is) ∙ waits)
-  where
-    by : (flag : Bool) → not flag ≡ true → flag ≡ false
-    by true e = absurd (false≢true e)
-    by false e = refl
-
-pub awaited_numberless : (o : Awaited) (again : Replayed) → o ≡ awaited.Record again → again.numbered ≡ false → awaits_number o ≡ true
-awaited_numberless o again is none = ap awaits_number is ∙ ap (λ (flag : Bool). not flag) none
+pub unnumbered_awaited : (flag : Bool) → not flag ≡ true → flag ≡ false
+unnumbered_awaited true e = absurd (false≢true e)
+unnumbered_awaited false e = refl
 
 module _ (b : Basis) (order : IsInOrder b.project) (i : ℕ) (u : Planned) (at : unit_at b.project i ≡ Some u) (key : List ℕ) (c : Command) (again : Replayed) (next : Option ℕ) (w : World)
     (flying : List ChildInFlight) (still : ℕ → Type 0) (states : List (State BadUnit)) (done : List (Option (List Directive))) (can : CanAnswer b states done i u (begun_with key c (awaited.Record again)) next w flying still) where
@@ -187,25 +177,17 @@ module _ (b : Basis) (order : IsInOrder b.project) (i : ℕ) (u : Planned) (at :
       ∙ sym (ap (λ (r : Ran). Some (outcome_by (files_in u.out w2.files) r)) is_ran)
 
   -- and whose record was renewed
-  pub renewed_outcome : (folder : List ℕ) (j : Judgement) (w2 w3 : World) (ran : Ran) → folder ≡ records_folder b.project → w2 ≡ w
-      → j ≡ judgement_by b.project u again.ended (answered_of b.project u c again.ended (file_at (dep_info_of b.project u) w.files)) → ran ≡ unstarted j.ran → ChangesOnly (is_at_or_below (place_of folder u.key)) w2 w3
-      → slice_get (outcomes_in b) i ≡ Some (outcome_by (files_in u.out w3.files) ran)
-  renewed_outcome folder j w2 w3 ran is_folder same is_judged is_ran only =
-      replay_outcome j w2 ran same is_judged is_ran
-      ∙ sym (ap (λ (m : Map). Some (outcome_by m ran))
-      (files_kept (records_folder b.project) u.key u.out w2 w3 order.folder (order.keys i u at) (order.folders i u at) (subst (λ f. ChangesOnly (is_at_or_below (place_of f u.key)) w2 w3) is_folder only)))
-
-  pub renewing_so : (folder : List ℕ) (w2 w3 : World) (next' : Option ℕ) → folder ≡ records_folder b.project → w2 ≡ w → Renewing b folder u c next next' w2 w3 → Renewing b (records_folder b.project) u c next next' w w3
-  renewing_so folder w2 w3 next' is_folder same renews = subst (λ f. Renewing b f u c next next' w w3) is_folder (subst (λ (v : World). Renewing b folder u c next next' v w3) same renews)
-
-  pub renewed_so : (folder : List ℕ) (w2 w3 : World) → folder ≡ records_folder b.project → w2 ≡ w → Renewed b folder u next w2 w3 → Renewed b (records_folder b.project) u next w w3
-  renewed_so folder w2 w3 is_folder same renewed = subst (λ f. Renewed b f u next w w3) is_folder (subst (λ (v : World). Renewed b folder u next v w3) same renewed)
+  pub renewed_outcome : (j : Judgement) (w' : World) (ran : Ran) → j ≡ judgement_by b.project u again.ended (answered_of b.project u c again.ended (file_at (dep_info_of b.project u) w.files)) → ran ≡ unstarted j.ran
+      → ChangesOnly (is_at_or_below (place_of (records_folder b.project) u.key)) w w' → slice_get (outcomes_in b) i ≡ Some (outcome_by (files_in u.out w'.files) ran)
+  renewed_outcome j w' ran is_judged is_ran only =
+      replay_outcome j w ran refl is_judged is_ran
+      ∙ sym (ap (λ (m : Map). Some (outcome_by m ran)) (files_kept (records_folder b.project) u.key u.out w w' order.folder (order.keys i u at) (order.folders i u at) only))
 
   -- nothing was changed
   pub keeps_unchanged : (w' : World) → w' ≡ w → Keeps b states done next w'
   keeps_unchanged w' same = subst (Keeps b states done next) (sym same) can.keeps
 
-  sound_of : (footing : Footing) → HoldsBy footing b states next w → IfRecords footing (Sound b.read judge b.child (records_folder b.project) w.files)
+  sound_of : (footing : Footing) → HoldsBy footing b states next w → IfRecords footing (Sound reading judge b.child (records_folder b.project) w.files)
   sound_of OnRecords holds = holds.sound
   sound_of OnNothing holds = tt
 
@@ -226,11 +208,11 @@ module _ (b : Basis) (order : IsInOrder b.project) (i : ℕ) (u : Planned) (at :
       (keeps_bad_here ran lines bad (subst (λ (v : World). slice_get (outcomes_in b) i ≡ Some (outcome_by (files_in u.out v.files) ran)) same outcome))
 
   -- nor was a record with a number
-  renewing_none : Renewing b (records_folder b.project) u c next next w w
-  renewing_none = record { sound = λ r makes sound. sound; ahead = λ r makes ahead. ahead; only = only_same _ w; left = inr (inl refl) }
+  renewing_none : Renewing b.child (records_folder b.project) u.key (needed_keys b.project u) c next next w w
+  renewing_none = record { sound = λ r makes sound. sound; ahead = λ r makes ahead. ahead; only = only_same _ w; left = inr (inl refl); same = λ has. refl }
 
-  module _ (w' : World) (next' : Option ℕ) (renews : Renewing b (records_folder b.project) u c next next' w w') where
-    sound_new : IfRecords b.footing (Sound b.read judge b.child (records_folder b.project) w'.files)
+  module _ (w' : World) (next' : Option ℕ) (renews : Renewing b.child (records_folder b.project) u.key (needed_keys b.project u) c next next' w w') where
+    sound_new : IfRecords b.footing (Sound reading judge b.child (records_folder b.project) w'.files)
     sound_new = migrated_sound b order i u at states done begun next w flying still can w' next' renews.only b.footing can.keeps.records same_now sees renews.sound
 
     ahead_new : IfRecords b.footing (IsAhead (records_in b w') next')
@@ -242,11 +224,15 @@ module _ (b : Basis) (order : IsInOrder b.project) (i : ℕ) (u : Planned) (at :
     pub keeps_unrenewed : Keeps b states done next' w'
     keeps_unrenewed = keeps_fault b order i u at states done begun next w flying still can w' next' only_new sound_new ahead_new
 
-    pub keeps_renewed : (ran : Ran) (lines : List ℕ) → Renewed b (records_folder b.project) u next w w' → slice_get (outcomes_in b) i ≡ Some (outcome_by (files_in u.out w'.files) ran)
-        → Keeps b (slice_set states i (Answered record { fault = ran.bad; lines = lines })) (slice_set done i ran.directives) next' w'
-    keeps_renewed ran lines renewed outcome = keeps_answered b order i u at states done begun next w flying still can w' next' ran lines only_new outcome sound_new ahead_new
+    renewed_by : (ran : Ran) (lines : List ℕ) → records_in b w' u.key ≡ migrated next (numbered (records_in b w) (needed_keys b.project u)) (records_in b w u.key) → ((s : Record) → records_in b w' u.key ≡ Some s → is_some (number_of s) ≡ true)
+        → slice_get (outcomes_in b) i ≡ Some (outcome_by (files_in u.out w'.files) ran) → Keeps b (slice_set states i (Answered record { fault = ran.bad; lines = lines })) (slice_set done i ran.directives) next' w'
+    renewed_by ran lines stands has outcome = keeps_answered b order i u at states done begun next w flying still can w' next' ran lines only_new outcome sound_new ahead_new
         (on_good b.footing (ran.bad ≡ None) (HasRecord b w' i)
-        (migrated_record b order i u at states done begun next w flying still can w' next' renews.only b.footing can.keeps.records same_now renewed.stands renewed.numbered_now))
+        (migrated_record b order i u at states done begun next w flying still can w' next' renews.only b.footing can.keeps.records same_now stands has))
+
+    pub keeps_renewed : (ran : Ran) (lines : List ℕ) → Renewed (records_folder b.project) u.key (needed_keys b.project u) next next' w w' → slice_get (outcomes_in b) i ≡ Some (outcome_by (files_in u.out w'.files) ran)
+        → Keeps b (slice_set states i (Answered record { fault = ran.bad; lines = lines })) (slice_set done i ran.directives) next' w'
+    keeps_renewed ran lines renewed outcome = renewed_by ran lines renewed.stands (numbered_now (records_folder b.project) u.key (needed_keys b.project u) next next' w w' renewed) outcome
 
     -- another unit that has begun
     pub others_renewed : (other : ℕ) (its : Begun) (flying' : List ChildInFlight) (still' : ℕ → Type 0) → BeginsApart b states i None other its next w flying still → TakesNumber next next' → flying' ≡ flying
@@ -259,11 +245,10 @@ module _ (b : Basis) (order : IsInOrder b.project) (i : ℕ) (u : Planned) (at :
 
   keeps_numbered_here : (ran : Ran) (lines : List ℕ) → again.numbered ≡ true → slice_get (outcomes_in b) i ≡ Some (outcome_by (files_in u.out w.files) ran)
       → Keeps b (slice_set states i (Answered record { fault = ran.bad; lines = lines })) (slice_set done i ran.directives) next w
-  keeps_numbered_here ran lines has outcome = keeps_renewed w next renewing_none ran lines
-      record {
-        stands = stays_numbered next (numbered (records_in b w) (needed_keys b.project u)) (records_in b w u.key) again gives has;
-        numbered_now = λ s there. sym (ap (λ (x : Replayed). x.numbered) (one again (replayed s) (sym gives ∙ ap (option_map replayed) there))) ∙ has;
-      } outcome
+  keeps_numbered_here ran lines has outcome = renewed_by w next renewing_none ran lines
+      (stays_numbered next (numbered (records_in b w) (needed_keys b.project u)) (records_in b w u.key) again gives has)
+      (λ s there. sym (ap (λ (x : Replayed). x.numbered) (one again (replayed s) (sym gives ∙ ap (option_map replayed) there))) ∙ has)
+      outcome
 
   pub keeps_numbered : (w' : World) (ran : Ran) (lines : List ℕ) → w' ≡ w → again.numbered ≡ true → slice_get (outcomes_in b) i ≡ Some (outcome_by (files_in u.out w'.files) ran)
       → Keeps b (slice_set states i (Answered record { fault = ran.bad; lines = lines })) (slice_set done i ran.directives) next w'
@@ -276,17 +261,6 @@ module _ (b : Basis) (order : IsInOrder b.project) (i : ℕ) (u : Planned) (at :
   others_unchanged other its w' flying' still' apart same flies keeps =
       stays_begun b order states done i u None other its next next next w w' flying flying' still still' at (begun_bad b order i u at states done begun next w flying still can) can.keeps apart
       (subst (ChangesOnly (is_of (records_folder b.project) u.key) w) (sym same) (only_same _ w)) (inl refl)
-      (if_records b.footing (Left (records_in b w) (records_in b w') u.key next) (as_before (ap (λ (v : World). record_at b.read (records_folder b.project) v.files u.key) same)))
+      (if_records b.footing (Left (records_in b w) (records_in b w') u.key next) (as_before (ap (λ (v : World). records (records_folder b.project) v u.key) same)))
       (λ theirs is. numbers_apart b u c states i None other its next w flying still same_now apart theirs is)
       (λ theirs is f there. ap (child_at theirs.ticket) flies ∙ there) (λ theirs is stands stood. keeps theirs.ticket stood)
-
--- A unit that has begun, by its parts.
-
-begun_parts : (begun : Begun) (key : List ℕ) (by : Awaited) → begun.unit ≡ key → begun.awaited ≡ by → begun ≡ begun_with key begun.command by
-begun_parts begun key by named is = ap (λ (k : List ℕ). begun_with k begun.command begun.awaited) named ∙ ap (begun_with key begun.command) is
-
-module _ (b : Basis) (i : ℕ) (begun : Begun) (next : Option ℕ) (w : World) (flying : List ChildInFlight) (still : ℕ → Type 0) (key : List ℕ) (by : Awaited)
-    (named : begun.unit ≡ key) (is : begun.awaited ≡ by) where
-  pub can_by_parts : (states : List (State BadUnit)) (done : List (Option (List Directive))) (u : Planned) → CanAnswer b states done i u begun next w flying still
-      → CanAnswer b states done i u (begun_with key begun.command by) next w flying still
-  can_by_parts states done u can = subst (λ (x : Begun). CanAnswer b states done i u x next w flying still) (begun_parts begun key by named is) can

@@ -9,11 +9,11 @@ use Rattle.pb_command.proofs.Judged.{judges_as_answered}
 use Rattle.pb_directive.specs.declared.directive.Directive.{Directive}
 use Rattle.pb_flight.specs.declared.flight.State.{State}
 use Rattle.pb_flight.specs.declared.flight.State.TheVariants.{Answered}
-use Rattle.pb_place.specs.Children.{StandsStill, StaysStillBut, child_at}
+use Rattle.pb_place.specs.Children.{StandsStill, StaysStillBut, child_at, KeepsStill}
 use Rattle.pb_place.specs.Counts.{Counts, counted_finish, without}
 use Rattle.pb_place.specs.Folders.{files_in}
 use Rattle.pb_place.specs.Paths.{is_at_or_below}
-use Rattle.pb_place.specs.World.{World, ChangesOnly, ChangesOnlyInSome, seen_by}
+use Rattle.pb_place.specs.World.{World, Answers, ChangesOnly, ChangesOnlyInSome, seen_by}
 use Rattle.pb_place.specs.declared.child.Reply.{Reply}
 use Rattle.pb_place.specs.declared.child_in_flight.ChildInFlight.{ChildInFlight}
 use Rattle.pb_place.specs.declared.command.Command.{Command}
@@ -30,23 +30,25 @@ use Rattle.pb_unit.specs.declared.plan.Planned.{Planned}
 use Rattle.pb_run.specs.Halves.{Footing, OnRecords, OnNothing, Basis, AwaitsBy, BeginsApart, CanAnswer, HasRecord, IsBegun, Keeps, begun_with, command_in, needed_keys, outcomes_in, records_in, view_in, child_in, child_of}
 use Rattle.pb_run.specs.Outcome.{directives_of, judgement_by, names_in, outcome_by, ran_by}
 use Rattle.pb_run.specs.Standing.{IsInOrder, records_folder}
+use Rattle.pb_run.specs.declared.begun.Awaited.{Awaited}
 use Rattle.pb_run.specs.declared.begun.Awaited.TheVariants as awaited
 use Rattle.pb_run.specs.declared.begun.Begun.{Begun}
 use Rattle.pb_run.specs.declared.begun.Launched.{Launched}
 use Rattle.pb_run.specs.declared.ran.Judgement.{Judgement}
 use Rattle.pb_run.specs.declared.ran.Ran.{Ran}
 use Rattle.pb_run.proofs.Answering.{landed_only, reached_stand}
+use Rattle.pb_run.proofs.Parts.{answer_parts, begun_parts}
 use Rattle.pb_run.proofs.RecordedAnswer.{begun_bad, its_command, its_record, keeps_answered, keeps_fault, only_join, only_out, only_place}
 use Rattle.pb_run.proofs.RecordedLanding.{kept_ahead, kept_record, kept_sound, landed_ahead, landed_sound, left_landed}
 use Rattle.pb_run.proofs.RecordedOthers.{IfRecords, Left, flies_without, if_records, stays_begun}
 use Rattle.pb_run.proofs.Shown.{AllStand, sees_view}
 use Rattle.pb_run.proofs.Units.{dep_info_inside, inside_file}
-use Rattle.pb_soundness.specs.Apart.{KeepsStill, is_of}
+use Rattle.pb_soundness.specs.Apart.{is_of}
 use Rattle.pb_soundness.specs.Inputs.{input_in}
 use Rattle.pb_soundness.specs.Numbers.{IsAhead, IsBefore}
-use Rattle.pb_soundness.specs.Records.{place_of, record_at}
+use Rattle.pb_soundness.specs.Records.{place_of, reading, records}
 use Rattle.pb_soundness.specs.Sound.{Sound}
-use Rattle.pb_store.specs.Keeping.{HasNeeds, IsKept, kept_of, numbered}
+use Rattle.pb_store.specs.Folder.{HasNeeds, IsKept, Leaves, kept_of, numbered}
 
 -- a good judgement has the names of its inputs
 good_names : (project : Project) (u : Planned) (e : Ended) (a : Result answers.Answered UnitFault) → (ran_by project u e a).bad ≡ None → inputs_if a ≡ Some (names_in a)
@@ -65,15 +67,35 @@ pub on_good : (footing : Footing) (Given Fact : Type 0) → IfRecords footing Fa
 on_good OnRecords Given Fact has = λ given. has
 on_good OnNothing Given Fact has = tt
 
--- what the call that keeps a record gives
-pub record Keeping (b : Basis) (folder : List ℕ) (u : Planned) (c : Command) (number : ℕ) (names : List InputName) (ended : Ended) (next : Option ℕ) (w1 w2 : World) : Type 0 where
-  pub sound : IsKept b.read judge b.child folder u.key c (needed_keys b.project u) names ended number w1 → Sound b.read judge b.child folder w1.files → Sound b.read judge b.child folder w2.files
-  pub ahead : IsBefore next number → HasNeeds (record_at b.read folder w1.files) folder c.reads (needed_keys b.project u) number → IsAhead (record_at b.read folder w1.files) next → IsAhead (record_at b.read folder w2.files) next
-  pub only : ChangesOnly (is_at_or_below (place_of folder u.key)) w1 w2
+-- what the call that keeps a record does
+pub record Keeping (child : Answers) (folder key : List ℕ) (needs : List (List ℕ)) (c : Command) (number : ℕ) (names : List InputName) (ended : Ended) (next : Option ℕ) (w1 w2 : World) : Type 0 where
+  pub sound : IsKept judge child folder key c needs names ended number w1 → Sound reading judge child folder w1.files → Sound reading judge child folder w2.files
+  pub ahead : IsBefore next number → HasNeeds (records folder w1) folder c.reads needs number → IsAhead (records folder w1) next → IsAhead (records folder w2) next
+  pub left : Leaves (Some (kept_of folder key c (map (input_in c.target w1) names) number (numbered (records folder w1) needs) ended)) (records folder w1 key) (records folder w2 key)
+  pub only : ChangesOnly (is_at_or_below (place_of folder key)) w1 w2
 
-abbrev pub Stands : Basis → List ℕ → Planned → Command → ℕ → List InputName → Ended → World → World → Type 0
-Stands b folder u c number names ended w1 w2 =
-    record_at b.read folder w2.files u.key ≡ Some (kept_of folder u.key c (map (input_in c.target w1) names) number (numbered (record_at b.read folder w1.files) (needed_keys b.project u)) ended)
+-- and where it ended well
+abbrev pub Stands : List ℕ → List ℕ → List (List ℕ) → Command → ℕ → List InputName → Ended → World → World → Type 0
+Stands folder key needs c number names ended w1 w2 = records folder w2 key ≡ Some (kept_of folder key c (map (input_in c.target w1) names) number (numbered (records folder w1) needs) ended)
+
+-- the same, by other names
+module _ (child : Answers) (folder root key k : List ℕ) (needs ns : List (List ℕ)) (c : Command) (number : ℕ) (names js : List InputName) (ended : Ended) (v w1 v2 : World)
+    (is_folder : folder ≡ root) (its : key ≡ k) (are : needs ≡ ns) (named : names ≡ js) (same : v ≡ w1) where
+  pub keeping_moved : (next : Option ℕ) → Keeping child folder key needs c number names ended next v v2 → Keeping child root k ns c number js ended next w1 v2
+  keeping_moved next keeping =
+      subst (λ f. Keeping child f k ns c number js ended next w1 v2) is_folder
+      (subst (λ x. Keeping child folder x ns c number js ended next w1 v2) its
+      (subst (λ xs. Keeping child folder key xs c number js ended next w1 v2) are
+      (subst (λ xs. Keeping child folder key needs c number xs ended next w1 v2) named
+      (subst (λ (x : World). Keeping child folder key needs c number names ended next x v2) same keeping))))
+
+  pub stands_moved : Stands folder key needs c number names ended v v2 → Stands root k ns c number js ended w1 v2
+  stands_moved stands =
+      subst (λ f. Stands f k ns c number js ended w1 v2) is_folder
+      (subst (λ x. Stands folder x ns c number js ended w1 v2) its
+      (subst (λ xs. Stands folder key xs c number js ended w1 v2) are
+      (subst (λ xs. Stands folder key needs c number xs ended w1 v2) named
+      (subst (λ (x : World). Stands folder key needs c number names ended x v2) same stands))))
 
 module _ (b : Basis) (order : IsInOrder b.project) (i : ℕ) (u : Planned) (at : unit_at b.project i ≡ Some u) (key : List ℕ) (c : Command) (l : Launched) (next : Option ℕ) (w : World)
     (flying : List ChildInFlight) (still : ℕ → Type 0) (states : List (State BadUnit)) (done : List (Option (List Directive))) (can : CanAnswer b states done i u (begun_with key c (awaited.Child l)) next w flying still)
@@ -87,7 +109,7 @@ module _ (b : Basis) (order : IsInOrder b.project) (i : ℕ) (u : Planned) (at :
   is_command : c ≡ command_in b i u
   is_command = its_command b order i u at states done begun next w flying still can
 
-  sound_now : IfRecords b.footing (Sound b.read judge b.child (records_folder b.project) w1.files)
+  sound_now : IfRecords b.footing (Sound reading judge b.child (records_folder b.project) w1.files)
   sound_now = landed_sound b order i u at states done begun next w flying still can w1 landed b.footing l.number can.keeps.records waits
 
   ahead_now : IfRecords b.footing (IsAhead (records_in b w1) next)
@@ -150,8 +172,8 @@ module _ (b : Basis) (order : IsInOrder b.project) (i : ℕ) (u : Planned) (at :
     made_so : files_in u.out w1.files ≡ replied_files u.out (b.child c (view_in b i u))
     made_so = made ∙ sym (ap (replied_files u.out) replies)
 
-    module _ (w2 : World) (kept : Keeping b (records_folder b.project) u c l.number j.names ended next w1 w2) where
-      sound_kept : IfRecords b.footing (Sound b.read judge b.child (records_folder b.project) w2.files)
+    module _ (w2 : World) (kept : Keeping b.child (records_folder b.project) u.key (needed_keys b.project u) c l.number j.names ended next w1 w2) where
+      sound_kept : IfRecords b.footing (Sound reading judge b.child (records_folder b.project) w2.files)
       sound_kept = kept_sound b order i u at states done begun next w flying still can w1 landed w2 kept.only b.footing l.number j.names ended can.keeps.records waits sees judged_so ended_so made_so kept.sound
 
       ahead_kept : IfRecords b.footing (IsAhead (records_in b w2) next)
@@ -165,7 +187,7 @@ module _ (b : Basis) (order : IsInOrder b.project) (i : ℕ) (u : Planned) (at :
       keeps_unkept = keeps_fault b order i u at states done begun next w flying still can w2 next only_kept sound_kept ahead_kept
 
       -- a good answer
-      pub keeps_good : (lines : List ℕ) → Stands b (records_folder b.project) u c l.number j.names ended w1 w2 → slice_get (outcomes_in b) i ≡ Some (outcome_by (files_in u.out w2.files) j.ran)
+      pub keeps_good : (lines : List ℕ) → Stands (records_folder b.project) u.key (needed_keys b.project u) c l.number j.names ended w1 w2 → slice_get (outcomes_in b) i ≡ Some (outcome_by (files_in u.out w2.files) j.ran)
           → Keeps b (slice_set states i (Answered record { fault = j.ran.bad; lines = lines })) (slice_set done i j.ran.directives) next w2
       keeps_good lines stands outcome = keeps_answered b order i u at states done begun next w flying still can w2 next j.ran lines only_kept outcome sound_kept ahead_kept
           (on_good b.footing (j.ran.bad ≡ None) (HasRecord b w2 i)
@@ -210,15 +232,12 @@ finish_flying ticket (Err start.OutOfMemory) old = refl
 
 module _ (b : Basis) (order : IsInOrder b.project) (i : ℕ) (u : Planned) (at : unit_at b.project i ≡ Some u) (w w1 : World) (next : Option ℕ) (flying : List ChildInFlight) (still : ℕ → Type 0)
     (begun : Begun) (l : Launched) (is : begun.awaited ≡ awaited.Child l) where
-  as_parts : begun ≡ begun_with begun.unit begun.command (awaited.Child l)
-  as_parts = ap (begun_with begun.unit begun.command) is
-
   dropped_only : IsBegun b i begun next w flying still → IfSome (child_at l.ticket flying) (λ s. ChangesOnlyInSome s.command.out w w1) → ChangesOnly (is_at_or_below u.out) w w1
-  dropped_only is_begun only = landed_only b order i u at begun.unit begun.command l next flying still w w1 (subst (λ (x : Begun). IsBegun b i x next w flying still) as_parts is_begun) only
+  dropped_only is_begun only = landed_only b order i u at begun.unit begun.command l next flying still w w1 (subst (λ (by : Awaited). IsBegun b i (begun_with begun.unit begun.command by) next w flying still) is (begun_parts begun b i begun.unit next w flying still is_begun)) only
 
   module _ (states : List (State BadUnit)) (done : List (Option (List Directive))) (can : CanAnswer b states done i u begun next w flying still) (only : IfSome (child_at l.ticket flying) (λ s. ChangesOnlyInSome s.command.out w w1)) where
     can_parts : CanAnswer b states done i u (begun_with begun.unit begun.command (awaited.Child l)) next w flying still
-    can_parts = subst (λ (x : Begun). CanAnswer b states done i u x next w flying still) as_parts can
+    can_parts = subst (λ (by : Awaited). CanAnswer b states done i u (begun_with begun.unit begun.command by) next w flying still) is (answer_parts begun b i begun.unit next w flying still states done u can)
 
     pub dropped_keeps : Keeps b states done next w1
     dropped_keeps = keeps_landed b order i u at begun.unit begun.command l next w flying still states done can_parts w1 (dropped_only can.begun_so only) w1 refl

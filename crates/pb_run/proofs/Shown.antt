@@ -6,14 +6,13 @@ use Rattle.std.specs.Option.{option_map}
 use Rattle.pb_command.specs.Command.{command_of}
 use Rattle.pb_words.specs.Externs.{folder_in, reads_of}
 use Rattle.pb_directive.specs.declared.directive.Directive.{Directive}
-use Rattle.pb_message.specs.declared.message.Message.{Message}
 use Rattle.pb_place.specs.Folders.{over, folders_over}
 use Rattle.pb_place.specs.World.{World, Map, seen_by, from_nothing}
 use Rattle.pb_place.proofs.Folders.{sees_folders}
 use Rattle.pb_project.specs.Targets.{unit_at}
 use Rattle.pb_unit.specs.declared.plan.Planned.{Planned}
 use Rattle.pb_run.specs.Halves.{Basis, StandsGood, outcomes_in, command_in, view_in}
-use Rattle.pb_run.specs.Outcome.{Outcome, Good, files_at, is_good_at, with_made, directives_in, directives_of}
+use Rattle.pb_run.specs.Outcome.{Outcome, files_at, is_good_at, with_made, directives_in, directives_of}
 use Rattle.pb_run.specs.Standing.{IsInOrder}
 use Rattle.pb_run.proofs.Commands.{command_same}
 use Rattle.pb_run.proofs.Views.{IsFor, is_for}
@@ -44,9 +43,6 @@ abbrev pub AllStand : Basis → List (Option (List Directive)) → World → Lis
 AllStand b done w places = (place : ℕ) → Contains places place → StandsGood b done w place
 
 module _ (b : Basis) (done : List (Option (List Directive))) (w : World) (n : ℕ) where
-  good_there : (place : ℕ) → StandsGood b done w place → place < n → (files : Map) × (directives : Option (List Directive)) × (messages : List Message) × (slice_get (take n (outcomes_in b)) place ≡ Some (Good files directives messages))
-  good_there place s less = (s.files, s.directives, s.messages, before_take n place (outcomes_in b) less ∙ s.good)
-
   good_one : (place : ℕ) → StandsGood b done w place → place < n → is_good_at (slice_get (take n (outcomes_in b)) place) ≡ true
   good_one place s less = ap is_good_at (before_take n place (outcomes_in b) less ∙ s.good)
 

@@ -1,10 +1,11 @@
 -- A child that is spawned in an emptied folder, after its unit's record was dropped.
 use Rattle.std.proofs.Common.{◌≡◌, ◌∙◌, ◌||◌, ℕ, Bool, true, false, not, cond, List, Option, Some, None, Ok, refl, sym, ap, subst, inl, inr}
 use Rattle.std.proofs.lemmas.Bool.{cases_Bool, false≢true}
+use Rattle.std.specs.Prelude.{IfSome}
 use Rattle.std.specs.Cmp.Lexicographic.{slice_cmp, nat_list_cmp_total}
 use Rattle.std.specs.FinMap.{get, empty, same_map, get-empty}
 use Rattle.std.specs.Ordering.{nat_cmp}
-use Rattle.pb_place.specs.Children.{StaysStill, StandsStill, child_at, child_spawned, inside_out, is_flying}
+use Rattle.pb_place.specs.Children.{StaysStill, StandsStill, child_at, child_spawned, inside_out, is_flying, KeepsStillOutside}
 use Rattle.pb_place.specs.Counts.{Counts, counted_spawn}
 use Rattle.pb_place.specs.Folders.{files_in}
 use Rattle.pb_place.specs.Paths.{is_path, is_below, is_at_or_below}
@@ -16,9 +17,11 @@ use Rattle.pb_place.proofs.Folders.{get-files_in, only_removed, only_started, ch
 use Rattle.pb_place.proofs.InFlight.{last_at, same_number}
 use Rattle.pb_place.proofs.MapLemmas.{exact, get-kept}
 use Rattle.pb_place.proofs.Within.{at_below}
-use Rattle.pb_run.specs.Causes.{IsLifted}
-use Rattle.pb_run.specs.Launching.{IsSpawned}
-use Rattle.pb_soundness.specs.Apart.{is_of, KeepsStillOutside}
+use Rattle.pb_run.specs.Steps.{IsLifted}
+use Rattle.pb_run.specs.Halves.{WritesTo}
+use Rattle.pb_run.specs.Running.{IsSpawned}
+use Rattle.pb_run.proofs.Causing.{spawn_told}
+use Rattle.pb_soundness.specs.Apart.{is_of}
 use Rattle.pb_soundness.specs.Inputs.{Judge}
 use Rattle.pb_soundness.specs.Numbers.{IsAhead}
 use Rattle.pb_soundness.specs.Records.{Reading, is_key, out_of, place_of, record_at}
@@ -26,8 +29,7 @@ use Rattle.pb_soundness.specs.Reuse.{number_if}
 use Rattle.pb_soundness.specs.Sound.{Sound}
 use Rattle.pb_soundness.proofs.Four.{in_output}
 use Rattle.pb_soundness.proofs.Places.{place_outside, record_same, no_key}
-use Rattle.pb_store.specs.Held.{HoldsNumbers}
-use Rattle.pb_store.specs.declared.store.RunNumbers.{RunNumbers}
+use Rattle.pb_store.specs.Folder.{HasNumbers}
 
 -- What stands still.
 
@@ -83,11 +85,12 @@ spawned_lifts child c w ticket old new fresh counts = (
   },
 )
 
--- An emptied folder holds nothing.
+-- and writes into the folder that its command names
+pub flies_writes : (child : World → Reply) (c : Command) (out : List ℕ) (w : World) (ticket number : ℕ) (flying : List ChildInFlight) → c.out ≡ Some out → child_at ticket flying ≡ Some (child_spawned child c w ticket)
+    → WritesTo out (Some record { ticket = ticket; number = number }) flying
+flies_writes child c out w ticket number flying is flies = subst (λ (o : Option ChildInFlight). IfSome o (λ s. s.command.out ≡ Some out)) (sym flies) is
 
-none_twice : (b : Bool) (x : Option (List ℕ)) → x ≡ None → cond b x None ≡ None
-none_twice true x is = is
-none_twice false x is = refl
+-- An emptied folder holds nothing.
 
 emptied_at : (out q : List ℕ) (w : World) (b : Bool) → is_below out q ≡ b → cond b (get (removed out w).files q) None ≡ None
 emptied_at out q w true inside = get-kept w.files (λ x. not (is_at_or_below out x)) q ∙ ap (λ b. cond (not b) (get w.files q) None) (at_below out q inside)
@@ -109,11 +112,6 @@ spawned_anew child c out old mid ticket flying still is emptied_so flies stands 
 -- the folder emptied and a child spawned in it
 pub anew_only : (c : Command) (out : List ℕ) (old mid new : World) → c.out ≡ Some out → ChangesOnly (is_at_or_below out) old mid → ChangesOnlyInSome c.out mid new → ChangesOnly (is_at_or_below out) old new
 anew_only c out old mid new is first second = changes_join out old mid new first (only_started out c.out mid new is second)
-
-pub anew_still : (c : Command) (out : List ℕ) (flying next : List ChildInFlight) (old new : World) (before mid after : ℕ → Type 0) → next ≡ flying → c.out ≡ Some out → ChangesOnlyInSome c.out old new → StaysStill next old new mid after
-    → KeepsStillOutside (is_at_or_below out) flying before mid → KeepsStillOutside (is_at_or_below out) flying before after
-anew_still c out flying next old new before mid after same is only stays first =
-    still_join (is_at_or_below out) flying next before mid after same first (outside_still (is_at_or_below out) next old new mid after stays (only_started out c.out old new is only))
 
 -- The record dropped before.
 
@@ -155,12 +153,12 @@ module _ (read : Reading) (folder key out : List ℕ) (old new : World) (is : is
   pub launched_ahead : (next : Option ℕ) → IsAhead (record_at read folder old.files) next → IsAhead (record_at read folder new.files) next
   launched_ahead next ahead k r there = ahead k r (sym (records_stay read folder key old.files new.files is in_folder k) ∙ there)
 
-  pub launched_held : (numbers : RunNumbers) → HoldsNumbers (record_at read folder old.files) numbers → HoldsNumbers (record_at read folder new.files) numbers
-  launched_held numbers holds known l = holds known l ∙ sym (ap number_if (records_stay read folder key old.files new.files is in_folder l))
+  pub launched_held : (numbers : List (List ℕ × Option ℕ)) → HasNumbers (record_at read folder old.files) numbers → HasNumbers (record_at read folder new.files) numbers
+  launched_held numbers has l = has l ∙ sym (ap number_if (records_stay read folder key old.files new.files is in_folder l))
 
   pub launched_sound : (judge : Judge) (child : Answers) → is_path folder ≡ true → record_at read folder old.files key ≡ None → Sound read judge child folder old.files → Sound read judge child folder new.files
   launched_sound judge child path gone sound = in_output read judge child folder old.files new.files key path is gone in_folder sound
 
-pub ruleset spawn_laws = (spawned_flies, spawned_lifts)
+pub ruleset spawn_laws = (spawned_flies, spawned_lifts, spawn_told)
 
-pub ruleset launch_laws = (spawned_anew, anew_only, launched_only, launched_spawned, launched_still, launched_gone, launched_ahead, launched_sound)
+pub ruleset launch_laws = (spawned_anew, flies_writes, anew_only, launched_only, launched_spawned, launched_still, launched_gone, launched_ahead, launched_sound)

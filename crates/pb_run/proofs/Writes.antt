@@ -5,44 +5,19 @@ use Rattle.std.specs.Prelude.{◌==◌, IfSome}
 use Rattle.pb_place.specs.Children.{child_at, is_flying}
 use Rattle.pb_place.specs.Counts.{Counts, without}
 use Rattle.pb_place.specs.Paths.{is_at_or_below}
-use Rattle.pb_place.specs.World.{World, Answers, ChangesOnly, ChangesOnlyInSome}
+use Rattle.pb_place.specs.World.{World, ChangesOnly, ChangesOnlyInSome}
 use Rattle.pb_place.specs.declared.child_in_flight.ChildInFlight.{ChildInFlight}
-use Rattle.pb_place.specs.declared.command.Command.{Command}
 use Rattle.pb_place.specs.declared.command.Ended.{Ended}
 use Rattle.pb_place.specs.declared.place.StartFault.{StartFault}
 use Rattle.pb_place.proofs.Folders.{only_same, only_started}
-use Rattle.pb_project.specs.Targets.{unit_at}
-use Rattle.pb_unit.specs.declared.plan.Planned.{Planned}
-use Rattle.pb_run.specs.Halves.{Basis, IsBegun, WaitsBy, WritesTo, view_in, child_in, child_of}
-use Rattle.pb_run.specs.Landing.{HasEnded}
-use Rattle.pb_run.specs.Launching.{IsSpawned}
-use Rattle.pb_run.specs.Standing.{IsInOrder}
-use Rattle.pb_run.specs.declared.begun.Awaited.{Awaited}
-use Rattle.pb_run.specs.declared.begun.Awaited.TheVariants as awaited
-use Rattle.pb_run.specs.declared.begun.Begun.{Begun}
+use Rattle.pb_run.specs.Halves.{WritesTo}
+use Rattle.pb_run.specs.Running.{HasEnded}
 use Rattle.pb_run.specs.declared.begun.Launched.{Launched}
-use Rattle.pb_run.proofs.Answering.{begun_as, command_out, kept_only}
+use Rattle.pb_run.proofs.Answering.{kept_only}
 use Rattle.pb_run.proofs.RecordedOthers.{flies_without}
 use Rattle.pb_run.proofs.Spawning.{out_within, widen}
 use Rattle.pb_soundness.specs.Apart.{is_of}
 use Rattle.pb_soundness.specs.Records.{out_of, place_of}
-
--- a child was spawned for a command that writes into this folder
-pub spawned_writes : (out : List ℕ) (inside : List ℕ → Bool) (child : Answers) (c : Command) (old : World) (l : Launched) (flying : List ChildInFlight) (still : ℕ → Type 0) → c.out ≡ Some out
-    → IsSpawned inside child c old l.ticket flying still → WritesTo out (Some l) flying
-spawned_writes out inside child c old l flying still is spawned = subst (λ (o : Option ChildInFlight). IfSome o (λ s. s.command.out ≡ Some out)) (sym spawned.flies) is
-
-waits_write : (b : Basis) (u : Planned) (c : Command) (view : World) (by : Awaited) (next : Option ℕ) (w : World) (flying : List ChildInFlight) (still : ℕ → Type 0) → c.out ≡ Some u.out
-    → WaitsBy b u c view by next w flying still → WritesTo u.out (child_in by) flying
-waits_write b u c view (awaited.Record again) next w flying still is waits = tt
-waits_write b u c view (awaited.Child l) next w flying still is waits = subst (λ (o : Option ChildInFlight). IfSome o (λ s. s.command.out ≡ Some u.out)) (sym waits.0.flies) is
-
--- the child of a unit that has begun writes into the unit's folder
-pub begun_writes : (b : Basis) (order : IsInOrder b.project) (i : ℕ) (u : Planned) (at : unit_at b.project i ≡ Some u) (begun : Begun) (next : Option ℕ) (w : World) (flying : List ChildInFlight) (still : ℕ → Type 0)
-    → IsBegun b i begun next w flying still → WritesTo u.out (child_of begun) flying
-begun_writes b order i u at begun next w flying still is =
-    let (command, waits) = begun_as b order i u at begun next w flying still is in
-    waits_write b u begun.command (view_in b i u) begun.awaited next w flying still (ap (λ (d : Command). d.out) command ∙ command_out b order i u at) waits
 
 -- The child has landed.
 

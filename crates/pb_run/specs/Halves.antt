@@ -28,11 +28,11 @@ use Rattle.pb_run.specs.declared.begun.Launched.{Launched}
 use Rattle.pb_soundness.specs.Grounded.{Standing, Grounded}
 use Rattle.pb_soundness.specs.Inputs.{IsHonest}
 use Rattle.pb_soundness.specs.Numbers.{IsAhead, IsBefore, NoneNames}
-use Rattle.pb_soundness.specs.Records.{Reading, record_at, number_of}
+use Rattle.pb_soundness.specs.Records.{number_of, reading, records}
 use Rattle.pb_soundness.specs.Reuse.{IsSame}
 use Rattle.pb_soundness.specs.Sound.{Sound}
-use Rattle.pb_store.specs.Keeping.{HasNeeds}
-use Rattle.pb_store.specs.Replaying.{IsReplayed}
+use Rattle.pb_store.specs.Folder.{HasNeeds}
+use Rattle.pb_store.specs.Differences.{IsReplayed}
 use Rattle.pb_unit.specs.declared.plan.Planned.{Planned}
 
 -- What a build rests on: a sound folder of records and a child that is honest; or nothing, where no unit that has not begun has a record.
@@ -40,17 +40,16 @@ pub data Footing : Type 0 where
   OnRecords : Footing
   OnNothing : Footing
 
--- what the facts of a build are about: what it rests on, how texts are read as records, the child, how things are compiled, the project, and the sources
+-- what the facts of a build are about: what it rests on, the child, how things are compiled, the project, and the sources
 pub record Basis : Type 0 where
   pub footing : Footing
-  pub read : Reading
   pub child : Answers
   pub setup : Setup
   pub project : Project
   pub sources : World
 
-abbrev pub basis : Footing → Reading → Answers → Setup → Project → World → Basis
-basis footing read child setup project sources = record { footing = footing; read = read; child = child; setup = setup; project = project; sources = sources }
+abbrev pub basis : Footing → Answers → Setup → Project → World → Basis
+basis footing child setup project sources = record { footing = footing; child = child; setup = setup; project = project; sources = sources }
 
 -- what each unit gives from nothing
 abbrev pub outcomes_in : Basis → List Outcome
@@ -65,7 +64,7 @@ view_in b place u = view_of (take place (outcomes_in b)) b.sources u
 
 -- the records that count
 abbrev pub records_in : Basis → World → Standing
-records_in b w = record_at b.read (records_folder b.project) w.files
+records_in b w = records (records_folder b.project) w
 
 -- The units that have answered and are good.
 
@@ -90,7 +89,7 @@ pub record HasRecord (b : Basis) (w : World) (place : ℕ) : Type 0 where
   pub numbered : number_of kept ≡ Some number
   pub grounded : Grounded (records_in b w) unit.key number
   pub reads : kept.asked.reads ≡ reads_of b.project unit
-  pub same : IsSame b.read (records_folder b.project) unit.key (command_in b place unit) w kept
+  pub same : IsSame reading (records_folder b.project) unit.key (command_in b place unit) w kept
 
 -- What is kept while units begin and answer.
 
@@ -102,19 +101,16 @@ IsHonestOnUnits b = (place : ℕ) (u : Planned) (w : World) → unit_at b.projec
 -- the folder of records is sound, its records have and name only numbers below the next one, and each unit that has answered and is good has its record
 pub record HoldsRecords (b : Basis) (states : List (State BadUnit)) (next : Option ℕ) (w : World) : Type 0 where
   pub honest : IsHonestOnUnits b
-  pub sound : Sound b.read judge b.child (records_folder b.project) w.files
+  pub sound : Sound reading judge b.child (records_folder b.project) w.files
   pub ahead : IsAhead (records_in b w) next
   pub recorded : (place : ℕ) → is_good_at (slice_get states place) ≡ true → HasRecord b w place
 
--- no unit that has not begun has a record
-abbrev pub HoldsNoRecord : Basis → List (State BadUnit) → World → Type 0
-HoldsNoRecord b states w = (place : ℕ) (u : Planned) → unit_at b.project place ≡ Some u → slice_get states place ≡ Some Untouched → records_in b w u.key ≡ None
-
+-- so it is over records; over nothing no unit that has not begun has a record
 abbrev pub HoldsBy : Footing → Basis → List (State BadUnit) → Option ℕ → World → Type 0
 HoldsBy OnRecords b states next w = HoldsRecords b states next w
-HoldsBy OnNothing b states next w = HoldsNoRecord b states w
+HoldsBy OnNothing b states next w = (place : ℕ) (u : Planned) → unit_at b.project place ≡ Some u → slice_get states place ≡ Some Untouched → records_in b w u.key ≡ None
 
--- while units are in these states: as many are noted as there are units; the sources are as they were; each unit that has answered and is good stands, and so does all that it reaches; and the records are as the footing says
+-- while units are in these states: as many are noted as there are states; the sources are as they were; each good unit stands, and all that it reaches is good; and the records are as the footing says
 pub record Keeps (b : Basis) (states : List (State BadUnit)) (done : List (Option (List Directive))) (next : Option ℕ) (w : World) : Type 0 where
   pub long : length done ≡ length states
   pub sources_stay : from_nothing b.project.workspace.target w ≡ b.sources
@@ -135,9 +131,9 @@ key_at project place = key_in (unit_at project place)
 abbrev pub needed_keys : Project → Planned → List (List ℕ)
 needed_keys project u = flat_map (key_at project) u.needs
 
--- a unit that has begun, by its parts
+-- a unit that has begun, by its parts, but for what differed
 abbrev pub begun_with : List ℕ → Command → Awaited → Begun
-begun_with key c by = record { unit = key; command = c; awaited = by }
+begun_with key c by = record { unit = key; command = c; difference = None; awaited = by }
 
 -- its child, where it has one
 abbrev pub child_in : Awaited → Option Launched
@@ -173,7 +169,7 @@ AwaitsBy OnNothing b u number next w = Unit {0}
 
 -- nothing differs from its record
 abbrev pub IsUnchanged : Footing → Basis → Planned → Command → World → Type 0
-IsUnchanged OnRecords b u c w = (r : Record) × IsSame b.read (records_folder b.project) u.key c w r
+IsUnchanged OnRecords b u c w = (r : Record) × IsSame reading (records_folder b.project) u.key c w r
 IsUnchanged OnNothing b u c w = ⊥
 
 -- it has a child; or nothing differs from its record, and what it carries is what that gives again
@@ -213,7 +209,7 @@ pub record CanAnswer (b : Basis) (states : List (State BadUnit)) (done : List (O
   pub reaches : are_good states u.reaches ≡ true
   pub begun_so : IsBegun b place begun next w flying still
 
--- another unit has begun, with another ticket and another number than this one has
+-- another unit has begun than this one, and all that it reaches is good; if both have a child, their tickets and run numbers differ
 pub record BeginsApart (b : Basis) (states : List (State BadUnit)) (place : ℕ) (launched : Option Launched) (other : ℕ) (its : Begun) (next : Option ℕ) (w : World) (flying : List ChildInFlight) (still : ℕ → Type 0) : Type 0 where
   pub another : other ≢ place
   pub unit : Planned

@@ -1,8 +1,5 @@
 pub mod Outcome
+pub mod Steps
 pub mod Standing
-pub mod Causes
-pub mod Unfolding
 pub mod Halves
-pub mod Launching
-pub mod Landing
 pub mod Running

@@ -1,28 +1,28 @@
--- What each unit of a build gives, from the child and the sources alone.
-use Rattle.std.specs.Prelude.{ℕ, Bool, true, false, if◌then◌else◌, List, [], ◌∷◌, ◌++◌, map, Option, Some, None, Result, Ok, Err, slice_get}
-use Rattle.std.specs.List.{list_all}
+-- The outcomes of units, one by one: each is made of those of the units before it.
+use Rattle.std.specs.Prelude.{ℕ, Bool, true, false, if◌then◌else◌, List, [], ◌∷◌, ◌++◌, map, Option, Some, None, Result, Ok, Err, slice_get, ◌≡◌, take}
 use Rattle.std.specs.FinMap as finite
+use Rattle.std.specs.List.{list_all}
+use Rattle.pb_answer.specs.declared.bad_unit.BadUnit.{BadUnit}
+use Rattle.pb_command.specs.Command.{command_of}
+use Rattle.pb_command.specs.Judge.{ended_by, replied_files, file_at}
+use Rattle.pb_directive.specs.declared.directive.Directive.{Directive}
+use Rattle.pb_judging.specs.Answers.{answered_of}
+use Rattle.pb_message.specs.declared.message.Message.{Message}
 use Rattle.pb_place.specs.Folders.{over}
 use Rattle.pb_place.specs.World.{World, Map, Answers}
 use Rattle.pb_place.specs.declared.child.Reply.{Reply}
 use Rattle.pb_place.specs.declared.command.Command.{Command}
 use Rattle.pb_place.specs.declared.command.Ended.{Ended}
-use Rattle.pb_directive.specs.declared.directive.Directive.{Directive}
-use Rattle.pb_message.specs.declared.message.Message.{Message}
-use Rattle.pb_unit.specs.declared.plan.Planned.{Planned}
-use Rattle.pb_project.specs.declared.project.Project.{Project}
-use Rattle.pb_project.specs.declared.project.Setup.{Setup}
+use Rattle.pb_project.specs.Targets.{dep_info_of}
 use Rattle.pb_project.specs.declared.answer.Answered.{Answered}
 use Rattle.pb_project.specs.declared.fault.UnitFault.{UnitFault}
-use Rattle.pb_answer.specs.declared.bad_unit.BadUnit.{BadUnit}
-use Rattle.pb_command.specs.Command.{command_of}
-use Rattle.pb_project.specs.Targets.{dep_info_of}
-use Rattle.pb_judging.specs.Answers.{answered_of}
-use Rattle.pb_command.specs.Judge.{ended_by, replied_files, file_at}
-use Rattle.pb_unit_messages.specs.Telling.{good_messages, bad_messages, said_by}
+use Rattle.pb_project.specs.declared.project.Project.{Project}
+use Rattle.pb_project.specs.declared.project.Setup.{Setup}
 use Rattle.pb_record.specs.declared.record.InputName.{InputName}
 use Rattle.pb_run.specs.declared.ran.Judgement.{Judgement}
 use Rattle.pb_run.specs.declared.ran.Ran.{Ran}
+use Rattle.pb_unit.specs.declared.plan.Planned.{Planned}
+use Rattle.pb_unit_messages.specs.Telling.{good_messages, bad_messages, said_by}
 
 -- what a unit gives: nothing as yet; the files of its output folder, a script's directives, and what it tells; or why it is bad, and what it tells
 pub data Outcome : Type 0 where
@@ -121,3 +121,8 @@ outcome_of child setup project sources done u =
 -- the outcomes of all units, in plan order
 abbrev pub outcomes : Answers → Setup → Project → World → List Outcome
 outcomes child setup project sources = tabled (outcome_of child setup project sources) project.plan.planned
+
+-- the outcome of a unit is made of those of the units before it
+abbrev pub Unfolds : Type 0
+Unfolds = (child : Answers) (setup : Setup) (project : Project) (sources : World) (i : ℕ) (u : Planned) → slice_get project.plan.planned i ≡ Some u
+    → slice_get (outcomes child setup project sources) i ≡ Some (outcome_of child setup project sources (take i (outcomes child setup project sources)) u)

@@ -1,72 +1,349 @@
--- Which calls the run of a unit makes, from its beginning to its answer, and what comes of one for which a child was started.
-use Rattle.std.specs.Prelude.{◌≡◌, ◌⊎◌, ℕ, Bool, IfSome, IsOk, MatchOption, Option, Some, None, Result, Err}
-use Rattle.pb_answer.specs.declared.fault.BuildFault.{BuildFault}
-use Rattle.pb_command.specs.Judge.{ended_by, replied_files}
-use Rattle.pb_place.specs.CallsInTurn.{past_calls}
-use Rattle.pb_place.specs.Counts.{Counts}
+-- What one unit's step does: it begins, with a child or without; it answers; and both in turn.
+use Rattle.std.specs.Prelude.{◌≡◌, ◌⊎◌, ℕ, Bool, List, Option, Some, None, Result, Ok, MatchResult, ◌++◌, ◌∷◌, if◌then◌else◌, is_some, [], map, Err, IsOk, IfOk, IfErr, IfSome, ◌≢◌, ◌+◌, true, IsTrue, IsSome, MatchOption, OnOk, length, max, slice_set, false, slice_get}
+use Rattle.std.specs.FinMap as finite
+use Rattle.pb_answer.specs.declared.bad_unit.BadUnit.{BadUnit}
+use Rattle.pb_answer.specs.declared.fault.BuildFault.TheVariants as build
+use Rattle.pb_command.specs.Command.{command_of}
+use Rattle.pb_command.specs.Judge.{file_at}
+use Rattle.pb_directive.specs.declared.directive.Directive.{Directive}
+use Rattle.pb_flight.specs.declared.flight.State.{State}
+use Rattle.pb_flight.specs.declared.flight.State.TheVariants as state
+use Rattle.pb_judging.specs.Answers.{answered_of}
+use Rattle.pb_place.specs.At.{At}
+use Rattle.pb_place.specs.CallsInTurn.{Fails, past_calls}
+use Rattle.pb_place.specs.Children.{child_at, child_spawned, inside_out, LandsAs}
+use Rattle.pb_place.specs.Counts.{Counts, counted_spawn, one_start, past_call, past_start_fault, counted_finish, Starts}
 use Rattle.pb_place.specs.Folders.{files_in}
 use Rattle.pb_place.specs.Paths.{is_at_or_below}
-use Rattle.pb_place.specs.World.{World, Answers, ChangesOnly, seen_by}
-use Rattle.pb_place.specs.declared.child.Reply.{Reply}
+use Rattle.pb_place.specs.World.{World, Answers, ChangesOnly, Map, ChangesOnlyInSome}
+use Rattle.pb_place.specs.declared.call.Call.{Call}
+use Rattle.pb_place.specs.declared.call.Call.TheVariants as call
+use Rattle.pb_place.specs.declared.child_in_flight.ChildInFlight.{ChildInFlight}
 use Rattle.pb_place.specs.declared.command.Command.{Command}
 use Rattle.pb_place.specs.declared.command.Ended.{Ended}
 use Rattle.pb_place.specs.declared.place.StartFault.{StartFault}
+use Rattle.pb_project.specs.Targets.{dep_info_of}
 use Rattle.pb_project.specs.declared.project.Project.{Project}
-use Rattle.pb_run.specs.Causes.{StopsAt}
-use Rattle.pb_run.specs.Halves.{child_of, needed_keys}
-use Rattle.pb_run.specs.Landing.{CallsBehind, EndsBy, GivesRecord, answered_called, record_of}
-use Rattle.pb_run.specs.Launching.{IsSpawned, LaunchEnds, Launches}
-use Rattle.pb_run.specs.Outcome.{ran_of}
-use Rattle.pb_run.specs.Standing.{records_folder}
+use Rattle.pb_project.specs.declared.project.Setup.{Setup}
+use Rattle.pb_record.specs.declared.record.InputName.{InputName}
+use Rattle.pb_record.specs.declared.record.Record.{Record}
+use Rattle.pb_run.specs.Steps.{BeginsBy, Lands, started, NumbersInTurn, StepMakes, StepStopsAt, StepTakes, starts, MayAnswer, MayBegin}
+use Rattle.pb_run.specs.Halves.{needed_keys, Basis, Keeps, IsBegun, CanBegin, BeginsApart, KeepsOthersStill, WritesTo, child_of, outcomes_in, CanAnswer, awaits_number, Footing, basis}
+use Rattle.pb_run.specs.Outcome.{judgement_by, names_in, ran_of, unstarted, outcome_by, directives_in}
+use Rattle.pb_run.specs.Standing.{records_folder, IsCommandOf}
+use Rattle.pb_run.specs.declared.begun.Awaited.{Awaited}
+use Rattle.pb_run.specs.declared.begun.Awaited.TheVariants as awaited
 use Rattle.pb_run.specs.declared.begun.Begun.{Begun}
+use Rattle.pb_run.specs.declared.begun.Launched.{Launched}
+use Rattle.pb_run.specs.declared.faults.StepFault.{StepFault}
+use Rattle.pb_run.specs.declared.faults.StepFault.TheVariants as step
+use Rattle.pb_run.specs.declared.halves.Outcome.{Outcome}
+use Rattle.pb_run.specs.declared.ran.Judgement.{Judgement}
 use Rattle.pb_run.specs.declared.ran.Ran.{Ran}
 use Rattle.pb_soundness.specs.Apart.{is_of}
-use Rattle.pb_soundness.specs.Records.{Reading, place_of, record_at}
-use Rattle.pb_store.specs.Keeping.{numbered}
-use Rattle.pb_store.specs.Looking.{looked_at}
-use Rattle.pb_store.specs.Migrating.{migrated}
+use Rattle.pb_soundness.specs.Inputs.{Judge, input_in}
+use Rattle.pb_soundness.specs.Numbers.{IsAhead, after}
+use Rattle.pb_soundness.specs.Records.{reading, records, place_of}
+use Rattle.pb_soundness.specs.Sound.{Sound}
+use Rattle.pb_store.specs.Differences.{IsReplayed, FirstDifference}
+use Rattle.pb_store.specs.Folder.{Leaves, kept_of, numbered, migrated, HasNumbers, TakesNumber, TakesNext, lacks_number}
+use Rattle.pb_store.specs.Looking.{kept_called, migrated_called, unit_looked}
 use Rattle.pb_store.specs.declared.difference.Difference.{Difference}
+use Rattle.pb_store.specs.declared.fault.StoreFault.TheVariants as store
+use Rattle.pb_store.specs.declared.store.Store.{Store}
 use Rattle.pb_unit.specs.declared.plan.Planned.{Planned}
+use Rattle.pb_unit_messages.specs.Telling.{unit_lines}
 
--- the counters once a unit was looked at for a difference from its record
-abbrev pub past_look : Reading → Bool → Project → Planned → Command → World → Counts → Counts
-past_look read known project u c w old = past_calls (looked_at read known (records_folder project) u.key c w) old
+-- a child flies that was spawned in a world which differs from the old one at these paths only; its folder was empty then, and what it sees has stood still since (`still`)
+pub record IsSpawned (inside : List ℕ → Bool) (child : Answers) (c : Command) (old : World) (ticket : ℕ) (flying : List ChildInFlight) (still : ℕ → Type 0) : Type 0 where
+  pub spawned : World
+  pub only : ChangesOnly inside old spawned
+  pub flies : child_at ticket flying ≡ Some (child_spawned (child c) c spawned ticket)
+  pub emptied : inside_out c.out spawned.files ≡ finite.empty
+  pub stands : still ticket
 
--- a unit could not begin: it stopped at a call of its look, or of the launch of its child
-abbrev pub StopsToBegin : Reading → Bool → Project → Planned → Command → BuildFault → World → Counts → Counts → Type 0
-StopsToBegin read known project u c fault w old new = StopsAt fault (looked_at read known (records_folder project) u.key c w) old new ⊎ LaunchEnds (place_of (records_folder project) u.key) u.out fault (past_look read known project u c w old) new
+-- The calls, one by one.
 
--- it began, by its look and the launch of its child where it has one, which was spawned over an empty folder, and where it has none nothing was changed and the record that counts gives its answer again; and its answer was taken: the end of the child was asked for, which left what its reply makes of that moment, and behind it just the calls came that belong to the answer, of which the unit's record alone is written
-pub record RunsThrough {T : Type 0} (read : Reading) (known : Bool) (child : Answers) (project : Project) (u : Planned) (c : Command) (result : Result T BuildFault) (w : World) (old : Counts) (after : World) (new : Counts) : Type 0 where
-  pub begun : Begun
-  pub between : World
-  pub mid : Counts
-  pub begins : MatchOption (child_of begun) (mid ≡ past_look read known project u c w old) (λ launched. Launches child c launched.ticket (past_look read known project u c w old) mid)
-  pub spawned : IfSome (child_of begun) (λ launched. IsSpawned (is_of (records_folder project) u.key) child c w launched.ticket mid.starts.flying (λ ticket. Unit {0}))
-  pub same : child_of begun ≡ None → between ≡ w
-  pub gives : GivesRecord (record_at read (records_folder project) w.files u.key) begun.awaited
-  pub left : World
-  pub ended : Counts
-  pub answer : Result Ended StartFault
-  pub ends : EndsBy begun.awaited answer (IsOk result) (λ ticket. Unit {0}) between left mid ended
-  pub only : ChangesOnly (is_at_or_below (place_of (records_folder project) u.key)) left after
-  pub behind : CallsBehind u.key begun.awaited (answered_called read known project u c left begun.awaited) answer result ended new
+-- what a step says of its calls: which it made where it ended well, and which where it tells a fault
+abbrev pub Calls : {T E : Type 0} → (T → Counts → Counts → Type 0) → (E → Counts → Counts → Type 0) → Result T E → Counts → Counts → Type 0
+Calls Makes Ends result old new = MatchResult result (λ x. Makes x old new) (λ e. Ends e old new)
 
--- a unit was run by just these calls
-abbrev pub RunsCalling : {T : Type 0} → Reading → Bool → Answers → Project → Planned → Command → Result T BuildFault → World → Counts → World → Counts → Type 0
-RunsCalling read known child project u c result w old after new = ((fault : BuildFault) × (result ≡ Err fault) × StopsToBegin read known project u c fault w old new) ⊎ RunsThrough read known child project u c result w old after new
+-- one call was made
+abbrev pub OneCall : {T : Type 0} → T → Counts → Counts → Type 0
+OneCall x old new = new ≡ past_call old
 
--- what came of a unit is what this reply of its child comes to, and its folder holds just the files of that reply
-abbrev pub ComesOfReply : Project → Planned → Command → Reply → World → Ran → Type 0
-ComesOfReply project u c reply after ran = (ran ≡ ran_of project u c (ended_by reply) (replied_files u.out reply)) × (files_in u.out after.files ≡ replied_files u.out reply)
+-- the one call, which removes what stands at this path, failed; out of memory, it or none was made
+abbrev pub RemovalEnds : List ℕ → StepFault → Counts → Counts → Type 0
+RemovalEnds path (step.Store (store.Place fault)) old new = Fails fault (call.Remove path) old new
+RemovalEnds path (step.Store store.NumbersSpent) old new = ⊥
+RemovalEnds path (step.Store store.OutOfMemory) old new = (new ≡ old) ⊎ (new ≡ past_call old)
+RemovalEnds path (step.Start fault) old new = ⊥
 
--- a unit for which a child was started: what came of it is what the child's reply to its command comes to, by what that sees of the world as it was before the run, whatever the records say
-abbrev pub RunsAnew : Project → Planned → Answers → Command → World → World → Ran → Type 0
-RunsAnew project u child c w after ran = ComesOfReply project u c (child c (seen_by c w)) after ran
+-- the same of one that takes a run number first: where none is left, no call was made
+abbrev pub DropEnds : List ℕ → StepFault → Counts → Counts → Type 0
+DropEnds path (step.Store store.NumbersSpent) old new = new ≡ old
+DropEnds path e old new = RemovalEnds path e old new
 
--- which record counts in the place of a good unit that was run, by what differed: where nothing did, the one that was there, which has got the next number if it had none; else that of the child's reply to its command, by what that sees of the world as it was, with the number that was the next, the values that the inputs which are found in it have now, and the numbers that the records of the needed units have
-abbrev pub KeepsRecord : Reading → Answers → Project → Planned → Command → Option Difference → Option ℕ → World → World → Type 0
-KeepsRecord read child project u c None next w after =
-    record_at read (records_folder project) after.files u.key ≡ migrated next (numbered (record_at read (records_folder project) w.files) (needed_keys project u)) (record_at read (records_folder project) w.files u.key)
-KeepsRecord read child project u c (Some difference) next w after =
-    (number : ℕ) × (next ≡ Some number) × (record_at read (records_folder project) after.files u.key ≡ Some (record_of read project u c number (ended_by (child c (seen_by c w))) after))
+-- a child was spawned for this command, by one call, in some world
+pub record Spawns (child : Answers) (c : Command) (ticket : ℕ) (old new : Counts) : Type 0 where
+  pub spawned : World
+  pub counted : new ≡ counted_spawn (child_spawned (child c) c spawned) (Ok ticket) old
+
+-- the spawn failed with this fault, and counts as one start; out of memory, no call was made, or this one
+abbrev pub SpawnStops : StepFault → Counts → Counts → Type 0
+SpawnStops (step.Store (store.Place fault)) old new = ⊥
+SpawnStops (step.Store store.NumbersSpent) old new = ⊥
+SpawnStops (step.Store store.OutOfMemory) old new = (new ≡ old) ⊎ (new ≡ past_call (one_start old))
+SpawnStops (step.Start fault) old new = new ≡ past_start_fault fault (one_start old)
+
+-- The calls in turn.
+
+-- one call was made, which empties the folder, and then the child was spawned
+abbrev pub SpawnsAnew : Answers → Command → ℕ → Counts → Counts → Type 0
+SpawnsAnew child c ticket old new = Spawns child c ticket (past_call old) new
+
+-- two calls were made, which remove the record and empty the folder, and then the child was spawned; that they come in this order is said of those that fail (`LaunchEnds`)
+abbrev pub Launches : Answers → Command → ℕ → Counts → Counts → Type 0
+Launches child c ticket old new = SpawnsAnew child c ticket (past_call old) new
+
+-- the folder's removal ended it, or after it the spawn
+abbrev pub AnewEnds : List ℕ → StepFault → Counts → Counts → Type 0
+AnewEnds folder e old new = RemovalEnds folder e old new ⊎ SpawnStops e (past_call old) new
+
+-- the removal of the record at this path ended it, or after it that of the folder, or after both the spawn
+abbrev pub LaunchEnds : List ℕ → List ℕ → StepFault → Counts → Counts → Type 0
+LaunchEnds path folder e old new = DropEnds path e old new ⊎ AnewEnds folder e (past_call old) new
+
+-- The records.
+
+-- the record is gone, or, after a fault, stands as it did; the folder of records stays sound, and the next number ahead of all
+pub record DropsFor {T : Type 0} (child : Answers) (folder key : List ℕ) (result : Result T StepFault) (before now : Option ℕ) (old new : World) : Type 0 where
+  pub sound : (judge : Judge) → Sound reading judge child folder old.files → Sound reading judge child folder new.files
+  pub stands : MatchResult result (λ x. records folder new key ≡ None) (λ e. Leaves None (records folder old key) (records folder new key))
+  pub ahead : IsAhead (records folder old) before → IsAhead (records folder new) now
+
+-- the child of this ticket has ended with this answer: it flies no more, a failure is counted, and its folder alone changed. If what it sees stood still since its spawn, it left what was fixed then
+pub record HasEnded (ticket : ℕ) (answer : Result Ended StartFault) (well stood : Type 0) (before after : World) (old new : Counts) : Type 0 where
+  pub counted : new ≡ counted_finish ticket answer old
+  pub answered : well → IsOk answer
+  pub only : IfSome (child_at ticket old.starts.flying) (λ spawned. ChangesOnlyInSome spawned.command.out before after)
+  pub lands : stood → IfOk answer (λ ended. IfSome (child_at ticket old.starts.flying) (λ spawned. LandsAs spawned before ended after))
+
+-- the child of a unit has ended so, where it has one; else nothing was done, and its record gives the answer again
+abbrev pub EndsBy : Awaited → Result Ended StartFault → Type 0 → (ℕ → Type 0) → World → World → Counts → Counts → Type 0
+EndsBy (awaited.Child launched) answer well still before after old new = HasEnded launched.ticket answer well (still launched.ticket) before after old new
+EndsBy (awaited.Record again) answer well still before after old new = (after ≡ before) × (new ≡ old) × (answer ≡ Ok again.ended)
+
+-- what came of a unit, where no child was started for it
+abbrev pub ran_from : Awaited → Ran → Ran
+ran_from (awaited.Child launched) ran = ran
+ran_from (awaited.Record again) ran = unstarted ran
+
+-- what came of a unit is the judgement of this answer, by the files that then stood: of the one that its child gave, or that its record gives again
+abbrev pub IsJudged : Project → Planned → Command → Awaited → Ended → World → Ran → Type 0
+IsJudged project u c by ended w ran = ran ≡ ran_from by (ran_of project u c ended w.files)
+
+-- The record of a unit that is good.
+
+-- the names of the inputs in an answer, by the files that then stood
+abbrev pub names_of : Project → Planned → Command → Ended → Map → List InputName
+names_of project u c ended files = names_in (answered_of project u c ended (file_at (dep_info_of project u) files))
+
+-- of its child's answer: its command, the inputs that the answer names, with the values that they have in this world, this run number, the numbers that the records of the needed units have, and the streams
+abbrev pub record_of : Project → Planned → Command → ℕ → Ended → World → Record
+record_of project u c number ended w =
+    kept_of (records_folder project) u.key c (map (input_in c.target w) (names_of project u c ended w.files)) number (numbered (records (records_folder project) w) (needed_keys project u)) ended
+
+-- what stands in its record's place once it has answered so, in this world: of one with a child its record; of one without the record that was there, which has got the next number if it had none
+abbrev pub record_left : Project → Planned → Command → Awaited → Ended → Option ℕ → World → Option Record
+record_left project u c (awaited.Child launched) ended next w = Some (record_of project u c launched.number ended w)
+record_left project u c (awaited.Record again) ended next w =
+    if again.numbered then records (records_folder project) w u.key else migrated next (numbered (records (records_folder project) w) (needed_keys project u)) (records (records_folder project) w u.key)
+
+-- where no child was started, the answer that is given again is that of this record
+abbrev pub GivesRecord : Option Record → Awaited → Type 0
+GivesRecord found (awaited.Child launched) = Unit {0}
+GivesRecord found (awaited.Record again) = IsReplayed found again
+
+-- What is called once the answer is there.
+
+-- the dep-info of a unit is read, where it has one
+abbrev pub dep_info_looked : Option (List ℕ) → List Call
+dep_info_looked None = []
+dep_info_looked (Some path) = call.Read path ∷ []
+
+-- where its child was started, its record is kept; else a record that has no run number is given one
+abbrev pub recorded_called : Project → Planned → Command → World → List InputName → Awaited → List Call
+recorded_called project u c w names (awaited.Child launched) = kept_called (records_folder project) u.key c.target w names
+recorded_called project u c w names (awaited.Record again) = if again.numbered then [] else migrated_called (records_folder project) u.key w
+
+-- but for a unit that is bad
+abbrev pub judged_called : Project → Planned → Command → World → Awaited → Judgement → List Call
+judged_called project u c w by j = if is_some j.ran.bad then [] else recorded_called project u c w j.names by
+
+-- first the dep-info; and what is called next is by the judgement of the answer
+abbrev pub answered_called : Project → Planned → Command → World → Awaited → Ended → List Call
+answered_called project u c w by ended =
+    dep_info_looked (dep_info_of project u) ++ judged_called project u c w by (judgement_by project u ended (answered_of project u c ended (file_at (dep_info_of project u) w.files)))
+
+-- after an answer just these calls were made, in this order, and a number may be missing only to a record that is given again; where a child gave none, no call was made, and the fault is the child's
+abbrev pub CallsBehind : {T : Type 0} → Awaited → (Ended → List Call) → Result Ended StartFault → Result T StepFault → Counts → Counts → Type 0
+CallsBehind (awaited.Child launched) calls (Ok ended) result old new = StepMakes result (calls ended) old new
+CallsBehind (awaited.Record again) calls (Ok ended) result old new = NumbersInTurn result (calls ended) old new
+CallsBehind by calls (Err fault) result old new = (new ≡ old) × IfErr result (λ e. e ≡ started fault)
+
+-- something differs from a unit's record
+abbrev pub Differs : Project → Planned → Command → World → Type 0
+Differs project u c w = (difference : Difference) × FirstDifference (records_folder project) u.key c w (Some difference)
+
+-- the calls by which a unit is looked at for a difference, and the counters after them
+abbrev pub unit_looks : Project → Planned → Command → World → List Call
+unit_looks project u c w = unit_looked (records_folder project) u.key c w
+
+abbrev pub past_look : Project → Planned → Command → World → Counts → Counts
+past_look project u c w old = past_calls (unit_looks project u c w) old
+
+-- the unit has begun: with a child if it reports a difference; else it carries what its record replays
+pub record BeginsUnit (tells : Bool) (child : Answers) (project : Project) (u : Planned) (c : Command) (before now : Store) (old new : At) (begun : Begun) : Type 0 where
+  -- it has the unit's key and command
+  pub unit : begun.unit ≡ u.key
+  pub asks : begun.command ≡ c
+  -- over a place that tells its maps the report is the first difference
+  pub differs : IsTrue tells → FirstDifference (records_folder project) u.key begun.command old.world begun.difference
+  pub spawned : is_some (child_of begun) ≡ is_some begun.difference
+  -- the child takes the next run number, writes into the unit's folder, and flies: spawned over an empty folder, and no text counts as the unit's record
+  pub number : MatchOption (child_of begun) (now.next ≡ before.next) (λ launched. (before.next ≡ Some launched.number) × (now.next ≡ after launched.number))
+  pub most : MatchOption (child_of begun) (new.most ≡ old.most) (λ launched. new.most ≡ max old.most (length old.counts.starts.flying + 1))
+  pub writes : WritesTo u.out (child_of begun) new.counts.starts.flying
+  pub launched : IsTrue tells → IfSome (child_of begun) (λ launched. IsSpawned (is_of (records_folder project) u.key) child begun.command old.world launched.ticket new.counts.starts.flying new.still)
+  pub dropped : IsTrue tells → IsSome (child_of begun) → records (records_folder project) new.world u.key ≡ None
+  pub launches : IsTrue tells → IfSome (child_of begun) (λ launched. Launches child begun.command launched.ticket (past_look project u begun.command old.world old.counts) new.counts)
+  -- without a child nothing changes, and no call comes after the look
+  pub same : child_of begun ≡ None → new.world ≡ old.world
+  pub looks : IsTrue tells → child_of begun ≡ None → new.counts ≡ past_look project u begun.command old.world old.counts
+  pub carries : IsTrue tells → GivesRecord (records (records_folder project) old.world u.key) begun.awaited
+
+-- a unit could not begin: it stopped at a call of its look; or something differs, and it stopped at one of the launch
+abbrev pub StopsToBegin : Project → Planned → Command → StepFault → World → Counts → Counts → Type 0
+StopsToBegin project u c fault w old new = StepStopsAt fault (unit_looks project u c w) old new ⊎ (Differs project u c w × LaunchEnds (place_of (records_folder project) u.key) u.out fault (past_look project u c w old) new)
+
+pub record FailsToBegin (tells : Bool) (project : Project) (u : Planned) (c : Command) (old new : At) (e : StepFault) : Type 0 where
+  pub stops : IsTrue tells → StopsToBegin project u c e old.world old.counts new.counts
+  -- only where something differs does a call of the launch fail, does anything change, or is a child started
+  pub cause : IsTrue tells → starts e ≡ true → Differs project u c old.world
+  pub spared : IsTrue tells → (new.world ≡ old.world) ⊎ Differs project u c old.world
+  pub tried : IsTrue tells → (new.counts.starts ≡ old.counts.starts) ⊎ Differs project u c old.world
+  pub most : new.most ≡ old.most
+
+-- a build over true records, or over none, goes on as a unit begins
+pub record BeginsBuild (b : Basis) (done : List (Option (List Directive))) (index : ℕ) (u : Planned) (result : Result Begun StepFault) (before now : Option ℕ) (old new : At) : Type 0 where
+  pub begun : (states : List (State BadUnit)) → CanBegin b states done index u before old.world → IfOk result (λ begun. IsBegun b index begun now new.world new.counts.starts.flying new.still)
+  pub keeps : (states : List (State BadUnit)) → CanBegin b states done index u before old.world → Keeps b (slice_set states index state.Begun) done now new.world
+  pub others : (states : List (State BadUnit)) (other : ℕ) (its : Begun) → CanBegin b states done index u before old.world
+      → BeginsApart b states index None other its before old.world old.counts.starts.flying old.still → IsBegun b other its now new.world new.counts.starts.flying new.still
+
+-- Of each half.
+
+-- the store goes on: its folder is the same, its next number is too or was taken, and its numbers are those of its records where the half ended well
+pub record KeepsStore {T : Type 0} (tells : Bool) (result : Result T StepFault) (before now : Store) (new : At) : Type 0 where
+  pub folder : now.folder ≡ before.folder
+  pub next : TakesNumber before.next now.next
+  pub numbers : IsTrue tells → OnOk result (HasNumbers (records before.folder new.world) now.numbers)
+
+-- only this unit's folder and record change; the other children fly on, and stand still if no change of these paths touches what they see; at most one call failed, and it was the last
+pub record ChangesUnit {T : Type 0} (folder key : List ℕ) (ended : Option Launched) (Goes : T → Starts → Starts → Type 0) (May : StepFault → Starts → Starts → Type 0) (result : Result T StepFault) (old new : At) : Type 0 where
+  pub only : ChangesOnly (is_of folder key) old.world new.world
+  pub still : KeepsOthersStill ended (is_of folder key) old.counts.starts.flying old.still new.still
+  pub stay : (ticket : ℕ) (its : ChildInFlight) → IfSome ended (λ launched. ticket ≢ launched.ticket) → child_at ticket old.counts.starts.flying ≡ Some its → child_at ticket new.counts.starts.flying ≡ Some its
+  pub takes : StepTakes Goes May result old.counts new.counts
+
+-- how the beginning of a unit leaves the starts
+abbrev pub Begins : Begun → Starts → Starts → Type 0
+Begins begun old new = BeginsBy (child_of begun) old new
+
+-- what has begun is this unit, for a command of it
+pub record IsOf (project : Project) (u : Planned) (begun : Begun) : Type 0 where
+  pub unit : begun.unit ≡ u.key
+  pub asks : IsCommandOf project u begun.command
+
+-- the answer was there, and then this held, of the world and the counters at that moment
+pub record AnswersThen (by : Awaited) (answer : Result Ended StartFault) (well : Type 0) (old : At) (Then : World → Counts → Type 0) : Type 0 where
+  pub world : World
+  pub counts : Counts
+  pub ends : EndsBy by answer well old.still old.world world old.counts counts
+  pub comes : Then world counts
+
+-- what came of a unit is the judgement of its child's answer, or, without a child, of what its record replays; and a good one leaves the record of `record_left`
+pub record AnswersUnit (tells : Bool) (project : Project) (u : Planned) (begun : Begun) (before now : Store) (old new : At) (ran : Ran) : Type 0 where
+  pub started : ran.started ≡ is_some (child_of begun)
+  pub directives : directives_in (outcome_by finite.empty ran) ≡ ran.directives
+  pub judged : IsTrue tells → (ended : Ended) × AnswersThen begun.awaited (Ok ended) (IsTrue true) old (λ w counts. IsJudged project u begun.command begun.awaited ended w ran)
+  pub kept : IsTrue tells → is_some ran.bad ≡ false → (ended : Ended) × AnswersThen begun.awaited (Ok ended) (IsTrue true) old (λ w counts.
+      records (records_folder project) new.world u.key ≡ record_left project u begun.command begun.awaited ended before.next w)
+  -- a bad unit leaves the place of its record as it is, and takes no number
+  pub unkept : IsSome ran.bad → ChangesOnly (is_at_or_below u.out) old.world new.world
+  pub bad : IsSome ran.bad → now.next ≡ before.next
+  -- a good one takes the next number where its record had none
+  pub taken : IsTrue tells → awaits_number begun.awaited ≡ true → lacks_number (records (records_folder project) old.world u.key) ≡ true → is_some ran.bad ≡ false → TakesNext before.next now.next
+
+-- how it ended, well or with a fault: after the answer only these calls came, and changed the unit's record alone
+pub record EndsUnit {T : Type 0} (tells : Bool) (project : Project) (u : Planned) (begun : Begun) (result : Result T StepFault) (before now : Store) (old new : At) : Type 0 where
+  pub lands : IsTrue tells → (answer : Result Ended StartFault) × AnswersThen begun.awaited answer (IsOk result) old (λ w counts.
+      ChangesOnly (is_at_or_below (place_of (records_folder project) u.key)) w new.world × CallsBehind begun.awaited (answered_called project u begun.command w begun.awaited) answer result counts new.counts)
+  -- without a child, and with a record that has a number, nothing changes and no number is taken
+  pub same : IsTrue tells → child_of begun ≡ None → lacks_number (records (records_folder project) old.world u.key) ≡ false → new.world ≡ old.world
+  pub untaken : awaits_number begun.awaited ≡ false → now.next ≡ before.next
+  pub most : new.most ≡ old.most
+
+-- a build over true records, or over none, goes on as a unit answers
+pub record AnswersBuild (b : Basis) (index : ℕ) (u : Planned) (begun : Begun) (result : Result Ran StepFault) (before now : Option ℕ) (old new : At) : Type 0 where
+  pub outcome : (states : List (State BadUnit)) (done : List (Option (List Directive))) → CanAnswer b states done index u begun before old.world old.counts.starts.flying old.still
+      → IfOk result (λ ran. slice_get (outcomes_in b) index ≡ Some (outcome_by (files_in u.out new.world.files) ran))
+  pub keeps : (states : List (State BadUnit)) (done : List (Option (List Directive))) → CanAnswer b states done index u begun before old.world old.counts.starts.flying old.still → MatchResult result
+      (λ ran. (lines : List ℕ) → Keeps b (slice_set states index (state.Answered record { fault = ran.bad; lines = lines })) (slice_set done index ran.directives) now new.world)
+      (λ e. Keeps b states done now new.world)
+  pub others : (states : List (State BadUnit)) (done : List (Option (List Directive))) (other : ℕ) (its : Begun) → CanAnswer b states done index u begun before old.world old.counts.starts.flying old.still
+      → BeginsApart b states index (child_of begun) other its before old.world old.counts.starts.flying old.still → IsBegun b other its now new.world new.counts.starts.flying new.still
+
+-- and as its answer is dropped
+pub record DropsBuild (b : Basis) (index : ℕ) (u : Planned) (begun : Begun) (next : Option ℕ) (old new : At) : Type 0 where
+  pub keeps : (states : List (State BadUnit)) (done : List (Option (List Directive))) → CanAnswer b states done index u begun next old.world old.counts.starts.flying old.still → Keeps b states done next new.world
+  pub others : (states : List (State BadUnit)) (done : List (Option (List Directive))) (other : ℕ) (its : Begun) → CanAnswer b states done index u begun next old.world old.counts.starts.flying old.still
+      → BeginsApart b states index (child_of begun) other its next old.world old.counts.starts.flying old.still → IsBegun b other its next new.world new.counts.starts.flying new.still
+
+-- all that is said of the beginning of a unit, but for the key in its error
+pub record HasBegun (tells : Bool) (child : Answers) (setup : Setup) (project : Project) (done : List (Option (List Directive))) (index : ℕ) (u : Planned) (result : Result Begun StepFault) (before now : Store) (old new : At) : Type 0 where
+  pub begins : IfOk result (BeginsUnit tells child project u (command_of setup project u done) before now old new)
+  pub fails : IfErr result (FailsToBegin tells project u (command_of setup project u done) old new)
+  pub build : (footing : Footing) (sources : World) → IsTrue tells → BeginsBuild (basis footing child setup project sources) done index u result before.next now.next old new
+  pub store : KeepsStore tells result before now new
+  pub changes : ChangesUnit (records_folder project) u.key None Begins (MayBegin before.next) result old new
+
+-- and of its answer
+pub record HasAnswered (tells : Bool) (child : Answers) (project : Project) (index : ℕ) (u : Planned) (begun : Begun) (result : Result Ran StepFault) (before now : Store) (old new : At) : Type 0 where
+  pub answers : IfOk result (AnswersUnit tells project u begun before now old new)
+  pub ends : EndsUnit tells project u begun result before now old new
+  pub build : (footing : Footing) (setup : Setup) (sources : World) → IsTrue tells → AnswersBuild (basis footing child setup project sources) index u begun result before.next now.next old new
+  pub store : KeepsStore tells result before now new
+  pub changes : ChangesUnit (records_folder project) u.key (child_of begun) (Lands (child_of begun)) (MayAnswer before.next (child_of begun)) result old new
+
+-- what came of a unit, with its message lines and with what differed
+abbrev pub told_of : Project → Planned → Option Difference → Ran → Outcome
+told_of project u difference ran = record { fault = ran.bad; directives = ran.directives; lines = unit_lines project u ran.started ran.messages; started = ran.started; difference = difference }
+
+-- an answer is given with its lines, unless memory for them is refused; and a fault is given as it is
+abbrev pub TellsAnswer : Project → Planned → Option Difference → Result Ran StepFault → Result Outcome StepFault → Type 0
+TellsAnswer project u difference (Ok ran) result = MatchResult result (λ outcome. outcome ≡ told_of project u difference ran) (λ e. e ≡ step.Store store.OutOfMemory)
+TellsAnswer project u difference (Err fault) result = result ≡ Err fault
+
+-- the unit has answered, and the outcome or the fault is that of its answer
+pub record HasTold (tells : Bool) (child : Answers) (project : Project) (index : ℕ) (u : Planned) (begun : Begun) (result : Result Outcome StepFault) (before now : Store) (old new : At) : Type 0 where
+  pub answer : Result Ran StepFault
+  pub answered : HasAnswered tells child project index u begun answer before now old new
+  pub told : TellsAnswer project u begun.difference answer result
+
+-- it could not begin; or it began, and then answered, over the store and the place as they stood between
+abbrev pub RunsUnit : {P : Type 0} → (P → At) → Bool → Answers → Setup → Project → List (Option (List Directive)) → ℕ → Planned → Result Outcome StepFault → Store → Store → P → P → Type 0
+RunsUnit {P} at tells child setup project done index u result before now old new =
+    ((fault : StepFault) × (result ≡ Err fault) × HasBegun tells child setup project done index u (Err fault) before now (at old) (at new))
+    ⊎ ((begun : Begun) × (mid_store : Store) × (mid : P) × HasBegun tells child setup project done index u (Ok begun) before mid_store (at old) (at mid) × HasTold tells child project index u begun result mid_store now (at mid) (at new))

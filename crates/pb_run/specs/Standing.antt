@@ -15,10 +15,6 @@ use Rattle.pb_package.specs.declared.package.Package.{Package}
 use Rattle.pb_project.specs.declared.project.Project.{Project}
 use Rattle.pb_project.specs.declared.project.Setup.{Setup}
 
--- the package of a unit is there
-abbrev pub HasPackage : Project → Planned → Type 0
-HasPackage project u = (p : Package) × (slice_get project.workspace.packages u.unit.owner ≡ Some p)
-
 -- a command is that of a unit, after some runs
 abbrev pub IsCommandOf : Project → Planned → Command → Type 0
 IsCommandOf project u c = (setup : Setup) × (done : List (Option (List Directive))) × (c ≡ command_of setup project u done)
@@ -35,7 +31,7 @@ pub record IsReadByNeed (project : Project) (u : Planned) (f : List ℕ) : Type 
   pub there : slice_get project.plan.planned place ≡ Some need
   pub own_or_read : (f ≡ need.out) ⊎ Contains (reads_of project need) f
 
--- what a build asks of a project: its workspace is settled, and its plan is one. So the package of each unit is there; units come after what they need and reach; their output folders lie in the target folder, and no path is at or below two of them; each lies by its key in the folder of the records; what a unit needs it reaches, and it reads the folders of what it needs and what that reads
+-- what a build requires of a project: its workspace is settled, and its plan is one. The other fields say what follows for its units: their packages, order, folders and keys, and what they need and read
 pub record IsInOrder (project : Project) : Type 0 where
   pub settled : IsSettled project.workspace
   pub selection : Selection
@@ -46,7 +42,7 @@ pub record IsInOrder (project : Project) : Type 0 where
   pub folders : (i : ℕ) (u : Planned) → slice_get project.plan.planned i ≡ Some u → u.out ≡ out_of (records_folder project) u.key
   pub needs_reached : (i : ℕ) (u : Planned) → slice_get project.plan.planned i ≡ Some u → (place : ℕ) → Contains u.needs place → Contains u.reaches place
   pub reads_are : (i : ℕ) (u : Planned) → slice_get project.plan.planned i ≡ Some u → (f : List ℕ) → Contains (reads_of project u) f ↔ IsReadByNeed project u f
-  pub packages : (i : ℕ) (u : Planned) → slice_get project.plan.planned i ≡ Some u → HasPackage project u
+  pub packages : (i : ℕ) (u : Planned) → slice_get project.plan.planned i ≡ Some u → (p : Package) × (slice_get project.workspace.packages u.unit.owner ≡ Some p)
   pub inside : (i : ℕ) (u : Planned) → slice_get project.plan.planned i ≡ Some u → is_below project.workspace.target u.out ≡ true
   pub apart : (i j : ℕ) (u v : Planned) → slice_get project.plan.planned i ≡ Some u → slice_get project.plan.planned j ≡ Some v → i ≢ j
       → (q : List ℕ) → is_at_or_below u.out q ≡ true → is_at_or_below v.out q ≡ false

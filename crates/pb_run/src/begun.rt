@@ -1,44 +1,46 @@
 //! A unit that has begun.
 
-ghost use Rattle.std.specs.Prelude.{◌≡◌, is_some};
+ghost use Rattle.std.specs.Prelude.{◌≡◌, is_some, option_map};
 ghost use Rattle.pb_run.specs.Halves.{child_of};
+ghost use Rattle.pb_run.specs.declared.begun.Launched.{Launched};
 
 use pb_data::Text;
 use pb_place::Command;
 use pb_store::{Difference, Replayed};
 
-/// A child that was spawned for a unit.
+/// A child process that was spawned for a unit.
 #[derive(Debug, Drop)]
 pub struct Launched {
     /// The ticket by which its end is asked for.
     pub ticket: u64,
-    /// The run number of the record that is kept of the unit where its answer is good.
+    /// The run number of the unit's record, if its answer is good.
     pub number: u64,
 }
 
-/// What a unit that has begun answers by.
+/// What the answer of a unit comes from.
 #[derive(Drop)]
 pub enum Awaited {
     /// The end of its child.
     Child(Launched),
-    /// Its record: nothing differs from it, and it gives this again.
+    /// Its record, from which nothing differs, and which replays this.
     Record(Replayed),
 }
 
 /// A unit that has begun.
 #[derive(Drop)]
 pub struct Begun {
-    /// Its key: made before its child was spawned, so that no want of memory comes before the child's end is asked for.
+    /// Its key, copied before its child was spawned: no copy of it can fail while the child is in flight.
     pub unit: Text,
     /// Its command.
     pub command: Command,
-    /// The end of its child; or, where nothing differs from its record, what that gives again, so that it is not read
-    /// once more.
+    /// The first difference from its record, for which its child was spawned. None if nothing differs.
+    pub difference: Option<Difference>,
+    /// The end of its child. If nothing differs from its record, what the record replays, so that it is read once.
     pub awaited: Awaited,
 }
 
 impl Begun {
-    /// Whether a child was spawned for it.
+    /// Returns whether a child was spawned for it.
     pub fn has_child(&self) -> bool
         ensures { result ≡ is_some (child_of self.now) }
     {
@@ -47,13 +49,24 @@ impl Begun {
             Awaited::Record(_) => false,
         }
     }
-}
 
-/// How a unit has begun.
-#[derive(Drop)]
-pub struct Beginning {
-    /// What its answer is asked for by.
-    pub begun: Begun,
-    /// What differs first from its record: why its child was spawned; none where nothing does, and it has no child.
-    pub difference: Option<Difference>,
+    /// Returns the ticket by which the end of its child is asked for, if it has a child.
+    pub fn ticket(&self) -> Option<u64>
+        ensures { result ≡ option_map (λ (l : Launched). l.ticket) (child_of self.now) }
+    {
+        match &self.awaited {
+            Awaited::Child(launched) => Some(launched.ticket),
+            Awaited::Record(_) => None,
+        }
+    }
+
+    /// Returns the run number of its record, if it has a child and its answer is good.
+    pub fn number(&self) -> Option<u64>
+        ensures { result ≡ option_map (λ (l : Launched). l.number) (child_of self.now) }
+    {
+        match &self.awaited {
+            Awaited::Child(launched) => Some(launched.number),
+            Awaited::Record(_) => None,
+        }
+    }
 }

@@ -1,25 +1,64 @@
-//! The faults of calls for a unit.
+//! The faults of a step of a unit, without the unit's name, and with it.
 
 ghost use Rattle.std.specs.Prelude.{◌≡◌};
-ghost use Rattle.pb_run.specs.Causes.{child_fault, device_fault, store_fault};
+ghost use Rattle.pb_run.specs.Steps.{device_fault, named, started};
+ghost use Rattle.pb_run.specs.declared.faults.StepFault.TheVariants as step_fault;
+ghost use Rattle.pb_store.specs.Calls.{stored};
 
 use pb_answer::{BuildFault, DeviceFault};
 use pb_data::Text;
 use pb_place::{PlaceFault, StartFault};
 use pb_store::StoreFault;
 
-/// The fault of a child that gave no answer: `-vV` for the query, else the unit's key. Want of memory stays so.
-pub fn childless(unit: Text, fault: StartFault) -> BuildFault
-    ensures { result ≡ child_fault unit fault }
+/// Why a step of a unit ended, without the unit's name.
+#[derive(Clone, Copy)]
+pub enum StepFault {
+    /// A call of the store failed, or a call on files or variables, or memory was refused.
+    Store(StoreFault),
+    /// The unit's child could not be started, or gave no answer.
+    Start(StartFault),
+}
+
+/// Returns the fault of a call on files or variables, as a step's.
+pub(crate) fn stored(fault: PlaceFault) -> StepFault
+    ensures { result ≡ step_fault.Store (stored fault) }
 {
     match fault {
-        StartFault::OutOfMemory => BuildFault::OutOfMemory,
-        fault => BuildFault::Child { unit, fault },
+        PlaceFault::OutOfMemory => StepFault::Store(StoreFault::OutOfMemory),
+        fault => StepFault::Store(StoreFault::Place(fault)),
     }
 }
 
-/// The fault of a call on files or variables: the unit's key, else the path or the variable's name. Want of memory
-/// stays so.
+/// Returns the fault of a child that gave no answer, as a step's.
+pub(crate) fn started(fault: StartFault) -> StepFault
+    ensures { result ≡ started fault }
+{
+    match fault {
+        StartFault::OutOfMemory => StepFault::Store(StoreFault::OutOfMemory),
+        fault => StepFault::Start(fault),
+    }
+}
+
+/// Returns the fault of a step with the unit's key. Out of memory has no name.
+pub(crate) fn named(unit: Text, fault: StepFault) -> BuildFault
+    ensures { result ≡ named unit fault }
+{
+    match fault {
+        StepFault::Store(StoreFault::Place(fault)) => BuildFault::Device {
+            unit,
+            fault: DeviceFault::Place(fault),
+        },
+        StepFault::Store(StoreFault::NumbersSpent) => BuildFault::Device {
+            unit,
+            fault: DeviceFault::NumbersSpent,
+        },
+        StepFault::Store(StoreFault::OutOfMemory) => BuildFault::OutOfMemory,
+        StepFault::Start(fault) => BuildFault::Child { unit, fault },
+    }
+}
+
+/// Returns the fault of a call on files or variables. `unit` is the unit's key, or else the path or the variable's name.
+/// Out of memory has no name.
 pub fn deviceless(unit: Text, fault: PlaceFault) -> BuildFault
     ensures { result ≡ device_fault unit fault }
 {
@@ -29,19 +68,5 @@ pub fn deviceless(unit: Text, fault: PlaceFault) -> BuildFault
             unit,
             fault: DeviceFault::Place(fault),
         },
-    }
-}
-
-/// The fault of a call of the store for the unit of this key. Want of memory stays so.
-pub fn storeless(unit: Text, fault: StoreFault) -> BuildFault
-    ensures { result ≡ store_fault unit fault }
-{
-    match fault {
-        StoreFault::Place(fault) => deviceless(unit, fault),
-        StoreFault::NumbersSpent => BuildFault::Device {
-            unit,
-            fault: DeviceFault::NumbersSpent,
-        },
-        StoreFault::OutOfMemory => BuildFault::OutOfMemory,
     }
 }

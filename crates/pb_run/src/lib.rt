@@ -1,9 +1,9 @@
-//! One unit of a build: how it begins, how its child's answer is judged, what it leaves. It hands out its lines, and the
-//! flight table, which says which unit is begun and answered when.
+//! One unit of a build: how it begins, how its child's answer is judged, what it leaves. It hands out the flight table,
+//! which says which unit is begun and answered when.
 #![tactic(auto)]
 
 pub mod begun;
-mod faults;
+pub mod faults;
 mod halves;
 mod landing;
 mod launching;
@@ -12,12 +12,10 @@ mod ordered;
 pub mod ran;
 mod running;
 
-pub use begun::{Awaited, Beginning, Begun, Launched};
-pub use faults::{childless, deviceless, storeless};
-pub use halves::{Run, answer_unit, begin_unit, drop_unit, run_unit};
+pub use begun::{Awaited, Begun, Launched};
+pub use faults::{StepFault, deviceless};
+pub use halves::{Outcome, answer_unit, begin_unit, drop_unit, run_unit};
 pub use laws::outcomes_unfold;
 pub use ordered::OrderedProject;
 pub use pb_flight::{First, Flight, Jobs, Last, Pick, Step, Turn};
-pub use pb_unit_messages::lines_of_unit;
 pub use ran::{Judgement, Ran};
-pub use running::start;

@@ -27,7 +27,7 @@ impl OrderedProject {
     ghost use Rattle.std.specs.Prelude.{◌≡◌};
     ghost use Rattle.pb_run.specs.Standing.{IsInOrder};
 
-    /// A project that is planned in order.
+    /// Returns a project that is in order.
     pub fn new(project: Project) -> OrderedProject
         requires { IsInOrder project }
         ensures { result ≡ project }
@@ -35,28 +35,28 @@ impl OrderedProject {
         OrderedProject { inside: project }
     }
 
-    /// The project itself.
+    /// Returns the project.
     pub fn get(&self) -> &Project
         ensures { result.now ≡ self.now }
     {
         &self.inside
     }
 
-    /// The project itself, taken out.
+    /// Returns the project, taken out.
     pub fn into_project(self) -> Project
         ensures { result ≡ self }
     {
         self.inside
     }
 
-    /// The units of its plan, in plan order.
+    /// Returns the units of its plan, in plan order.
     pub fn units(&self) -> &[Planned]
         ensures { result.now ≡ self.now.plan.planned }
     {
         self.inside.plan.planned.as_slice()
     }
 
-    /// The names of the packages without a library to which enabled dependencies of its plan lead.
+    /// Returns the names of the packages without a library to which enabled dependencies of its plan lead.
     pub fn without_library(&self) -> &[Text]
         ensures { result.now ≡ self.now.plan.without_library }
     {

@@ -22,26 +22,26 @@ use std::alloc::{AllocError, Global};
 /// What came of a unit.
 #[derive(Drop)]
 pub struct Ran {
-    /// Whether a child was started for it.
+    /// Whether a child process was started for it.
     pub started: bool,
-    /// Why it is bad, and what its child said, if it is.
+    /// Why it is bad, and what its child wrote, if it is bad.
     pub bad: Option<BadUnit>,
     /// The directives of a build script's run that ended well.
     pub directives: Option<Directives>,
-    /// What it tells.
+    /// What it reports.
     pub messages: Items<Message>,
 }
 
-/// How the answer of a unit's child is judged.
+/// The judgement of the answer of a unit's child.
 #[derive(Drop)]
 pub struct Judgement {
     /// What came of the unit.
     pub ran: Ran,
-    /// The inputs found in its answer; none where it is bad.
+    /// The inputs found in its answer; none if it is bad.
     pub names: Items<InputName>,
 }
 
-/// The judgement of a unit whose child's answer is good.
+/// Returns the judgement of a unit whose child's answer is good.
 fn good(
     alloc: Global,
     project: &Project,
@@ -49,7 +49,8 @@ fn good(
     ended: &Ended,
     answered: Answered,
 ) -> Result<Judgement, AllocError>
-    ensures judged { IfOk result (λ judgement. judgement ≡ judgement_by project.now unit.now ended.now (Ok answered)) }
+    ensures judged { IfOk result (λ judgement.
+        judgement ≡ judgement_by project.now unit.now ended.now (Ok answered)) }
 {
     let Answered { directives, inputs } = answered;
     let messages = good_messages(alloc, project, unit, &ended.stderr, &directives)?;
@@ -64,7 +65,7 @@ fn good(
     })
 }
 
-/// The judgement of a unit whose child's answer is bad.
+/// Returns the judgement of a unit whose child's answer is bad.
 fn bad(
     alloc: Global,
     project: &Project,
@@ -72,7 +73,8 @@ fn bad(
     ended: &Ended,
     fault: UnitFault,
 ) -> Result<Judgement, AllocError>
-    ensures judged { IfOk result (λ judgement. judgement ≡ judgement_by project.now unit.now ended.now (Err fault)) }
+    ensures judged { IfOk result (λ judgement.
+        judgement ≡ judgement_by project.now unit.now ended.now (Err fault)) }
 {
     let messages = bad_messages(alloc, &unit.unit.what, &fault, ended)?;
     let said = said_by(alloc, &unit.unit.what, &fault, ended)?;
@@ -87,8 +89,9 @@ fn bad(
     })
 }
 
-/// Judges the answer of a unit's child. `dep_info` is what stands in the unit's dep-info file, where it has one.
-/// The one fault is want of memory.
+/// Judges the answer of a unit's child. `dep_info` is the content of the unit's dep-info file, if it has one.
+///
+/// Errors: out of memory only.
 pub fn judged(
     alloc: Global,
     project: &Project,
@@ -97,9 +100,11 @@ pub fn judged(
     ended: &Ended,
     dep_info: &Option<Bytes>,
 ) -> Result<Judgement, AllocError>
-    ensures judged { IfOk result (λ judgement. judgement ≡ judgement_by project.now unit.now ended.now (answered_of project.now unit.now command.now ended.now dep_info.now)) }
+    ensures judged { IfOk result (λ judgement. judgement ≡ judgement_by project.now unit.now
+        ended.now (answered_of project.now unit.now command.now ended.now dep_info.now)) }
     ensures started { IfOk result (λ judgement. judgement.ran.started ≡ true) }
-    ensures directives { IfOk result (λ judgement. directives_in (outcome_by finite.empty judgement.ran) ≡ judgement.ran.directives) }
+    ensures directives { IfOk result (λ judgement.
+        directives_in (outcome_by finite.empty judgement.ran) ≡ judgement.ran.directives) }
 {
     match answered(alloc, project, unit, command, ended, dep_info.as_ref()) {
         Ok(answered) => good(alloc, project, unit, ended, answered),

@@ -1,321 +1,347 @@
-use Rattle.std.proofs.Common.{◌∙◌, [], ap, is_some, refl, sym, subst, true, ◌≡◌, ℕ, List}
+use Rattle.std.proofs.Common.{◌≡◌, ◌∙◌, [], Err, None, Ok, ap, inl, inr, is_some, refl, subst, sym}
 use Rattle.std.proofs.lemmas.Bool.{false≢true}
+use Rattle.std.specs.FinMap as finite
 use Rattle.pb_command.specs.Judge.{judge}
-use Rattle.pb_place.specs.Counts.{Starts}
-use Rattle.pb_place.specs.World.{World}
+use Rattle.pb_place.specs.Children.{KeepsStillOutside}
+use Rattle.pb_place.specs.Paths.{is_at_or_below}
+use Rattle.pb_place.specs.World.{ChangesOnly}
 use Rattle.pb_project.specs.Targets.{dep_info_of}
-use Rattle.pb_run.specs.Halves.{basis}
-use Rattle.pb_run.specs.Landing.{dep_info_looked}
+use Rattle.pb_run.specs.Steps.{Lands, MayAnswer}
+use Rattle.pb_run.specs.Halves.{basis, needed_keys}
+use Rattle.pb_run.specs.Running.{dep_info_looked}
+use Rattle.pb_run.specs.Outcome.{directives_in, outcome_by, unstarted}
 use Rattle.pb_run.specs.Standing.{records_folder}
 use Rattle.pb_run.specs.declared.begun.Awaited.TheVariants as awaited
-use Rattle.pb_run.specs.declared.ran.Ran.{Ran}
-use Rattle.pb_soundness.specs.Records.{record_at}
-use Rattle.pb_store.specs.Migrating.{lacks_number}
-use Rattle.pb_run.specs.Outcome.{unstarted}
 use Rattle.pb_run.specs.declared.ran.Judgement.{Judgement}
-use Rattle.pb_run.proofs.Calling.{bad_made, ended_badly, ended_well, good_made, numbered_so, numbering_first, renewed_names}
-use Rattle.pb_run.proofs.Causing.{follow_spares}
-use Rattle.pb_run.proofs.Held.{held_same, held_there}
+use Rattle.pb_run.specs.declared.ran.Ran.{Ran}
+use Rattle.pb_run.proofs.Building.{reuse_bad, reuse_failed, reuse_numbered, reuse_renewed, reuse_unrenewed}
+use Rattle.pb_run.proofs.Changing.{at_place, changes_none, changes_place}
+use Rattle.pb_run.proofs.Causing.{migrate_told}
+use Rattle.pb_run.proofs.Ending.{alone_more, alone_told}
+use Rattle.pb_run.proofs.Held.{numbers_same}
 use Rattle.pb_run.proofs.Left.{record_renewed, record_stayed}
-use Rattle.pb_run.proofs.Reusing.{flying_alone, flying_follow, keeps_bad_again, keeps_numbered, keeps_renewed, keeps_unrenewed, others_renewed, others_unchanged, renewed_outcome, renewed_so, renewing_so, replay_outcome, reused_only, reused_same, reused_still}
-use Rattle.pb_run.proofs.Writes.{none_changed, record_alone}
+use Rattle.pb_run.proofs.Reusing.{Renewed, Renewing, flying_alone, numbered_awaited, renewed_moved, renewing_moved, unnumbered_awaited}
+use Rattle.pb_run.proofs.Stepping.{bad_made, ended_badly, ended_well, good_made, migrate_made, migrate_stops, memory_last, numbered_so, numbering_first, renewed_names}
+use Rattle.pb_run.proofs.Writes.{none_changed}
 use Rattle.pb_run.proofs.landing.reuse.Goals as goal
+use Rattle.pb_run.specs.declared.faults.StepFault.TheVariants as step
+use Rattle.pb_store.specs.declared.fault.StoreFault.TheVariants as store
 
-pub returns-in-Err-clause-others : goal.returns-in-Err-clause-others
-returns-in-Err-clause-others g c footing read setup sources states done other its is told holds can apart =
-    others_unchanged (basis footing read g.P.Place.child setup c.args.project.now sources) c.is_in_order.ensures c.args.index c.args.unit.now c.requires.unit c.args.unit.now.key c.args.command.now c.args.again.now c.args.store.now.next (g.P.Place.world c.args.place.now) (g.P.Place.counts c.args.place.now).starts.flying (g.P.Place.still c.args.place.now) states done can other its (g.P.Place.world c.judged_now.new.place) (g.P.Place.counts c.judged_now.new.place).starts.flying (g.P.Place.still c.judged_now.new.place) apart (c.in-Err.ensures.same told)
-    (flying_follow c.args.unit.now.key _ (g.P.Place.counts c.args.place.now).starts (g.P.Place.counts c.judged_now.new.place).starts c.in-Err.ensures.takes.0) (c.in-Err.ensures.still told)
+-- Its dep-info could not be read.
 
-pub returns-then-is_some-clause-outcome : goal.returns-then-is_some-clause-outcome
-returns-then-is_some-clause-outcome g c footing read setup sources states done is told can =
-    replay_outcome (basis footing read g.P.Place.child setup c.args.project.now sources) c.is_in_order.ensures c.args.index c.args.unit.now c.requires.unit c.args.unit.now.key c.args.command.now c.args.again.now c.args.store.now.next (g.P.Place.world c.args.place.now) (g.P.Place.counts c.args.place.now).starts.flying (g.P.Place.still c.args.place.now) states done can c.in-Ok.judgement (g.P.Place.world c.judged_now.new.place) c.unstarted-ran.result (c.in-Ok.ensures.same told) (c.in-Ok.ensures.judged told) c.unstarted-ran.ensures
-
-pub returns-then-is_some-clause-keeps : goal.returns-then-is_some-clause-keeps
-returns-then-is_some-clause-keeps g c footing read setup sources states done is told holds can lines =
-    keeps_bad_again (basis footing read g.P.Place.child setup c.args.project.now sources) c.is_in_order.ensures c.args.index c.args.unit.now c.requires.unit c.args.unit.now.key c.args.command.now c.args.again.now c.args.store.now.next (g.P.Place.world c.args.place.now) (g.P.Place.counts c.args.place.now).starts.flying (g.P.Place.still c.args.place.now) states done can (g.P.Place.world c.judged_now.new.place) c.unstarted-ran.result lines (c.in-Ok.ensures.same told) (sym c.is_some.ensures ∙ c.if-is_some.true)
-    (replay_outcome (basis footing read g.P.Place.child setup c.args.project.now sources) c.is_in_order.ensures c.args.index c.args.unit.now c.requires.unit c.args.unit.now.key c.args.command.now c.args.again.now c.args.store.now.next (g.P.Place.world c.args.place.now) (g.P.Place.counts c.args.place.now).starts.flying (g.P.Place.still c.args.place.now) states done can c.in-Ok.judgement (g.P.Place.world c.judged_now.new.place) c.unstarted-ran.result (c.in-Ok.ensures.same told) (c.in-Ok.ensures.judged told) c.unstarted-ran.ensures)
-
-pub returns-then-is_some-clause-others : goal.returns-then-is_some-clause-others
-returns-then-is_some-clause-others g c footing read setup sources states done other its is told holds can apart =
-    others_unchanged (basis footing read g.P.Place.child setup c.args.project.now sources) c.is_in_order.ensures c.args.index c.args.unit.now c.requires.unit c.args.unit.now.key c.args.command.now c.args.again.now c.args.store.now.next (g.P.Place.world c.args.place.now) (g.P.Place.counts c.args.place.now).starts.flying (g.P.Place.still c.args.place.now) states done can other its (g.P.Place.world c.judged_now.new.place) (g.P.Place.counts c.judged_now.new.place).starts.flying (g.P.Place.still c.judged_now.new.place) apart (c.in-Ok.ensures.same told)
-    (ap (λ (s : Starts). s.flying) c.in-Ok.ensures.takes.1) (c.in-Ok.ensures.still told)
-
-pub returns-then-again-clause-outcome : goal.returns-then-again-clause-outcome
-returns-then-again-clause-outcome g c footing read setup sources states done is told can =
-    replay_outcome (basis footing read g.P.Place.child setup c.args.project.now sources) c.is_in_order.ensures c.args.index c.args.unit.now c.requires.unit c.args.unit.now.key c.args.command.now c.args.again.now c.args.store.now.next (g.P.Place.world c.args.place.now) (g.P.Place.counts c.args.place.now).starts.flying (g.P.Place.still c.args.place.now) states done can c.in-Ok.judgement (g.P.Place.world c.judged_now.new.place) c.unstarted-ran.result (c.in-Ok.ensures.same told) (c.in-Ok.ensures.judged told) c.unstarted-ran.ensures
-
-pub returns-then-again-clause-keeps : goal.returns-then-again-clause-keeps
-returns-then-again-clause-keeps g c footing read setup sources states done is told holds can lines =
-    keeps_numbered (basis footing read g.P.Place.child setup c.args.project.now sources) c.is_in_order.ensures c.args.index c.args.unit.now c.requires.unit c.args.unit.now.key c.args.command.now c.args.again.now c.args.store.now.next (g.P.Place.world c.args.place.now) (g.P.Place.counts c.args.place.now).starts.flying (g.P.Place.still c.args.place.now) states done can (g.P.Place.world c.judged_now.new.place) c.unstarted-ran.result lines (c.in-Ok.ensures.same told) c.if-again.true
-    (replay_outcome (basis footing read g.P.Place.child setup c.args.project.now sources) c.is_in_order.ensures c.args.index c.args.unit.now c.requires.unit c.args.unit.now.key c.args.command.now c.args.again.now c.args.store.now.next (g.P.Place.world c.args.place.now) (g.P.Place.counts c.args.place.now).starts.flying (g.P.Place.still c.args.place.now) states done can c.in-Ok.judgement (g.P.Place.world c.judged_now.new.place) c.unstarted-ran.result (c.in-Ok.ensures.same told) (c.in-Ok.ensures.judged told) c.unstarted-ran.ensures)
-
-pub returns-then-again-clause-others : goal.returns-then-again-clause-others
-returns-then-again-clause-others g c footing read setup sources states done other its is told holds can apart =
-    others_unchanged (basis footing read g.P.Place.child setup c.args.project.now sources) c.is_in_order.ensures c.args.index c.args.unit.now c.requires.unit c.args.unit.now.key c.args.command.now c.args.again.now c.args.store.now.next (g.P.Place.world c.args.place.now) (g.P.Place.counts c.args.place.now).starts.flying (g.P.Place.still c.args.place.now) states done can other its (g.P.Place.world c.judged_now.new.place) (g.P.Place.counts c.judged_now.new.place).starts.flying (g.P.Place.still c.judged_now.new.place) apart (c.in-Ok.ensures.same told)
-    (ap (λ (s : Starts). s.flying) c.in-Ok.ensures.takes.1) (c.in-Ok.ensures.still told)
-
-pub returns-in-Ok-migrate-clause-outcome : goal.returns-in-Ok-migrate-clause-outcome
-returns-in-Ok-migrate-clause-outcome g c footing read setup sources states done is told can =
-    renewed_outcome (basis footing read g.P.Place.child setup c.args.project.now sources) c.is_in_order.ensures c.args.index c.args.unit.now c.requires.unit c.args.unit.now.key c.args.command.now c.args.again.now c.args.store.now.next (g.P.Place.world c.args.place.now) (g.P.Place.counts c.args.place.now).starts.flying (g.P.Place.still c.args.place.now) states done can c.args.store.now.folder c.in-Ok.judgement (g.P.Place.world c.judged_now.new.place) (g.P.Place.world c.migrate.new.place) c.unstarted-ran.result c.requires.folder (c.in-Ok.ensures.same told) (c.in-Ok.ensures.judged told) c.unstarted-ran.ensures (c.in-Ok-migrate.ensures.only told)
-
-pub returns-in-Ok-migrate-clause-keeps : goal.returns-in-Ok-migrate-clause-keeps
-returns-in-Ok-migrate-clause-keeps g c footing read setup sources states done is told holds can lines =
-    let held = held_same read c.args.store.now.folder (records_folder c.args.project.now) (g.P.Place.world c.args.place.now) (g.P.Place.world c.judged_now.new.place) c.args.store.now.numbers c.requires.folder (c.in-Ok.ensures.same told) holds in
-    keeps_renewed (basis footing read g.P.Place.child setup c.args.project.now sources) c.is_in_order.ensures c.args.index c.args.unit.now c.requires.unit c.args.unit.now.key c.args.command.now c.args.again.now c.args.store.now.next (g.P.Place.world c.args.place.now) (g.P.Place.counts c.args.place.now).starts.flying (g.P.Place.still c.args.place.now) states done can (g.P.Place.world c.migrate.new.place) c.migrate.new.store.next
-    (renewing_so (basis footing read g.P.Place.child setup c.args.project.now sources) c.is_in_order.ensures c.args.index c.args.unit.now c.requires.unit c.args.unit.now.key c.args.command.now c.args.again.now c.args.store.now.next (g.P.Place.world c.args.place.now) (g.P.Place.counts c.args.place.now).starts.flying (g.P.Place.still c.args.place.now) states done can c.args.store.now.folder (g.P.Place.world c.judged_now.new.place) (g.P.Place.world c.migrate.new.place) c.migrate.new.store.next c.requires.folder (c.in-Ok.ensures.same told)
+pub returns-in-Err-clause-ends : goal.returns-in-Err-clause-ends
+returns-in-Err-clause-ends g c = record {
+  lands = λ told. (
+    Ok c.args.again.now.ended,
     record {
-      sound = λ r. c.in-Ok-migrate.ensures.sound read judge c.args.command.now r is told held;
-      ahead = λ r. c.in-Ok-migrate.ensures.ahead read judge c.args.command.now r is told held;
-      only = c.in-Ok-migrate.ensures.only told;
-      left = c.in-Ok-migrate.ensures.left read is told held;
-    }) c.unstarted-ran.result lines
-    (renewed_so (basis footing read g.P.Place.child setup c.args.project.now sources) c.is_in_order.ensures c.args.index c.args.unit.now c.requires.unit c.args.unit.now.key c.args.command.now c.args.again.now c.args.store.now.next (g.P.Place.world c.args.place.now) (g.P.Place.counts c.args.place.now).starts.flying (g.P.Place.still c.args.place.now) states done can c.args.store.now.folder (g.P.Place.world c.judged_now.new.place) (g.P.Place.world c.migrate.new.place) c.requires.folder (c.in-Ok.ensures.same told)
-    record { stands = c.in-Ok-migrate.ensures.stands read is told held; numbered_now = λ s. c.in-Ok-migrate.ensures.numbered read s is told })
-    (renewed_outcome (basis footing read g.P.Place.child setup c.args.project.now sources) c.is_in_order.ensures c.args.index c.args.unit.now c.requires.unit c.args.unit.now.key c.args.command.now c.args.again.now c.args.store.now.next (g.P.Place.world c.args.place.now) (g.P.Place.counts c.args.place.now).starts.flying (g.P.Place.still c.args.place.now) states done can c.args.store.now.folder c.in-Ok.judgement (g.P.Place.world c.judged_now.new.place) (g.P.Place.world c.migrate.new.place) c.unstarted-ran.result c.requires.folder (c.in-Ok.ensures.same told) (c.in-Ok.ensures.judged told) c.unstarted-ran.ensures (c.in-Ok-migrate.ensures.only told))
+      world = (g.P.Place.at c.args.place.now).world;
+      counts = (g.P.Place.at c.args.place.now).counts;
+      ends = (refl, refl, refl);
+      comes = (
+        none_changed _ (g.P.Place.at c.args.place.now).world (g.P.Place.at c.judged_now.new.place).world c.in-Err.ensures.quiet.world,
+        numbering_first c.in-Err.fault (dep_info_looked (dep_info_of c.args.project.now c.args.unit.now)) _ (g.P.Place.at c.args.place.now).counts (g.P.Place.at c.judged_now.new.place).counts c.in-Err.ensures.calls,
+      );
+    },
+  );
+  same = λ told none has. c.in-Err.ensures.quiet.world;
+  untaken = λ none. refl;
+  most = c.in-Err.ensures.quiet.most;
+}
 
-pub returns-in-Ok-migrate-clause-others : goal.returns-in-Ok-migrate-clause-others
-returns-in-Ok-migrate-clause-others g c footing read setup sources states done other its is told holds can apart =
-    let held = held_same read c.args.store.now.folder (records_folder c.args.project.now) (g.P.Place.world c.args.place.now) (g.P.Place.world c.judged_now.new.place) c.args.store.now.numbers c.requires.folder (c.in-Ok.ensures.same told) holds in
-    others_renewed (basis footing read g.P.Place.child setup c.args.project.now sources) c.is_in_order.ensures c.args.index c.args.unit.now c.requires.unit c.args.unit.now.key c.args.command.now c.args.again.now c.args.store.now.next (g.P.Place.world c.args.place.now) (g.P.Place.counts c.args.place.now).starts.flying (g.P.Place.still c.args.place.now) states done can (g.P.Place.world c.migrate.new.place) c.migrate.new.store.next
-    (renewing_so (basis footing read g.P.Place.child setup c.args.project.now sources) c.is_in_order.ensures c.args.index c.args.unit.now c.requires.unit c.args.unit.now.key c.args.command.now c.args.again.now c.args.store.now.next (g.P.Place.world c.args.place.now) (g.P.Place.counts c.args.place.now).starts.flying (g.P.Place.still c.args.place.now) states done can c.args.store.now.folder (g.P.Place.world c.judged_now.new.place) (g.P.Place.world c.migrate.new.place) c.migrate.new.store.next c.requires.folder (c.in-Ok.ensures.same told)
+pub returns-in-Err-clause-build : goal.returns-in-Err-clause-build
+returns-in-Err-clause-build g c footing setup sources told =
+    reuse_failed (basis footing g.P.Place.child setup c.args.project.now sources) c.is_in_order.ensures c.args.index c.args.unit.now c.requires.unit c.args.command.now c.args.again.now c.args.store.now.next (g.P.Place.at c.args.place.now) (g.P.Place.at c.judged_now.new.place)
+    c.in-Err.ensures.quiet.world (flying_alone c.args.store.now.next c.in-Err.fault (g.P.Place.at c.args.place.now).counts.starts (g.P.Place.at c.judged_now.new.place).counts.starts (alone_told c.args.store.now.next c.in-Err.fault (g.P.Place.at c.args.place.now).counts (g.P.Place.at c.judged_now.new.place).counts c.in-Err.ensures.quiet.takes).0) c.in-Err.ensures.quiet.still c.in-Err.fault
+
+pub returns-in-Err-clause-changes : goal.returns-in-Err-clause-changes
+returns-in-Err-clause-changes g c =
+    changes_none _ _ _ (records_folder c.args.project.now) c.args.unit.now.key (g.P.Place.at c.args.place.now) (g.P.Place.at c.judged_now.new.place) c.in-Err.ensures.quiet.world c.in-Err.ensures.quiet.still
+    (flying_alone c.args.store.now.next c.in-Err.fault (g.P.Place.at c.args.place.now).counts.starts (g.P.Place.at c.judged_now.new.place).counts.starts (alone_told c.args.store.now.next c.in-Err.fault (g.P.Place.at c.args.place.now).counts (g.P.Place.at c.judged_now.new.place).counts c.in-Err.ensures.quiet.takes).0) (alone_told c.args.store.now.next c.in-Err.fault (g.P.Place.at c.args.place.now).counts (g.P.Place.at c.judged_now.new.place).counts c.in-Err.ensures.quiet.takes)
+
+-- The unit is bad.
+
+pub returns-then-is_some-clause-answers : goal.returns-then-is_some-clause-answers
+returns-then-is_some-clause-answers g c = record {
+  started = ap (λ (r : Ran). r.started) c.unstarted-ran.ensures;
+  directives = subst (λ (r : Ran). directives_in (outcome_by finite.empty r) ≡ r.directives) (sym c.unstarted-ran.ensures) c.in-Ok.ensures.directives;
+  judged = λ told. (
+    c.args.again.now.ended,
     record {
-      sound = λ r. c.in-Ok-migrate.ensures.sound read judge c.args.command.now r is told held;
-      ahead = λ r. c.in-Ok-migrate.ensures.ahead read judge c.args.command.now r is told held;
-      only = c.in-Ok-migrate.ensures.only told;
-      left = c.in-Ok-migrate.ensures.left read is told held;
-    }) other its (g.P.Place.counts c.migrate.new.place).starts.flying (g.P.Place.still c.migrate.new.place) apart c.in-Ok-migrate.ensures.next
-    (ap (λ (s : Starts). s.flying) c.in-Ok-migrate.ensures.takes.1 ∙ ap (λ (s : Starts). s.flying) c.in-Ok.ensures.takes.1)
-    (reused_still c.args.store.now.folder (records_folder c.args.project.now) c.args.unit.now.key (g.P.Place.counts c.args.place.now).starts.flying (g.P.Place.counts c.judged_now.new.place).starts.flying (g.P.Place.still c.args.place.now) (g.P.Place.still c.judged_now.new.place) (g.P.Place.still c.migrate.new.place) c.requires.folder (ap (λ (s : Starts). s.flying) c.in-Ok.ensures.takes.1) (c.in-Ok.ensures.still told) (c.in-Ok-migrate.ensures.still told))
+      world = (g.P.Place.at c.args.place.now).world;
+      counts = (g.P.Place.at c.args.place.now).counts;
+      ends = (refl, refl, refl);
+      comes = c.unstarted-ran.ensures ∙ ap (λ (j : Judgement). unstarted j.ran) (c.in-Ok.ensures.judged told);
+    },
+  );
+  kept = λ told good. absurd (false≢true (sym good ∙ (sym c.is_some.ensures ∙ c.if-is_some.true)));
+  unkept = λ bad. none_changed _ (g.P.Place.at c.args.place.now).world (g.P.Place.at c.judged_now.new.place).world c.in-Ok.ensures.quiet.world;
+  bad = λ bad. refl;
+  taken = λ told waits lacks good. absurd (false≢true (sym good ∙ (sym c.is_some.ensures ∙ c.if-is_some.true)));
+}
 
-pub returns-in-Ok-migrate-clause-only : goal.returns-in-Ok-migrate-clause-only
-returns-in-Ok-migrate-clause-only g c told =
-    reused_only c.args.store.now.folder (records_folder c.args.project.now) c.args.unit.now.key (g.P.Place.world c.args.place.now) (g.P.Place.world c.judged_now.new.place) (g.P.Place.world c.migrate.new.place) c.requires.folder (c.in-Ok.ensures.same told) (c.in-Ok-migrate.ensures.only told)
-
-pub returns-clause-keeps : goal.returns-clause-keeps
-returns-clause-keeps g c footing read setup sources states done is told holds can =
-    let held = held_same read c.args.store.now.folder (records_folder c.args.project.now) (g.P.Place.world c.args.place.now) (g.P.Place.world c.judged_now.new.place) c.args.store.now.numbers c.requires.folder (c.in-Ok.ensures.same told) holds in
-    keeps_unrenewed (basis footing read g.P.Place.child setup c.args.project.now sources) c.is_in_order.ensures c.args.index c.args.unit.now c.requires.unit c.args.unit.now.key c.args.command.now c.args.again.now c.args.store.now.next (g.P.Place.world c.args.place.now) (g.P.Place.counts c.args.place.now).starts.flying (g.P.Place.still c.args.place.now) states done can (g.P.Place.world c.migrate.new.place) c.migrate.new.store.next
-    (renewing_so (basis footing read g.P.Place.child setup c.args.project.now sources) c.is_in_order.ensures c.args.index c.args.unit.now c.requires.unit c.args.unit.now.key c.args.command.now c.args.again.now c.args.store.now.next (g.P.Place.world c.args.place.now) (g.P.Place.counts c.args.place.now).starts.flying (g.P.Place.still c.args.place.now) states done can c.args.store.now.folder (g.P.Place.world c.judged_now.new.place) (g.P.Place.world c.migrate.new.place) c.migrate.new.store.next c.requires.folder (c.in-Ok.ensures.same told)
+pub returns-then-is_some-clause-ends : goal.returns-then-is_some-clause-ends
+returns-then-is_some-clause-ends g c = record {
+  lands = λ told. (
+    Ok c.args.again.now.ended,
     record {
-      sound = λ r. c.in-Err-migrate.ensures.sound read judge c.args.command.now r is told held;
-      ahead = λ r. c.in-Err-migrate.ensures.ahead read judge c.args.command.now r is told held;
-      only = c.in-Err-migrate.ensures.only told;
-      left = c.in-Err-migrate.ensures.left read is told held;
-    })
+      world = (g.P.Place.at c.args.place.now).world;
+      counts = (g.P.Place.at c.args.place.now).counts;
+      ends = (refl, refl, refl);
+      comes = (
+        none_changed _ (g.P.Place.at c.args.place.now).world (g.P.Place.at c.judged_now.new.place).world c.in-Ok.ensures.quiet.world,
+        bad_made c.args.project.now c.args.unit.now c.args.command.now (awaited.Record c.args.again.now) (g.P.Place.at c.args.place.now).world c.args.again.now.ended c.in-Ok.judgement (c.in-Ok.ensures.judged told) (g.P.Place.at c.args.place.now).counts (g.P.Place.at c.judged_now.new.place).counts c.in-Ok.ensures.calls
+            (ap (λ (r : Ran). is_some r.bad) (sym c.unstarted-ran.ensures) ∙ sym c.is_some.ensures ∙ c.if-is_some.true),
+      );
+    },
+  );
+  same = λ told none has. c.in-Ok.ensures.quiet.world;
+  untaken = λ none. refl;
+  most = c.in-Ok.ensures.quiet.most;
+}
 
-pub returns-clause-others : goal.returns-clause-others
-returns-clause-others g c footing read setup sources states done other its is told holds can apart =
-    let held = held_same read c.args.store.now.folder (records_folder c.args.project.now) (g.P.Place.world c.args.place.now) (g.P.Place.world c.judged_now.new.place) c.args.store.now.numbers c.requires.folder (c.in-Ok.ensures.same told) holds in
-    others_renewed (basis footing read g.P.Place.child setup c.args.project.now sources) c.is_in_order.ensures c.args.index c.args.unit.now c.requires.unit c.args.unit.now.key c.args.command.now c.args.again.now c.args.store.now.next (g.P.Place.world c.args.place.now) (g.P.Place.counts c.args.place.now).starts.flying (g.P.Place.still c.args.place.now) states done can (g.P.Place.world c.migrate.new.place) c.migrate.new.store.next
-    (renewing_so (basis footing read g.P.Place.child setup c.args.project.now sources) c.is_in_order.ensures c.args.index c.args.unit.now c.requires.unit c.args.unit.now.key c.args.command.now c.args.again.now c.args.store.now.next (g.P.Place.world c.args.place.now) (g.P.Place.counts c.args.place.now).starts.flying (g.P.Place.still c.args.place.now) states done can c.args.store.now.folder (g.P.Place.world c.judged_now.new.place) (g.P.Place.world c.migrate.new.place) c.migrate.new.store.next c.requires.folder (c.in-Ok.ensures.same told)
+pub returns-then-is_some-clause-build : goal.returns-then-is_some-clause-build
+returns-then-is_some-clause-build g c footing setup sources told =
+    reuse_bad (basis footing g.P.Place.child setup c.args.project.now sources) c.is_in_order.ensures c.args.index c.args.unit.now c.requires.unit c.args.command.now c.args.again.now c.args.store.now.next (g.P.Place.at c.args.place.now) (g.P.Place.at c.judged_now.new.place)
+    c.in-Ok.ensures.quiet.world c.in-Ok.ensures.quiet.takes.1 c.in-Ok.ensures.quiet.still c.in-Ok.judgement (c.in-Ok.ensures.judged told) c.unstarted-ran.result c.unstarted-ran.ensures (sym c.is_some.ensures ∙ c.if-is_some.true)
+
+pub returns-then-is_some-clause-store : goal.returns-then-is_some-clause-store
+returns-then-is_some-clause-store g c = record {
+  folder = refl;
+  next = inl refl;
+  numbers = λ told. numbers_same c.args.store.now.folder (g.P.Place.at c.args.place.now).world (g.P.Place.at c.judged_now.new.place).world c.args.store.now.numbers c.in-Ok.ensures.quiet.world (c.requires.numbers told);
+}
+
+pub returns-then-is_some-clause-changes : goal.returns-then-is_some-clause-changes
+returns-then-is_some-clause-changes g c =
+    changes_none _ _ _ (records_folder c.args.project.now) c.args.unit.now.key (g.P.Place.at c.args.place.now) (g.P.Place.at c.judged_now.new.place) c.in-Ok.ensures.quiet.world c.in-Ok.ensures.quiet.still c.in-Ok.ensures.quiet.takes.1
+    (c.in-Ok.ensures.quiet.takes.0, c.in-Ok.ensures.quiet.takes.1)
+
+-- Its record has a number.
+
+pub returns-then-again-clause-answers : goal.returns-then-again-clause-answers
+returns-then-again-clause-answers g c = record {
+  started = ap (λ (r : Ran). r.started) c.unstarted-ran.ensures;
+  directives = subst (λ (r : Ran). directives_in (outcome_by finite.empty r) ≡ r.directives) (sym c.unstarted-ran.ensures) c.in-Ok.ensures.directives;
+  judged = λ told. (
+    c.args.again.now.ended,
     record {
-      sound = λ r. c.in-Err-migrate.ensures.sound read judge c.args.command.now r is told held;
-      ahead = λ r. c.in-Err-migrate.ensures.ahead read judge c.args.command.now r is told held;
-      only = c.in-Err-migrate.ensures.only told;
-      left = c.in-Err-migrate.ensures.left read is told held;
-    }) other its (g.P.Place.counts c.migrate.new.place).starts.flying (g.P.Place.still c.migrate.new.place) apart c.in-Err-migrate.ensures.next
-    (flying_alone c.args.store.now.next c.args.unit.now.key _ (g.P.Place.counts c.judged_now.new.place).starts (g.P.Place.counts c.migrate.new.place).starts c.in-Err-migrate.ensures.takes.0 ∙ ap (λ (s : Starts). s.flying) c.in-Ok.ensures.takes.1)
-    (reused_still c.args.store.now.folder (records_folder c.args.project.now) c.args.unit.now.key (g.P.Place.counts c.args.place.now).starts.flying (g.P.Place.counts c.judged_now.new.place).starts.flying (g.P.Place.still c.args.place.now) (g.P.Place.still c.judged_now.new.place) (g.P.Place.still c.migrate.new.place) c.requires.folder (ap (λ (s : Starts). s.flying) c.in-Ok.ensures.takes.1) (c.in-Ok.ensures.still told) (c.in-Err-migrate.ensures.still told))
+      world = (g.P.Place.at c.args.place.now).world;
+      counts = (g.P.Place.at c.args.place.now).counts;
+      ends = (refl, refl, refl);
+      comes = c.unstarted-ran.ensures ∙ ap (λ (j : Judgement). unstarted j.ran) (c.in-Ok.ensures.judged told);
+    },
+  );
+  kept = λ told good. (
+    c.args.again.now.ended,
+    record {
+      world = (g.P.Place.at c.args.place.now).world;
+      counts = (g.P.Place.at c.args.place.now).counts;
+      ends = (refl, refl, refl);
+      comes = record_stayed c.args.project.now c.args.unit.now c.args.command.now (g.P.Place.at c.args.place.now).world (g.P.Place.at c.judged_now.new.place).world c.args.again.now.ended c.args.again.now c.args.store.now.next c.if-again.true c.in-Ok.ensures.quiet.world;
+    },
+  );
+  unkept = λ bad. none_changed _ (g.P.Place.at c.args.place.now).world (g.P.Place.at c.judged_now.new.place).world c.in-Ok.ensures.quiet.world;
+  bad = λ bad. refl;
+  taken = λ told waits lacks good. absurd (false≢true (sym (unnumbered_awaited c.args.again.now.numbered waits) ∙ c.if-again.true));
+}
 
-pub returns-clause-only : goal.returns-clause-only
-returns-clause-only g c told =
-    reused_only c.args.store.now.folder (records_folder c.args.project.now) c.args.unit.now.key (g.P.Place.world c.args.place.now) (g.P.Place.world c.judged_now.new.place) (g.P.Place.world c.migrate.new.place) c.requires.folder (c.in-Ok.ensures.same told) (c.in-Err-migrate.ensures.only told)
+pub returns-then-again-clause-ends : goal.returns-then-again-clause-ends
+returns-then-again-clause-ends g c = record {
+  lands = λ told. (
+    Ok c.args.again.now.ended,
+    record {
+      world = (g.P.Place.at c.args.place.now).world;
+      counts = (g.P.Place.at c.args.place.now).counts;
+      ends = (refl, refl, refl);
+      comes = (
+        none_changed _ (g.P.Place.at c.args.place.now).world (g.P.Place.at c.judged_now.new.place).world c.in-Ok.ensures.quiet.world,
+        good_made c.args.project.now c.args.unit.now c.args.command.now (awaited.Record c.args.again.now) (g.P.Place.at c.args.place.now).world c.args.again.now.ended c.in-Ok.judgement (c.in-Ok.ensures.judged told) (g.P.Place.at c.args.place.now).counts (g.P.Place.at c.judged_now.new.place).counts c.in-Ok.ensures.calls
+            (ended_well c.unstarted-ran.result) [] (g.P.Place.at c.judged_now.new.place).counts (ap (λ (r : Ran). is_some r.bad) (sym c.unstarted-ran.ensures) ∙ sym c.is_some.ensures ∙ c.if-is_some.false)
+            (numbered_so c.args.project.now c.args.unit.now c.args.command.now c.args.again.now (g.P.Place.at c.args.place.now).world c.in-Ok.judgement.names c.if-again.true) refl,
+      );
+    },
+  );
+  same = λ told none has. c.in-Ok.ensures.quiet.world;
+  untaken = λ none. refl;
+  most = c.in-Ok.ensures.quiet.most;
+}
 
-pub returns-in-Err-clause-same : goal.returns-in-Err-clause-same
-returns-in-Err-clause-same g c read is told has =
-    c.in-Err.ensures.same told
+pub returns-then-again-clause-build : goal.returns-then-again-clause-build
+returns-then-again-clause-build g c footing setup sources told =
+    reuse_numbered (basis footing g.P.Place.child setup c.args.project.now sources) c.is_in_order.ensures c.args.index c.args.unit.now c.requires.unit c.args.command.now c.args.again.now c.args.store.now.next (g.P.Place.at c.args.place.now) (g.P.Place.at c.judged_now.new.place)
+    c.in-Ok.ensures.quiet.world c.in-Ok.ensures.quiet.takes.1 c.in-Ok.ensures.quiet.still c.in-Ok.judgement (c.in-Ok.ensures.judged told) c.unstarted-ran.result c.unstarted-ran.ensures c.if-again.true
 
-pub returns-then-is_some-clause-same : goal.returns-then-is_some-clause-same
-returns-then-is_some-clause-same g c read is told has =
-    c.in-Ok.ensures.same told
+pub returns-then-again-clause-store : goal.returns-then-again-clause-store
+returns-then-again-clause-store g c = record {
+  folder = refl;
+  next = inl refl;
+  numbers = λ told. numbers_same c.args.store.now.folder (g.P.Place.at c.args.place.now).world (g.P.Place.at c.judged_now.new.place).world c.args.store.now.numbers c.in-Ok.ensures.quiet.world (c.requires.numbers told);
+}
 
-pub returns-in-Ok-migrate-clause-same : goal.returns-in-Ok-migrate-clause-same
-returns-in-Ok-migrate-clause-same g c read is told has =
-    reused_same read c.args.store.now.folder (records_folder c.args.project.now) c.args.unit.now.key (g.P.Place.world c.args.place.now) (g.P.Place.world c.judged_now.new.place) (g.P.Place.world c.migrate.new.place) c.requires.folder (c.in-Ok.ensures.same told) (c.migrate.ensures.same read is told) has
+pub returns-then-again-clause-changes : goal.returns-then-again-clause-changes
+returns-then-again-clause-changes g c =
+    changes_none _ _ _ (records_folder c.args.project.now) c.args.unit.now.key (g.P.Place.at c.args.place.now) (g.P.Place.at c.judged_now.new.place) c.in-Ok.ensures.quiet.world c.in-Ok.ensures.quiet.still c.in-Ok.ensures.quiet.takes.1
+    (c.in-Ok.ensures.quiet.takes.0, c.in-Ok.ensures.quiet.takes.1)
 
-pub returns-clause-same : goal.returns-clause-same
-returns-clause-same g c read is told has =
-    reused_same read c.args.store.now.folder (records_folder c.args.project.now) c.args.unit.now.key (g.P.Place.world c.args.place.now) (g.P.Place.world c.judged_now.new.place) (g.P.Place.world c.migrate.new.place) c.requires.folder (c.in-Ok.ensures.same told) (c.migrate.ensures.same read is told) has
+-- No memory for the keys of the needed units.
 
-pub returns-then-is_some-clause-unkept : goal.returns-then-is_some-clause-unkept
-returns-then-is_some-clause-unkept g c told bad = c.in-Ok.ensures.same told
+pub returns-in-Err-needed_keys-clause-ends : goal.returns-in-Err-needed_keys-clause-ends
+returns-in-Err-needed_keys-clause-ends g c = record {
+  lands = λ told. (
+    Ok c.args.again.now.ended,
+    record {
+      world = (g.P.Place.at c.args.place.now).world;
+      counts = (g.P.Place.at c.args.place.now).counts;
+      ends = (refl, refl, refl);
+      comes = (
+        none_changed _ (g.P.Place.at c.args.place.now).world (g.P.Place.at c.judged_now.new.place).world c.in-Ok.ensures.quiet.world,
+        numbering_first (step.Store store.OutOfMemory) (dep_info_looked (dep_info_of c.args.project.now c.args.unit.now)) _ (g.P.Place.at c.args.place.now).counts (g.P.Place.at c.judged_now.new.place).counts (memory_last (dep_info_looked (dep_info_of c.args.project.now c.args.unit.now)) (g.P.Place.at c.args.place.now).counts (g.P.Place.at c.judged_now.new.place).counts c.in-Ok.ensures.calls),
+      );
+    },
+  );
+  same = λ told none has. c.in-Ok.ensures.quiet.world;
+  untaken = λ none. refl;
+  most = c.in-Ok.ensures.quiet.most;
+}
 
-pub returns-then-again-clause-unkept : goal.returns-then-again-clause-unkept
-returns-then-again-clause-unkept g c told bad = absurd (false≢true (sym (sym c.is_some.ensures ∙ c.if-is_some.false) ∙ bad))
+pub returns-in-Err-needed_keys-clause-build : goal.returns-in-Err-needed_keys-clause-build
+returns-in-Err-needed_keys-clause-build g c footing setup sources told =
+    reuse_failed (basis footing g.P.Place.child setup c.args.project.now sources) c.is_in_order.ensures c.args.index c.args.unit.now c.requires.unit c.args.command.now c.args.again.now c.args.store.now.next (g.P.Place.at c.args.place.now) (g.P.Place.at c.judged_now.new.place)
+    c.in-Ok.ensures.quiet.world c.in-Ok.ensures.quiet.takes.1 c.in-Ok.ensures.quiet.still (step.Store store.OutOfMemory)
 
-pub returns-in-Ok-migrate-clause-unkept : goal.returns-in-Ok-migrate-clause-unkept
-returns-in-Ok-migrate-clause-unkept g c told bad = absurd (false≢true (sym (sym c.is_some.ensures ∙ c.if-is_some.false) ∙ bad))
+pub returns-in-Err-needed_keys-clause-changes : goal.returns-in-Err-needed_keys-clause-changes
+returns-in-Err-needed_keys-clause-changes g c =
+    changes_none _ _ _ (records_folder c.args.project.now) c.args.unit.now.key (g.P.Place.at c.args.place.now) (g.P.Place.at c.judged_now.new.place) c.in-Ok.ensures.quiet.world c.in-Ok.ensures.quiet.still c.in-Ok.ensures.quiet.takes.1
+    (c.in-Ok.ensures.quiet.takes.1, c.in-Ok.ensures.quiet.takes.0)
 
-pub returns-in-Ok-migrate-clause-untaken : goal.returns-in-Ok-migrate-clause-untaken
-returns-in-Ok-migrate-clause-untaken g c numbered = absurd (false≢true (sym c.if-again.false ∙ numbered))
+-- The record is to get a number.
 
-pub returns-clause-untaken : goal.returns-clause-untaken
-returns-clause-untaken g c numbered = absurd (false≢true (sym c.if-again.false ∙ numbered))
+pub returns-in-Ok-migrate-clause-answers : goal.returns-in-Ok-migrate-clause-answers
+returns-in-Ok-migrate-clause-answers g c = record {
+  started = ap (λ (r : Ran). r.started) c.unstarted-ran.ensures;
+  directives = subst (λ (r : Ran). directives_in (outcome_by finite.empty r) ≡ r.directives) (sym c.unstarted-ran.ensures) c.in-Ok.ensures.directives;
+  judged = λ told. (
+    c.args.again.now.ended,
+    record {
+      world = (g.P.Place.at c.args.place.now).world;
+      counts = (g.P.Place.at c.args.place.now).counts;
+      ends = (refl, refl, refl);
+      comes = c.unstarted-ran.ensures ∙ ap (λ (j : Judgement). unstarted j.ran) (c.in-Ok.ensures.judged told);
+    },
+  );
+  kept = λ told good. (
+    c.args.again.now.ended,
+    record {
+      world = (g.P.Place.at c.args.place.now).world;
+      counts = (g.P.Place.at c.args.place.now).counts;
+      ends = (refl, refl, refl);
+      comes =
+          let renewed : Renewed (records_folder c.args.project.now) c.args.unit.now.key (needed_keys c.args.project.now c.args.unit.now) c.args.store.now.next c.migrate.new.self.next (g.P.Place.at c.args.place.now).world (g.P.Place.at c.migrate.new.place).world =
+          renewed_moved c.args.store.now.folder (records_folder c.args.project.now) c.args.key.now c.args.unit.now.key c.as_slice.result.now (needed_keys c.args.project.now c.args.unit.now) c.args.store.now.next c.migrate.new.self.next (g.P.Place.at c.judged_now.new.place).world (g.P.Place.at c.args.place.now).world (g.P.Place.at c.migrate.new.place).world c.requires.folder c.requires.key (c.as_slice.ensures ∙ c.in-Ok-needed_keys.ensures) c.in-Ok.ensures.quiet.world record { stands = (c.in-Ok-migrate.ensures.record told).stands; taken = (c.in-Ok-migrate.ensures.record told).taken } in
+          record_renewed c.args.project.now c.args.unit.now c.args.command.now (g.P.Place.at c.args.place.now).world (g.P.Place.at c.migrate.new.place).world c.args.again.now.ended c.args.again.now c.args.store.now.next c.if-again.false renewed.stands;
+    },
+  );
+  unkept = λ bad. absurd (false≢true (sym (sym c.is_some.ensures ∙ c.if-is_some.false) ∙ bad));
+  bad = λ bad. absurd (false≢true (sym (sym c.is_some.ensures ∙ c.if-is_some.false) ∙ bad));
+  taken = λ told waits lacks good.
+      let renewed : Renewed (records_folder c.args.project.now) c.args.unit.now.key (needed_keys c.args.project.now c.args.unit.now) c.args.store.now.next c.migrate.new.self.next (g.P.Place.at c.args.place.now).world (g.P.Place.at c.migrate.new.place).world =
+      renewed_moved c.args.store.now.folder (records_folder c.args.project.now) c.args.key.now c.args.unit.now.key c.as_slice.result.now (needed_keys c.args.project.now c.args.unit.now) c.args.store.now.next c.migrate.new.self.next (g.P.Place.at c.judged_now.new.place).world (g.P.Place.at c.args.place.now).world (g.P.Place.at c.migrate.new.place).world c.requires.folder c.requires.key (c.as_slice.ensures ∙ c.in-Ok-needed_keys.ensures) c.in-Ok.ensures.quiet.world record { stands = (c.in-Ok-migrate.ensures.record told).stands; taken = (c.in-Ok-migrate.ensures.record told).taken } in
+      renewed.taken lacks;
+}
 
-pub returns-in-Err-clause-spends : goal.returns-in-Err-clause-spends
-returns-in-Err-clause-spends g c spent =
-    absurd (false≢true (sym (follow_spares c.args.unit.now.key _ (g.P.Place.counts c.args.place.now).starts (g.P.Place.counts c.judged_now.new.place).starts c.in-Err.ensures.takes.0) ∙ spent))
+pub returns-in-Ok-migrate-clause-ends : goal.returns-in-Ok-migrate-clause-ends
+returns-in-Ok-migrate-clause-ends g c = record {
+  lands = λ told.
+      let renewing : Renewing g.P.Place.child (records_folder c.args.project.now) c.args.unit.now.key (needed_keys c.args.project.now c.args.unit.now) c.args.command.now c.args.store.now.next c.migrate.new.self.next (g.P.Place.at c.args.place.now).world (g.P.Place.at c.migrate.new.place).world =
+      renewing_moved c.args.store.now.folder (records_folder c.args.project.now) c.args.key.now c.args.unit.now.key c.as_slice.result.now (needed_keys c.args.project.now c.args.unit.now) c.args.store.now.next c.migrate.new.self.next (g.P.Place.at c.judged_now.new.place).world (g.P.Place.at c.args.place.now).world (g.P.Place.at c.migrate.new.place).world c.requires.folder c.requires.key (c.as_slice.ensures ∙ c.in-Ok-needed_keys.ensures) c.in-Ok.ensures.quiet.world g.P.Place.child c.args.command.now
+      record { sound = (c.in-Ok-migrate.ensures.record told).sound judge c.args.command.now; ahead = (c.in-Ok-migrate.ensures.record told).ahead judge c.args.command.now; only = c.in-Ok-migrate.ensures.only.only; left = inr (inr (c.in-Ok-migrate.ensures.record told).stands); same = λ has. ((c.in-Ok-migrate.ensures.record told).unused has).1 } in (
+        Ok c.args.again.now.ended,
+        record {
+          world = (g.P.Place.at c.args.place.now).world;
+          counts = (g.P.Place.at c.args.place.now).counts;
+          ends = (refl, refl, refl);
+          comes = (
+            renewing.only,
+            good_made c.args.project.now c.args.unit.now c.args.command.now (awaited.Record c.args.again.now) (g.P.Place.at c.args.place.now).world c.args.again.now.ended c.in-Ok.judgement (c.in-Ok.ensures.judged told) (g.P.Place.at c.args.place.now).counts (g.P.Place.at c.judged_now.new.place).counts c.in-Ok.ensures.calls
+                (ended_well c.unstarted-ran.result) _ (g.P.Place.at c.migrate.new.place).counts (ap (λ (r : Ran). is_some r.bad) (sym c.unstarted-ran.ensures) ∙ sym c.is_some.ensures ∙ c.if-is_some.false)
+                (renewed_names c.args.project.now c.args.unit.now c.args.command.now c.args.again.now c.args.store.now.folder c.args.key.now (g.P.Place.at c.judged_now.new.place).world (g.P.Place.at c.args.place.now).world c.in-Ok.judgement.names c.requires.folder c.requires.key c.in-Ok.ensures.quiet.world c.if-again.false)
+                (migrate_made (Ok c.in-Ok-migrate.field-0) c.in-Ok-migrate.field-0 c.args.store.now.folder c.args.key.now (g.P.Place.at c.judged_now.new.place).world (g.P.Place.at c.judged_now.new.place).counts (g.P.Place.at c.migrate.new.place).counts refl (c.in-Ok-migrate.ensures.calls told)),
+          );
+        },
+      );
+  same = λ told none has.
+      let renewing : Renewing g.P.Place.child (records_folder c.args.project.now) c.args.unit.now.key (needed_keys c.args.project.now c.args.unit.now) c.args.command.now c.args.store.now.next c.migrate.new.self.next (g.P.Place.at c.args.place.now).world (g.P.Place.at c.migrate.new.place).world =
+      renewing_moved c.args.store.now.folder (records_folder c.args.project.now) c.args.key.now c.args.unit.now.key c.as_slice.result.now (needed_keys c.args.project.now c.args.unit.now) c.args.store.now.next c.migrate.new.self.next (g.P.Place.at c.judged_now.new.place).world (g.P.Place.at c.args.place.now).world (g.P.Place.at c.migrate.new.place).world c.requires.folder c.requires.key (c.as_slice.ensures ∙ c.in-Ok-needed_keys.ensures) c.in-Ok.ensures.quiet.world g.P.Place.child c.args.command.now
+      record { sound = (c.in-Ok-migrate.ensures.record told).sound judge c.args.command.now; ahead = (c.in-Ok-migrate.ensures.record told).ahead judge c.args.command.now; only = c.in-Ok-migrate.ensures.only.only; left = inr (inr (c.in-Ok-migrate.ensures.record told).stands); same = λ has. ((c.in-Ok-migrate.ensures.record told).unused has).1 } in
+      renewing.same has;
+  untaken = λ none. absurd (false≢true (sym c.if-again.false ∙ numbered_awaited c.args.again.now.numbered none));
+  most = c.in-Ok-migrate.ensures.only.most ∙ c.in-Ok.ensures.quiet.most;
+}
 
-pub returns-clause-spends : goal.returns-clause-spends
-returns-clause-spends g c spent = c.if-again.false
+pub returns-in-Ok-migrate-clause-build : goal.returns-in-Ok-migrate-clause-build
+returns-in-Ok-migrate-clause-build g c footing setup sources told =
+    let renewing : Renewing g.P.Place.child (records_folder c.args.project.now) c.args.unit.now.key (needed_keys c.args.project.now c.args.unit.now) c.args.command.now c.args.store.now.next c.migrate.new.self.next (g.P.Place.at c.args.place.now).world (g.P.Place.at c.migrate.new.place).world =
+    renewing_moved c.args.store.now.folder (records_folder c.args.project.now) c.args.key.now c.args.unit.now.key c.as_slice.result.now (needed_keys c.args.project.now c.args.unit.now) c.args.store.now.next c.migrate.new.self.next (g.P.Place.at c.judged_now.new.place).world (g.P.Place.at c.args.place.now).world (g.P.Place.at c.migrate.new.place).world c.requires.folder c.requires.key (c.as_slice.ensures ∙ c.in-Ok-needed_keys.ensures) c.in-Ok.ensures.quiet.world g.P.Place.child c.args.command.now
+    record { sound = (c.in-Ok-migrate.ensures.record told).sound judge c.args.command.now; ahead = (c.in-Ok-migrate.ensures.record told).ahead judge c.args.command.now; only = c.in-Ok-migrate.ensures.only.only; left = inr (inr (c.in-Ok-migrate.ensures.record told).stands); same = λ has. ((c.in-Ok-migrate.ensures.record told).unused has).1 } in
+    reuse_renewed (basis footing g.P.Place.child setup c.args.project.now sources) c.is_in_order.ensures c.args.index c.args.unit.now c.requires.unit c.args.command.now c.args.again.now c.args.store.now.next (g.P.Place.at c.args.place.now) (g.P.Place.at c.migrate.new.place) (Lands None) (MayAnswer c.args.store.now.next None) (ended_well c.unstarted-ran.result) c.migrate.new.self.next renewing
+    (changes_place (Lands None) (MayAnswer c.args.store.now.next None) (ended_well c.unstarted-ran.result) (records_folder c.args.project.now) c.args.unit.now.key (g.P.Place.at c.args.place.now) (g.P.Place.at c.judged_now.new.place) (g.P.Place.at c.migrate.new.place) c.in-Ok.ensures.quiet.world c.in-Ok.ensures.quiet.still c.in-Ok.ensures.quiet.takes.1
+    (at_place (λ p. ChangesOnly (is_at_or_below p) (g.P.Place.at c.judged_now.new.place).world (g.P.Place.at c.migrate.new.place).world) c.args.store.now.folder (records_folder c.args.project.now) c.args.key.now c.args.unit.now.key c.requires.folder c.requires.key c.in-Ok-migrate.ensures.only.only)
+    (at_place (λ p. KeepsStillOutside (is_at_or_below p) (g.P.Place.at c.judged_now.new.place).counts.starts.flying (g.P.Place.at c.judged_now.new.place).still (g.P.Place.at c.migrate.new.place).still) c.args.store.now.folder (records_folder c.args.project.now) c.args.key.now c.args.unit.now.key c.requires.folder c.requires.key c.in-Ok-migrate.ensures.only.still)
+    c.in-Ok-migrate.ensures.only.takes.0 (c.in-Ok-migrate.ensures.only.takes.1 ∙ c.in-Ok.ensures.quiet.takes.0, c.in-Ok-migrate.ensures.only.takes.0 ∙ c.in-Ok.ensures.quiet.takes.1))
+    (c.in-Ok-migrate.ensures.only.takes.0 ∙ c.in-Ok.ensures.quiet.takes.1) c.in-Ok-migrate.ensures.next.next c.in-Ok.judgement (c.in-Ok.ensures.judged told) c.unstarted-ran.result c.unstarted-ran.ensures
+    (renewed_moved c.args.store.now.folder (records_folder c.args.project.now) c.args.key.now c.args.unit.now.key c.as_slice.result.now (needed_keys c.args.project.now c.args.unit.now) c.args.store.now.next c.migrate.new.self.next (g.P.Place.at c.judged_now.new.place).world (g.P.Place.at c.args.place.now).world (g.P.Place.at c.migrate.new.place).world c.requires.folder c.requires.key (c.as_slice.ensures ∙ c.in-Ok-needed_keys.ensures) c.in-Ok.ensures.quiet.world record { stands = (c.in-Ok-migrate.ensures.record told).stands; taken = (c.in-Ok-migrate.ensures.record told).taken })
 
-pub returns-in-Err-clause-lands : goal.returns-in-Err-clause-lands
-returns-in-Err-clause-lands g c told = none_changed _ (g.P.Place.world c.args.place.now) (g.P.Place.world c.judged_now.new.place) (c.in-Err.ensures.same told)
+pub returns-in-Ok-migrate-clause-changes : goal.returns-in-Ok-migrate-clause-changes
+returns-in-Ok-migrate-clause-changes g c =
+    changes_place (Lands None) (MayAnswer c.args.store.now.next None) (ended_well c.unstarted-ran.result) (records_folder c.args.project.now) c.args.unit.now.key (g.P.Place.at c.args.place.now) (g.P.Place.at c.judged_now.new.place) (g.P.Place.at c.migrate.new.place) c.in-Ok.ensures.quiet.world c.in-Ok.ensures.quiet.still c.in-Ok.ensures.quiet.takes.1
+    (at_place (λ p. ChangesOnly (is_at_or_below p) (g.P.Place.at c.judged_now.new.place).world (g.P.Place.at c.migrate.new.place).world) c.args.store.now.folder (records_folder c.args.project.now) c.args.key.now c.args.unit.now.key c.requires.folder c.requires.key c.in-Ok-migrate.ensures.only.only)
+    (at_place (λ p. KeepsStillOutside (is_at_or_below p) (g.P.Place.at c.judged_now.new.place).counts.starts.flying (g.P.Place.at c.judged_now.new.place).still (g.P.Place.at c.migrate.new.place).still) c.args.store.now.folder (records_folder c.args.project.now) c.args.key.now c.args.unit.now.key c.requires.folder c.requires.key c.in-Ok-migrate.ensures.only.still)
+    c.in-Ok-migrate.ensures.only.takes.0 (c.in-Ok-migrate.ensures.only.takes.1 ∙ c.in-Ok.ensures.quiet.takes.0, c.in-Ok-migrate.ensures.only.takes.0 ∙ c.in-Ok.ensures.quiet.takes.1)
 
-pub returns-then-is_some-clause-lands : goal.returns-then-is_some-clause-lands
-returns-then-is_some-clause-lands g c told = none_changed _ (g.P.Place.world c.args.place.now) (g.P.Place.world c.judged_now.new.place) (c.in-Ok.ensures.same told)
+pub returns-clause-ends : goal.returns-clause-ends
+returns-clause-ends g c = record {
+  lands = λ told.
+      let renewing : Renewing g.P.Place.child (records_folder c.args.project.now) c.args.unit.now.key (needed_keys c.args.project.now c.args.unit.now) c.args.command.now c.args.store.now.next c.migrate.new.self.next (g.P.Place.at c.args.place.now).world (g.P.Place.at c.migrate.new.place).world =
+      renewing_moved c.args.store.now.folder (records_folder c.args.project.now) c.args.key.now c.args.unit.now.key c.as_slice.result.now (needed_keys c.args.project.now c.args.unit.now) c.args.store.now.next c.migrate.new.self.next (g.P.Place.at c.judged_now.new.place).world (g.P.Place.at c.args.place.now).world (g.P.Place.at c.migrate.new.place).world c.requires.folder c.requires.key (c.as_slice.ensures ∙ c.in-Ok-needed_keys.ensures) c.in-Ok.ensures.quiet.world g.P.Place.child c.args.command.now
+      record { sound = (c.in-Err-migrate.ensures.record told).sound judge c.args.command.now; ahead = (c.in-Err-migrate.ensures.record told).ahead judge c.args.command.now; only = c.in-Err-migrate.ensures.only.only; left = (c.in-Err-migrate.ensures.record told).stands; same = λ has. ((c.in-Err-migrate.ensures.record told).unused has).1 } in (
+        Ok c.args.again.now.ended,
+        record {
+          world = (g.P.Place.at c.args.place.now).world;
+          counts = (g.P.Place.at c.args.place.now).counts;
+          ends = (refl, refl, refl);
+          comes = (
+            renewing.only,
+            good_made c.args.project.now c.args.unit.now c.args.command.now (awaited.Record c.args.again.now) (g.P.Place.at c.args.place.now).world c.args.again.now.ended c.in-Ok.judgement (c.in-Ok.ensures.judged told) (g.P.Place.at c.args.place.now).counts (g.P.Place.at c.judged_now.new.place).counts c.in-Ok.ensures.calls
+                (ended_badly (step.Store c.in-Err-migrate.fault)) _ (g.P.Place.at c.migrate.new.place).counts (ap (λ (r : Ran). is_some r.bad) (sym c.unstarted-ran.ensures) ∙ sym c.is_some.ensures ∙ c.if-is_some.false)
+                (renewed_names c.args.project.now c.args.unit.now c.args.command.now c.args.again.now c.args.store.now.folder c.args.key.now (g.P.Place.at c.judged_now.new.place).world (g.P.Place.at c.args.place.now).world c.in-Ok.judgement.names c.requires.folder c.requires.key c.in-Ok.ensures.quiet.world c.if-again.false)
+                (migrate_stops (Err c.in-Err-migrate.fault) c.in-Err-migrate.fault c.args.store.now.folder c.args.key.now (g.P.Place.at c.judged_now.new.place).world (g.P.Place.at c.judged_now.new.place).counts (g.P.Place.at c.migrate.new.place).counts refl (c.in-Err-migrate.ensures.record told).cause (c.in-Err-migrate.ensures.calls told)),
+          );
+        },
+      );
+  same = λ told none has.
+      let renewing : Renewing g.P.Place.child (records_folder c.args.project.now) c.args.unit.now.key (needed_keys c.args.project.now c.args.unit.now) c.args.command.now c.args.store.now.next c.migrate.new.self.next (g.P.Place.at c.args.place.now).world (g.P.Place.at c.migrate.new.place).world =
+      renewing_moved c.args.store.now.folder (records_folder c.args.project.now) c.args.key.now c.args.unit.now.key c.as_slice.result.now (needed_keys c.args.project.now c.args.unit.now) c.args.store.now.next c.migrate.new.self.next (g.P.Place.at c.judged_now.new.place).world (g.P.Place.at c.args.place.now).world (g.P.Place.at c.migrate.new.place).world c.requires.folder c.requires.key (c.as_slice.ensures ∙ c.in-Ok-needed_keys.ensures) c.in-Ok.ensures.quiet.world g.P.Place.child c.args.command.now
+      record { sound = (c.in-Err-migrate.ensures.record told).sound judge c.args.command.now; ahead = (c.in-Err-migrate.ensures.record told).ahead judge c.args.command.now; only = c.in-Err-migrate.ensures.only.only; left = (c.in-Err-migrate.ensures.record told).stands; same = λ has. ((c.in-Err-migrate.ensures.record told).unused has).1 } in
+      renewing.same has;
+  untaken = λ none. absurd (false≢true (sym c.if-again.false ∙ numbered_awaited c.args.again.now.numbered none));
+  most = c.in-Err-migrate.ensures.only.most ∙ c.in-Ok.ensures.quiet.most;
+}
 
-pub returns-then-again-clause-lands : goal.returns-then-again-clause-lands
-returns-then-again-clause-lands g c told = none_changed _ (g.P.Place.world c.args.place.now) (g.P.Place.world c.judged_now.new.place) (c.in-Ok.ensures.same told)
+pub returns-clause-build : goal.returns-clause-build
+returns-clause-build g c footing setup sources told =
+    let renewing : Renewing g.P.Place.child (records_folder c.args.project.now) c.args.unit.now.key (needed_keys c.args.project.now c.args.unit.now) c.args.command.now c.args.store.now.next c.migrate.new.self.next (g.P.Place.at c.args.place.now).world (g.P.Place.at c.migrate.new.place).world =
+    renewing_moved c.args.store.now.folder (records_folder c.args.project.now) c.args.key.now c.args.unit.now.key c.as_slice.result.now (needed_keys c.args.project.now c.args.unit.now) c.args.store.now.next c.migrate.new.self.next (g.P.Place.at c.judged_now.new.place).world (g.P.Place.at c.args.place.now).world (g.P.Place.at c.migrate.new.place).world c.requires.folder c.requires.key (c.as_slice.ensures ∙ c.in-Ok-needed_keys.ensures) c.in-Ok.ensures.quiet.world g.P.Place.child c.args.command.now
+    record { sound = (c.in-Err-migrate.ensures.record told).sound judge c.args.command.now; ahead = (c.in-Err-migrate.ensures.record told).ahead judge c.args.command.now; only = c.in-Err-migrate.ensures.only.only; left = (c.in-Err-migrate.ensures.record told).stands; same = λ has. ((c.in-Err-migrate.ensures.record told).unused has).1 } in
+    reuse_unrenewed (basis footing g.P.Place.child setup c.args.project.now sources) c.is_in_order.ensures c.args.index c.args.unit.now c.requires.unit c.args.command.now c.args.again.now c.args.store.now.next (g.P.Place.at c.args.place.now) (g.P.Place.at c.migrate.new.place) (Lands None) (MayAnswer c.args.store.now.next None) (ended_badly (step.Store c.in-Err-migrate.fault)) c.migrate.new.self.next renewing
+    (changes_place (Lands None) (MayAnswer c.args.store.now.next None) (ended_badly (step.Store c.in-Err-migrate.fault)) (records_folder c.args.project.now) c.args.unit.now.key (g.P.Place.at c.args.place.now) (g.P.Place.at c.judged_now.new.place) (g.P.Place.at c.migrate.new.place) c.in-Ok.ensures.quiet.world c.in-Ok.ensures.quiet.still c.in-Ok.ensures.quiet.takes.1
+    (at_place (λ p. ChangesOnly (is_at_or_below p) (g.P.Place.at c.judged_now.new.place).world (g.P.Place.at c.migrate.new.place).world) c.args.store.now.folder (records_folder c.args.project.now) c.args.key.now c.args.unit.now.key c.requires.folder c.requires.key c.in-Err-migrate.ensures.only.only)
+    (at_place (λ p. KeepsStillOutside (is_at_or_below p) (g.P.Place.at c.judged_now.new.place).counts.starts.flying (g.P.Place.at c.judged_now.new.place).still (g.P.Place.at c.migrate.new.place).still) c.args.store.now.folder (records_folder c.args.project.now) c.args.key.now c.args.unit.now.key c.requires.folder c.requires.key c.in-Err-migrate.ensures.only.still)
+    c.in-Err-migrate.ensures.only.takes.0 (alone_more c.args.store.now.next (step.Store c.in-Err-migrate.fault) (g.P.Place.at c.args.place.now).counts (g.P.Place.at c.judged_now.new.place).counts (g.P.Place.at c.migrate.new.place).counts c.in-Ok.ensures.quiet.takes (migrate_told c.args.store.now.next c.in-Err-migrate.fault (g.P.Place.at c.judged_now.new.place).counts (g.P.Place.at c.migrate.new.place).counts c.in-Err-migrate.ensures.only.takes)))
+    (c.in-Err-migrate.ensures.only.takes.0 ∙ c.in-Ok.ensures.quiet.takes.1) c.in-Err-migrate.ensures.next.next (step.Store c.in-Err-migrate.fault)
 
-pub returns-in-Ok-migrate-clause-lands : goal.returns-in-Ok-migrate-clause-lands
-returns-in-Ok-migrate-clause-lands g c told =
-    record_alone c.args.store.now.folder (records_folder c.args.project.now) c.args.unit.now.key (g.P.Place.world c.args.place.now) (g.P.Place.world c.judged_now.new.place) (g.P.Place.world c.migrate.new.place) c.requires.folder
-    (c.in-Ok.ensures.same told) (c.in-Ok-migrate.ensures.only told)
-
-pub returns-clause-lands : goal.returns-clause-lands
-returns-clause-lands g c told =
-    record_alone c.args.store.now.folder (records_folder c.args.project.now) c.args.unit.now.key (g.P.Place.world c.args.place.now) (g.P.Place.world c.judged_now.new.place) (g.P.Place.world c.migrate.new.place) c.requires.folder
-    (c.in-Ok.ensures.same told) (c.in-Err-migrate.ensures.only told)
-
-pub returns-in-Err-clause-calls : goal.returns-in-Err-clause-calls
-returns-in-Err-clause-calls g c read reading told =
-    numbering_first c.in-Err.fault (dep_info_looked (dep_info_of c.args.project.now c.args.unit.now)) _ (g.P.Place.counts c.args.place.now) (g.P.Place.counts c.judged_now.new.place) c.in-Err.ensures.calls
-
-pub returns-then-is_some-clause-calls : goal.returns-then-is_some-clause-calls
-returns-then-is_some-clause-calls g c read reading told =
-    bad_made read c.args.store.now.numbers.known c.args.project.now c.args.unit.now c.args.command.now (awaited.Record c.args.again.now) (g.P.Place.world c.args.place.now) c.args.again.now.ended c.in-Ok.judgement (c.in-Ok.ensures.judged told)
-    (g.P.Place.counts c.args.place.now) (g.P.Place.counts c.judged_now.new.place) c.in-Ok.ensures.calls (ap (λ (r : Ran). is_some r.bad) (sym c.unstarted-ran.ensures) ∙ sym c.is_some.ensures ∙ c.if-is_some.true)
-
-pub returns-then-again-clause-calls : goal.returns-then-again-clause-calls
-returns-then-again-clause-calls g c read reading told =
-    good_made read c.args.store.now.numbers.known c.args.project.now c.args.unit.now c.args.command.now (awaited.Record c.args.again.now) (g.P.Place.world c.args.place.now) c.args.again.now.ended c.in-Ok.judgement (c.in-Ok.ensures.judged told)
-    (g.P.Place.counts c.args.place.now) (g.P.Place.counts c.judged_now.new.place) c.in-Ok.ensures.calls (ended_well c.unstarted-ran.result) [] (g.P.Place.counts c.judged_now.new.place) (ap (λ (r : Ran). is_some r.bad) (sym c.unstarted-ran.ensures) ∙ sym c.is_some.ensures ∙ c.if-is_some.false)
-    (numbered_so read c.args.store.now.numbers.known c.args.project.now c.args.unit.now c.args.command.now c.args.again.now (g.P.Place.world c.args.place.now) c.in-Ok.judgement.names c.if-again.true) refl
-
-pub returns-in-Ok-migrate-clause-calls : goal.returns-in-Ok-migrate-clause-calls
-returns-in-Ok-migrate-clause-calls g c read reading told =
-    good_made read c.args.store.now.numbers.known c.args.project.now c.args.unit.now c.args.command.now (awaited.Record c.args.again.now) (g.P.Place.world c.args.place.now) c.args.again.now.ended c.in-Ok.judgement (c.in-Ok.ensures.judged told)
-    (g.P.Place.counts c.args.place.now) (g.P.Place.counts c.judged_now.new.place) c.in-Ok.ensures.calls (ended_well c.unstarted-ran.result) _ (g.P.Place.counts c.migrate.new.place) (ap (λ (r : Ran). is_some r.bad) (sym c.unstarted-ran.ensures) ∙ sym c.is_some.ensures ∙ c.if-is_some.false)
-    (renewed_names read c.args.store.now.numbers.known c.args.project.now c.args.unit.now c.args.command.now c.args.again.now c.args.store.now.folder (g.P.Place.world c.judged_now.new.place) (g.P.Place.world c.args.place.now) c.in-Ok.judgement.names c.requires.folder (c.in-Ok.ensures.same told) c.if-again.false)
-    (c.in-Ok-migrate.ensures.calls read reading told)
-
-pub returns-clause-calls : goal.returns-clause-calls
-returns-clause-calls g c read reading told =
-    good_made read c.args.store.now.numbers.known c.args.project.now c.args.unit.now c.args.command.now (awaited.Record c.args.again.now) (g.P.Place.world c.args.place.now) c.args.again.now.ended c.in-Ok.judgement (c.in-Ok.ensures.judged told)
-    (g.P.Place.counts c.args.place.now) (g.P.Place.counts c.judged_now.new.place) c.in-Ok.ensures.calls (ended_badly c.in-Err-migrate.fault) _ (g.P.Place.counts c.migrate.new.place) (ap (λ (r : Ran). is_some r.bad) (sym c.unstarted-ran.ensures) ∙ sym c.is_some.ensures ∙ c.if-is_some.false)
-    (renewed_names read c.args.store.now.numbers.known c.args.project.now c.args.unit.now c.args.command.now c.args.again.now c.args.store.now.folder (g.P.Place.world c.judged_now.new.place) (g.P.Place.world c.args.place.now) c.in-Ok.judgement.names c.requires.folder (c.in-Ok.ensures.same told) c.if-again.false)
-    (c.in-Err-migrate.ensures.calls read reading told)
-
-pub returns-then-is_some-clause-numbers : goal.returns-then-is_some-clause-numbers
-returns-then-is_some-clause-numbers g c read is told holds =
-    held_same read (records_folder c.args.project.now) (records_folder c.args.project.now) (g.P.Place.world c.args.place.now) (g.P.Place.world c.judged_now.new.place) c.args.store.now.numbers refl (c.in-Ok.ensures.same told) holds
-
-pub returns-then-again-clause-numbers : goal.returns-then-again-clause-numbers
-returns-then-again-clause-numbers g c read is told holds =
-    held_same read (records_folder c.args.project.now) (records_folder c.args.project.now) (g.P.Place.world c.args.place.now) (g.P.Place.world c.judged_now.new.place) c.args.store.now.numbers refl (c.in-Ok.ensures.same told) holds
-
-pub returns-in-Ok-migrate-clause-numbers : goal.returns-in-Ok-migrate-clause-numbers
-returns-in-Ok-migrate-clause-numbers g c read is told holds =
-    held_there read c.args.store.now.folder (records_folder c.args.project.now) (g.P.Place.world c.migrate.new.place) c.migrate.new.store.numbers c.requires.folder
-    (c.in-Ok-migrate.ensures.numbers read is told
-    (held_same read c.args.store.now.folder (records_folder c.args.project.now) (g.P.Place.world c.args.place.now) (g.P.Place.world c.judged_now.new.place) c.args.store.now.numbers c.requires.folder (c.in-Ok.ensures.same told) holds))
-
-pub returns-in-Err-clause-spent : goal.returns-in-Err-clause-spent
-returns-in-Err-clause-spent g c none told = c.in-Err.ensures.same told
-
-pub returns-then-is_some-clause-spent : goal.returns-then-is_some-clause-spent
-returns-then-is_some-clause-spent g c none told = c.in-Ok.ensures.same told
-
-pub returns-then-again-clause-spent : goal.returns-then-again-clause-spent
-returns-then-again-clause-spent g c none told = c.in-Ok.ensures.same told
-
-pub returns-in-Ok-migrate-clause-spent : goal.returns-in-Ok-migrate-clause-spent
-returns-in-Ok-migrate-clause-spent g c none told = c.in-Ok-migrate.ensures.spent none told ∙ c.in-Ok.ensures.same told
-
-pub returns-clause-spent : goal.returns-clause-spent
-returns-clause-spent g c none told = c.in-Err-migrate.ensures.spent none told ∙ c.in-Ok.ensures.same told
-
-pub returns-in-Err-clause-cause : goal.returns-in-Err-clause-cause
-returns-in-Err-clause-cause g c read reading told spent =
-    absurd (false≢true (sym (follow_spares c.args.unit.now.key _ (g.P.Place.counts c.args.place.now).starts (g.P.Place.counts c.judged_now.new.place).starts c.in-Err.ensures.takes.0) ∙ spent))
-
-pub returns-clause-cause : goal.returns-clause-cause
-returns-clause-cause g c read reading told spent =
-    subst (λ (f : List ℕ). lacks_number (record_at read f (g.P.Place.world c.args.place.now).files c.args.unit.now.key) ≡ true) c.requires.folder
-    (subst (λ (w : World). lacks_number (record_at read c.args.store.now.folder w.files c.args.unit.now.key) ≡ true) (c.in-Ok.ensures.same told) (c.in-Err-migrate.ensures.cause read reading told spent))
-
-pub returns-then-is_some-clause-judged : goal.returns-then-is_some-clause-judged
-returns-then-is_some-clause-judged g c told = c.unstarted-ran.ensures ∙ ap (λ (j : Judgement). unstarted j.ran) (c.in-Ok.ensures.judged told)
-
-pub returns-then-again-clause-judged : goal.returns-then-again-clause-judged
-returns-then-again-clause-judged g c told = c.unstarted-ran.ensures ∙ ap (λ (j : Judgement). unstarted j.ran) (c.in-Ok.ensures.judged told)
-
-pub returns-in-Ok-migrate-clause-judged : goal.returns-in-Ok-migrate-clause-judged
-returns-in-Ok-migrate-clause-judged g c told = c.unstarted-ran.ensures ∙ ap (λ (j : Judgement). unstarted j.ran) (c.in-Ok.ensures.judged told)
-
-pub returns-in-Err-clause-still : goal.returns-in-Err-clause-still
-returns-in-Err-clause-still g c told ticket stands stood = c.in-Err.ensures.still told ticket stood
-
-pub returns-then-is_some-clause-still : goal.returns-then-is_some-clause-still
-returns-then-is_some-clause-still g c told ticket stands stood = c.in-Ok.ensures.still told ticket stood
-
-pub returns-then-again-clause-still : goal.returns-then-again-clause-still
-returns-then-again-clause-still g c told ticket stands stood = c.in-Ok.ensures.still told ticket stood
-
-pub returns-in-Ok-migrate-clause-still : goal.returns-in-Ok-migrate-clause-still
-returns-in-Ok-migrate-clause-still g c told =
-    reused_still c.args.store.now.folder (records_folder c.args.project.now) c.args.unit.now.key (g.P.Place.counts c.args.place.now).starts.flying (g.P.Place.counts c.judged_now.new.place).starts.flying (g.P.Place.still c.args.place.now) (g.P.Place.still c.judged_now.new.place) (g.P.Place.still c.migrate.new.place) c.requires.folder (ap (λ (s : Starts). s.flying) c.in-Ok.ensures.takes.1) (c.in-Ok.ensures.still told) (c.in-Ok-migrate.ensures.still told)
-
-pub returns-clause-still : goal.returns-clause-still
-returns-clause-still g c told =
-    reused_still c.args.store.now.folder (records_folder c.args.project.now) c.args.unit.now.key (g.P.Place.counts c.args.place.now).starts.flying (g.P.Place.counts c.judged_now.new.place).starts.flying (g.P.Place.still c.args.place.now) (g.P.Place.still c.judged_now.new.place) (g.P.Place.still c.migrate.new.place) c.requires.folder (ap (λ (s : Starts). s.flying) c.in-Ok.ensures.takes.1) (c.in-Ok.ensures.still told) (c.in-Err-migrate.ensures.still told)
-
-pub returns-in-Ok-migrate-clause-bad : goal.returns-in-Ok-migrate-clause-bad
-returns-in-Ok-migrate-clause-bad g c bad = absurd (false≢true (sym (sym c.is_some.ensures ∙ c.if-is_some.false) ∙ bad))
-
-pub returns-then-is_some-clause-taken : goal.returns-then-is_some-clause-taken
-returns-then-is_some-clause-taken g c read is told without lacks good = absurd (false≢true (sym good ∙ (sym c.is_some.ensures ∙ c.if-is_some.true)))
-
-pub returns-then-again-clause-taken : goal.returns-then-again-clause-taken
-returns-then-again-clause-taken g c read is told without lacks good = absurd (false≢true (sym without ∙ c.if-again.true))
-
-pub returns-in-Ok-migrate-clause-taken : goal.returns-in-Ok-migrate-clause-taken
-returns-in-Ok-migrate-clause-taken g c read is told without lacks good =
-    c.in-Ok-migrate.ensures.taken read is told
-    (ap (λ (f : List ℕ). lacks_number (record_at read f (g.P.Place.world c.judged_now.new.place).files c.args.unit.now.key)) c.requires.folder
-    ∙ ap (λ (w : World). lacks_number (record_at read (records_folder c.args.project.now) w.files c.args.unit.now.key)) (c.in-Ok.ensures.same told) ∙ lacks)
-
-pub returns-in-Ok-migrate-clause-unused : goal.returns-in-Ok-migrate-clause-unused
-returns-in-Ok-migrate-clause-unused g c read is told lacks =
-    c.migrate.ensures.unused read is told
-    (ap (λ (f : List ℕ). lacks_number (record_at read f (g.P.Place.world c.judged_now.new.place).files c.args.unit.now.key)) c.requires.folder
-    ∙ ap (λ (w : World). lacks_number (record_at read (records_folder c.args.project.now) w.files c.args.unit.now.key)) (c.in-Ok.ensures.same told) ∙ lacks)
-
-pub returns-clause-unused : goal.returns-clause-unused
-returns-clause-unused g c read is told lacks =
-    c.migrate.ensures.unused read is told
-    (ap (λ (f : List ℕ). lacks_number (record_at read f (g.P.Place.world c.judged_now.new.place).files c.args.unit.now.key)) c.requires.folder
-    ∙ ap (λ (w : World). lacks_number (record_at read (records_folder c.args.project.now) w.files c.args.unit.now.key)) (c.in-Ok.ensures.same told) ∙ lacks)
-
-pub returns-then-is_some-clause-kept : goal.returns-then-is_some-clause-kept
-returns-then-is_some-clause-kept g c read is told holds good = absurd (false≢true (sym good ∙ (sym c.is_some.ensures ∙ c.if-is_some.true)))
-
-pub returns-then-again-clause-kept : goal.returns-then-again-clause-kept
-returns-then-again-clause-kept g c read is told holds good =
-    record_stayed read c.args.project.now c.args.unit.now c.args.command.now (records_folder c.args.project.now) refl (g.P.Place.world c.args.place.now) (g.P.Place.world c.args.place.now) (g.P.Place.world c.judged_now.new.place) refl c.args.again.now.ended c.args.again.now c.args.store.now.next c.if-again.true (c.in-Ok.ensures.same told)
-
-pub returns-in-Ok-migrate-clause-kept : goal.returns-in-Ok-migrate-clause-kept
-returns-in-Ok-migrate-clause-kept g c read is told holds good =
-    record_renewed read c.args.project.now c.args.unit.now c.args.command.now c.args.store.now.folder c.requires.folder (g.P.Place.world c.judged_now.new.place) (g.P.Place.world c.args.place.now) (g.P.Place.world c.migrate.new.place) (c.in-Ok.ensures.same told) c.args.again.now.ended c.args.again.now c.args.store.now.next c.if-again.false
-    (c.in-Ok-migrate.ensures.stands read is told (held_same read c.args.store.now.folder (records_folder c.args.project.now) (g.P.Place.world c.args.place.now) (g.P.Place.world c.judged_now.new.place) c.args.store.now.numbers c.requires.folder (c.in-Ok.ensures.same told) holds))
-
-pub returns-in-Err-clause-numbers : goal.returns-in-Err-clause-numbers
-returns-in-Err-clause-numbers g c read is told holds =
-    held_same read (records_folder c.args.project.now) (records_folder c.args.project.now) (g.P.Place.world c.args.place.now) (g.P.Place.world c.judged_now.new.place) c.args.store.now.numbers refl (c.in-Err.ensures.same told) holds
-
-pub returns-clause-numbers : goal.returns-clause-numbers
-returns-clause-numbers g c read is told holds =
-    held_there read c.args.store.now.folder (records_folder c.args.project.now) (g.P.Place.world c.migrate.new.place) c.migrate.new.store.numbers c.requires.folder
-    (c.in-Err-migrate.ensures.numbers read is told
-    (held_same read c.args.store.now.folder (records_folder c.args.project.now) (g.P.Place.world c.args.place.now) (g.P.Place.world c.judged_now.new.place) c.args.store.now.numbers c.requires.folder (c.in-Ok.ensures.same told) holds))
+pub returns-clause-changes : goal.returns-clause-changes
+returns-clause-changes g c =
+    changes_place (Lands None) (MayAnswer c.args.store.now.next None) (ended_badly (step.Store c.in-Err-migrate.fault)) (records_folder c.args.project.now) c.args.unit.now.key (g.P.Place.at c.args.place.now) (g.P.Place.at c.judged_now.new.place) (g.P.Place.at c.migrate.new.place) c.in-Ok.ensures.quiet.world c.in-Ok.ensures.quiet.still c.in-Ok.ensures.quiet.takes.1
+    (at_place (λ p. ChangesOnly (is_at_or_below p) (g.P.Place.at c.judged_now.new.place).world (g.P.Place.at c.migrate.new.place).world) c.args.store.now.folder (records_folder c.args.project.now) c.args.key.now c.args.unit.now.key c.requires.folder c.requires.key c.in-Err-migrate.ensures.only.only)
+    (at_place (λ p. KeepsStillOutside (is_at_or_below p) (g.P.Place.at c.judged_now.new.place).counts.starts.flying (g.P.Place.at c.judged_now.new.place).still (g.P.Place.at c.migrate.new.place).still) c.args.store.now.folder (records_folder c.args.project.now) c.args.key.now c.args.unit.now.key c.requires.folder c.requires.key c.in-Err-migrate.ensures.only.still)
+    c.in-Err-migrate.ensures.only.takes.0 (alone_more c.args.store.now.next (step.Store c.in-Err-migrate.fault) (g.P.Place.at c.args.place.now).counts (g.P.Place.at c.judged_now.new.place).counts (g.P.Place.at c.migrate.new.place).counts c.in-Ok.ensures.quiet.takes (migrate_told c.args.store.now.next c.in-Err-migrate.fault (g.P.Place.at c.judged_now.new.place).counts (g.P.Place.at c.migrate.new.place).counts c.in-Err-migrate.ensures.only.takes))
