@@ -28,10 +28,9 @@ use Rattle.pb_project.specs.Targets.{crate_name_of, dep_info_of, unit_at}
 use Rattle.pb_project.specs.declared.project.Project.{Project}
 use Rattle.pb_project.specs.declared.project.Setup.{Setup}
 use Rattle.pb_record.specs.Commands.{command_of as asked_command}
-use Rattle.pb_record.specs.Parts.{IsReading}
 use Rattle.pb_record.specs.declared.record.Record.{Record}
 use Rattle.pb_run.specs.Halves.{child_in, child_of}
-use Rattle.pb_run.specs.Landing.{EndsBy, GivesRecord, IsJudged}
+use Rattle.pb_run.specs.Running.{EndsBy, GivesRecord, IsJudged}
 use Rattle.pb_run.specs.Outcome.{ran_by, ran_of, unstarted}
 use Rattle.pb_run.specs.Standing.{IsInOrder, records_folder}
 use Rattle.pb_unit_messages.specs.Telling.{unit_lines}
@@ -47,15 +46,13 @@ use Rattle.pb_run.proofs.Views.{is_for}
 use Rattle.pb_soundness.specs.Apart.{is_of}
 use Rattle.pb_soundness.specs.Grounded.{Standing}
 use Rattle.pb_soundness.specs.Inputs.{Agrees}
-use Rattle.pb_soundness.specs.Records.{Reading, out_of, place_of, record_at}
+use Rattle.pb_soundness.specs.Records.{out_of, place_of, reading, records}
 use Rattle.pb_soundness.proofs.Places.{out_in, place_in, record_same}
-use Rattle.pb_store.specs.Differences.{FirstDifference, FirstOf}
-use Rattle.pb_store.specs.Replaying.{replayed}
+use Rattle.pb_store.specs.Differences.{FirstDifference, FirstOf, replayed}
 use Rattle.pb_store.specs.declared.difference.Difference.{Difference}
 use Rattle.pb_store.specs.declared.replaying.Replayed.{Replayed}
-use Rattle.pb_turns.specs.Again.{ran_again, AnswersAgain, CarriesAgain, FliesAgain, WaitsAgain}
-use Rattle.pb_turns.specs.Crew.{needs_of, place_of_unit, places_of, IsManned}
-use Rattle.pb_turns.specs.Moments.{Moment}
+use Rattle.pb_turns.specs.Calling.{ran_again, AnswersAgain, CarriesAgain, FliesAgain, WaitsAgain}
+use Rattle.pb_turns.specs.Crew.{needs_of, place_of_unit, places_of, IsManned, Moment}
 use Rattle.pb_turns.specs.Rows.{is_started}
 use Rattle.pb_turns.specs.Story.{states_in, AllAnswerAgain, FliesIn, OnlyOf, Replays, Story}
 use Rattle.pb_turns.specs.declared.crew.Aloft.{Aloft}
@@ -116,10 +113,10 @@ no_child l e = cc
 ended_is : (x y : Ended) → ◌≡◌ {A = Result Ended StartFault} (Ok x) (Ok y) → x ≡ y
 ended_is x y e = cc
 
-module _ (read : Reading) (setup : Setup) (project : Project) (order : IsInOrder project) (first : World) (place : ℕ) (u : Planned) (there : unit_at project place ≡ Some u) where
+module _ (setup : Setup) (project : Project) (order : IsInOrder project) (first : World) (place : ℕ) (u : Planned) (there : unit_at project place ≡ Some u) where
   -- another unit changes only what is its own
   carries_on : (w w' : World) (other : ℕ) (v : Planned) → unit_at project other ≡ Some v → place ≢ other → ChangesOnly (is_of (records_folder project) v.key) w w' → (done done' : List (Option (List Directive))) → command_of setup project u done ≡ command_of setup project u done'
-      → (c : Command) (by : Awaited) → CarriesAgain read setup project done first w u c by → CarriesAgain read setup project done' first w' u c by
+      → (c : Command) (by : Awaited) → CarriesAgain setup project done first w u c by → CarriesAgain setup project done' first w' u c by
   carries_on w w' other v at ne only done done' same c (awaited.Child launched) carries = tt
   carries_on w w' other v at ne only done done' same c (awaited.Record again) carries = record {
     kept = carries.kept;
@@ -137,11 +134,11 @@ module _ (read : Reading) (setup : Setup) (project : Project) (order : IsInOrder
     its_target : c.target ≡ project.workspace.target
     its_target = ap (λ (x : Command). x.target) asks ∙ (is_for setup project u done (order.packages place u there)).target
 
-    by_record : (found : Option Record) (again : Replayed) → record_at read (records_folder project) w.files u.key ≡ found → FirstOf (records_folder project) at c w found None → GivesRecord found (awaited.Record again) → w' ≡ w → WaitsAgain read setup project done first w' u c again
+    by_record : (found : Option Record) (again : Replayed) → records (records_folder project) w u.key ≡ found → FirstOf (records_folder project) at c w found None → GivesRecord found (awaited.Record again) → w' ≡ w → WaitsAgain setup project done first w' u c again
     by_record None again is named gives same = absurd (none_some again gives)
     by_record (Some r) again is named gives same = record {
       kept = r;
-      here = sym (record_same read (records_folder project) first.files w.files u.key (stays (place_of (records_folder project) u.key) (place_its_own (records_folder project) u.key))) ∙ is;
+      here = sym (record_same reading (records_folder project) first.files w.files u.key (stays (place_of (records_folder project) u.key) (place_its_own (records_folder project) u.key))) ∙ is;
       asked = named.asked;
       asks = asks;
       inputs = agrees_still project.workspace.target r.inputs w first (sym sources) (subst (λ target. Agrees target r.inputs w) its_target named.inputs);
@@ -149,17 +146,17 @@ module _ (read : Reading) (setup : Setup) (project : Project) (order : IsInOrder
       stays = λ q inside. ap (λ (x : World). finite.get x.files q) same ∙ stays q inside;
     }
 
-    its_own : (by : Awaited) (difference : Option Difference) → FirstOf (records_folder project) at c w (record_at read (records_folder project) w.files u.key) difference → is_some (child_in by) ≡ is_some difference
-        → GivesRecord (record_at read (records_folder project) w.files u.key) by → (child_in by ≡ None → w' ≡ w) → CarriesAgain read setup project done first w' u c by
+    its_own : (by : Awaited) (difference : Option Difference) → FirstOf (records_folder project) at c w (records (records_folder project) w u.key) difference → is_some (child_in by) ≡ is_some difference
+        → GivesRecord (records (records_folder project) w u.key) by → (child_in by ≡ None → w' ≡ w) → CarriesAgain setup project done first w' u c by
     its_own (awaited.Child launched) difference named flag gives same = tt
     its_own (awaited.Record again) difference named flag gives same =
-        by_record (record_at read (records_folder project) w.files u.key) again refl
-        (subst (FirstOf (records_folder project) at c w (record_at read (records_folder project) w.files u.key)) (none_of difference (sym flag)) named) gives (same refl)
+        by_record (records (records_folder project) w u.key) again refl
+        (subst (FirstOf (records_folder project) at c w (records (records_folder project) w u.key)) (none_of difference (sym flag)) named) gives (same refl)
 
   -- it answers
   module _ (w left : World) (c : Command) (ended : Ended) (well : Type 0) (still : ℕ → Type 0) (old mid : Counts) (ran : Ran) (lines : List ℕ) (told : lines ≡ unit_lines project u ran.started ran.messages)
       (done done' : List (Option (List Directive))) (noted : slice_get done' place ≡ Some ran.directives) (same : command_of setup project u done ≡ command_of setup project u done') where
-    answers_so : (by : Awaited) → child_in by ≡ None → CarriesAgain read setup project done first w u c by → EndsBy by (Ok ended) well still w left old mid → IsJudged project u c by ended left ran → AnswersAgain read setup project done' first place record { fault = ran.bad; lines = lines }
+    answers_so : (by : Awaited) → child_in by ≡ None → CarriesAgain setup project done first w u c by → EndsBy by (Ok ended) well still w left old mid → IsJudged project u c by ended left ran → AnswersAgain setup project done' first place record { fault = ran.bad; lines = lines }
     answers_so (awaited.Child launched) none carries ends judged = absurd (no_child launched none)
     answers_so (awaited.Record again) none carries ends judged =
         let folder = order.folders place u there in
@@ -186,8 +183,8 @@ module _ (read : Reading) (setup : Setup) (project : Project) (order : IsInOrder
 
 pub replays_first : (setup : Setup) (project : Project) (done : List (Option (List Directive))) (aloft : List Aloft) (w : World) → aloft ≡ [] → Replays setup project done aloft [] w w
 replays_first setup project done aloft w none = record {
-  waits = λ read reading. subst (AllByRecursion (λ (a : Aloft). FliesAgain read setup project done w w a)) (sym none) tt;
-  gave = λ read reading place answer state started. absurd (no_answer (needs_of project) place answer state);
+  waits = subst (AllByRecursion (λ (a : Aloft). FliesAgain setup project done w w a)) (sym none) tt;
+  gave = λ place answer state started. absurd (no_answer (needs_of project) place answer state);
 }
 
 -- A unit begins.
@@ -195,61 +192,61 @@ replays_first setup project done aloft w none = record {
 -- those that had answered
 pub gave_begun : (setup : Setup) (project : Project) (done : List (Option (List Directive))) (es : List (Event BadUnit)) (first : World) (unit : ℕ) (spawned : Bool) → slice_get (states_in project es) unit ≡ Some Untouched
     → AllAnswerAgain setup project es done first → AllAnswerAgain setup project (Began unit spawned ∷ es) done first
-gave_begun setup project done es first unit spawned untouched gave read reading place answer state started =
+gave_begun setup project done es first unit spawned untouched gave place answer state started =
     let (ne, before) = answered_before (states_in project es) unit place answer Untouched untouched state in
-    gave read reading place answer before (sym (started_other es unit place spawned ne) ∙ started)
+    gave place answer before (sym (started_other es unit place spawned ne) ∙ started)
 
 module _ (tells : Bool) (child : Answers) (first old : UnitCrew) (at now new : Moment) (still : ℕ → Type 0) (es : List (Event BadUnit)) (given : ℕ) (story : Story tells child first at old now still es given) (order : IsInOrder old.project) where
   pub begun_again : (unit : ℕ) (u : Planned) → unit_at old.project unit ≡ Some u → slice_get (states_in old.project es) unit ≡ Some Untouched → (IsTrue tells → ChangesOnly (is_of (records_folder old.project) u.key) now.world new.world)
       → (done : List (Option (List Directive))) → done ≡ old.done.items → (begun : unit_begun) → begun.command ≡ command_of old.setup old.project u done → (difference : Option Difference) (aloft' : List Aloft) → aloft' ≡ old.aloft.items ++ record { unit = unit; begun = begun } ∷ []
-      → ((read : Reading) → IsReading read → IsTrue tells → FirstDifference read (records_folder old.project) u.key begun.command now.world difference) → is_some (child_of begun) ≡ is_some difference
-      → ((read : Reading) → IsReading read → IsTrue tells → GivesRecord (record_at read (records_folder old.project) now.world.files u.key) begun.awaited) → (IsTrue tells → child_of begun ≡ None → new.world ≡ now.world)
+      → (IsTrue tells → FirstDifference (records_folder old.project) u.key begun.command now.world difference) → is_some (child_of begun) ≡ is_some difference
+      → (IsTrue tells → GivesRecord (records (records_folder old.project) now.world u.key) begun.awaited) → (IsTrue tells → child_of begun ≡ None → new.world ≡ now.world)
       → IsTrue tells → Replays old.setup old.project old.done.items aloft' (Began unit (is_some (child_of begun)) ∷ es) at.world new.world
   begun_again unit u there untouched only done same_done begun asks difference aloft' more differs spawned gives same t =
       let changes = story.changes t in record {
-        waits = λ read reading.
-            subst (AllByRecursion (λ (a : Aloft). FliesAgain read old.setup old.project old.done.items at.world new.world a)) (sym more)
-            (all_more (λ (a : Aloft). FliesAgain read old.setup old.project old.done.items at.world new.world a) old.aloft.items (record { unit = unit; begun = begun } ∷ [])
-            (all_at_each (λ (a : Aloft). FliesAgain read old.setup old.project old.done.items at.world now.world a) (λ (a : Aloft). FliesAgain read old.setup old.project old.done.items at.world new.world a) old.aloft.items
-            (λ k a at_k waits v at_v. carries_on read old.setup old.project order at.world a.unit v at_v now.world new.world unit u there
+        waits =
+            subst (AllByRecursion (λ (a : Aloft). FliesAgain old.setup old.project old.done.items at.world new.world a)) (sym more)
+            (all_more (λ (a : Aloft). FliesAgain old.setup old.project old.done.items at.world new.world a) old.aloft.items (record { unit = unit; begun = begun } ∷ [])
+            (all_at_each (λ (a : Aloft). FliesAgain old.setup old.project old.done.items at.world now.world a) (λ (a : Aloft). FliesAgain old.setup old.project old.done.items at.world new.world a) old.aloft.items
+            (λ k a at_k waits v at_v. carries_on old.setup old.project order at.world a.unit v at_v now.world new.world unit u there
             (λ e. another (states_in old.project es) unit a.unit untouched (Begun, (all_get (FliesIn old.project es now.world now.counts.starts.flying) old.aloft.items k a changes.flies at_k).state, refl) (sym e))
             (only t) old.done.items old.done.items refl a.begun.command a.begun.awaited (waits v at_v))
-            ((story.again t).waits read reading))
-            (own read reading changes.only, tt));
+            ((story.again t).waits))
+            (own changes.only, tt));
         gave = gave_begun old.setup old.project old.done.items es at.world unit (is_some (child_of begun)) untouched (story.again t).gave;
       }
     where
-      own : (read : Reading) → IsReading read → OnlyOf old.project es at.world now.world → (v : Planned) → unit_at old.project unit ≡ Some v → CarriesAgain read old.setup old.project old.done.items at.world new.world v begun.command begun.awaited
-      own read reading only_first v at_v =
-          subst (λ (x : Planned). CarriesAgain read old.setup old.project old.done.items at.world new.world x begun.command begun.awaited) (injective (sym there ∙ at_v))
-          (its_own read old.setup old.project order at.world unit u there now.world new.world
+      own : OnlyOf old.project es at.world now.world → (v : Planned) → unit_at old.project unit ≡ Some v → CarriesAgain old.setup old.project old.done.items at.world new.world v begun.command begun.awaited
+      own only_first v at_v =
+          subst (λ (x : Planned). CarriesAgain old.setup old.project old.done.items at.world new.world x begun.command begun.awaited) (injective (sym there ∙ at_v))
+          (its_own old.setup old.project order at.world unit u there now.world new.world
           (λ q inside. only_first.files q (λ place x has at_x. not_of_two old.project order unit place u x there at_x (another (states_in old.project es) unit place untouched has) q inside))
-          (sources_first old.project order es at.world now.world only_first) old.done.items begun.command (asks ∙ ap (command_of old.setup old.project u) same_done) (record_at read (records_folder old.project) now.world.files) begun.awaited difference (differs read reading t) spawned (gives read reading t) (same t))
+          (sources_first old.project order es at.world now.world only_first) old.done.items begun.command (asks ∙ ap (command_of old.setup old.project u) same_done) (records (records_folder old.project) now.world) begun.awaited difference (differs t) spawned (gives t) (same t))
 
   -- A unit answers.
 
-  pub answered_again : {P : Type 0} (world : P → World) (counts : P → Counts) (well : Type 0) (lawful : IsLawful (needs_of old.project) es) (index : ℕ) (a : Aloft) (u : Planned) → IsManned old now.counts → slice_get old.aloft.items index ≡ Some a → unit_at old.project a.unit ≡ Some u
+  pub answered_again : (well : Type 0) (lawful : IsLawful (needs_of old.project) es) (index : ℕ) (a : Aloft) (u : Planned) → IsManned old now.counts → slice_get old.aloft.items index ≡ Some a → unit_at old.project a.unit ≡ Some u
       → (IsTrue tells → ChangesOnly (is_of (records_folder old.project) u.key) now.world new.world) → (ran : Ran) (lines : List ℕ) → lines ≡ unit_lines old.project u ran.started ran.messages
-      → (IsTrue tells → (left : P) × (ended : Ended) × EndsBy a.begun.awaited (Ok ended) well still now.world (world left) now.counts (counts left) × IsJudged old.project u a.begun.command a.begun.awaited ended (world left) ran)
+      → (IsTrue tells → (ended : Ended) × (left : World) × (mid : Counts) × EndsBy a.begun.awaited (Ok ended) well still now.world left now.counts mid × IsJudged old.project u a.begun.command a.begun.awaited ended left ran)
       → (aloft' : List Aloft) (done' : List (Option (List Directive))) → aloft' ≡ remove old.aloft.items index → done' ≡ slice_set old.done.items a.unit ran.directives
       → IsTrue tells → Replays old.setup old.project done' aloft' (Gave a.unit record { fault = ran.bad; lines = lines } ∷ es) at.world new.world
-  answered_again {P} world counts well lawful index a u manned at_index there only ran lines told judged aloft' done' is set t =
+  answered_again well lawful index a u manned at_index there only ran lines told judged aloft' done' is set t =
       let changes = story.changes t in
       let so : FliesIn old.project es now.world now.counts.starts.flying a = all_get (FliesIn old.project es now.world now.counts.starts.flying) old.aloft.items index a changes.flies at_index in record {
-        waits = λ read reading.
-            subst (AllByRecursion (λ (x : Aloft). FliesAgain read old.setup old.project done' at.world new.world x)) (sym is)
-            (all_left (λ (x : Aloft). FliesAgain read old.setup old.project old.done.items at.world now.world x) (λ (x : Aloft). FliesAgain read old.setup old.project done' at.world new.world x) old.aloft.items index
-            (λ j y at_j ne waits v at_v. carries_on read old.setup old.project order at.world y.unit v at_v now.world new.world a.unit u there
+        waits =
+            subst (AllByRecursion (λ (x : Aloft). FliesAgain old.setup old.project done' at.world new.world x)) (sym is)
+            (all_left (λ (x : Aloft). FliesAgain old.setup old.project old.done.items at.world now.world x) (λ (x : Aloft). FliesAgain old.setup old.project done' at.world new.world x) old.aloft.items index
+            (λ j y at_j ne waits v at_v. carries_on old.setup old.project order at.world y.unit v at_v now.world new.world a.unit u there
             (apart_places (places_of old.aloft.items) j index y.unit a.unit manned.units_apart (get_map place_of_unit old.aloft.items j y at_j) (get_map place_of_unit old.aloft.items index a at_index) ne)
             (only t) old.done.items done' (stays so y.unit v (Begun, (all_get (FliesIn old.project es now.world now.counts.starts.flying) old.aloft.items j y changes.flies at_j).state, refl) at_v) y.begun.command y.begun.awaited (waits v at_v))
-            ((story.again t).waits read reading));
-        gave = λ read reading place answer state started. elim (answered_cases (states_in old.project es) a.unit place answer record { fault = ran.bad; lines = lines } Begun so.state state) [
+            ((story.again t).waits));
+        gave = λ place answer state started. elim (answered_cases (states_in old.project es) a.unit place answer record { fault = ran.bad; lines = lines } Begun so.state state) [
           | inl (same, its) ↦
-              subst (λ (x : Answer BadUnit). AnswersAgain read old.setup old.project done' at.world place x) its
-              (subst (λ n. AnswersAgain read old.setup old.project done' at.world n record { fault = ran.bad; lines = lines }) same
-              (own read reading so (ap (is_started es) same ∙ started)))
+              subst (λ (x : Answer BadUnit). AnswersAgain old.setup old.project done' at.world place x) its
+              (subst (λ n. AnswersAgain old.setup old.project done' at.world n record { fault = ran.bad; lines = lines }) same
+              (own so (ap (is_started es) same ∙ started)))
           | inr (ne, before) ↦
-              let g = (story.again t).gave read reading place answer before started in
+              let g = (story.again t).gave place answer before started in
               record {
                 unit = g.unit;
                 there = g.there;
@@ -270,9 +267,9 @@ module _ (tells : Bool) (child : Answers) (first old : UnitCrew) (at now new : M
       within : a.unit < length old.done.items
       within = subst (λ n. a.unit < n) (sym manned.long) (slice_get_within old.project.plan.planned a.unit u there)
 
-      own : (read : Reading) → IsReading read → FliesIn old.project es now.world now.counts.starts.flying a → is_started es a.unit ≡ false → AnswersAgain read old.setup old.project done' at.world a.unit record { fault = ran.bad; lines = lines }
-      own read reading so childless =
-          let (left, ended, ends, is_judged) = judged t in
-          answers_so read old.setup old.project order at.world a.unit u there now.world (world left) a.begun.command ended well still now.counts (counts left) ran lines told old.done.items done'
+      own : FliesIn old.project es now.world now.counts.starts.flying a → is_started es a.unit ≡ false → AnswersAgain old.setup old.project done' at.world a.unit record { fault = ran.bad; lines = lines }
+      own so childless =
+          let (ended, left, mid, ends, is_judged) = judged t in
+          answers_so old.setup old.project order at.world a.unit u there now.world left a.begun.command ended well still now.counts mid ran lines told old.done.items done'
           (ap (λ (ds : List (Option (List Directive))). slice_get ds a.unit) set ∙ get_set_within old.done.items a.unit ran.directives within) (stays so a.unit u (Begun, so.state, refl) there)
-          a.begun.awaited (none_of (child_of a.begun) (sym so.started ∙ childless)) (all_get (λ (x : Aloft). FliesAgain read old.setup old.project old.done.items at.world now.world x) old.aloft.items index a ((story.again t).waits read reading) at_index u there) ends is_judged
+          a.begun.awaited (none_of (child_of a.begun) (sym so.started ∙ childless)) (all_get (λ (x : Aloft). FliesAgain old.setup old.project old.done.items at.world now.world x) old.aloft.items index a ((story.again t).waits) at_index u there) ends is_judged

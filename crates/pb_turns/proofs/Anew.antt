@@ -16,7 +16,7 @@ use Rattle.pb_flight.specs.Laws.{HasBegun}
 use Rattle.pb_flight.specs.Table.{is_good_at}
 use Rattle.pb_flight.proofs.Lists.{injective, get_set_other, get_set_same}
 use Rattle.pb_flight.proofs.Ready.{good_at}
-use Rattle.pb_place.specs.Children.{LandsAs, SeesStill, child_at, child_spawned, inside_out, landing}
+use Rattle.pb_place.specs.Children.{LandsAs, SeesStill, child_at, child_spawned, inside_out, landing, KeepsStillOutside}
 use Rattle.pb_place.specs.Counts.{Counts}
 use Rattle.pb_place.specs.Folders.{files_in}
 use Rattle.pb_place.specs.Paths.{is_at_or_below}
@@ -30,8 +30,7 @@ use Rattle.pb_project.specs.Targets.{crate_name_of, dep_info_of, unit_at}
 use Rattle.pb_project.specs.declared.project.Project.{Project}
 use Rattle.pb_project.specs.declared.project.Setup.{Setup}
 use Rattle.pb_run.specs.Halves.{IsInFlight, KeepsOthersStill, child_in, child_of}
-use Rattle.pb_run.specs.Landing.{EndsBy, HasEnded, IsJudged}
-use Rattle.pb_run.specs.Launching.{IsSpawned}
+use Rattle.pb_run.specs.Running.{EndsBy, HasEnded, IsJudged, IsSpawned}
 use Rattle.pb_run.specs.Outcome.{ran_by, ran_of}
 use Rattle.pb_run.specs.Standing.{IsInOrder, records_folder}
 use Rattle.pb_unit_messages.specs.Telling.{unit_lines}
@@ -41,16 +40,15 @@ use Rattle.pb_run.specs.declared.begun.Begun.{Begun as unit_begun}
 use Rattle.pb_run.specs.declared.begun.Launched.{Launched}
 use Rattle.pb_run.specs.declared.ran.Ran.{Ran}
 use Rattle.pb_run.proofs.Answering.{files_kept, landed_files}
-use Rattle.pb_run.proofs.Calling.{ended_well}
+use Rattle.pb_run.specs.declared.faults.StepFault.{StepFault}
 use Rattle.pb_run.proofs.Recorded.{files_still, seen_still}
 use Rattle.pb_run.proofs.Units.{dep_info_inside, inside_file}
 use Rattle.pb_run.proofs.Views.{IsFor, is_for}
-use Rattle.pb_soundness.specs.Apart.{KeepsStillOutside, is_of}
+use Rattle.pb_soundness.specs.Apart.{is_of}
 use Rattle.pb_soundness.specs.Records.{place_of}
 use Rattle.pb_soundness.specs.Inputs.{reply_in}
-use Rattle.pb_turns.specs.Anew.{ran_anew, AnswersAnew, CarriesAnew, FliesAnew}
-use Rattle.pb_turns.specs.Crew.{needs_of, place_of_unit, places_of, ticket_in, IsManned}
-use Rattle.pb_turns.specs.Moments.{Moment}
+use Rattle.pb_turns.specs.Calling.{ran_anew, AnswersAnew, CarriesAnew, FliesAnew}
+use Rattle.pb_turns.specs.Crew.{needs_of, place_of_unit, places_of, ticket_in, IsManned, Moment}
 use Rattle.pb_turns.specs.Rows.{is_started}
 use Rattle.pb_turns.specs.Story.{states_in, AllAnswerAnew, FliesIn, Replies, Story}
 use Rattle.pb_turns.specs.declared.crew.Aloft.{Aloft}
@@ -63,6 +61,10 @@ use Rattle.pb_turns.proofs.States.{another, answered_before, answered_cases, beg
 use Rattle.pb_turns.proofs.Staying.{begun_apart, untouched_apart}
 use Rattle.pb_turns.proofs.Unkept.{no_answer}
 use Rattle.pb_unit.specs.declared.plan.Planned.{Planned}
+
+-- a unit has answered well
+abbrev pub well_of : Ran → Result Ran StepFault
+well_of ran = Ok ran
 
 -- A unit does something that is not good: none that has begun reaches it.
 
@@ -272,15 +274,15 @@ module _ (tells : Bool) (child : Answers) (first old : UnitCrew) (at now new : M
         gave_on old.project order es lawful a.unit u there (ap is_good_at state) old.setup child now.world new.world (only t) (λ b is. begun_apart b (sym state ∙ is)) old.done.items (story.anew t).gave
 
     -- it has
-    pub answered_anew : {P : Type 0} (world : P → World) (counts : P → Counts) → IsManned old now.counts → (still' : ℕ → Type 0)
+    pub answered_anew : IsManned old now.counts → (still' : ℕ → Type 0)
         → ((ticket : ℕ) (its : ChildInFlight) → IfSome (child_of a.begun) (λ l. ticket ≢ l.ticket) → child_at ticket now.counts.starts.flying ≡ Some its → child_at ticket new.counts.starts.flying ≡ Some its)
         → (IsTrue tells → KeepsOthersStill (child_of a.begun) (is_of (records_folder old.project) u.key) now.counts.starts.flying still still')
         → (ran : Ran) (lines : List ℕ) → lines ≡ unit_lines old.project u ran.started ran.messages → ran.started ≡ is_some (child_of a.begun)
-        → (IsTrue tells → (left : P) × (ended : Ended) × EndsBy a.begun.awaited (Ok ended) (IsOk (ended_well ran)) still now.world (world left) now.counts (counts left) × IsJudged old.project u a.begun.command a.begun.awaited ended (world left) ran)
-        → (IsTrue tells → (left : P) × (answer : Result Ended StartFault) × EndsBy a.begun.awaited answer (IsOk (ended_well ran)) still now.world (world left) now.counts (counts left) × ChangesOnly (is_at_or_below (place_of (records_folder old.project) u.key)) (world left) new.world)
+        → (IsTrue tells → (ended : Ended) × (left : World) × (mid : Counts) × EndsBy a.begun.awaited (Ok ended) (IsTrue true) still now.world left now.counts mid × IsJudged old.project u a.begun.command a.begun.awaited ended left ran)
+        → (IsTrue tells → (answer : Result Ended StartFault) × (left : World) × (mid : Counts) × EndsBy a.begun.awaited answer (IsOk (well_of ran)) still now.world left now.counts mid × ChangesOnly (is_at_or_below (place_of (records_folder old.project) u.key)) left new.world)
         → (aloft' : List Aloft) (done' : List (Option (List Directive))) → aloft' ≡ remove old.aloft.items index → done' ≡ slice_set old.done.items a.unit ran.directives
         → IsTrue tells → Replies child old.setup old.project done' aloft' (Gave a.unit record { fault = ran.bad; lines = lines } ∷ es) new.world new.counts.starts.flying still'
-    answered_anew {P} world counts manned still' stay keeps ran lines told started judged lands aloft' done' is set t =
+    answered_anew manned still' stay keeps ran lines told started judged lands aloft' done' is set t =
         let state = (flown t index a at_index).state in record {
           waits = subst (AllByRecursion (FliesAnew child old.setup old.project done' new.world new.counts.starts.flying still')) (sym is)
               (all_left (FliesAnew child old.setup old.project old.done.items now.world now.counts.starts.flying still) (FliesAnew child old.setup old.project done' new.world new.counts.starts.flying still') old.aloft.items index
@@ -314,10 +316,10 @@ module _ (tells : Bool) (child : Answers) (first old : UnitCrew) (at now new : M
         own : is_started es a.unit ≡ true → AnswersAnew child old.setup old.project done' new.world a.unit record { fault = ran.bad; lines = lines }
         own childed =
             let f = flown t index a at_index in
-            let (left, ended, ends, is_judged) = judged t in
-            let (left', answer, ends', changed) = lands t in
+            let (ended, left, mid, ends, is_judged) = judged t in
+            let (answer, left', mid', ends', changed) = lands t in
             answered_by child old.setup old.project order a.unit u there a.begun.command now.world new.world now.counts still old.done.items done' (commands t a.unit u (Begun, f.state, refl) there)
             (λ asks. sees_on old.project order es lawful a.unit u there (ap is_good_at f.state) old.setup a.unit u (Begun, f.state, refl) there old.done.items a.begun.command asks now.world new.world (only t))
             ran lines told (ap (λ (ds : List (Option (List Directive))). slice_get ds a.unit) set ∙ get_set_within old.done.items a.unit ran.directives within)
             a.begun.awaited (sym f.started ∙ childed) started (all_get (FliesAnew child old.setup old.project old.done.items now.world now.counts.starts.flying still) old.aloft.items index a (story.anew t).waits at_index u there)
-            (IsOk (ended_well ran)) (world left) (counts left) ended ends is_judged (IsOk (ended_well ran)) (world left') (counts left') answer ends' refl changed
+            (IsTrue true) left mid ended ends is_judged (IsOk (well_of ran)) left' mid' answer ends' refl changed

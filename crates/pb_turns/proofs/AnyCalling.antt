@@ -1,5 +1,5 @@
 -- The calls of units over any records: what is noted of a run changes none that were made before, and what a unit waits for that is in flight.
-use Rattle.std.proofs.Common.{◌≡◌, ◌≢◌, ◌∙◌, ◌∷◌, [], Bool, true, List, ℕ, Option, Some, Contains, Result, refl, sym, ap, subst}
+use Rattle.std.proofs.Common.{◌≡◌, ◌≢◌, ◌∙◌, ◌∷◌, [], Bool, List, ℕ, Option, Some, Contains, Result, refl, sym, ap, subst}
 use Rattle.std.specs.Option.{option_map}
 use Rattle.std.specs.Prelude.{IfOk, IfSome}
 use Rattle.pb_answer.specs.declared.bad_unit.BadUnit.{BadUnit}
@@ -22,7 +22,8 @@ use Rattle.pb_project.specs.Targets.{unit_at}
 use Rattle.pb_project.specs.declared.project.Project.{Project}
 use Rattle.pb_project.specs.declared.project.Setup.{Setup}
 use Rattle.pb_run.specs.Halves.{IsInFlight, child_in}
-use Rattle.pb_run.specs.Landing.{CallsBehind, EndsBy, answered_called}
+use Rattle.pb_run.specs.Running.{CallsBehind, EndsBy, answered_called}
+use Rattle.pb_run.specs.Steps.{bare}
 use Rattle.pb_run.specs.Standing.{IsInOrder, records_folder}
 use Rattle.pb_run.specs.declared.begun.Awaited.{Awaited}
 use Rattle.pb_run.specs.declared.begun.Awaited.TheVariants as awaited
@@ -30,12 +31,10 @@ use Rattle.pb_run.proofs.Recorded.{seen_still}
 use Rattle.pb_run.proofs.Spawning.{out_within, widen}
 use Rattle.pb_run.proofs.Views.{IsFor, is_for}
 use Rattle.pb_soundness.specs.Apart.{is_of}
-use Rattle.pb_soundness.specs.Records.{Reading, out_of, place_of, record_at}
+use Rattle.pb_soundness.specs.Records.{out_of, place_of, reading, records}
 use Rattle.pb_soundness.proofs.Places.{record_same}
-use Rattle.pb_store.specs.Replaying.{IsReplayed, replayed}
-use Rattle.pb_turns.specs.Again.{CarriesAgain}
-use Rattle.pb_turns.specs.Anew.{CarriesAnew}
-use Rattle.pb_turns.specs.Calling.{AnswersCalling, BeginsCalling, CallsOver, CallsToBegin, EndsAsReplied, FliesFor, CallBasis, call_basis_on_any}
+use Rattle.pb_store.specs.Differences.{IsReplayed, replayed}
+use Rattle.pb_turns.specs.Calling.{CarriesAgain, CarriesAnew, AnswersCalling, BeginsCalling, CallsOver, CallsToBegin, EndsAsReplied, FliesFor, CallBasis, call_basis_on_any}
 use Rattle.pb_turns.specs.Crew.{needs_of}
 use Rattle.pb_turns.specs.Story.{states_in}
 use Rattle.pb_turns.proofs.States.{begun_more, begun_now}
@@ -44,22 +43,22 @@ use Rattle.pb_unit.specs.declared.plan.Planned.{Planned}
 
 -- More is noted of the runs, by which each unit that has begun has the command that it had.
 
-module _ (read : Reading) (child : Answers) (setup : Setup) (project : Project) (done done' : List (Option (List Directive))) where
+module _ (child : Answers) (setup : Setup) (project : Project) (done done' : List (Option (List Directive))) where
   -- so this unit
   abbrev SameCommand : ℕ → Type 0
   SameCommand place = (u : Planned) → unit_at project place ≡ Some u → command_of setup project u done ≡ command_of setup project u done'
 
   begins_same : (place : ℕ) (spawned : Bool) (before : World) (old : Counts) (after : World) (new : Counts) → SameCommand place
-      → BeginsCalling (call_basis_on_any read child setup project done) place spawned before old after new → BeginsCalling (call_basis_on_any read child setup project done') place spawned before old after new
+      → BeginsCalling (call_basis_on_any child setup project done) place spawned before old after new → BeginsCalling (call_basis_on_any child setup project done') place spawned before old after new
   begins_same place spawned before old after new same f = record {
     unit = f.unit;
     there = f.there;
     only = f.only;
-    calls = subst (λ (c : Command). CallsToBegin read child project f.unit c spawned before old after new) (same f.unit f.there) f.calls;
+    calls = subst (λ (c : Command). CallsToBegin child project f.unit c spawned before old after new) (same f.unit f.there) f.calls;
   }
 
   answers_same : (place : ℕ) (spawned : Bool) (result : Result (Unit {0}) BuildFault) (before : World) (old : Counts) (after : World) (new : Counts) → SameCommand place
-      → AnswersCalling (call_basis_on_any read child setup project done) place spawned result before old after new → AnswersCalling (call_basis_on_any read child setup project done') place spawned result before old after new
+      → AnswersCalling (call_basis_on_any child setup project done) place spawned result before old after new → AnswersCalling (call_basis_on_any child setup project done') place spawned result before old after new
   answers_same place spawned result before old after new same f = record {
     unit = f.unit;
     there = f.there;
@@ -73,11 +72,12 @@ module _ (read : Reading) (child : Answers) (setup : Setup) (project : Project) 
     ends = f.ends;
     replied = λ started. subst (λ (c : Command). IfOk f.answer (λ ended. EndsAsReplied (child c (seen_by c f.left)) f.unit ended f.left)) (same f.unit f.there) (f.replied started);
     only = f.only;
-    calls = subst (λ (c : Command). CallsBehind f.unit.key f.by (answered_called read true project f.unit c f.left f.by) f.answer result f.mid new) (same f.unit f.there) f.calls;
+    named = f.named;
+    calls = subst (λ (c : Command). CallsBehind f.by (answered_called project f.unit c f.left f.by) f.answer (bare result) f.mid new) (same f.unit f.there) f.calls;
   }
 
   pub calls_same : (es : List (Event BadUnit)) → IsLawful (needs_of project) es → ((place : ℕ) → HasBegun (states_in project es) place → SameCommand place) → (first : World) (at : Counts) (last : World) (now : Counts)
-      → CallsOver (call_basis_on_any read child setup project done) es first at last now → CallsOver (call_basis_on_any read child setup project done') es first at last now
+      → CallsOver (call_basis_on_any child setup project done) es first at last now → CallsOver (call_basis_on_any child setup project done') es first at last now
   calls_same [] lawful same first at last now calls = calls
   calls_same (Began place spawned ∷ es) lawful same first at last now (before, old, calls, begins) =
       let (earlier, may) = began_lawful (needs_of project) _ es place spawned lawful in (
@@ -97,12 +97,12 @@ module _ (read : Reading) (child : Answers) (setup : Setup) (project : Project) 
 -- What a unit in flight waits for: the end of its child, which saw what it is told to see of the world that it left; or the answer that its record gives again, which counts before.
 abbrev pub WaitsTold : CallBasis → ℕ → Planned → Command → World → World → List ChildInFlight → (ℕ → Type 0) → Awaited → Type 0
 WaitsTold told place u c before left flying still (awaited.Child launched) = IsInFlight told.child c (told.sees place u left) launched.ticket flying still
-WaitsTold told place u c before left flying still (awaited.Record again) = IsReplayed (record_at told.read (records_folder told.project) before.files u.key) again
+WaitsTold told place u c before left flying still (awaited.Record again) = IsReplayed (records (records_folder told.project) before u.key) again
 
-module _ (read : Reading) (child : Answers) (setup : Setup) (project : Project) (order : IsInOrder project) (place : ℕ) (u : Planned) (there : unit_at project place ≡ Some u)
+module _ (child : Answers) (setup : Setup) (project : Project) (order : IsInOrder project) (place : ℕ) (u : Planned) (there : unit_at project place ≡ Some u)
     (done : List (Option (List Directive))) (first before : World) (old : Counts) (still : ℕ → Type 0) (c : Command) where
   -- it was begun by the command that it has
-  pub asks_now : (by : Awaited) → CarriesAgain read setup project done first before u c by → CarriesAnew child setup project done before old.starts.flying still u c by → c ≡ command_of setup project u done
+  pub asks_now : (by : Awaited) → CarriesAgain setup project done first before u c by → CarriesAnew child setup project done before old.starts.flying still u c by → c ≡ command_of setup project u done
   asks_now (awaited.Child launched) again anew = anew.0
   asks_now (awaited.Record replays) again anew = again.asks
 
@@ -122,8 +122,8 @@ module _ (read : Reading) (child : Answers) (setup : Setup) (project : Project) 
           (subst (λ (out : List ℕ). ChangesOnly (is_at_or_below out) before left) (order.folders place u there) (only_started u.out c.out before left writes_to_folder inside)))
           u c is_for_unit far
 
-      pub waits_on_any : (by : Awaited) (answer : Result Ended StartFault) (well : Type 0) (mid : Counts) → CarriesAgain read setup project done first before u c by → CarriesAnew child setup project done before old.starts.flying still u c by
-          → EndsBy by answer well still before left old mid → WaitsTold (call_basis_on_any read child setup project done') place u c before left old.starts.flying still by
+      pub waits_on_any : (by : Awaited) (answer : Result Ended StartFault) (well : Type 0) (mid : Counts) → CarriesAgain setup project done first before u c by → CarriesAnew child setup project done before old.starts.flying still u c by
+          → EndsBy by answer well still before left old mid → WaitsTold (call_basis_on_any child setup project done') place u c before left old.starts.flying still by
       waits_on_any (awaited.Child launched) answer well mid again anew ends =
           let flight = anew.1 in
           let inside : ChangesOnlyInSome c.out before left =
@@ -136,5 +136,5 @@ module _ (read : Reading) (child : Answers) (setup : Setup) (project : Project) 
             stands = flight.stands;
           }
       waits_on_any (awaited.Record replays) answer well mid again anew ends =
-          ap (option_map replayed) (record_same read (records_folder project) first.files before.files u.key (again.stays (place_of (records_folder project) u.key) (place_its_own (records_folder project) u.key)) ∙ again.here)
+          ap (option_map replayed) (record_same reading (records_folder project) first.files before.files u.key (again.stays (place_of (records_folder project) u.key) (place_its_own (records_folder project) u.key)) ∙ again.here)
           ∙ ap Some (sym again.gives)

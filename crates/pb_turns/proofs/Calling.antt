@@ -1,7 +1,7 @@
 -- The calls of a crew, where a unit begins or answers, or a fault comes in its place.
-use Rattle.std.proofs.Common.{◌≡◌, ◌≢◌, ◌∙◌, ◌⊎◌, ◌∷◌, inl, inr, Bool, true, List, ℕ, Option, Some, None, Contains, Result, Ok, Err, IsTrue, refl, sym, ap, subst, is_some, slice_get, slice_set}
+use Rattle.std.proofs.Common.{◌≡◌, ◌≢◌, ◌∙◌, ◌∷◌, inr, Bool, true, List, ℕ, Option, Some, None, Contains, Result, Ok, Err, IsTrue, refl, sym, ap, subst, is_some, slice_get, slice_set}
 use Rattle.std.proofs.lemmas.Bool.{false≢true}
-use Rattle.std.specs.Prelude.{IfOk, IfSome, IsOk}
+use Rattle.std.specs.Prelude.{IfErr, IfOk, IfSome, IsOk}
 use Rattle.pb_answer.specs.declared.bad_unit.BadUnit.{BadUnit}
 use Rattle.pb_answer.specs.declared.fault.BuildFault.{BuildFault}
 use Rattle.pb_answer.specs.declared.fault.BuildFault.TheVariants.{OutOfMemory}
@@ -14,7 +14,7 @@ use Rattle.pb_flight.specs.Events.{Event, Began, Gave, IsLawful, MayBegin}
 use Rattle.pb_flight.specs.Laws.{HasBegun}
 use Rattle.pb_flight.specs.Table.{is_good_at}
 use Rattle.pb_flight.proofs.Ready.{good_at}
-use Rattle.pb_place.specs.CallsInTurn.{MakesSome, past_calls}
+use Rattle.pb_place.specs.CallsInTurn.{MakesSome}
 use Rattle.pb_place.specs.Children.{LandsAs, child_at, child_spawned, inside_out, landing}
 use Rattle.pb_place.specs.declared.call.Call.{Call}
 use Rattle.pb_place.specs.Counts.{Counts}
@@ -26,31 +26,24 @@ use Rattle.pb_place.specs.declared.command.Ended.{Ended}
 use Rattle.pb_place.specs.declared.place.StartFault.{StartFault}
 use Rattle.pb_place.proofs.CallsInTurn.{some_all}
 use Rattle.pb_project.specs.Targets.{unit_at}
-use Rattle.pb_record.specs.Parts.{IsReading}
-use Rattle.pb_run.specs.Causes.{StopsAt}
+use Rattle.pb_run.specs.Running.{StopsToBegin, past_look, CallsBehind, EndsBy, GivesRecord, answered_called, Launches}
 use Rattle.pb_run.specs.Halves.{Footing, Basis, basis, IsInFlight, WaitsBy, child_in, child_of, command_in, view_in}
-use Rattle.pb_run.specs.Landing.{CallsBehind, EndsBy, GivesRecord, answered_called}
-use Rattle.pb_run.specs.Launching.{HasLooked, LaunchEnds, Launches}
-use Rattle.pb_run.specs.Running.{StopsToBegin, past_look}
+use Rattle.pb_run.specs.Steps.{IsOfUnit, bare, fault_in}
 use Rattle.pb_run.specs.Standing.{IsInOrder, records_folder}
 use Rattle.pb_run.specs.declared.begun.Awaited.{Awaited}
 use Rattle.pb_run.specs.declared.begun.Awaited.TheVariants as awaited
 use Rattle.pb_run.specs.declared.begun.Begun.{Begun as unit_begun}
 use Rattle.pb_run.specs.declared.begun.Launched.{Launched}
+use Rattle.pb_run.specs.declared.faults.StepFault.{StepFault}
+use Rattle.pb_run.specs.declared.faults.StepFault.TheVariants as step
 use Rattle.pb_run.specs.declared.ran.Ran.{Ran}
 use Rattle.pb_run.proofs.Answering.{begun_as, command_out, landed_files}
-use Rattle.pb_run.proofs.Calling.{ended_badly, ended_well}
 use Rattle.pb_run.proofs.Halving.{is_command}
 use Rattle.pb_soundness.specs.Apart.{is_of}
-use Rattle.pb_soundness.specs.Records.{Reading, place_of, record_at}
-use Rattle.pb_store.specs.Differences.{FirstDifference}
-use Rattle.pb_store.specs.Looking.{looked_at}
-use Rattle.pb_store.specs.declared.difference.Difference.{Difference}
-use Rattle.pb_turns.specs.Again.{FliesAgain}
-use Rattle.pb_turns.specs.Anew.{FliesAnew}
-use Rattle.pb_turns.specs.Calling.{AnswersCalling, BeginsCalling, CallsCut, CallsCutOnAny, CallsOver, CallsOnAny, CallsToBegin, EndsAsReplied, FliesFor, CallBasis, reply_by, call_basis, call_basis_on_any}
-use Rattle.pb_turns.specs.Crew.{needs_of}
-use Rattle.pb_turns.specs.Moments.{Moment}
+use Rattle.pb_soundness.specs.Records.{place_of, records}
+use Rattle.pb_store.specs.declared.fault.StoreFault.TheVariants as store
+use Rattle.pb_turns.specs.Calling.{FliesAgain, FliesAnew, AnswersCalling, BeginsCalling, CallsCut, CallsCutOnAny, CallsOver, CallsOnAny, CallsToBegin, EndsAsReplied, FliesFor, CallBasis, reply_by, call_basis, call_basis_on_any}
+use Rattle.pb_turns.specs.Crew.{needs_of, Moment}
 use Rattle.pb_turns.specs.Rows.{is_started}
 use Rattle.pb_turns.specs.Story.{states_in, FliesIn, FliesSo, FromFirst, Story}
 use Rattle.pb_turns.specs.declared.crew.Aloft.{Aloft}
@@ -61,138 +54,107 @@ use Rattle.pb_turns.proofs.Lists.{all_get}
 use Rattle.pb_turns.proofs.Reaching.{all_reach, can_begin}
 use Rattle.pb_unit.specs.declared.plan.Planned.{Planned}
 
--- a child was launched behind its look
-pub launched_behind : {P : Type 0} (world : P → World) (counts : P → Counts) (tells : Bool) (child : Answers) (c : Command) (names : Reading → List Call) (before : World) (old new : Counts) (o : Option Launched)
-    → IfSome o (λ launched. (looked : P) × HasLooked tells names before (world looked) old (counts looked) × Launches child c launched.ticket (counts looked) new)
-    → (launched : Launched) → o ≡ Some launched → (read : Reading) → IsReading read → IsTrue tells → Launches child c launched.ticket (past_calls (names read) old) new
-launched_behind {P} world counts tells child c names before old new o launches launched is read reading t =
-    let (looked, has, so) = subst (λ (l : Option Launched). IfSome l (λ launched. (looked : P) × HasLooked tells names before (world looked) old (counts looked) × Launches child c launched.ticket (counts looked) new)) is launches in
-    subst (λ (k : Counts). Launches child c launched.ticket k new) (has.looks read reading t) so
-
 -- A unit begins.
 
 module _ (told : CallBasis) (unit : ℕ) (u : Planned) (there : unit_at told.project unit ≡ Some u) (before after : World) (old new : Counts) where
   -- by its command, whatever that is told by
   begins_calling : (begun : unit_begun) → begun.command ≡ told.command unit u → ChangesOnly (is_of (records_folder told.project) u.key) before after → (child_of begun ≡ None → after ≡ before)
-      → (child_of begun ≡ None → new ≡ past_look told.read true told.project u begun.command before old)
-      → ((launched : Launched) → child_of begun ≡ Some launched → Launches told.child begun.command launched.ticket (past_look told.read true told.project u begun.command before old) new)
+      → (child_of begun ≡ None → new ≡ past_look told.project u begun.command before old)
+      → ((launched : Launched) → child_of begun ≡ Some launched → Launches told.child begun.command launched.ticket (past_look told.project u begun.command before old) new)
       → BeginsCalling told unit (is_some (child_of begun)) before old after new
   begins_calling begun asks only same looks launches = record {
     unit = u;
     there = there;
     only = only;
-    calls = subst (λ (c : Command). CallsToBegin told.read told.child told.project u c (is_some (child_of begun)) before old after new) asks (by_child (child_of begun) refl);
+    calls = subst (λ (c : Command). CallsToBegin told.child told.project u c (is_some (child_of begun)) before old after new) asks (by_child (child_of begun) refl);
   }
     where
-      by_child : (o : Option Launched) → child_of begun ≡ o → CallsToBegin told.read told.child told.project u begun.command (is_some o) before old after new
+      by_child : (o : Option Launched) → child_of begun ≡ o → CallsToBegin told.child told.project u begun.command (is_some o) before old after new
       by_child None is = (same is, looks is)
       by_child (Some launched) is = (launched.ticket, launches launched is)
 
 module _ (tells : Bool) (child : Answers) (first old : UnitCrew) (at now new : Moment) (still : ℕ → Type 0) (es : List (Event BadUnit)) (given unit : ℕ) (u : Planned)
     (order : IsInOrder old.project) (there : unit_at old.project unit ≡ Some u) (story : Story tells child first at old now still es given) (may : MayBegin (needs_of old.project) (states_in old.project es) unit)
     (done : List (Option (List Directive))) (same_done : done ≡ old.done.items) where
-  abbrev Of : Footing → Reading → World → Basis
-  Of footing read sources = basis footing read child old.setup old.project sources
+  abbrev Of : Footing → World → Basis
+  Of footing sources = basis footing child old.setup old.project sources
 
-  abbrev OnAny : Reading → CallBasis
-  OnAny read = call_basis_on_any read child old.setup old.project old.done.items
+  abbrev OnAny : CallBasis
+  OnAny = call_basis_on_any child old.setup old.project old.done.items
 
   abbrev ByCommand : Command → Type 0
   ByCommand c = IsTrue tells → FromFirst child first at old (λ b. c ≡ command_in b unit u)
 
   commanded : (c : Command) → c ≡ command_of old.setup old.project u done → ByCommand c
-  commanded c is t f r s reading k =
-      let h = story.happened t f r s reading k in
-      is_command (Of f r s) order unit u there (states_in old.project es) old.done.items old.store.next now.world
-      (can_begin (Of f r s) order (states_in old.project es) old.done.items old.store.next now.world h.keeps unit u there may) c (is ∙ ap (command_of old.setup old.project u) same_done)
+  commanded c is t f s k =
+      let h = story.happened t f s k in
+      is_command (Of f s) order unit u there (states_in old.project es) old.done.items old.store.next now.world
+      (can_begin (Of f s) order (states_in old.project es) old.done.items old.store.next now.world h.keeps unit u there may) c (is ∙ ap (command_of old.setup old.project u) same_done)
 
   -- it has begun
   module _ (begun : unit_begun) (asks : begun.command ≡ command_of old.setup old.project u done) (only : IsTrue tells → ChangesOnly (is_of (records_folder old.project) u.key) now.world new.world) (same : IsTrue tells → child_of begun ≡ None → new.world ≡ now.world)
-      (looks : (read : Reading) → IsReading read → IsTrue tells → child_of begun ≡ None → new.counts ≡ past_look read old.store.numbers.known old.project u begun.command now.world now.counts)
-      (launches : (launched : Launched) → child_of begun ≡ Some launched → (read : Reading) → IsReading read → IsTrue tells → Launches child begun.command launched.ticket (past_look read old.store.numbers.known old.project u begun.command now.world now.counts) new.counts) where
-    looks_known : (read : Reading) → IsReading read → IsTrue tells → child_of begun ≡ None → new.counts ≡ past_look read true old.project u begun.command now.world now.counts
-    looks_known read reading t none = subst (λ b. new.counts ≡ past_look read b old.project u begun.command now.world now.counts) story.known (looks read reading t none)
-
-    launches_known : (launched : Launched) → child_of begun ≡ Some launched → (read : Reading) → IsReading read → IsTrue tells → Launches child begun.command launched.ticket (past_look read true old.project u begun.command now.world now.counts) new.counts
-    launches_known launched is read reading t = subst (λ b. Launches child begun.command launched.ticket (past_look read b old.project u begun.command now.world now.counts) new.counts) story.known (launches launched is read reading t)
-
+      (looks : IsTrue tells → child_of begun ≡ None → new.counts ≡ past_look old.project u begun.command now.world now.counts)
+      (launches : (launched : Launched) → child_of begun ≡ Some launched → IsTrue tells → Launches child begun.command launched.ticket (past_look old.project u begun.command now.world now.counts) new.counts) where
     pub calls_begun : IsTrue tells → FromFirst child first at old (λ b. CallsOver (call_basis b) (Began unit (is_some (child_of begun)) ∷ es) at.world at.counts new.world new.counts)
-    calls_begun t f r s reading k = (
+    calls_begun t f s k = (
       now.world,
       now.counts,
-      story.calls t f r s reading k,
-      begins_calling (call_basis (Of f r s)) unit u there now.world new.world now.counts new.counts begun (commanded begun.command asks t f r s reading k) (only t) (same t) (looks_known r reading t) (λ launched is. launches_known launched is r reading t),
+      story.calls t f s k,
+      begins_calling (call_basis (Of f s)) unit u there now.world new.world now.counts new.counts begun (commanded begun.command asks t f s k) (only t) (same t) (looks t) (λ launched is. launches launched is t),
     )
 
     pub calls_begun_on_any : (IsTrue tells → CallsOnAny child old.setup old.project old.done.items es at.world at.counts now.world now.counts)
         → IsTrue tells → CallsOnAny child old.setup old.project old.done.items (Began unit (is_some (child_of begun)) ∷ es) at.world at.counts new.world new.counts
-    calls_begun_on_any calls t read reading = (
+    calls_begun_on_any calls t = (
       now.world,
       now.counts,
-      calls t read reading,
-      begins_calling (OnAny read) unit u there now.world new.world now.counts new.counts begun (asks ∙ ap (command_of old.setup old.project u) same_done) (only t) (same t) (looks_known read reading t) (λ launched is. launches_known launched is read reading t),
+      calls t,
+      begins_calling (OnAny) unit u there now.world new.world now.counts new.counts begun (asks ∙ ap (command_of old.setup old.project u) same_done) (only t) (same t) (looks t) (λ launched is. launches launched is t),
     )
 
-  -- it could not: it stopped at its look, or something had differed
-  abbrev Differed : Bool → Reading → Command → BuildFault → Type 0
-  Differed known read c fault = StopsAt fault (looked_at read known (records_folder old.project) u.key c now.world) now.counts new.counts ⊎ ((difference : Difference) × FirstDifference read (records_folder old.project) u.key c now.world (Some difference))
-
-  module _ (spawned : Bool) (fault : BuildFault)
-      (stops : IsTrue tells → ((read : Reading) → IsReading read → StopsAt fault (looked_at read old.store.numbers.known (records_folder old.project) u.key (command_of old.setup old.project u done) now.world) now.counts new.counts)
-      ⊎ ((looked : Counts) × ((read : Reading) → IsReading read → looked ≡ past_look read old.store.numbers.known old.project u (command_of old.setup old.project u done) now.world now.counts)
-      × LaunchEnds (place_of (records_folder old.project) u.key) u.out fault looked new.counts))
-      (differed : (read : Reading) → IsReading read → IsTrue tells → Differed old.store.numbers.known read (command_of old.setup old.project u done) fault)
+  -- it could not
+  module _ (spawned : Bool) (fault : BuildFault) (named : IsOfUnit u.key fault) (stops : IsTrue tells → StopsToBegin old.project u (command_of old.setup old.project u done) (fault_in fault) now.world now.counts new.counts)
       (only : IsTrue tells → ChangesOnly (is_of (records_folder old.project) u.key) now.world new.world) where
-    differed_by : (read : Reading) (c : Command) → command_of old.setup old.project u done ≡ c → IsReading read → IsTrue tells → Differed true read c fault
-    differed_by read c is reading t = subst (λ (d : Command). Differed true read d fault) is (subst (λ b. Differed b read (command_of old.setup old.project u done) fault) story.known (differed read reading t))
-
-    stops_to_begin : IsTrue tells → (read : Reading) → IsReading read → StopsToBegin read old.store.numbers.known old.project u (command_of old.setup old.project u done) fault now.world now.counts new.counts
-    stops_to_begin t read reading = elim (stops t) [
-      | inl look ↦ inl (look read reading)
-      | inr (looked, past, ends) ↦ inr (subst (λ (c : Counts). LaunchEnds (place_of (records_folder old.project) u.key) u.out fault c new.counts) (past read reading) ends)
-    ]
-
-    stops_beginning : (read : Reading) (c : Command) → command_of old.setup old.project u done ≡ c → IsReading read → IsTrue tells → StopsToBegin read true old.project u c fault now.world now.counts new.counts
-    stops_beginning read c is reading t =
-        subst (λ (d : Command). StopsToBegin read true old.project u d fault now.world now.counts new.counts) is (subst (λ b. StopsToBegin read b old.project u (command_of old.setup old.project u done) fault now.world now.counts new.counts) story.known (stops_to_begin t read reading))
+    stops_beginning : (c : Command) → command_of old.setup old.project u done ≡ c → IsTrue tells → StopsToBegin old.project u c (fault_in fault) now.world now.counts new.counts
+    stops_beginning c is t = subst (λ (d : Command). StopsToBegin old.project u d (fault_in fault) now.world now.counts new.counts) is (stops t)
 
     pub calls_unbegun : IsTrue tells → FromFirst child first at old (λ b. CallsCut (call_basis b) fault None (Began unit spawned ∷ es) es at.world at.counts new.world new.counts)
-    calls_unbegun t f r s reading k = (
+    calls_unbegun t f s k = (
       now.world,
       now.counts,
-      story.calls t f r s reading k,
-      inr (unit, spawned, refl, record { unit = u; there = there; only = only t; stops = stops_beginning r (command_in (Of f r s) unit u) (commanded (command_of old.setup old.project u done) refl t f r s reading k) reading t; differed = differed_by r (command_in (Of f r s) unit u) (commanded (command_of old.setup old.project u done) refl t f r s reading k) reading t }),
+      story.calls t f s k,
+      inr (unit, spawned, refl, record { unit = u; there = there; only = only t; named = named; stops = stops_beginning (command_in (Of f s) unit u) (commanded (command_of old.setup old.project u done) refl t f s k) t }),
     )
 
     pub calls_unbegun_on_any : (IsTrue tells → CallsOnAny child old.setup old.project old.done.items es at.world at.counts now.world now.counts)
         → IsTrue tells → CallsCutOnAny child old.setup old.project old.done.items fault None (Began unit spawned ∷ es) es at.world at.counts new.world new.counts
-    calls_unbegun_on_any calls t read reading = (
+    calls_unbegun_on_any calls t = (
       now.world,
       now.counts,
-      calls t read reading,
-      inr (unit, spawned, refl, record { unit = u; there = there; only = only t; stops = stops_beginning read (command_of old.setup old.project u old.done.items) (ap (command_of old.setup old.project u) same_done) reading t; differed = differed_by read (command_of old.setup old.project u old.done.items) (ap (command_of old.setup old.project u) same_done) reading t }),
+      calls t,
+      inr (unit, spawned, refl, record { unit = u; there = there; only = only t; named = named; stops = stops_beginning (command_of old.setup old.project u old.done.items) (ap (command_of old.setup old.project u) same_done) t }),
     )
 
 -- A unit answers.
 
 -- what is called behind an answer is the same, whatever is told of it
-pub behind_well : (key : List ℕ) (by : Awaited) (names : Ended → List Call) (answer : Result Ended StartFault) (ran : Ran) (old new : Counts) → CallsBehind key by names answer (ended_well ran) old new → CallsBehind {T = Unit {0}} key by names answer (Ok tt) old new
-behind_well key (awaited.Child launched) names (Ok ended) ran old new is = is
-behind_well key (awaited.Record again) names (Ok ended) ran old new is = is
-behind_well key (awaited.Child launched) names (Err fault) ran old new is = is
-behind_well key (awaited.Record again) names (Err fault) ran old new is = is
+pub behind_well : (by : Awaited) (names : Ended → List Call) (answer : Result Ended StartFault) (ran : Ran) (old new : Counts) → CallsBehind {T = Ran} by names answer (Ok ran) old new → CallsBehind {T = Unit {0}} by names answer (Ok tt) old new
+behind_well (awaited.Child launched) names (Ok ended) ran old new is = is
+behind_well (awaited.Record again) names (Ok ended) ran old new is = is
+behind_well (awaited.Child launched) names (Err fault) ran old new is = is
+behind_well (awaited.Record again) names (Err fault) ran old new is = is
 
-pub behind_badly : (key : List ℕ) (by : Awaited) (names : Ended → List Call) (answer : Result Ended StartFault) (fault : BuildFault) (old new : Counts) → CallsBehind key by names answer (ended_badly fault) old new → CallsBehind {T = Unit {0}} key by names answer (Err fault) old new
-behind_badly key (awaited.Child launched) names (Ok ended) fault old new is = is
-behind_badly key (awaited.Record again) names (Ok ended) fault old new is = is
-behind_badly key (awaited.Child launched) names (Err e) fault old new is = is
-behind_badly key (awaited.Record again) names (Err e) fault old new is = is
+pub behind_badly : (by : Awaited) (names : Ended → List Call) (answer : Result Ended StartFault) (fault : StepFault) (old new : Counts) → CallsBehind {T = Ran} by names answer (Err fault) old new → CallsBehind {T = Unit {0}} by names answer (Err fault) old new
+behind_badly (awaited.Child launched) names (Ok ended) fault old new is = is
+behind_badly (awaited.Record again) names (Ok ended) fault old new is = is
+behind_badly (awaited.Child launched) names (Err e) fault old new is = is
+behind_badly (awaited.Record again) names (Err e) fault old new is = is
 
 -- memory is refused for the lines
-pub behind_untold : (key : List ℕ) (by : Awaited) (names : Ended → List Call) (answer : Result Ended StartFault) (ran : Ran) (old new : Counts) → IsOk answer → CallsBehind key by names answer (ended_well ran) old new → CallsBehind {T = Unit {0}} key by names answer (Err OutOfMemory) old new
-behind_untold key (awaited.Child launched) names (Ok ended) ran old new answered is = subst (MakesSome (names ended) old) (sym is) (some_all (names ended) old)
-behind_untold key (awaited.Record again) names (Ok ended) ran old new answered is = subst (MakesSome (names ended) old) (sym is) (some_all (names ended) old)
-behind_untold key by names (Err e) ran old new answered is = absurd (false≢true answered)
+pub behind_untold : (by : Awaited) (names : Ended → List Call) (answer : Result Ended StartFault) (ran : Ran) (old new : Counts) → IsOk answer → CallsBehind {T = Ran} by names answer (Ok ran) old new → CallsBehind {T = Unit {0}} by names answer (Err (step.Store store.OutOfMemory)) old new
+behind_untold (awaited.Child launched) names (Ok ended) ran old new answered is = subst (MakesSome (names ended) old) (sym is) (some_all (names ended) old)
+behind_untold (awaited.Record again) names (Ok ended) ran old new answered is = subst (MakesSome (names ended) old) (sym is) (some_all (names ended) old)
+behind_untold by names (Err e) ran old new answered is = absurd (false≢true answered)
 
 -- where all went well there is an answer
 has_answered : (by : Awaited) (answer : Result Ended StartFault) (well : Type 0) (still : ℕ → Type 0) (before left : World) (old mid : Counts) → EndsBy by answer well still before left old mid → well → IsOk answer
@@ -203,7 +165,7 @@ has_answered (awaited.Record again) answer well still before left old mid ends a
 
 module _ (told : CallBasis) (place : ℕ) (u : Planned) (there : unit_at told.project place ≡ Some u) (c : Command) (asks : c ≡ told.command place u) (writes : c.out ≡ Some u.out) (before left : World) (old : Counts) (still : ℕ → Type 0) where
   -- its record counts now, where it has no child
-  counts_now : (by : Awaited) → WaitsTold told place u c before left old.starts.flying still by → GivesRecord (record_at told.read (records_folder told.project) before.files u.key) by
+  counts_now : (by : Awaited) → WaitsTold told place u c before left old.starts.flying still by → GivesRecord (records (records_folder told.project) before u.key) by
   counts_now (awaited.Child launched) waits = tt
   counts_now (awaited.Record again) waits = waits
 
@@ -241,9 +203,9 @@ module _ (told : CallBasis) (place : ℕ) (u : Planned) (there : unit_at told.pr
   -- it has answered, or a fault came in its place
   answers_calling : (by : Awaited) (spawned : Bool) → spawned ≡ is_some (child_in by) → WaitsTold told place u c before left old.starts.flying still by
       → (answer : Result Ended StartFault) (result : Result (Unit {0}) BuildFault) (well : Type 0) → (IsOk result → well) → (mid : Counts) → EndsBy by answer well still before left old mid
-      → (after : World) (new : Counts) → ChangesOnly (is_at_or_below (place_of (records_folder told.project) u.key)) left after → CallsBehind u.key by (answered_called told.read true told.project u c left by) answer result mid new
+      → (after : World) (new : Counts) → ChangesOnly (is_at_or_below (place_of (records_folder told.project) u.key)) left after → IfErr result (IsOfUnit u.key) → CallsBehind by (answered_called told.project u c left by) answer (bare result) mid new
       → AnswersCalling told place spawned result before old after new
-  answers_calling by spawned is_child waits answer result well so mid ends after new only behind = record {
+  answers_calling by spawned is_child waits answer result well so mid ends after new only named behind = record {
     unit = u;
     there = there;
     by = by;
@@ -256,7 +218,8 @@ module _ (told : CallBasis) (place : ℕ) (u : Planned) (there : unit_at told.pr
     ends = stood_still by answer well (IsOk result) mid waits so ends;
     replied = λ started. replies_so by answer well mid waits ends (sym is_child ∙ started);
     only = only;
-    calls = subst (λ (d : Command). CallsBehind u.key by (answered_called told.read true told.project u d left by) answer result mid new) asks behind;
+    named = named;
+    calls = subst (λ (d : Command). CallsBehind by (answered_called told.project u d left by) answer (bare result) mid new) asks behind;
   }
 
 -- over a basis it waits so
@@ -267,50 +230,50 @@ waits_in b place u c next before left flying still (awaited.Record again) waits 
 
 -- In the story of a crew.
 
-module _ {P : Type 0} (world : P → World) (counts : P → Counts) (tells : Bool) (child : Answers) (first old : UnitCrew) (at now new : Moment) (still : ℕ → Type 0) (es : List (Event BadUnit)) (given : ℕ) (story : Story tells child first at old now still es given) (order : IsInOrder old.project)
+module _ (tells : Bool) (child : Answers) (first old : UnitCrew) (at now new : Moment) (still : ℕ → Type 0) (es : List (Event BadUnit)) (given : ℕ) (story : Story tells child first at old now still es given) (order : IsInOrder old.project)
     (index : ℕ) (a : Aloft) (at_index : slice_get old.aloft.items index ≡ Some a) (u : Planned) (there : unit_at old.project a.unit ≡ Some u) where
-  abbrev On : Footing → Reading → World → Basis
-  On footing read sources = basis footing read child old.setup old.project sources
+  abbrev On : Footing → World → Basis
+  On footing sources = basis footing child old.setup old.project sources
 
   -- what a call says that takes its answer
-  abbrev pub Lands : Result Ran BuildFault → Type 0
-  Lands said = IsTrue tells → (left : P) × (answer : Result Ended StartFault) × EndsBy a.begun.awaited answer (IsOk said) still now.world (world left) now.counts (counts left)
-      × ChangesOnly (is_at_or_below (place_of (records_folder old.project) u.key)) (world left) new.world
-      × ((read : Reading) → IsReading read → CallsBehind u.key a.begun.awaited (answered_called read old.store.numbers.known old.project u a.begun.command (world left) a.begun.awaited) answer said (counts left) new.counts)
+  abbrev pub Lands : Result Ran StepFault → Type 0
+  Lands said = IsTrue tells → (answer : Result Ended StartFault) × (left : World) × (mid : Counts) × EndsBy a.begun.awaited answer (IsOk said) still now.world left now.counts mid
+      × ChangesOnly (is_at_or_below (place_of (records_folder old.project) u.key)) left new.world
+      × CallsBehind a.begun.awaited (answered_called old.project u a.begun.command left a.begun.awaited) answer said mid new.counts
 
   -- what is called behind, whatever is told of it
-  abbrev Behind : Result (Unit {0}) BuildFault → Result Ran BuildFault → Type 0
-  Behind result said = (key : List ℕ) (by : Awaited) (names : Ended → List Call) (answer : Result Ended StartFault) (k k' : Counts) → (IsOk said → IsOk answer) → CallsBehind key by names answer said k k' → CallsBehind key by names answer result k k'
+  abbrev Behind : Result (Unit {0}) BuildFault → Result Ran StepFault → Type 0
+  Behind result said = (by : Awaited) (names : Ended → List Call) (answer : Result Ended StartFault) (k k' : Counts) → (IsOk said → IsOk answer) → CallsBehind by names answer said k k' → CallsBehind by names answer (bare result) k k'
 
-  answers : (result : Result (Unit {0}) BuildFault) (said : Result Ran BuildFault) → (IsOk result → IsOk said) → Behind result said → Lands said
+  answers : (result : Result (Unit {0}) BuildFault) (said : Result Ran StepFault) → (IsOk result → IsOk said) → IfErr result (IsOfUnit u.key) → Behind result said → Lands said
       → IsTrue tells → FromFirst child first at old (λ b. AnswersCalling (call_basis b) a.unit (is_started es a.unit) result now.world now.counts new.world new.counts)
-  answers result said so same_calls lands t f r s reading k =
-      let h = story.happened t f r s reading k in
-      let so_begun = all_get (FliesSo (On f r s) es old.store.next now.world now.counts.starts.flying still) old.aloft.items index a h.begun at_index in
-      let (asks, waits) = begun_as (On f r s) order a.unit u there a.begun old.store.next now.world now.counts.starts.flying still so_begun.begun_so in
-      let (left, answer, ends, only, behind) = lands t in
-      answers_calling (call_basis (On f r s)) a.unit u there a.begun.command asks (ap (λ (d : Command). d.out) asks ∙ command_out (On f r s) order a.unit u there) now.world (world left) now.counts still a.begun.awaited (is_started es a.unit) so_begun.started
-      (waits_in (On f r s) a.unit u a.begun.command old.store.next now.world (world left) now.counts.starts.flying still a.begun.awaited waits)
-      answer result (IsOk said) so (counts left) ends new.world new.counts only (same_calls u.key a.begun.awaited (answered_called r true old.project u a.begun.command (world left) a.begun.awaited) answer (counts left) new.counts
-      (has_answered a.begun.awaited answer (IsOk said) still now.world (world left) now.counts (counts left) ends) (subst (λ b. CallsBehind u.key a.begun.awaited (answered_called r b old.project u a.begun.command (world left) a.begun.awaited) answer said (counts left) new.counts) story.known (behind r reading)))
+  answers result said so named same_calls lands t f s k =
+      let h = story.happened t f s k in
+      let so_begun = all_get (FliesSo (On f s) es old.store.next now.world now.counts.starts.flying still) old.aloft.items index a h.begun at_index in
+      let (asks, waits) = begun_as (On f s) order a.unit u there a.begun old.store.next now.world now.counts.starts.flying still so_begun.begun_so in
+      let (answer, left, mid, ends, only, behind) = lands t in
+      answers_calling (call_basis (On f s)) a.unit u there a.begun.command asks (ap (λ (d : Command). d.out) asks ∙ command_out (On f s) order a.unit u there) now.world left now.counts still a.begun.awaited (is_started es a.unit) so_begun.started
+      (waits_in (On f s) a.unit u a.begun.command old.store.next now.world left now.counts.starts.flying still a.begun.awaited waits)
+      answer result (IsOk said) so mid ends new.world new.counts only named (same_calls a.begun.awaited (answered_called old.project u a.begun.command left a.begun.awaited) answer mid new.counts
+      (has_answered a.begun.awaited answer (IsOk said) still now.world left now.counts mid ends) behind)
 
   -- it has answered
-  pub calls_answered : (answer : Answer BadUnit) (ran : Ran) → Lands (ended_well ran) → IsTrue tells → FromFirst child first at old (λ b. CallsOver (call_basis b) (Gave a.unit answer ∷ es) at.world at.counts new.world new.counts)
-  calls_answered answer ran lands t f r s reading k =
-      (now.world, now.counts, story.calls t f r s reading k, answers (Ok tt) (ended_well ran) (λ ok. ok) (λ key by names said old new answered. behind_well key by names said ran old new) lands t f r s reading k)
+  pub calls_answered : (answer : Answer BadUnit) (ran : Ran) → Lands (Ok ran) → IsTrue tells → FromFirst child first at old (λ b. CallsOver (call_basis b) (Gave a.unit answer ∷ es) at.world at.counts new.world new.counts)
+  calls_answered answer ran lands t f s k =
+      (now.world, now.counts, story.calls t f s k, answers (Ok tt) (Ok ran) (λ ok. ok) tt (λ by names said old new answered. behind_well by names said ran old new) lands t f s k)
 
   -- a fault came in its place
   cut : (fault : BuildFault) (unit : ℕ) → unit ≡ a.unit → IsTrue tells → FromFirst child first at old (λ b. AnswersCalling (call_basis b) a.unit (is_started es a.unit) (Err fault) now.world now.counts new.world new.counts)
       → FromFirst child first at old (λ b. CallsCut (call_basis b) fault (Some unit) es es at.world at.counts new.world new.counts)
-  cut fault unit its t so f r s reading k =
-      (now.world, now.counts, story.calls t f r s reading k, subst (λ n. AnswersCalling (call_basis (On f r s)) n (is_started es n) (Err fault) now.world now.counts new.world new.counts) (sym its) (so f r s reading k))
+  cut fault unit its t so f s k =
+      (now.world, now.counts, story.calls t f s k, subst (λ n. AnswersCalling (call_basis (On f s)) n (is_started es n) (Err fault) now.world now.counts new.world new.counts) (sym its) (so f s k))
 
-  pub calls_unanswered : (fault : BuildFault) (unit : ℕ) → unit ≡ a.unit → Lands (ended_badly fault) → IsTrue tells → FromFirst child first at old (λ b. CallsCut (call_basis b) fault (Some unit) es es at.world at.counts new.world new.counts)
-  calls_unanswered fault unit its lands t = cut fault unit its t (answers (Err fault) (ended_badly fault) (λ ok. ok) (λ key by names said old new answered. behind_badly key by names said fault old new) lands t)
+  pub calls_unanswered : (fault : BuildFault) → IsOfUnit u.key fault → (unit : ℕ) → unit ≡ a.unit → Lands (Err (fault_in fault)) → IsTrue tells → FromFirst child first at old (λ b. CallsCut (call_basis b) fault (Some unit) es es at.world at.counts new.world new.counts)
+  calls_unanswered fault named unit its lands t = cut fault unit its t (answers (Err fault) (Err (fault_in fault)) (λ ok. ok) named (λ by names said old new answered. behind_badly by names said (fault_in fault) old new) lands t)
 
   -- memory is refused for its lines
-  pub calls_untold : (ran : Ran) (unit : ℕ) → unit ≡ a.unit → Lands (ended_well ran) → IsTrue tells → FromFirst child first at old (λ b. CallsCut (call_basis b) OutOfMemory (Some unit) es es at.world at.counts new.world new.counts)
-  calls_untold ran unit its lands t = cut OutOfMemory unit its t (answers (Err OutOfMemory) (ended_well ran) (λ none. refl) (λ key by names said old new answered. behind_untold key by names said ran old new (answered refl)) lands t)
+  pub calls_untold : (ran : Ran) (unit : ℕ) → unit ≡ a.unit → Lands (Ok ran) → IsTrue tells → FromFirst child first at old (λ b. CallsCut (call_basis b) OutOfMemory (Some unit) es es at.world at.counts new.world new.counts)
+  calls_untold ran unit its lands t = cut OutOfMemory unit its t (answers (Err OutOfMemory) (Ok ran) (λ none. refl) tt (λ by names said old new answered. behind_untold by names said ran old new (answered refl)) lands t)
 
   -- The same over any records.
 
@@ -325,47 +288,47 @@ module _ {P : Type 0} (world : P → World) (counts : P → Counts) (tells : Boo
         false≢true (ap is_good_at (sym begun ∙ ap (slice_get (states_in old.project es)) (sym same))
         ∙ good_at (states_in old.project es) u.reaches p (all_reach old.project order es lawful a.unit u (Begun, begun, refl) there) among)
 
-    answers_on_any : (done' : List (Option (List Directive))) → command_of old.setup old.project u old.done.items ≡ command_of old.setup old.project u done' → (result : Result (Unit {0}) BuildFault) (said : Result Ran BuildFault) → (IsOk result → IsOk said) → Behind result said → Lands said
-        → IsTrue tells → (read : Reading) → IsReading read → AnswersCalling (call_basis_on_any read child old.setup old.project done') a.unit (is_started es a.unit) result now.world now.counts new.world new.counts
-    answers_on_any done' same result said so same_calls lands t read reading =
+    answers_on_any : (done' : List (Option (List Directive))) → command_of old.setup old.project u old.done.items ≡ command_of old.setup old.project u done' → (result : Result (Unit {0}) BuildFault) (said : Result Ran StepFault) → (IsOk result → IsOk said) → IfErr result (IsOfUnit u.key) → Behind result said → Lands said
+        → IsTrue tells → AnswersCalling (call_basis_on_any child old.setup old.project done') a.unit (is_started es a.unit) result now.world now.counts new.world new.counts
+    answers_on_any done' same result said so named same_calls lands t =
         let flies = so_flies t in
-        let carries = all_get (λ (x : Aloft). FliesAgain read old.setup old.project old.done.items at.world now.world x) old.aloft.items index a ((story.again t).waits read reading) at_index u there in
-        let (left, answer, ends, only, behind) = lands t in
-        let asks = asks_now read child old.setup old.project order a.unit u there old.done.items at.world now.world now.counts still a.begun.command a.begun.awaited carries (anew t u there) in
-        answers_calling (call_basis_on_any read child old.setup old.project done') a.unit u there a.begun.command (asks ∙ same)
-        (writes_to_folder read child old.setup old.project order a.unit u there old.done.items at.world now.world now.counts still a.begun.command asks) now.world (world left) now.counts still a.begun.awaited (is_started es a.unit) flies.started
-        (waits_on_any read child old.setup old.project order a.unit u there old.done.items at.world now.world now.counts still a.begun.command asks (world left) (far flies.state) done' same a.begun.awaited answer (IsOk said) (counts left) carries (anew t u there) ends)
-        answer result (IsOk said) so (counts left) ends new.world new.counts only (same_calls u.key a.begun.awaited (answered_called read true old.project u a.begun.command (world left) a.begun.awaited) answer (counts left) new.counts
-        (has_answered a.begun.awaited answer (IsOk said) still now.world (world left) now.counts (counts left) ends) (subst (λ b. CallsBehind u.key a.begun.awaited (answered_called read b old.project u a.begun.command (world left) a.begun.awaited) answer said (counts left) new.counts) story.known (behind read reading)))
+        let carries = all_get (λ (x : Aloft). FliesAgain old.setup old.project old.done.items at.world now.world x) old.aloft.items index a ((story.again t).waits) at_index u there in
+        let (answer, left, mid, ends, only, behind) = lands t in
+        let asks = asks_now child old.setup old.project order a.unit u there old.done.items at.world now.world now.counts still a.begun.command a.begun.awaited carries (anew t u there) in
+        answers_calling (call_basis_on_any child old.setup old.project done') a.unit u there a.begun.command (asks ∙ same)
+        (writes_to_folder child old.setup old.project order a.unit u there old.done.items at.world now.world now.counts still a.begun.command asks) now.world left now.counts still a.begun.awaited (is_started es a.unit) flies.started
+        (waits_on_any child old.setup old.project order a.unit u there old.done.items at.world now.world now.counts still a.begun.command asks left (far flies.state) done' same a.begun.awaited answer (IsOk said) mid carries (anew t u there) ends)
+        answer result (IsOk said) so mid ends new.world new.counts only named (same_calls a.begun.awaited (answered_called old.project u a.begun.command left a.begun.awaited) answer mid new.counts
+        (has_answered a.begun.awaited answer (IsOk said) still now.world left now.counts mid ends) behind)
 
     -- it has answered; what is noted of it changes no command of those that have begun
-    pub calls_answered_on_any : (done' : List (Option (List Directive))) (d : Option (List Directive)) → done' ≡ slice_set old.done.items a.unit d → (answer : Answer BadUnit) (ran : Ran) → Lands (ended_well ran)
+    pub calls_answered_on_any : (done' : List (Option (List Directive))) (d : Option (List Directive)) → done' ≡ slice_set old.done.items a.unit d → (answer : Answer BadUnit) (ran : Ran) → Lands (Ok ran)
         → IsTrue tells → CallsOnAny child old.setup old.project done' (Gave a.unit answer ∷ es) at.world at.counts new.world new.counts
-    calls_answered_on_any done' d set answer ran lands t read reading =
+    calls_answered_on_any done' d set answer ran lands t =
         let flies = so_flies t in
         let same : (place : ℕ) → HasBegun (states_in old.project es) place → (v : Planned) → unit_at old.project place ≡ Some v → command_of old.setup old.project v old.done.items ≡ command_of old.setup old.project v done' =
         λ place has v at_v. command_stays old.setup old.project order es lawful a.unit flies.state old.done.items done' d set place v has at_v in (
           now.world,
           now.counts,
-          calls_same read child old.setup old.project old.done.items done' es lawful same at.world at.counts now.world now.counts (calls t read reading),
-          answers_on_any done' (same a.unit (Begun, flies.state, refl) u there) (Ok tt) (ended_well ran) (λ ok. ok) (λ key by names said old new answered. behind_well key by names said ran old new) lands t read reading,
+          calls_same child old.setup old.project old.done.items done' es lawful same at.world at.counts now.world now.counts (calls t),
+          answers_on_any done' (same a.unit (Begun, flies.state, refl) u there) (Ok tt) (Ok ran) (λ ok. ok) tt (λ by names said old new answered. behind_well by names said ran old new) lands t,
         )
 
     -- a fault came in its place
-    cut_on_any : (fault : BuildFault) (unit : ℕ) → unit ≡ a.unit → IsTrue tells → ((read : Reading) → IsReading read → AnswersCalling (call_basis_on_any read child old.setup old.project old.done.items) a.unit (is_started es a.unit) (Err fault) now.world now.counts new.world new.counts)
+    cut_on_any : (fault : BuildFault) (unit : ℕ) → unit ≡ a.unit → IsTrue tells → (AnswersCalling (call_basis_on_any child old.setup old.project old.done.items) a.unit (is_started es a.unit) (Err fault) now.world now.counts new.world new.counts)
         → CallsCutOnAny child old.setup old.project old.done.items fault (Some unit) es es at.world at.counts new.world new.counts
-    cut_on_any fault unit its t so read reading = (
+    cut_on_any fault unit its t so = (
       now.world,
       now.counts,
-      calls t read reading,
-      subst (λ n. AnswersCalling (call_basis_on_any read child old.setup old.project old.done.items) n (is_started es n) (Err fault) now.world now.counts new.world new.counts) (sym its) (so read reading),
+      calls t,
+      subst (λ n. AnswersCalling (call_basis_on_any child old.setup old.project old.done.items) n (is_started es n) (Err fault) now.world now.counts new.world new.counts) (sym its) (so),
     )
 
-    pub calls_unanswered_on_any : (fault : BuildFault) (unit : ℕ) → unit ≡ a.unit → Lands (ended_badly fault) → IsTrue tells → CallsCutOnAny child old.setup old.project old.done.items fault (Some unit) es es at.world at.counts new.world new.counts
-    calls_unanswered_on_any fault unit its lands t =
-        cut_on_any fault unit its t (answers_on_any old.done.items refl (Err fault) (ended_badly fault) (λ ok. ok) (λ key by names said old new answered. behind_badly key by names said fault old new) lands t)
+    pub calls_unanswered_on_any : (fault : BuildFault) → IsOfUnit u.key fault → (unit : ℕ) → unit ≡ a.unit → Lands (Err (fault_in fault)) → IsTrue tells → CallsCutOnAny child old.setup old.project old.done.items fault (Some unit) es es at.world at.counts new.world new.counts
+    calls_unanswered_on_any fault named unit its lands t =
+        cut_on_any fault unit its t (answers_on_any old.done.items refl (Err fault) (Err (fault_in fault)) (λ ok. ok) named (λ by names said old new answered. behind_badly by names said (fault_in fault) old new) lands t)
 
     -- memory is refused for its lines
-    pub calls_untold_on_any : (ran : Ran) (unit : ℕ) → unit ≡ a.unit → Lands (ended_well ran) → IsTrue tells → CallsCutOnAny child old.setup old.project old.done.items OutOfMemory (Some unit) es es at.world at.counts new.world new.counts
+    pub calls_untold_on_any : (ran : Ran) (unit : ℕ) → unit ≡ a.unit → Lands (Ok ran) → IsTrue tells → CallsCutOnAny child old.setup old.project old.done.items OutOfMemory (Some unit) es es at.world at.counts new.world new.counts
     calls_untold_on_any ran unit its lands t =
-        cut_on_any OutOfMemory unit its t (answers_on_any old.done.items refl (Err OutOfMemory) (ended_well ran) (λ none. refl) (λ key by names said old new answered. behind_untold key by names said ran old new (answered refl)) lands t)
+        cut_on_any OutOfMemory unit its t (answers_on_any old.done.items refl (Err OutOfMemory) (Ok ran) (λ none. refl) tt (λ by names said old new answered. behind_untold by names said ran old new (answered refl)) lands t)

@@ -18,7 +18,7 @@ use Rattle.pb_run.specs.Standing.{IsInOrder, records_folder}
 use Rattle.pb_run.specs.declared.begun.Launched.{Launched}
 use Rattle.pb_run.proofs.Writes.{flying_at}
 use Rattle.pb_soundness.specs.Apart.{is_of}
-use Rattle.pb_turns.specs.Crew.{AreApart, places_of, place_of_unit, tickets_of, ticket_in}
+use Rattle.pb_turns.specs.Crew.{AreApart, WritesOwn, places_of, place_of_unit, tickets_of, ticket_in}
 use Rattle.pb_turns.specs.Rows.{is_started}
 use Rattle.pb_turns.specs.Story.{states_in, Changes, FliesBeside, FliesIn, HasNoRecord, OnlyOf}
 use Rattle.pb_turns.specs.declared.crew.Aloft.{Aloft}
@@ -35,6 +35,32 @@ writes_on out None flying flying' flies stay writes = tt
 writes_on out (Some l) flying flying' flies stay writes =
     let (f, at) = flying_at l.ticket flying flies in
     subst (λ (x : Option ChildInFlight). IfSome x (λ s. s.command.out ≡ Some out)) (at ∙ sym (stay l refl f at)) writes
+
+-- The children of units in flight write into their units' folders.
+
+module _ (project : Project) (aloft : List Aloft) (flying flying' : List ChildInFlight) (flies : (index : ℕ) (a : Aloft) → slice_get aloft index ≡ Some a → IfSome (child_of a.begun) (λ l. is_flying l.ticket flying ≡ true))
+    (own : AllByRecursion (WritesOwn project flying) aloft) where
+  -- also with one more
+  pub owns_more : ((ticket : ℕ) (its : ChildInFlight) → child_at ticket flying ≡ Some its → child_at ticket flying' ≡ Some its) → (a : Aloft) (u : Planned) → unit_at project a.unit ≡ Some u → WritesTo u.out (child_of a.begun) flying'
+      → (aloft' : List Aloft) → aloft' ≡ aloft ++ a ∷ [] → AllByRecursion (WritesOwn project flying') aloft'
+  owns_more stay a u there writes aloft' is =
+      subst (AllByRecursion (WritesOwn project flying')) (sym is)
+      (all_more (WritesOwn project flying') aloft (a ∷ [])
+      (all_at_each (WritesOwn project flying) (WritesOwn project flying') aloft (λ j y at_j its v at_v. writes_on v.out (child_of y.begun) flying flying' (flies j y at_j) (λ l theirs. stay l.ticket) (its v at_v)) own)
+      ((λ v at_v. subst (λ (x : Planned). WritesTo x.out (child_of a.begun) flying') (injective (sym there ∙ at_v)) writes), tt))
+
+  -- also with one less
+  pub owns_less : (index : ℕ) (a : Aloft) → slice_get aloft index ≡ Some a → AreApart (tickets_of aloft)
+      → ((ticket : ℕ) (its : ChildInFlight) → IfSome (child_of a.begun) (λ l. ticket ≢ l.ticket) → child_at ticket flying ≡ Some its → child_at ticket flying' ≡ Some its)
+      → (aloft' : List Aloft) → aloft' ≡ remove aloft index → AllByRecursion (WritesOwn project flying') aloft'
+  owns_less index a at tickets stay aloft' is =
+      subst (AllByRecursion (WritesOwn project flying')) (sym is)
+      (all_left (WritesOwn project flying) (WritesOwn project flying') aloft index
+      (λ j y at_j ne its v at_v. writes_on v.out (child_of y.begun) flying flying' (flies j y at_j) (λ l theirs it. stay l.ticket it (other j y at_j ne l theirs (child_of a.begun) refl)) (its v at_v)) own)
+    where
+      other : (j : ℕ) (y : Aloft) → slice_get aloft j ≡ Some y → j ≢ index → (l : Launched) → child_of y.begun ≡ Some l → (o : Option Launched) → child_of a.begun ≡ o → IfSome o (λ k. l.ticket ≢ k.ticket)
+      other j y at_j ne l theirs None ours = tt
+      other j y at_j ne l theirs (Some k) ours = flat_apart (λ (x : Aloft). ticket_in (child_of x.begun)) aloft j index y a l.ticket k.ticket tickets at_j at (ap ticket_in theirs) (ap ticket_in ours) ne
 
 -- only what is of these units was changed, also where one more has begun
 only_more : (project : Project) (es : List (Event BadUnit)) (e : Event BadUnit) (first w w' : World) (unit : ℕ) (u : Planned) → unit_at project unit ≡ Some u

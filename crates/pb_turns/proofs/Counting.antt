@@ -17,16 +17,16 @@ use Rattle.pb_flight.proofs.Ending.{due_begun}
 use Rattle.pb_flight.proofs.Handing.{due_split}
 use Rattle.pb_flight.proofs.Lists.{injective, clash, get_set_same}
 use Rattle.pb_place.specs.Counts.{Counts, Starts, up, up_starts}
-use Rattle.pb_place.specs.Sinks.{TakesPart}
+use Rattle.pb_place.specs.Sinks.{Heard, TakesPart}
 use Rattle.pb_place.specs.declared.place.StartFault.TheVariants as start
 use Rattle.pb_project.specs.Targets.{unit_at}
 use Rattle.pb_answer.specs.declared.bad_unit.BadUnit.{BadUnit}
 use Rattle.pb_project.specs.declared.project.Project.{Project}
-use Rattle.pb_run.specs.Causes.{HasCause, is_of_start, MayBeginUnit, MayAnswerUnit, BeginsBy, LandsBy}
+use Rattle.pb_run.specs.Steps.{HasCause, is_of_start, BeginsBy, LandsBy}
+use Rattle.pb_run.proofs.Naming.{MayAnswerUnit, MayBeginUnit}
 use Rattle.pb_run.specs.Halves.{child_of, key_at, key_in}
 use Rattle.pb_run.specs.declared.begun.Launched.{Launched}
-use Rattle.pb_turns.specs.Crew.{AreApart, places_of, ticket_of_child, ticket_in, tickets_of, launched_of}
-use Rattle.pb_turns.specs.Moments.{Moment, Heard}
+use Rattle.pb_turns.specs.Crew.{AreApart, places_of, ticket_of_child, ticket_in, tickets_of, launched_of, Moment}
 use Rattle.pb_turns.specs.Story.{states_in, upped, CameAfter, NamesUnit, Goes, NoneWritesTo, NumbersGiven, Spends, Stops, StopsAt, StopsAtSink, StopsBy}
 use Rattle.pb_turns.specs.declared.crew.Aloft.{Aloft}
 use Rattle.pb_turns.proofs.Lists.{all_get, flat_more, get_map, length_push, without_first, without_other}

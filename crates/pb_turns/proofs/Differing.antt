@@ -20,20 +20,18 @@ use Rattle.pb_place.specs.World.{World, Answers, ChangesOnly, from_nothing}
 use Rattle.pb_place.specs.declared.command.Command.{Command}
 use Rattle.pb_project.specs.Targets.{unit_at}
 use Rattle.pb_project.specs.declared.project.Project.{Project}
-use Rattle.pb_record.specs.Parts.{IsReading}
-use Rattle.pb_run.specs.Causes.{is_of_start}
+use Rattle.pb_run.specs.Steps.{is_of_start}
 use Rattle.pb_run.specs.Halves.{Basis, Keeps, child_of, command_in}
 use Rattle.pb_run.specs.Standing.{IsInOrder, records_folder}
 use Rattle.pb_run.specs.declared.begun.Begun.{Begun as unit_begun}
 use Rattle.pb_run.proofs.Answering.{reached_stand}
 use Rattle.pb_run.proofs.Shown.{commanded}
 use Rattle.pb_soundness.specs.Apart.{is_of}
-use Rattle.pb_soundness.specs.Records.{Reading, place_of, record_at}
+use Rattle.pb_soundness.specs.Records.{place_of, records}
 use Rattle.pb_store.specs.Differences.{FirstDifference}
-use Rattle.pb_store.specs.Migrating.{lacks_number}
+use Rattle.pb_store.specs.Folder.{lacks_number}
 use Rattle.pb_store.specs.declared.difference.Difference.{Difference}
-use Rattle.pb_turns.specs.Crew.{needs_of}
-use Rattle.pb_turns.specs.Moments.{Moment}
+use Rattle.pb_turns.specs.Crew.{needs_of, Moment}
 use Rattle.pb_turns.specs.Rows.{Reasons}
 use Rattle.pb_turns.specs.Story.{states_in, AllBegan, AllBeganFor, AllBeganOnAny, BeganFor, FliesIn, HadDiffered, IsQuiet, KeepsChildless, KeepsNoneInFlight, OnlyOf, StartedFor, StartedOnAny, Story}
 use Rattle.pb_turns.specs.declared.crew.Aloft.{Aloft}
@@ -49,11 +47,11 @@ use Rattle.pb_unit.specs.declared.plan.Planned.{Planned}
 some_none : {A : Type 0} (x : A) → Some x ≡ None → ⊥
 some_none x e = cc
 
-module _ (project : Project) (read : Reading) (sources : World) where
+module _ (project : Project) (sources : World) where
   -- A unit begins.
 
   module _ (command : ℕ → Planned → Command) (order : IsInOrder project) (es : List (Event BadUnit)) (lawful : IsLawful (needs_of project) es) (reasons : Reasons) (first w w' : World) (only_first : OnlyOf project es first w) (stay : from_nothing project.workspace.target w ≡ sources)
-      (quiet : IsQuiet project read es first w) (gone : KeepsNoneInFlight project es None w) (waiting : KeepsChildless project es None first w) (began_before : AllBegan project read sources command es reasons first w) (unit : ℕ) (u : Planned) (there : unit_at project unit ≡ Some u) (may : MayBegin (needs_of project) (states_in project es) unit) (only : ChangesOnly (is_of (records_folder project) u.key) w w') where
+      (quiet : IsQuiet project es first w) (gone : KeepsNoneInFlight project es None w) (waiting : KeepsChildless project es None first w) (began_before : AllBegan project sources command es reasons first w) (unit : ℕ) (u : Planned) (there : unit_at project unit ≡ Some u) (may : MayBegin (needs_of project) (states_in project es) unit) (only : ChangesOnly (is_of (records_folder project) u.key) w w') where
     ne_begun : (place : ℕ) → HasBegun (states_in project es) place → unit ≢ place
     ne_begun place has = another (states_in project es) unit place may.untouched has
 
@@ -69,9 +67,9 @@ module _ (project : Project) (read : Reading) (sources : World) where
     unanswered p a still same =
         begun_apart a (sym (get_set_same (states_in project es) unit Untouched Begun may.untouched) ∙ ap (slice_get (slice_set (states_in project es) unit Begun)) same ∙ still)
 
-    module _ (spawned : Bool) (difference : Option Difference) (named : FirstDifference read (records_folder project) u.key (command unit u) w difference) (flag : spawned ≡ is_some difference) (within : unit < length reasons) (same : difference ≡ None → w' ≡ w) where
+    module _ (spawned : Bool) (difference : Option Difference) (named : FirstDifference (records_folder project) u.key (command unit u) w difference) (flag : spawned ≡ is_some difference) (within : unit < length reasons) (same : difference ≡ None → w' ≡ w) where
       -- also where it could not
-      pub own_began : BeganFor project read sources command (Began unit spawned ∷ es) (slice_set reasons unit (Some difference)) first w' unit
+      pub own_began : BeganFor project sources command (Began unit spawned ∷ es) (slice_set reasons unit (Some difference)) first w' unit
       own_began = record {
         unit = u;
         there = there;
@@ -89,12 +87,12 @@ module _ (project : Project) (read : Reading) (sources : World) where
         started = started_now es unit spawned ∙ flag;
         noted = get_put reasons unit (Some difference) within;
         folder_stays = λ none q inside.
-            ap (λ (v : World). finite.get v.files q) (same none) ∙ only_first.files q (λ place v has at. not_of_two project order unit place u v there at (ne_begun place has) q (inside_folder project read sources command order unit u there q inside));
+            ap (λ (v : World). finite.get v.files q) (same none) ∙ only_first.files q (λ place v has at. not_of_two project order unit place u v there at (ne_begun place has) q (inside_folder project sources command order unit u there q inside));
         kept_stays = λ none numbered q inside. ap (λ (v : World). finite.get v.files q) (same none) ∙ only_first.files q (λ place v has at. not_of_two project order unit place u v there at (ne_begun place has) q inside);
         unstarted = λ none. quiet (sym (ap (λ (x : List (Event BadUnit)). started_by x) (before_now es unit spawned)) ∙ none);
       }
 
-      old_began : AllBegan project read sources command es reasons first w' → (place : ℕ) → HasBegun (states_in project es) place → BeganFor project read sources command (Began unit spawned ∷ es) (slice_set reasons unit (Some difference)) first w' place
+      old_began : AllBegan project sources command es reasons first w' → (place : ℕ) → HasBegun (states_in project es) place → BeganFor project sources command (Began unit spawned ∷ es) (slice_set reasons unit (Some difference)) first w' place
       old_began began place has = let f = began place has in record {
         unit = f.unit;
         there = f.there;
@@ -118,22 +116,22 @@ module _ (project : Project) (read : Reading) (sources : World) where
         unstarted = λ none. f.unstarted (sym (ap (λ (x : List (Event BadUnit)). started_by x) (before_other es unit place spawned (ne_begun place has))) ∙ none);
       }
 
-      pub began_more : AllBegan project read sources command (Began unit spawned ∷ es) (slice_set reasons unit (Some difference)) first w'
+      pub began_more : AllBegan project sources command (Began unit spawned ∷ es) (slice_set reasons unit (Some difference)) first w'
       began_more place has = elim (begun_cases (states_in project es) unit place Begun has) [
-        | inl is ↦ subst (BeganFor project read sources command (Began unit spawned ∷ es) (slice_set reasons unit (Some difference)) first w') is own_began
-        | inr before ↦ old_began (began_beside project read sources command order es reasons first w w' unit u there may.untouched only began_before) place before
+        | inl is ↦ subst (BeganFor project sources command (Began unit spawned ∷ es) (slice_set reasons unit (Some difference)) first w') is own_began
+        | inr before ↦ old_began (began_beside project sources command order es reasons first w w' unit u there may.untouched only began_before) place before
       ]
 
   -- A unit answers.
 
   pub began_after : (command : ℕ → Planned → Command) (es : List (Event BadUnit)) → IsLawful (needs_of project) es → (reasons : Reasons) (first now : World) (unit : ℕ) (answer : Answer BadUnit) → slice_get (states_in project es) unit ≡ Some Begun
-      → AllBegan project read sources command es reasons first now → AllBegan project read sources command (Gave unit answer ∷ es) reasons first now
+      → AllBegan project sources command es reasons first now → AllBegan project sources command (Gave unit answer ∷ es) reasons first now
   began_after command es lawful reasons first now unit answer state began place has = elim (begun_cases (states_in project es) unit place (Answered answer) has) [
     | inl same ↦ went (began place (Begun, subst (λ n. slice_get (states_in project es) n ≡ Some Begun) same state, refl))
     | inr before ↦ went (began place before)
   ]
     where
-      went : BeganFor project read sources command es reasons first now place → BeganFor project read sources command (Gave unit answer ∷ es) reasons first now place
+      went : BeganFor project sources command es reasons first now place → BeganFor project sources command (Gave unit answer ∷ es) reasons first now place
       went f = record {
         unit = f.unit;
         there = f.there;
@@ -159,7 +157,7 @@ module _ (project : Project) (read : Reading) (sources : World) where
 
   module _ (sources' : World) (is : sources ≡ sources') (command command' : ℕ → Planned → Command) where
     pub began_so : (es : List (Event BadUnit)) (reasons : Reasons) (first now : World) (place : ℕ) → ((u : Planned) → unit_at project place ≡ Some u → are_good (states_in project es) u.reaches ≡ true → command place u ≡ command' place u)
-        → BeganFor project read sources command es reasons first now place → BeganFor project read sources' command' es reasons first now place
+        → BeganFor project sources command es reasons first now place → BeganFor project sources' command' es reasons first now place
     began_so es reasons first now place same f = record {
       unit = f.unit;
       there = f.there;
@@ -173,7 +171,7 @@ module _ (project : Project) (read : Reading) (sources : World) where
       unrecorded = f.unrecorded;
       waiting_stay = f.waiting_stay;
       difference = f.difference;
-      named = subst (λ (c : Command). FirstDifference read (records_folder project) f.unit.key c f.world f.difference) (same f.unit f.there f.reaches) f.named;
+      named = subst (λ (c : Command). FirstDifference (records_folder project) f.unit.key c f.world f.difference) (same f.unit f.there f.reaches) f.named;
       started = f.started;
       noted = f.noted;
       folder_stays = f.folder_stays;
@@ -198,15 +196,15 @@ module _ (b : Basis) (order : IsInOrder b.project) (es : List (Event BadUnit)) (
   commands place u = command_of b.setup b.project u done
 
   pub began_from_nothing : (before : List (Event BadUnit)) (reasons : Reasons) (now : World) → IsLawful (needs_of b.project) es → OrBefore before es
-      → AllBegan b.project b.read (from_nothing b.project.workspace.target first) commands before reasons first now → AllBeganFor b before reasons first now
+      → AllBegan b.project (from_nothing b.project.workspace.target first) commands before reasons first now → AllBeganFor b before reasons first now
   began_from_nothing before reasons now lawful came began place has =
-      began_so b.project b.read (from_nothing b.project.workspace.target first) b.sources sources commands (command_in b) before reasons first now place (λ u at good. commanded_so place u at (good_later b.project before es lawful came u.reaches good)) (began place has)
+      began_so b.project (from_nothing b.project.workspace.target first) b.sources sources commands (command_in b) before reasons first now place (λ u at good. commanded_so place u at (good_later b.project before es lawful came u.reaches good)) (began place has)
 
-  pub started_from_nothing : (fault : BuildFault) (before : List (Event BadUnit)) (now : World) → HadDiffered b.project b.read (from_nothing b.project.workspace.target first) commands fault before es first now → StartedFor b fault before es first now
+  pub started_from_nothing : (fault : BuildFault) (before : List (Event BadUnit)) (now : World) → HadDiffered b.project (from_nothing b.project.workspace.target first) commands fault before es first now → StartedFor b fault before es first now
   started_from_nothing fault before now had place spawned is so =
       let (reasons, f) = had place spawned is so in (
         reasons,
-        began_so b.project b.read (from_nothing b.project.workspace.target first) b.sources sources commands (command_in b) (Began place true ∷ before) reasons first now place
+        began_so b.project (from_nothing b.project.workspace.target first) b.sources sources commands (command_in b) (Began place true ∷ before) reasons first now place
             (λ u at good. commanded_so place u at (subst (λ (x : List (Event BadUnit)). are_good (states_in b.project x) u.reaches ≡ true) (sym is) good)) f,
       )
 
@@ -234,56 +232,56 @@ module _ (tells : Bool) (child : Answers) (first old : UnitCrew) (at now new : M
 
   module _ (unit : ℕ) (u : Planned) (there : unit_at old.project unit ≡ Some u) (may : MayBegin (needs_of old.project) (states_in old.project es) unit) (only : IsTrue tells → ChangesOnly (is_of (records_folder old.project) u.key) now.world new.world)
       (done : List (Option (List Directive))) (same_done : done ≡ old.done.items) where
-    by_done : (read : Reading) (c : Command) (difference : Option Difference) → c ≡ command_of old.setup old.project u done → FirstDifference read (records_folder old.project) u.key c now.world difference
-        → FirstDifference read (records_folder old.project) u.key (commands_of old.done.items unit u) now.world difference
-    by_done read c difference asks named = subst (λ (d : Command). FirstDifference read (records_folder old.project) u.key d now.world difference) (asks ∙ ap (command_of old.setup old.project u) same_done) named
+    by_done : (c : Command) (difference : Option Difference) → c ≡ command_of old.setup old.project u done → FirstDifference (records_folder old.project) u.key c now.world difference
+        → FirstDifference (records_folder old.project) u.key (commands_of old.done.items unit u) now.world difference
+    by_done c difference asks named = subst (λ (d : Command). FirstDifference (records_folder old.project) u.key d now.world difference) (asks ∙ ap (command_of old.setup old.project u) same_done) named
 
     -- it has
     pub begun_began : (begun : unit_begun) → begun.command ≡ command_of old.setup old.project u done → (difference : Option Difference) (reasons' : Reasons)
-        → ((read : Reading) → IsReading read → IsTrue tells → FirstDifference read (records_folder old.project) u.key begun.command now.world difference) → is_some (child_of begun) ≡ is_some difference → unit < length old.reasons.items
+        → (IsTrue tells → FirstDifference (records_folder old.project) u.key begun.command now.world difference) → is_some (child_of begun) ≡ is_some difference → unit < length old.reasons.items
         → (IsTrue tells → child_of begun ≡ None → new.world ≡ now.world) → reasons' ≡ slice_set old.reasons.items unit (Some difference)
         → IsTrue tells → AllBeganOnAny old.setup old.project old.done.items (Began unit (is_some (child_of begun)) ∷ es) reasons' at.world new.world
-    begun_began begun asks difference reasons' differs spawned within same noted t read reading =
-        subst (λ (items : Reasons). AllBegan old.project read (from_nothing old.project.workspace.target at.world) (commands_of old.done.items) (Began unit (is_some (child_of begun)) ∷ es) items at.world new.world) (sym noted)
-        (began_more old.project read (from_nothing old.project.workspace.target at.world) (commands_of old.done.items) order es lawful old.reasons.items at.world now.world new.world (story.changes t).only (stay_first t) (story.quiet t read reading) (story.unrecorded t) (story.childless t) (story.began t read reading) unit u there may (only t)
-        (is_some (child_of begun)) difference (by_done read begun.command difference asks (differs read reading t)) spawned within
+    begun_began begun asks difference reasons' differs spawned within same noted t =
+        subst (λ (items : Reasons). AllBegan old.project (from_nothing old.project.workspace.target at.world) (commands_of old.done.items) (Began unit (is_some (child_of begun)) ∷ es) items at.world new.world) (sym noted)
+        (began_more old.project (from_nothing old.project.workspace.target at.world) (commands_of old.done.items) order es lawful old.reasons.items at.world now.world new.world (story.changes t).only (stay_first t) (story.quiet t) (story.unrecorded t) (story.childless t) (story.began t) unit u there may (only t)
+        (is_some (child_of begun)) difference (by_done begun.command difference asks (differs t)) spawned within
         (λ none. same t (none_of (child_of begun) (spawned ∙ ap (λ (o : Option Difference). is_some o) none))))
 
     -- it could not
     pub unbegun_began : IsTrue tells → AllBeganOnAny old.setup old.project old.done.items es old.reasons.items at.world new.world
-    unbegun_began t read reading =
-        began_beside old.project read (from_nothing old.project.workspace.target at.world) (commands_of old.done.items) order es old.reasons.items at.world now.world new.world unit u there may.untouched (only t) (story.began t read reading)
+    unbegun_began t =
+        began_beside old.project (from_nothing old.project.workspace.target at.world) (commands_of old.done.items) order es old.reasons.items at.world now.world new.world unit u there may.untouched (only t) (story.began t)
 
     pub unbegun_started : (spawned : Bool) (fault : BuildFault) → unit < length old.reasons.items
-        → ((read : Reading) → IsReading read → IsTrue tells → (is_of_start fault ≡ true) ⊎ (spawned ≡ true) → (difference : Difference) × FirstDifference read (records_folder old.project) u.key (command_of old.setup old.project u done) now.world (Some difference))
+        → (IsTrue tells → (is_of_start fault ≡ true) ⊎ (spawned ≡ true) → (difference : Difference) × FirstDifference (records_folder old.project) u.key (command_of old.setup old.project u done) now.world (Some difference))
         → IsTrue tells → StartedOnAny old.setup old.project old.done.items fault es (Began unit spawned ∷ es) at.world new.world
-    unbegun_started spawned fault within cause t read reading =
-        start_told old.project read (from_nothing old.project.workspace.target at.world) (commands_of old.done.items) fault es at.world new.world unit spawned (λ so.
-        let (difference, named) = cause read reading t so in (
+    unbegun_started spawned fault within cause t =
+        start_told old.project (from_nothing old.project.workspace.target at.world) (commands_of old.done.items) fault es at.world new.world unit spawned (λ so.
+        let (difference, named) = cause t so in (
           slice_set old.reasons.items unit (Some (Some difference)),
-          own_began old.project read (from_nothing old.project.workspace.target at.world) (commands_of old.done.items) order es lawful old.reasons.items at.world now.world new.world (story.changes t).only (stay_first t) (story.quiet t read reading) (story.unrecorded t) (story.childless t) (story.began t read reading) unit u there may (only t)
-              true (Some difference) (by_done read (command_of old.setup old.project u done) (Some difference) refl named) refl within (λ none. absurd (some_none difference none)),
+          own_began old.project (from_nothing old.project.workspace.target at.world) (commands_of old.done.items) order es lawful old.reasons.items at.world now.world new.world (story.changes t).only (stay_first t) (story.quiet t) (story.unrecorded t) (story.childless t) (story.began t) unit u there may (only t)
+              true (Some difference) (by_done (command_of old.setup old.project u done) (Some difference) refl named) refl within (λ none. absurd (some_none difference none)),
         ))
 
   -- A unit answers.
 
   module _ (index : ℕ) (a : Aloft) (u : Planned) (there : unit_at old.project a.unit ≡ Some u) (at_index : slice_get old.aloft.items index ≡ Some a) (only : IsTrue tells → ChangesOnly (is_of (records_folder old.project) u.key) now.world new.world)
-      (same : (read : Reading) → IsReading read → IsTrue tells → child_of a.begun ≡ None → lacks_number (record_at read (records_folder old.project) now.world.files u.key) ≡ false → new.world ≡ now.world)
+      (same : IsTrue tells → child_of a.begun ≡ None → lacks_number (records (records_folder old.project) now.world u.key) ≡ false → new.world ≡ now.world)
       (folder : IsTrue tells → child_of a.begun ≡ None → (q : List ℕ) → is_at_or_below u.out q ≡ true → finite.get new.world.files q ≡ finite.get now.world.files q) where
     so : IsTrue tells → FliesIn old.project es now.world now.counts.starts.flying a
     so t = all_get (FliesIn old.project es now.world now.counts.starts.flying) old.aloft.items index a (story.changes t).flies at_index
 
     -- a fault came in its place
     pub unanswered_began : IsTrue tells → AllBeganOnAny old.setup old.project old.done.items es old.reasons.items at.world new.world
-    unanswered_began t read reading =
-        answered_beside old.project read (from_nothing old.project.workspace.target at.world) (commands_of old.done.items) order es old.reasons.items at.world now.world new.world a.unit u there (so t).state (child_of a.begun) (so t).started (only t) (same read reading t) (folder t)
-        (story.began t read reading)
+    unanswered_began t =
+        answered_beside old.project (from_nothing old.project.workspace.target at.world) (commands_of old.done.items) order es old.reasons.items at.world now.world new.world a.unit u there (so t).state (child_of a.begun) (so t).started (only t) (same t) (folder t)
+        (story.began t)
 
     -- what is noted of it changes no command of those that have begun
     pub answered_began : (done' : List (Option (List Directive))) (d : Option (List Directive)) (answer : Answer BadUnit) → done' ≡ slice_set old.done.items a.unit d
         → IsTrue tells → AllBeganOnAny old.setup old.project done' (Gave a.unit answer ∷ es) old.reasons.items at.world new.world
-    answered_began done' d answer set t read reading =
-        began_after old.project read (from_nothing old.project.workspace.target at.world) (commands_of done') es lawful old.reasons.items at.world new.world a.unit answer (so t).state
-        (λ place has. began_so old.project read (from_nothing old.project.workspace.target at.world) (from_nothing old.project.workspace.target at.world) refl (commands_of old.done.items) (commands_of done') es old.reasons.items at.world new.world place
+    answered_began done' d answer set t =
+        began_after old.project (from_nothing old.project.workspace.target at.world) (commands_of done') es lawful old.reasons.items at.world new.world a.unit answer (so t).state
+        (λ place has. began_so old.project (from_nothing old.project.workspace.target at.world) (from_nothing old.project.workspace.target at.world) refl (commands_of old.done.items) (commands_of done') es old.reasons.items at.world new.world place
         (λ v at_v good. command_stays old.setup old.project order es lawful a.unit (so t).state old.done.items done' d set place v has at_v)
-        (unanswered_began t read reading place has))
+        (unanswered_began t place has))

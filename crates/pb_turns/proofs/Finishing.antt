@@ -1,9 +1,8 @@
 -- How the units of a project end, from the story of their crew.
-use Rattle.std.proofs.Common.{◌≡◌, ◌∙◌, ◌+◌, ◌<◌, Bool, true, false, List, [], ◌∷◌, ℕ, zero, suc, Option, Some, None, Contains, IsTrue, refl, sym, ap, subst, inl, inr, arith, slice_get, map, take, length, is_none}
+use Rattle.std.proofs.Common.{◌≡◌, ◌∙◌, ◌+◌, ◌<◌, Bool, true, List, [], ◌∷◌, ℕ, zero, suc, Option, Some, None, Contains, IsTrue, refl, sym, ap, subst, inl, inr, arith, slice_get, map, take, length, is_none}
 use Rattle.std.proofs.lemmas.List.{length-map}
 use Rattle.std.proofs.lemmas.Bool.{false≢true}
 use Rattle.std.proofs.lemmas.Option.{slice_get_within}
-use Rattle.std.specs.FinMap as finite
 use Rattle.std.specs.Io.KnownBytes.{Appends}
 use Rattle.std.specs.List.{AllByRecursion}
 use Rattle.pb_answer.specs.declared.fault.BuildFault.{BuildFault}
@@ -29,22 +28,16 @@ use Rattle.pb_project.specs.Targets.{unit_at}
 use Rattle.pb_answer.specs.declared.bad_unit.BadUnit.{BadUnit}
 use Rattle.pb_project.specs.declared.project.Project.{Project}
 use Rattle.pb_project.specs.declared.project.Setup.{Setup}
-use Rattle.pb_record.specs.Parts.{IsReading}
 use Rattle.pb_run.specs.Halves.{Footing, Basis, basis, Keeps, outcomes_in}
-use Rattle.pb_run.specs.Standing.{IsInOrder, records_folder}
+use Rattle.pb_run.specs.Standing.{IsInOrder}
 use Rattle.pb_unit_messages.specs.Telling.{unit_lines}
 use Rattle.pb_run.proofs.Shown.{each_of}
-use Rattle.pb_soundness.specs.Apart.{is_of}
-use Rattle.pb_soundness.specs.Records.{Reading, record_at}
-use Rattle.pb_store.specs.Held.{HoldsNumbers}
 use Rattle.pb_turns.specs.Calling.{CallsCut, CallsCutOnAny, CallsOver, CallsOnAny, call_basis}
-use Rattle.pb_turns.specs.Crew.{needs_of, launched_of, ticket_of_child}
-use Rattle.pb_turns.specs.Ends.{rows_in, nothing_said, Stands, StandsWhole, StandsCut, EndsWhole, EndsCut, Grounding, Dropped, Drained}
-use Rattle.pb_turns.specs.Laws.{SaysFirstRows}
-use Rattle.pb_turns.specs.Moments.{Moment, Heard}
-use Rattle.pb_turns.specs.Rows.{summary_of, started_keys, is_started, messages_in, bad_of, directives_told, Reasons, key_told, said_told, bad_told, differences_of, kept_of, is_success, noted_of, count_told, noted_told}
-use Rattle.pb_turns.specs.Story.{states_in, untouched, AllAnswerAgain, Stops, Changes, Happened, AllBegan, AllBeganFor, AllBeganOnAny, CameAfter, ChangesInFlight, FliesBeside, HadDiffered, LacksNumber, NamesUnit, NumbersGiven, Spends, StartedOnAny, HasNoRecord, KeepsNoneOfBad, KeepsNoneInFlight, KeepsChildless, HasGiven, Story, StoryEnds, OnlyOf, NotesStarted, AllAnswerAnew, AllLeaveRecords}
-use Rattle.pb_turns.specs.Summing.{summary_by, keys_at, differences_at}
+use Rattle.pb_turns.specs.Crew.{needs_of, launched_of, ticket_of_child, Moment}
+use Rattle.pb_turns.specs.Ends.{rows_in, nothing_said, Stands, StandsWhole, StandsCut, EndsWhole, EndsCut, Grounding, Dropped, Drained, SaysFirstRows, StaysTold}
+use Rattle.pb_place.specs.Sinks.{Heard}
+use Rattle.pb_turns.specs.Rows.{summary_of, started_keys, is_started, messages_in, bad_of, directives_told, Reasons, key_told, said_told, bad_told, differences_of, kept_of, is_success, noted_of, count_told, noted_told, summary_by, keys_at, differences_at}
+use Rattle.pb_turns.specs.Story.{states_in, untouched, AllAnswerAgain, Stops, Changes, Happened, AllBegan, AllBeganFor, AllBeganOnAny, CameAfter, ChangesInFlight, LacksNumber, NamesUnit, NumbersGiven, Spends, StartedOnAny, KeepsNoneOfBad, KeepsNoneInFlight, KeepsChildless, HasGiven, Story, StoryEnds, OnlyOf, NotesStarted, AllAnswerAnew, AllLeaveRecords}
 use Rattle.pb_turns.specs.declared.crew.Aloft.{Aloft}
 use Rattle.pb_turns.specs.declared.crew.UnitCrew.{UnitCrew}
 use Rattle.pb_turns.proofs.Again.{replays_first}
@@ -93,9 +86,8 @@ no_answer answer e = cc
 none_begun : (project : Project) (place : ℕ) → HasBegun (untouched project) place → ⊥
 none_begun project place (s, at, begun) = false≢true (sym begun ∙ ap is_untouched (untouched_at (needs_of project) place s at))
 
-pub story_first : (tells : Bool) (child : Answers) (c : UnitCrew) (at : Moment) (still : ℕ → Type 0) → c.aloft.items ≡ [] → c.started.items ≡ [] → c.store.numbers.known ≡ true
-    → (IsTrue tells → (read : Reading) → IsReading read → HoldsNumbers (record_at read (records_folder c.project) at.world.files) c.store.numbers) → Story tells child c at c at still [] 0
-story_first tells child c at still aloft started known holds = record {
+pub story_first : (tells : Bool) (child : Answers) (c : UnitCrew) (at : Moment) (still : ℕ → Type 0) → c.aloft.items ≡ [] → c.started.items ≡ [] → Story tells child c at c at still [] 0
+story_first tells child c at still aloft started = record {
   setup = refl;
   project = refl;
   goes = record {
@@ -109,9 +101,9 @@ story_first tells child c at still aloft started known holds = record {
     most = omega arith;
   };
   numbers = refl;
-  taken = λ t read reading. refl;
+  taken = λ t. refl;
   changes = λ t. changes_first c.project at.world c.aloft.items at.counts.starts.flying aloft;
-  happened = λ t f r s reading keeps. record {
+  happened = λ t f s keeps. record {
     keeps = keeps;
     begun = subst (AllByRecursion _) (sym aloft) tt;
     gave = λ place answer is. absurd (no_answer answer (untouched_at (needs_of c.project) place (Answered answer) is));
@@ -121,12 +113,10 @@ story_first tells child c at still aloft started known holds = record {
   again = λ t. replays_first c.setup c.project c.done.items c.aloft.items at.world aloft;
   anew = λ t. replies_first child c.setup c.project c.done.items c.aloft.items at.world at.counts.starts.flying still aloft;
   left = λ t. recordings_first child c.setup c.project c.done.items c.aloft.items c.store.next at.world aloft;
-  began = λ t read reading place has. absurd (none_begun c.project place has);
-  quiet = λ t read reading none numbered. refl;
-  known = known;
-  held = holds;
-  calls = λ t f r s reading keeps. (refl, refl);
-  calls_on_any = λ t read reading. (refl, refl);
+  began = λ t place has. absurd (none_begun c.project place has);
+  quiet = λ t none numbered. refl;
+  calls = λ t f s keeps. (refl, refl);
+  calls_on_any = λ t. (refl, refl);
   unnoted = λ place at. refl;
   noted = λ place s at ne. absurd (ne (untouched_at (needs_of c.project) place s at));
 }
@@ -217,31 +207,19 @@ says_first_rows b es done gave = (
 
 module _ {S : Type 0} (tells : Bool) (child : Answers) (Turns : S → List ℕ → List ℕ → Step → S → Type 0) (first c d : UnitCrew) (from last : S) (at mid new : Moment) (still still' : ℕ → Type 0) (es : List (Event BadUnit))
     (said : first.done.items ≡ nothing_said first.project) (drained : Drained mid.counts new.counts) (landed : new.counts.starts.flying ≡ []) (heard : new.heard ≡ mid.heard) (same : d ≡ record c { aloft = d.aloft })
-    (changes : (fw : World) (events : List (Event BadUnit)) → IsTrue tells → Changes c.project fw c.aloft.items events mid.world mid.counts.starts.flying → Changes c.project fw d.aloft.items events new.world new.counts.starts.flying)
-    (unrecorded : (fw : World) (events : List (Event BadUnit)) (place : ℕ) (u : Planned) → IsTrue tells → Changes c.project fw c.aloft.items events mid.world mid.counts.starts.flying → unit_at c.project place ≡ Some u → HasNoRecord c.project u mid.world → HasNoRecord c.project u new.world)
-    (stays : (fw : World) (events : List (Event BadUnit)) (place : ℕ) (u : Planned) (q : List ℕ) → IsTrue tells → Changes c.project fw c.aloft.items events mid.world mid.counts.starts.flying → unit_at c.project place ≡ Some u → is_started events place ≡ false
-    → is_of (records_folder c.project) u.key q ≡ true → finite.get new.world.files q ≡ finite.get mid.world.files q)
-    (alone : (fw : World) (events before : List (Event BadUnit)) (asked : Option ℕ) → IsTrue tells → Changes c.project fw c.aloft.items events mid.world mid.counts.starts.flying → AllByRecursion (FliesBeside c.project before asked) c.aloft.items
-    → ChangesInFlight c.project before asked mid.world new.world)
+    (told : (fw : World) (events : List (Event BadUnit)) → IsTrue tells → Changes c.project fw c.aloft.items events mid.world mid.counts.starts.flying
+    → StaysTold child c.project fw events c.aloft.items d.aloft.items mid.world new.world new.counts.starts.flying)
     (happened : (b : Basis) (events : List (Event BadUnit)) → IsTrue tells → b.project ≡ c.project → Happened b c.done.items c.aloft.items c.store.next events mid.world mid.counts.starts.flying still
     → Happened b d.done.items d.aloft.items d.store.next events new.world new.counts.starts.flying still')
-    (begun : (read : Reading) (sources : World) (command : ℕ → Planned → Command) (fault : BuildFault) (events before : List (Event BadUnit)) (reasons : Reasons) (fw : World) → IsTrue tells → IsLawful (needs_of c.project) events → CameAfter c.project fault before events
-    → Changes c.project fw c.aloft.items events mid.world mid.counts.starts.flying → AllBegan c.project read sources command before reasons fw mid.world → AllBegan c.project read sources command before reasons fw new.world)
-    (started : (read : Reading) (sources : World) (command : ℕ → Planned → Command) (fault : BuildFault) (events before : List (Event BadUnit)) (fw : World) → IsTrue tells
-    → Changes c.project fw c.aloft.items events mid.world mid.counts.starts.flying → HadDiffered c.project read sources command fault before events fw mid.world → HadDiffered c.project read sources command fault before events fw new.world)
-    (anew : (setup : Setup) (noted : List (Option (List Directive))) (events : List (Event BadUnit)) (fw : World) → IsTrue tells → IsLawful (needs_of c.project) events → Changes c.project fw c.aloft.items events mid.world mid.counts.starts.flying
-    → AllAnswerAnew child setup c.project events noted mid.world → AllAnswerAnew child setup c.project events noted new.world)
-    (left : (setup : Setup) (noted : List (Option (List Directive))) (events : List (Event BadUnit)) (next : Option ℕ) (fw : World) → IsTrue tells → IsLawful (needs_of c.project) events → Changes c.project fw c.aloft.items events mid.world mid.counts.starts.flying
-    → AllLeaveRecords child setup c.project events noted next fw mid.world → AllLeaveRecords child setup c.project events noted next fw new.world)
     (order : IsInOrder first.project) where
   -- what a basis keeps at first
   abbrev Since : (Basis → Type 0) → Setup → Project → Type 0
-  Since Stand setup project = IsTrue tells → (f : Footing) (r : Reading) (sources : World) → IsReading r → Keeps (basis f r child setup project sources) (untouched project) first.done.items first.store.next at.world → Stand (basis f r child setup project sources)
+  Since Stand setup project = IsTrue tells → (f : Footing) (sources : World) → Keeps (basis f child setup project sources) (untouched project) first.done.items first.store.next at.world → Stand (basis f child setup project sources)
 
   since_first : (Stand : Basis → Type 0) → c.setup ≡ first.setup → c.project ≡ first.project → Since Stand c.setup c.project → IsTrue tells → Grounding child first.setup first.project first.store.next at.world Stand
-  since_first Stand setup project since t f r sources reading keeps =
-      subst (λ (s : Setup). Since Stand s first.project) setup (subst (λ (p : Project). Since Stand c.setup p) project since) t f r sources reading
-      (subst (λ ds. Keeps (basis f r child first.setup first.project sources) (untouched first.project) ds first.store.next at.world) (sym said) keeps)
+  since_first Stand setup project since t f sources keeps =
+      subst (λ (s : Setup). Since Stand s first.project) setup (subst (λ (p : Project). Since Stand c.setup p) project since) t f sources
+      (subst (λ ds. Keeps (basis f child first.setup first.project sources) (untouched first.project) ds first.store.next at.world) (sym said) keeps)
 
   lawful : c.project ≡ first.project → Flies Turns (needs_of first.project) Anyhow Anything from es last → IsLawful (needs_of c.project) es
   lawful project flies = subst (λ (p : Project). IsLawful (needs_of p) es) (sym project) (steps_are_lawful Turns (needs_of first.project) Anyhow Anything from es last flies)
@@ -252,13 +230,13 @@ module _ {S : Type 0} (tells : Bool) (child : Answers) (Turns : S → List ℕ �
 
   began_new : (fault : BuildFault) (before : List (Event BadUnit)) (reasons : Reasons) → reasons ≡ c.reasons.items → IsLawful (needs_of c.project) es → CameAfter c.project fault before es → (IsTrue tells → Changes c.project at.world c.aloft.items es mid.world mid.counts.starts.flying)
       → (IsTrue tells → AllBeganOnAny c.setup c.project c.done.items before c.reasons.items at.world mid.world) → IsTrue tells → AllBeganOnAny c.setup c.project c.done.items before reasons at.world new.world
-  began_new fault before reasons is flies came changed began t read reading =
-      subst (λ (items : Reasons). AllBegan c.project read (from_nothing c.project.workspace.target at.world) commands before items at.world new.world) (sym is)
-      (begun read (from_nothing c.project.workspace.target at.world) commands fault es before c.reasons.items at.world t flies came (changed t) (began t read reading))
+  began_new fault before reasons is flies came changed began t =
+      subst (λ (items : Reasons). AllBegan c.project (from_nothing c.project.workspace.target at.world) commands before items at.world new.world) (sym is)
+      ((told at.world es t (changed t)).began (from_nothing c.project.workspace.target at.world) commands fault before c.reasons.items flies came (began t))
 
   started_new : (fault : BuildFault) (before : List (Event BadUnit)) → (IsTrue tells → Changes c.project at.world c.aloft.items es mid.world mid.counts.starts.flying)
       → (IsTrue tells → StartedOnAny c.setup c.project c.done.items fault before es at.world mid.world) → IsTrue tells → StartedOnAny c.setup c.project c.done.items fault before es at.world new.world
-  started_new fault before changed had t read reading = started read (from_nothing c.project.workspace.target at.world) commands fault es before at.world t (changed t) (had t read reading)
+  started_new fault before changed had t = (told at.world es t (changed t)).started (from_nothing c.project.workspace.target at.world) commands fault before (had t)
 
   on_first : (B : Setup → Project → Type 0) → c.setup ≡ first.setup → c.project ≡ first.project → B c.setup c.project → B first.setup first.project
   on_first B setup project x = subst (λ (s : Setup). B s first.project) setup (subst (λ (p : Project). B c.setup p) project x)
@@ -278,35 +256,35 @@ module _ {S : Type 0} (tells : Bool) (child : Answers) (Turns : S → List ℕ �
     heard = heard;
     stops = subst (λ (p : Project). Stops tells fault p at mid es) ends.project ends.stops;
     spent = ends.spent;
-    caused = λ t read reading. subst (λ (p : Project). Spends (LacksNumber p read at.world) fault first.store.next es) ends.project (ends.caused t read reading);
+    caused = λ t. subst (λ (p : Project). Spends (LacksNumber p at.world) fault first.store.next es) ends.project (ends.caused t);
     drained = drained;
     landed = landed;
     before = ends.before;
     came = subst (λ (p : Project). CameAfter p fault ends.before es) ends.project ends.came;
     names = subst (λ (p : Project). NamesUnit p fault asked ends.before es) ends.project ends.names;
     most = most ∙ ends.most;
-    only = λ t. subst (λ (p : Project). OnlyOf p es at.world new.world) ends.project (changes at.world es t (ends.changes t)).only;
-    dropping = λ t. subst (λ (p : Project). ChangesInFlight p ends.before asked mid.world new.world) ends.project (alone at.world es ends.before asked t (ends.changes t) (ends.beside t));
-    unkept = λ t. subst (λ (p : Project). KeepsNoneOfBad p es new.world) ends.project (changes at.world es t (ends.changes t)).unkept;
-    dropped = λ t. subst (λ (p : Project). KeepsNoneInFlight p ends.before asked new.world) ends.project (λ place u there state apart started. unrecorded at.world es place u t (ends.changes t) there (ends.unrecorded t place u there state apart started));
+    only = λ t. subst (λ (p : Project). OnlyOf p es at.world new.world) ends.project (told at.world es t (ends.changes t)).changes.only;
+    dropping = λ t. subst (λ (p : Project). ChangesInFlight p ends.before asked mid.world new.world) ends.project ((told at.world es t (ends.changes t)).alone ends.before asked (ends.beside t));
+    unkept = λ t. subst (λ (p : Project). KeepsNoneOfBad p es new.world) ends.project (told at.world es t (ends.changes t)).changes.unkept;
+    dropped = λ t. subst (λ (p : Project). KeepsNoneInFlight p ends.before asked new.world) ends.project (λ place u there state apart started. (told at.world es t (ends.changes t)).unrecorded place u there (ends.unrecorded t place u there state apart started));
     childless = λ t. subst (λ (p : Project). KeepsChildless p ends.before asked at.world new.world) ends.project
         (λ place u q there state apart started inside.
-        stays at.world es place u q t (ends.changes t) there (started_after c.project ends.before es (lawful ends.project flies) (or_before c.project fault ends.before es ends.came) place state started) inside ∙ ends.childless t place u q there state apart started inside);
+        (told at.world es t (ends.changes t)).childless place u q there (started_after c.project ends.before es (lawful ends.project flies) (or_before c.project fault ends.before es ends.came) place state started) inside ∙ ends.childless t place u q there state apart started inside);
     reasons = c.reasons.items;
     done = c.done.items;
     began = λ t. on_first (λ s p. AllBeganOnAny s p c.done.items ends.before c.reasons.items at.world new.world) ends.setup ends.project (began_new fault ends.before c.reasons.items refl (lawful ends.project flies) ends.came ends.changes ends.began t);
     started = λ t. on_first (λ s p. StartedOnAny s p c.done.items fault ends.before es at.world new.world) ends.setup ends.project (started_new fault ends.before ends.changes ends.started t);
     again = λ t. on_first (λ s p. AllAnswerAgain s p es c.done.items at.world) ends.setup ends.project (ends.again t);
-    anew = λ t. on_first (λ s p. AllAnswerAnew child s p es c.done.items new.world) ends.setup ends.project (anew c.setup c.done.items es at.world t (lawful ends.project flies) (ends.changes t) (ends.anew t));
-    left = λ t. on_first (λ s p. AllLeaveRecords child s p es c.done.items first.store.next at.world new.world) ends.setup ends.project (left c.setup c.done.items es first.store.next at.world t (lawful ends.project flies) (ends.changes t) (ends.left t));
-    told = since_first (λ b. StandsCut b fault es ends.before at.world new.world) ends.setup ends.project (λ t f r sources reading keeps.
-        let h = ends.happened t f r sources reading keeps in
+    anew = λ t. on_first (λ s p. AllAnswerAnew child s p es c.done.items new.world) ends.setup ends.project ((told at.world es t (ends.changes t)).anew c.setup c.done.items (lawful ends.project flies) (ends.anew t));
+    left = λ t. on_first (λ s p. AllLeaveRecords child s p es c.done.items first.store.next at.world new.world) ends.setup ends.project ((told at.world es t (ends.changes t)).left c.setup c.done.items first.store.next (lawful ends.project flies) (ends.left t));
+    told = since_first (λ b. StandsCut b fault es ends.before at.world new.world) ends.setup ends.project (λ t f sources keeps.
+        let h = ends.happened t f sources keeps in
         record {
-          stands = stands (basis f r child c.setup c.project sources) d.done.items d.aloft.items d.store.next es new.world new.counts.starts.flying still' (happened (basis f r child c.setup c.project sources) es t refl h);
+          stands = stands (basis f child c.setup c.project sources) d.done.items d.aloft.items d.store.next es new.world new.counts.starts.flying still' (happened (basis f child c.setup c.project sources) es t refl h);
           reasons = c.reasons.items;
-          began = began_from_nothing (basis f r child c.setup c.project sources) (ordered ends.project) es c.done.items c.store.next mid.world h.keeps at.world keeps.sources_stay ends.before c.reasons.items new.world (lawful ends.project flies) (or_before c.project fault ends.before es ends.came)
-              (began_new fault ends.before c.reasons.items refl (lawful ends.project flies) ends.came ends.changes ends.began t r reading);
-          started = started_from_nothing (basis f r child c.setup c.project sources) (ordered ends.project) es c.done.items c.store.next mid.world h.keeps at.world keeps.sources_stay fault ends.before new.world (started_new fault ends.before ends.changes ends.started t r reading);
+          began = began_from_nothing (basis f child c.setup c.project sources) (ordered ends.project) es c.done.items c.store.next mid.world h.keeps at.world keeps.sources_stay ends.before c.reasons.items new.world (lawful ends.project flies) (or_before c.project fault ends.before es ends.came)
+              (began_new fault ends.before c.reasons.items refl (lawful ends.project flies) ends.came ends.changes ends.began t);
+          started = started_from_nothing (basis f child c.setup c.project sources) (ordered ends.project) es c.done.items c.store.next mid.world h.keeps at.world keeps.sources_stay fault ends.before new.world (started_new fault ends.before ends.changes ends.started t);
         });
     calls = since_first (λ b. CallsCut (call_basis b) fault asked es ends.before at.world at.counts mid.world mid.counts) ends.setup ends.project ends.calls;
     calls_on_any = λ t. on_first (λ s p. CallsCutOnAny child s p c.done.items fault asked es ends.before at.world at.counts mid.world mid.counts) ends.setup ends.project (ends.calls_on_any t);
@@ -331,11 +309,11 @@ module _ {S : Type 0} (tells : Bool) (child : Answers) (Turns : S → List ℕ �
     anew = λ t. (s.anew t).gave;
     left = λ t. (s.left t).gave;
     began = s.began;
-    started = λ t read reading. none_began c.project read _ _ OutOfMemory es at.world mid.world;
+    started = λ t. none_began c.project _ _ OutOfMemory es at.world mid.world;
     happened = s.happened;
-    caused = λ t read reading. tt;
-    calls = λ t f r sources reading keeps. (mid.world, mid.counts, s.calls t f r sources reading keeps, inl (inr refl, refl, refl));
-    calls_on_any = λ t read reading. (mid.world, mid.counts, s.calls_on_any t read reading, inl (inr refl, refl, refl));
+    caused = λ t. tt;
+    calls = λ t f sources keeps. (mid.world, mid.counts, s.calls t f sources keeps, inl (inr refl, refl, refl));
+    calls_on_any = λ t. (mid.world, mid.counts, s.calls_on_any t, inl (inr refl, refl, refl));
   }
 
   module _ (table : Table BadUnit) (flying : List ℕ) (flown : IsFlown Turns (needs_of first.project) from es last table flying) (story : Story tells child first at c mid still es table.given) (finished : is_finished table.states ≡ true)
@@ -398,26 +376,26 @@ module _ {S : Type 0} (tells : Bool) (child : Answers) (Turns : S → List ℕ �
       drained = drained;
       landed = landed;
       most = most ∙ story.goes.most;
-      only = λ t. subst (λ (p : Project). OnlyOf p es at.world new.world) story.project (changes at.world es t (story.changes t)).only;
+      only = λ t. subst (λ (p : Project). OnlyOf p es at.world new.world) story.project (told at.world es t (story.changes t)).changes.only;
       last_world = mid.world;
       dropping = λ t. subst (λ (p : Project). ChangesInFlight p es None mid.world new.world) story.project
-          (alone at.world es es None t (story.changes t) (beside_none c.project at.world c.aloft.items es mid.world mid.counts.starts.flying (story.changes t) c.aloft.items refl));
+          ((told at.world es t (story.changes t)).alone es None (beside_none c.project at.world c.aloft.items es mid.world mid.counts.starts.flying (story.changes t) c.aloft.items refl));
       numbers = (c.store.next, story.numbers);
-      taken = λ t read reading. subst (λ (p : Project). NumbersGiven (LacksNumber p read at.world) es first.store.next c.store.next) story.project (story.taken t read reading);
-      unkept = λ t. subst (λ (p : Project). KeepsNoneOfBad p es new.world) story.project (changes at.world es t (story.changes t)).unkept;
-      dropped = λ t. subst (λ (p : Project). KeepsNoneInFlight p es None new.world) story.project (λ place u there state apart started. unrecorded at.world es place u t (story.changes t) there (story.unrecorded t place u there state apart started));
+      taken = λ t. subst (λ (p : Project). NumbersGiven (LacksNumber p at.world) es first.store.next c.store.next) story.project (story.taken t);
+      unkept = λ t. subst (λ (p : Project). KeepsNoneOfBad p es new.world) story.project (told at.world es t (story.changes t)).changes.unkept;
+      dropped = λ t. subst (λ (p : Project). KeepsNoneInFlight p es None new.world) story.project (λ place u there state apart started. (told at.world es t (story.changes t)).unrecorded place u there (story.unrecorded t place u there state apart started));
       childless = λ t. subst (λ (p : Project). KeepsChildless p es None at.world new.world) story.project
-          (λ place u q there state apart started inside. stays at.world es place u q t (story.changes t) there started inside ∙ story.childless t place u q there state apart started inside);
+          (λ place u q there state apart started inside. (told at.world es t (story.changes t)).childless place u q there started inside ∙ story.childless t place u q there state apart started inside);
       began = λ t. on_first (λ s p. AllBeganOnAny s p c.done.items es d.reasons.items at.world new.world) story.setup story.project (began_whole t);
       again = λ t. on_first (λ s p. AllAnswerAgain s p es c.done.items at.world) story.setup story.project (story.again t).gave;
-      anew = λ t. on_first (λ s p. AllAnswerAnew child s p es c.done.items new.world) story.setup story.project (anew c.setup c.done.items es at.world t (lawful story.project flown.flies) (story.changes t) (story.anew t).gave);
-      left = λ t. on_first (λ s p. AllLeaveRecords child s p es c.done.items first.store.next at.world new.world) story.setup story.project (left c.setup c.done.items es first.store.next at.world t (lawful story.project flown.flies) (story.changes t) (story.left t).gave);
-      told = since_first (λ b. StandsWhole b es d.reasons.items summary c.store.next at.world new.world) story.setup story.project (λ t f r sources reading keeps.
-          let h = story.happened t f r sources reading keeps in
-          subst (λ (n : Option ℕ). StandsWhole (basis f r child c.setup c.project sources) es d.reasons.items summary n at.world new.world) (ap (λ (x : UnitCrew). x.store.next) same)
-          (stands_whole (basis f r child c.setup c.project sources) d.done.items d.aloft.items d.store.next es new.world new.counts.starts.flying still' (happened (basis f r child c.setup c.project sources) es t refl h)
+      anew = λ t. on_first (λ s p. AllAnswerAnew child s p es c.done.items new.world) story.setup story.project ((told at.world es t (story.changes t)).anew c.setup c.done.items (lawful story.project flown.flies) (story.anew t).gave);
+      left = λ t. on_first (λ s p. AllLeaveRecords child s p es c.done.items first.store.next at.world new.world) story.setup story.project ((told at.world es t (story.changes t)).left c.setup c.done.items first.store.next (lawful story.project flown.flies) (story.left t).gave);
+      told = since_first (λ b. StandsWhole b es d.reasons.items summary c.store.next at.world new.world) story.setup story.project (λ t f sources keeps.
+          let h = story.happened t f sources keeps in
+          subst (λ (n : Option ℕ). StandsWhole (basis f child c.setup c.project sources) es d.reasons.items summary n at.world new.world) (ap (λ (x : UnitCrew). x.store.next) same)
+          (stands_whole (basis f child c.setup c.project sources) d.done.items d.aloft.items d.store.next es new.world new.counts.starts.flying still' (happened (basis f child c.setup c.project sources) es t refl h)
           (ap is_finished (sym states_are) ∙ finished) (length_states (needs_of c.project) es ∙ length-map c.project.plan.planned (λ (u : Planned). u.needs)) d.reasons.items at.world
-          (began_from_nothing (basis f r child c.setup c.project sources) (ordered story.project) es c.done.items c.store.next mid.world h.keeps at.world keeps.sources_stay es d.reasons.items new.world (lawful story.project flown.flies) (inl refl) (began_whole t r reading)) d.started.items started_is summary now_is));
+          (began_from_nothing (basis f child c.setup c.project sources) (ordered story.project) es c.done.items c.store.next mid.world h.keeps at.world keeps.sources_stay es d.reasons.items new.world (lawful story.project flown.flies) (inl refl) (began_whole t)) d.started.items started_is summary now_is));
       calls = since_first (λ b. CallsOver (call_basis b) es at.world at.counts mid.world mid.counts) story.setup story.project story.calls;
       calls_on_any = λ t. on_first (λ s p. CallsOnAny child s p c.done.items es at.world at.counts mid.world mid.counts) story.setup story.project (story.calls_on_any t);
     }
@@ -435,7 +413,7 @@ ends_before tells child Turns setup project next from at none = record {
   heard = refl;
   stops = record { by = ((0, appends_none at.heard.taken), refl); cause = refl; starts = refl; settings = refl };
   spent = tt;
-  caused = λ t read reading. tt;
+  caused = λ t. tt;
   drained = subst (λ fs. Dropped (map ticket_of_child fs) at.counts at.counts) (sym none) refl;
   landed = none;
   before = [];
@@ -449,23 +427,23 @@ ends_before tells child Turns setup project next from at none = record {
   childless = λ t place u q there state apart started inside. refl;
   reasons = [];
   done = [];
-  began = λ t read reading place has. absurd (none_begun project place has);
-  started = λ t read reading. none_began project read _ _ OutOfMemory [] at.world at.world;
+  began = λ t place has. absurd (none_begun project place has);
+  started = λ t. none_began project _ _ OutOfMemory [] at.world at.world;
   again = λ t. (replays_first setup project [] [] at.world refl).gave;
   anew = λ t. (replies_first child setup project [] [] at.world [] (λ n. Unit {0}) refl).gave;
   left = λ t. (recordings_first child setup project [] [] next at.world refl).gave;
-  told = λ t f r sources reading keeps. record {
-    stands = stands (basis f r child setup project sources) (nothing_said project) [] next [] at.world [] (λ n. Unit {0}) record {
+  told = λ t f sources keeps. record {
+    stands = stands (basis f child setup project sources) (nothing_said project) [] next [] at.world [] (λ n. Unit {0}) record {
       keeps = keeps;
       begun = tt;
       gave = λ place answer is. absurd (no_answer answer (untouched_at (needs_of project) place (Answered answer) is));
     };
     reasons = [];
     began = λ place has. absurd (none_begun project place has);
-    started = none_began project r _ _ OutOfMemory [] at.world at.world;
+    started = none_began project _ _ OutOfMemory [] at.world at.world;
   };
-  calls = λ t f r sources reading keeps. (at.world, at.counts, (refl, refl), inl (inr refl, refl, refl));
-  calls_on_any = λ t read reading. (at.world, at.counts, (refl, refl), inl (inr refl, refl, refl));
+  calls = λ t f sources keeps. (at.world, at.counts, (refl, refl), inl (inr refl, refl, refl));
+  calls_on_any = λ t. (at.world, at.counts, (refl, refl), inl (inr refl, refl, refl));
 }
 
 pub states_long : {S : Type 0} (Turns : S → List ℕ → List ℕ → Step → S → Type 0) (first c d : UnitCrew) (from last : S) (es : List (Event BadUnit)) (table : Table BadUnit) (flying : List ℕ) → IsFlown Turns (needs_of first.project) from es last table flying

@@ -23,14 +23,15 @@ use Rattle.pb_answer.specs.declared.bad_unit.BadUnit.{BadUnit}
 use Rattle.pb_answer.specs.declared.fault.BuildFault.{BuildFault}
 use Rattle.pb_project.specs.declared.project.Project.{Project}
 use Rattle.pb_project.specs.declared.project.Setup.{Setup}
-use Rattle.pb_run.specs.Causes.{Drops, LandsBy}
+use Rattle.pb_run.specs.Steps.{Drops, LandsBy}
 use Rattle.pb_run.specs.Halves.{Basis, Keeps, IsBegun, CanAnswer, BeginsApart, WritesTo, child_of}
 use Rattle.pb_run.specs.Standing.{IsInOrder, records_folder}
 use Rattle.pb_run.specs.declared.begun.Begun.{Begun as unit_begun}
 use Rattle.pb_run.specs.declared.begun.Launched.{Launched}
 use Rattle.pb_run.proofs.Spawning.{launched_gone, out_within, widen}
 use Rattle.pb_soundness.specs.Apart.{is_of}
-use Rattle.pb_soundness.specs.Records.{Reading, out_of}
+use Rattle.pb_soundness.specs.Records.{out_of, reading}
+use Rattle.pb_turns.specs.Ends.{StaysTold}
 use Rattle.pb_turns.specs.Crew.{needs_of, IsManned, IsOfPlan}
 use Rattle.pb_turns.specs.Rows.{Reasons, is_started}
 use Rattle.pb_turns.specs.Story.{states_in, AllAnswerAnew, AllBegan, AllLeaveRecords, Changes, FliesBeside, FliesIn, Happened, HasNoRecord, CameAfter, ChangesInFlight, HadDiffered}
@@ -101,8 +102,8 @@ unrecorded_dropped c counts manned first es w w' index a at old only place v the
     let inside : ChangesOnly (is_at_or_below of_plan.unit.out) w w' = only of_plan.unit.out (so.writes of_plan.unit of_plan.there) in
     elim (cases_eq a.unit place) [
       | inl same ↦ subst (λ (x : Planned). HasNoRecord c.project x w') (injective (sym of_plan.there ∙ ap (unit_at c.project) same ∙ there))
-          (λ read. launched_gone read (records_folder c.project) of_plan.unit.key of_plan.unit.out w w' (manned.order.keys a.unit of_plan.unit of_plan.there) (manned.order.folders a.unit of_plan.unit of_plan.there) inside
-          (subst (λ (x : Planned). HasNoRecord c.project x w) (sym (injective (sym of_plan.there ∙ ap (unit_at c.project) same ∙ there))) none read))
+          (launched_gone reading (records_folder c.project) of_plan.unit.key of_plan.unit.out w w' (manned.order.keys a.unit of_plan.unit of_plan.there) (manned.order.folders a.unit of_plan.unit of_plan.there) inside
+          (subst (λ (x : Planned). HasNoRecord c.project x w) (sym (injective (sym of_plan.there ∙ ap (unit_at c.project) same ∙ there))) none))
       | inr ne ↦ none_still c.project manned.order es w w' a.unit of_plan.unit of_plan.there
           (widen (is_at_or_below (out_of (records_folder c.project) of_plan.unit.key)) (is_of (records_folder c.project) of_plan.unit.key) w w' (out_within (records_folder c.project) of_plan.unit.key)
           (subst (λ o. ChangesOnly (is_at_or_below o) w w') (manned.order.folders a.unit of_plan.unit of_plan.there) inside)) place v there (λ e. ne (sym e)) none
@@ -116,23 +117,23 @@ only_its c counts manned es w w' a u there so only =
     widen (is_at_or_below (out_of (records_folder c.project) u.key)) (is_of (records_folder c.project) u.key) w w' (out_within (records_folder c.project) u.key)
     (subst (λ o. ChangesOnly (is_at_or_below o) w w') (manned.order.folders a.unit u there) (only u.out (so.writes u there)))
 
-pub began_dropped : (c : UnitCrew) (counts : Counts) (manned : IsManned c counts) (read : Reading) (sources : World) (command : ℕ → Planned → Command) (fault : BuildFault) (es before : List (Event BadUnit)) (reasons : Reasons) (first w w' : World)
+pub began_dropped : (c : UnitCrew) (counts : Counts) (manned : IsManned c counts) (sources : World) (command : ℕ → Planned → Command) (fault : BuildFault) (es before : List (Event BadUnit)) (reasons : Reasons) (first w w' : World)
     (index : ℕ) (a : Aloft) (at : slice_get c.aloft.items index ≡ Some a) (lawful : IsLawful (needs_of c.project) es) (came : CameAfter c.project fault before es) (old : Changes c.project first c.aloft.items es w counts.starts.flying)
-    → ((out : List ℕ) → WritesTo out (child_of a.begun) counts.starts.flying → ChangesOnly (is_at_or_below out) w w') → AllBegan c.project read sources command before reasons first w → AllBegan c.project read sources command before reasons first w'
-began_dropped c counts manned read sources command fault es before reasons first w w' index a at lawful came old only began =
+    → ((out : List ℕ) → WritesTo out (child_of a.begun) counts.starts.flying → ChangesOnly (is_at_or_below out) w w') → AllBegan c.project sources command before reasons first w → AllBegan c.project sources command before reasons first w'
+began_dropped c counts manned sources command fault es before reasons first w w' index a at lawful came old only began =
     let of_plan : IsOfPlan c.project a = all_get (IsOfPlan c.project) c.aloft.items index a manned.units at in
     let so : FliesIn c.project es w counts.starts.flying a = all_get (FliesIn c.project es w counts.starts.flying) c.aloft.items index a old.flies at in
-    dropped_beside c.project read sources command manned.order fault before es reasons first w w' a.unit of_plan.unit of_plan.there lawful came so.state (child_of a.begun) so.started
+    dropped_beside c.project sources command manned.order fault before es reasons first w w' a.unit of_plan.unit of_plan.there lawful came so.state (child_of a.begun) so.started
     (only_its c counts manned es w w' a of_plan.unit of_plan.there so only) (λ none. none_dropped (child_of a.begun) counts.starts.flying w w' none only) began
 
-pub started_dropped : (c : UnitCrew) (counts : Counts) (manned : IsManned c counts) (read : Reading) (sources : World) (command : ℕ → Planned → Command) (fault : BuildFault) (es before : List (Event BadUnit)) (first w w' : World)
+pub started_dropped : (c : UnitCrew) (counts : Counts) (manned : IsManned c counts) (sources : World) (command : ℕ → Planned → Command) (fault : BuildFault) (es before : List (Event BadUnit)) (first w w' : World)
     (index : ℕ) (a : Aloft) (at : slice_get c.aloft.items index ≡ Some a) (old : Changes c.project first c.aloft.items es w counts.starts.flying)
     → ((out : List ℕ) → WritesTo out (child_of a.begun) counts.starts.flying → ChangesOnly (is_at_or_below out) w w')
-    → HadDiffered c.project read sources command fault before es first w → HadDiffered c.project read sources command fault before es first w'
-started_dropped c counts manned read sources command fault es before first w w' index a at old only started =
+    → HadDiffered c.project sources command fault before es first w → HadDiffered c.project sources command fault before es first w'
+started_dropped c counts manned sources command fault es before first w w' index a at old only started =
     let of_plan : IsOfPlan c.project a = all_get (IsOfPlan c.project) c.aloft.items index a manned.units at in
     let so : FliesIn c.project es w counts.starts.flying a = all_get (FliesIn c.project es w counts.starts.flying) c.aloft.items index a old.flies at in
-    start_beside c.project read sources command manned.order fault before es first w w' a.unit of_plan.unit of_plan.there so.state (only_its c counts manned es w w' a of_plan.unit of_plan.there so only) started
+    start_beside c.project sources command manned.order fault before es first w w' a.unit of_plan.unit of_plan.there so.state (only_its c counts manned es w w' a of_plan.unit of_plan.there so only) started
 
 -- and so does what those with a child have answered
 pub anew_dropped : (c : UnitCrew) (counts : Counts) (manned : IsManned c counts) (child : Answers) (setup : Setup) (done : List (Option (List Directive))) (es : List (Event BadUnit)) (first w w' : World)
@@ -186,3 +187,35 @@ childless_dropped c counts manned first es w w' index a at old only place v q th
       | inr ne ↦
           (only_its c counts manned es w w' a of_plan.unit of_plan.there so only).files q (not_of_two c.project manned.order place a.unit v of_plan.unit there of_plan.there (λ e. ne (sym e)) q inside)
     ]
+
+-- all that is still so after one of them was dropped, and after the next
+pub told_twice : (child : Answers) (project now : Project) (same : now ≡ project) (first : World) (es : List (Event BadUnit)) (before mid after : List Aloft) (u v w : World) (flying flying' : List ChildInFlight)
+    → StaysTold child project first es before mid u v flying → (Changes now first mid es v flying → StaysTold child now first es mid after v w flying') → StaysTold child project first es before after u w flying'
+told_twice child project now same first es before mid after u v w flying flying' one step =
+    let two : StaysTold child project first es mid after v w flying' =
+    subst (λ (p : Project). StaysTold child p first es mid after v w flying') same (step (subst (λ (p : Project). Changes p first mid es v flying) (sym same) one.changes)) in
+    record {
+      changes = two.changes;
+      beside = λ came asked all. two.beside came asked (one.beside came asked all);
+      alone = λ came asked all. in_flight_twice project came asked u v w (one.alone came asked all) (two.alone came asked (one.beside came asked all));
+      unrecorded = λ index unit there none. two.unrecorded index unit there (one.unrecorded index unit there none);
+      childless = λ index unit path there started inside. two.childless index unit path there started inside ∙ one.childless index unit path there started inside;
+      began = λ sources command fault came reasons lawful after began. two.began sources command fault came reasons lawful after (one.began sources command fault came reasons lawful after began);
+      started = λ sources command fault came had. two.started sources command fault came (one.started sources command fault came had);
+      anew = λ setup done lawful gave. two.anew setup done lawful (one.anew setup done lawful gave);
+      left = λ setup done next lawful gave. two.left setup done next lawful (one.left setup done next lawful gave);
+    }
+
+-- where none was dropped yet
+pub told_first : (child : Answers) (project : Project) (first : World) (es : List (Event BadUnit)) (aloft : List Aloft) (w : World) (flying : List ChildInFlight) → Changes project first aloft es w flying → StaysTold child project first es aloft aloft w w flying
+told_first child project first es aloft w flying old = record {
+  changes = old;
+  beside = λ came asked all. all;
+  alone = λ came asked all. record { variables = refl; files = λ q apart. refl };
+  unrecorded = λ index unit there none. none;
+  childless = λ index unit path there started inside. refl;
+  began = λ sources command fault came reasons lawful after began. began;
+  started = λ sources command fault came had. had;
+  anew = λ setup done lawful gave. gave;
+  left = λ setup done next lawful gave. gave;
+}

@@ -13,12 +13,13 @@ use Rattle.pb_place.specs.Children.{is_flying}
 use Rattle.pb_place.specs.Counts.{Counts, Starts, without}
 use Rattle.pb_place.specs.declared.child_in_flight.ChildInFlight.{ChildInFlight}
 use Rattle.pb_project.specs.declared.project.Project.{Project}
-use Rattle.pb_run.specs.Causes.{MayBeginUnit, MayAnswerUnit, BeginsBy, LandsBy}
+use Rattle.pb_run.specs.Steps.{BeginsBy, LandsBy}
+use Rattle.pb_run.proofs.Naming.{MayAnswerUnit, MayBeginUnit}
 use Rattle.pb_run.specs.Halves.{child_of}
 use Rattle.pb_run.specs.Standing.{IsInOrder, records_folder}
 use Rattle.pb_run.specs.declared.begun.Launched.{Launched}
 use Rattle.pb_soundness.specs.Numbers.{after, IsBefore}
-use Rattle.pb_store.specs.Migrating.{TakesNumber}
+use Rattle.pb_store.specs.Folder.{TakesNumber}
 use Rattle.pb_turns.specs.Crew.{AreApart, IsManned, IsOfPlan, place_of_unit, places_of, ticket_in, number_in, tickets_of, numbers_of, ticket_of_child}
 use Rattle.pb_turns.specs.declared.crew.Aloft.{Aloft}
 use Rattle.pb_turns.specs.declared.crew.UnitCrew.{UnitCrew}

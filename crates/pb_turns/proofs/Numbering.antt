@@ -16,20 +16,18 @@ use Rattle.pb_flight.specs.Table.{if_so}
 use Rattle.pb_place.specs.Counts.{Starts}
 use Rattle.pb_place.specs.World.{Answers}
 use Rattle.pb_project.specs.Targets.{unit_at}
-use Rattle.pb_record.specs.Parts.{IsReading}
-use Rattle.pb_run.specs.Causes.{MayAnswerUnit}
+use Rattle.pb_run.proofs.Naming.{MayAnswerUnit}
 use Rattle.pb_run.specs.Halves.{awaits_number, child_of}
 use Rattle.pb_run.specs.Standing.{records_folder}
 use Rattle.pb_run.specs.declared.begun.Launched.{Launched}
 use Rattle.pb_run.specs.declared.ran.Ran.{Ran}
 use Rattle.pb_soundness.specs.Numbers.{after}
-use Rattle.pb_soundness.specs.Records.{Reading, record_at}
-use Rattle.pb_store.specs.Migrating.{TakesNext, TakesNumber, lacks_number}
+use Rattle.pb_soundness.specs.Records.{records}
+use Rattle.pb_store.specs.Folder.{TakesNext, TakesNumber, lacks_number}
 use Rattle.pb_turns.proofs.Lists.{all_get, differs, get_map}
 use Rattle.pb_turns.proofs.Waiting.{carries_none, carries_number}
-use Rattle.pb_turns.specs.Again.{CarriesAgain, FliesAgain}
-use Rattle.pb_turns.specs.Crew.{AreApart, launched_of, place_of_unit, places_of}
-use Rattle.pb_turns.specs.Moments.{Moment}
+use Rattle.pb_turns.specs.Calling.{CarriesAgain, FliesAgain}
+use Rattle.pb_turns.specs.Crew.{AreApart, launched_of, place_of_unit, places_of, Moment}
 use Rattle.pb_turns.specs.Rows.{is_started}
 use Rattle.pb_turns.specs.Story.{LacksNumber, NumbersGiven, Spends, Story}
 use Rattle.pb_turns.specs.declared.crew.Aloft.{Aloft}
@@ -136,34 +134,34 @@ spends_answered Lacks es first now key launched OutOfMemory old new may numbers 
 
 pub begun_taken : (tells : Bool) (child : Answers) (first old : UnitCrew) (at now : Moment) (still : ℕ → Type 0) (es : List (Event BadUnit)) (given unit : ℕ) → Story tells child first at old now still es given
     → (next : Option ℕ) (o : Option Launched) → MatchOption o (next ≡ old.store.next) (λ launched. (old.store.next ≡ Some launched.number) × (next ≡ after launched.number))
-    → IsTrue tells → (read : Reading) → IsReading read → NumbersGiven (LacksNumber old.project read at.world) (Began unit (is_some o) ∷ es) first.store.next next
-begun_taken tells child first old at now still es given unit story next o number t read reading =
-    numbers_begun (LacksNumber old.project read at.world) es first.store.next old.store.next next unit o number (story.taken t read reading)
+    → IsTrue tells → NumbersGiven (LacksNumber old.project at.world) (Began unit (is_some o) ∷ es) first.store.next next
+begun_taken tells child first old at now still es given unit story next o number t =
+    numbers_begun (LacksNumber old.project at.world) es first.store.next old.store.next next unit o number (story.taken t)
 
 module _ (tells : Bool) (child : Answers) (first old : UnitCrew) (at now : Moment) (still : ℕ → Type 0) (es : List (Event BadUnit)) (given : ℕ) (story : Story tells child first at old now still es given)
     (index : ℕ) (a : Aloft) (u : Planned) (at_index : slice_get old.aloft.items index ≡ Some a) (there : unit_at old.project a.unit ≡ Some u) (started : is_started es a.unit ≡ is_some (child_of a.begun)) where
-  carries_its : IsTrue tells → (read : Reading) → IsReading read → CarriesAgain read old.setup old.project old.done.items at.world now.world u a.begun.command a.begun.awaited
-  carries_its t read reading = all_get (λ (x : Aloft). FliesAgain read old.setup old.project old.done.items at.world now.world x) old.aloft.items index a ((story.again t).waits read reading) at_index u there
+  carries_its : IsTrue tells → CarriesAgain old.setup old.project old.done.items at.world now.world u a.begun.command a.begun.awaited
+  carries_its t = all_get (λ (x : Aloft). FliesAgain old.setup old.project old.done.items at.world now.world x) old.aloft.items index a ((story.again t).waits) at_index u there
 
   -- one that has no child, and whose record lacked a number, takes the next
-  pub lacked_taken : (ran : Ran) (next : Option ℕ) → ((read : Reading) → IsReading read → IsTrue tells → awaits_number a.begun.awaited ≡ true → lacks_number (record_at read (records_folder old.project) now.world.files u.key) ≡ true → is_some ran.bad ≡ false → TakesNext old.store.next next)
-      → IsTrue tells → (read : Reading) → IsReading read → is_started es a.unit ≡ false → ran.bad ≡ None → lacks_number (record_at read (records_folder old.project) at.world.files u.key) ≡ true → TakesNext old.store.next next
-  lacked_taken ran next taken t read reading none good lacks =
-      let (waits, lacks_now) = carries_none read old.setup old.project old.done.items at.world now.world u a.begun.command a.begun.awaited (sym started ∙ none) (carries_its t read reading) lacks in
-      taken read reading t waits lacks_now (ap is_some good)
+  pub lacked_taken : (ran : Ran) (next : Option ℕ) → (IsTrue tells → awaits_number a.begun.awaited ≡ true → lacks_number (records (records_folder old.project) now.world u.key) ≡ true → is_some ran.bad ≡ false → TakesNext old.store.next next)
+      → IsTrue tells → is_started es a.unit ≡ false → ran.bad ≡ None → lacks_number (records (records_folder old.project) at.world u.key) ≡ true → TakesNext old.store.next next
+  lacked_taken ran next taken t none good lacks =
+      let (waits, lacks_now) = carries_none old.setup old.project old.done.items at.world now.world u a.begun.command a.begun.awaited (sym started ∙ none) (carries_its t) lacks in
+      taken t waits lacks_now (ap is_some good)
 
   pub answered_taken : (ran : Ran) (lines : List ℕ) (next : Option ℕ) → TakesNumber old.store.next next
       → (is_started es a.unit ≡ true → next ≡ old.store.next) → (IsSome ran.bad → next ≡ old.store.next) → (awaits_number a.begun.awaited ≡ false → next ≡ old.store.next)
-      → ((read : Reading) → IsReading read → IsTrue tells → awaits_number a.begun.awaited ≡ true → lacks_number (record_at read (records_folder old.project) now.world.files u.key) ≡ true → is_some ran.bad ≡ false → TakesNext old.store.next next)
-      → IsTrue tells → (read : Reading) → IsReading read → NumbersGiven (LacksNumber old.project read at.world) (Gave a.unit record { fault = ran.bad; lines = lines } ∷ es) first.store.next next
-  answered_taken ran lines next takes none bad untaken taken t read reading = (
+      → (IsTrue tells → awaits_number a.begun.awaited ≡ true → lacks_number (records (records_folder old.project) now.world u.key) ≡ true → is_some ran.bad ≡ false → TakesNext old.store.next next)
+      → IsTrue tells → NumbersGiven (LacksNumber old.project at.world) (Gave a.unit record { fault = ran.bad; lines = lines } ∷ es) first.store.next next
+  answered_taken ran lines next takes none bad untaken taken t = (
     old.store.next,
-    story.taken t read reading,
+    story.taken t,
     record {
       at_most = takes;
       child = none;
       bad = bad;
-      had = λ had. untaken (carries_number read old.setup old.project old.done.items at.world now.world u a.begun.command a.begun.awaited (carries_its t read reading) (had u there));
-      lacked = λ alone good lacks. lacked_taken ran next taken t read reading alone good (lacks u there);
+      had = λ had. untaken (carries_number old.setup old.project old.done.items at.world now.world u a.begun.command a.begun.awaited (carries_its t) (had u there));
+      lacked = λ alone good lacks. lacked_taken ran next taken t alone good (lacks u there);
     },
   )

@@ -58,7 +58,7 @@ there_some (u ∷ us) (suc place) less = there_some us place (omega (arith, less
 pub within_reasons : (c : UnitCrew) (unit : ℕ) → length c.reasons.items ≡ length c.project.plan.planned → unit < length (needs_of c.project) → unit < length c.reasons.items
 within_reasons c unit reasoned less = subst (λ n. unit < n) (length-map c.project.plan.planned (λ (u : Planned). u.needs) ∙ sym reasoned) less
 
--- a unit that is there and is read
+-- a unit that is there and is
 pub there_of : (us seen : List Planned) (place : ℕ) (u v : Planned) → slice_get us place ≡ Some v → seen ≡ us → u ≡ get_or seen place u → slice_get us place ≡ Some u
 there_of us seen place u v there same is = slice_get_read us (length us) place u refl (slice_get_within us place v there) (subst (λ xs. u ≡ get_or xs place u) same is)
 

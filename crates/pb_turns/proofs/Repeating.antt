@@ -23,16 +23,15 @@ use Rattle.pb_record.specs.declared.record.Record.{Record}
 use Rattle.pb_run.specs.Halves.{OnRecords, Basis, basis, HasRecord, HoldsRecords, command_in, key_in, records_in}
 use Rattle.pb_run.specs.Standing.{records_folder}
 use Rattle.pb_soundness.specs.Grounded.{Standing}
-use Rattle.pb_soundness.specs.Records.{Reading, number_in, number_of, record_at}
+use Rattle.pb_soundness.specs.Records.{number_in, number_of, reading, records}
 use Rattle.pb_soundness.specs.Reuse.{IsSame, NeededNow, number_if}
 use Rattle.pb_soundness.proofs.Becoming.{none_some}
 use Rattle.pb_store.specs.Differences.{AreNeeded, FirstDifference, FirstOf, HasNumber}
-use Rattle.pb_store.specs.Migrating.{lacks_number}
+use Rattle.pb_store.specs.Folder.{lacks_number}
 use Rattle.pb_store.specs.declared.difference.Difference.{Difference}
 use Rattle.pb_store.proofs.Once.{one_difference}
 use Rattle.pb_turns.specs.Crew.{needs_of, ticket_of_child}
-use Rattle.pb_turns.specs.Ends.{Dropped}
-use Rattle.pb_turns.specs.Laws.{EachHasRecord, LeavesRecords, StartsNothing, StartsNoneAgain}
+use Rattle.pb_turns.specs.Ends.{Dropped, EachHasRecord, LeavesRecords, StartsNothing, StartsNoneAgain}
 use Rattle.pb_turns.specs.Rows.{is_started}
 use Rattle.pb_turns.specs.Story.{LacksNumber, events_before, states_in, upped}
 use Rattle.pb_turns.proofs.Happening.{before_now, before_other, started_now, started_other}
@@ -49,26 +48,26 @@ are_needed : (folder : List ℕ) (at : Standing) (files : Map) (needed : Needed)
 are_needed folder at files (Copies copies) n is now = absurd (none_some n is)
 are_needed folder at files (Numbers number needs) n is now = all_numbers at needs now
 
-none_first : (read : Reading) (folder key : List ℕ) (c : Command) (w : World) (r : Record) (n : ℕ) → number_of r ≡ Some n → IsSame read folder key c w r → FirstDifference read folder key c w None
-none_first read folder key c w r n is same =
-    subst (λ (o : Option Record). FirstOf folder (record_at read folder w.files) c w o None) (sym same.stands) record {
+none_first : (folder key : List ℕ) (c : Command) (w : World) (r : Record) (n : ℕ) → number_of r ≡ Some n → IsSame reading folder key c w r → FirstDifference folder key c w None
+none_first folder key c w r n is same =
+    subst (λ (o : Option Record). FirstOf folder (records folder w) c w o None) (sym same.stands) record {
       asked = same.asked;
       inputs = same.inputs;
-      needed = are_needed folder (record_at read folder w.files) w.files r.needed n is same.needed;
+      needed = are_needed folder (records folder w) w.files r.needed n is same.needed;
     }
 
 -- no record lacks a number
-numbered_all : (b : Basis) (w : World) → EachHasRecord b w → (place : ℕ) → LacksNumber b.project b.read w place false
+numbered_all : (b : Basis) (w : World) → EachHasRecord b w → (place : ℕ) → LacksNumber b.project w place false
 numbered_all b w each place u there =
     let h = each place u there in
     let is : h.unit ≡ u = injective (sym h.there ∙ there) in
     sym (ap (λ (x : Planned). lacks_number (records_in b w x.key)) is) ∙ ap lacks_number h.here ∙ ap (λ (o : Option ℕ). not (is_some o)) h.numbered
 
 -- so none does from that of a unit
-none_differs : (b : Basis) (w : World) (place : ℕ) (u : Planned) → unit_at b.project place ≡ Some u → HasRecord b w place → FirstDifference b.read (records_folder b.project) u.key (command_in b place u) w None
+none_differs : (b : Basis) (w : World) (place : ℕ) (u : Planned) → unit_at b.project place ≡ Some u → HasRecord b w place → FirstDifference (records_folder b.project) u.key (command_in b place u) w None
 none_differs b w place u there h =
-    subst (λ (x : Planned). FirstDifference b.read (records_folder b.project) x.key (command_in b place x) w None) (injective (sym h.there ∙ there))
-    (none_first b.read (records_folder b.project) h.unit.key (command_in b place h.unit) w h.kept h.number h.numbered h.same)
+    subst (λ (x : Planned). FirstDifference (records_folder b.project) x.key (command_in b place x) w None) (injective (sym h.there ∙ there))
+    (none_first (records_folder b.project) h.unit.key (command_in b place h.unit) w h.kept h.number h.numbered h.same)
 
 -- Where a child was started, one was the first.
 
@@ -116,8 +115,8 @@ starts_nothing b es reasons first now lawful began each = elim (first_start (nee
   | inr f ↦
       let g = began f.place f.begun in
       let as_first : g.world ≡ first = g.unstarted f.none (numbered_all b first each) in
-      let named = subst (λ (w : World). FirstDifference b.read (records_folder b.project) g.unit.key (command_in b f.place g.unit) w g.difference) as_first g.named in
-      let nothing_is : g.difference ≡ None = one_difference b.read (records_folder b.project) g.unit.key (command_in b f.place g.unit) first g.difference None named (none_differs b first f.place g.unit g.there (each f.place g.unit g.there)) in
+      let named = subst (λ (w : World). FirstDifference (records_folder b.project) g.unit.key (command_in b f.place g.unit) w g.difference) as_first g.named in
+      let nothing_is : g.difference ≡ None = one_difference (records_folder b.project) g.unit.key (command_in b f.place g.unit) first g.difference None named (none_differs b first f.place g.unit g.there (each f.place g.unit g.there)) in
       absurd (false≢true (sym (ap (λ (o : Option Difference). is_some o) nothing_is) ∙ sym g.started ∙ f.started))
 ]
 
@@ -136,16 +135,16 @@ dropped_count [] old new dropped = ap (λ (c : Counts). c.starts.count) dropped
 dropped_count (ticket ∷ tickets) old new (result, may, more) = dropped_count tickets (counted_finish ticket result old) new more ∙ finish_count ticket result old
 
 pub leaves_records : {S : Type 0} (Turns : S → List ℕ → List ℕ → Step → S → Type 0) → LeavesRecords Turns
-leaves_records Turns child setup project next from last summary old new ends success read sources reading keeps place u there =
-    let b = basis OnRecords read child setup project sources in
-    let whole = ends.told refl OnRecords read sources reading keeps in
+leaves_records Turns child setup project next from last summary old new ends success sources keeps place u there =
+    let b = basis OnRecords child setup project sources in
+    let whole = ends.told refl OnRecords sources keeps in
     let holds : HoldsRecords b (states_in project ends.es) whole.stands.next new.world = whole.stands.keeps.records in
     holds.recorded place (ends.good success place u there)
 
 pub starts_none_again : {S : Type 0} (Turns : S → List ℕ → List ℕ → Step → S → Type 0) → StartsNoneAgain Turns
-starts_none_again Turns child setup project next from last summary old new ends footing read sources reading keeps each =
-    let whole = ends.told refl footing read sources reading keeps in
-    let none : started_by ends.es ≡ [] = starts_nothing (basis footing read child setup project sources) ends.es ends.reasons old.world new.world (steps_are_lawful Turns (needs_of project) Anyhow Anything from ends.es last ends.flies) whole.began each in (
+starts_none_again Turns child setup project next from last summary old new ends footing sources keeps each =
+    let whole = ends.told refl footing sources keeps in
+    let none : started_by ends.es ≡ [] = starts_nothing (basis footing child setup project sources) ends.es ends.reasons old.world new.world (steps_are_lawful Turns (needs_of project) Anyhow Anything from ends.es last ends.flies) whole.began each in (
       dropped_count (map ticket_of_child ends.mid.starts.flying) ends.mid new.counts ends.drained ∙ ends.starts ∙ ap (λ places. upped (length places) old.counts.starts.count) none,
       ends.started ∙ ap (λ places. flat_map (λ place. key_in (unit_at project place)) places) none,
     )

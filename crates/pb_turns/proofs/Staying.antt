@@ -21,14 +21,14 @@ use Rattle.pb_answer.specs.declared.bad_unit.BadUnit.{BadUnit}
 use Rattle.pb_answer.specs.declared.fault.BuildFault.{BuildFault}
 use Rattle.pb_answer.specs.declared.fault.BuildFault.TheVariants.{Plan, Toolchain, Child, Device, Sink, OutOfMemory}
 use Rattle.pb_project.specs.declared.project.Project.{Project}
-use Rattle.pb_run.specs.Causes.{is_of_start}
+use Rattle.pb_run.specs.Steps.{is_of_start}
 use Rattle.pb_run.specs.Halves.{WritesTo}
 use Rattle.pb_run.specs.Standing.{IsInOrder, records_folder}
 use Rattle.pb_run.specs.declared.begun.Launched.{Launched}
 use Rattle.pb_soundness.specs.Apart.{is_of}
-use Rattle.pb_soundness.specs.Records.{Reading, out_of, place_of, record_at}
+use Rattle.pb_soundness.specs.Records.{out_of, place_of, reading, records}
 use Rattle.pb_soundness.proofs.Places.{record_same}
-use Rattle.pb_store.specs.Migrating.{lacks_number}
+use Rattle.pb_store.specs.Folder.{lacks_number}
 use Rattle.pb_store.specs.declared.difference.Difference.{Difference}
 use Rattle.pb_turns.specs.Crew.{needs_of}
 use Rattle.pb_turns.specs.Rows.{Reasons, is_started}
@@ -156,32 +156,32 @@ spawned_of [] = false
 spawned_of (Began unit spawned ∷ es) = spawned
 spawned_of (Gave unit answer ∷ es) = false
 
-module _ (project : Project) (read : Reading) (sources : World) (command : ℕ → Planned → Command) where
+module _ (project : Project) (sources : World) (command : ℕ → Planned → Command) where
   -- a unit that has begun without a child, and whose record had a number at first, has that record now
-  pub numbered_now : (es : List (Event BadUnit)) (reasons : Reasons) (first w : World) (i : ℕ) (u : Planned) → unit_at project i ≡ Some u → BeganFor project read sources command es reasons first w i → is_started es i ≡ false
-      → lacks_number (record_at read (records_folder project) first.files u.key) ≡ false → lacks_number (record_at read (records_folder project) w.files u.key) ≡ false
+  pub numbered_now : (es : List (Event BadUnit)) (reasons : Reasons) (first w : World) (i : ℕ) (u : Planned) → unit_at project i ≡ Some u → BeganFor project sources command es reasons first w i → is_started es i ≡ false
+      → lacks_number (records (records_folder project) first u.key) ≡ false → lacks_number (records (records_folder project) w u.key) ≡ false
   numbered_now es reasons first w i u there f unstarted numbered =
       let is : f.unit ≡ u = injective (sym f.there ∙ there) in
       let none : f.difference ≡ None = none_of f.difference (sym f.started ∙ unstarted) in
-      let stays = f.kept_stays none (subst (λ (x : Planned). lacks_number (record_at read (records_folder project) first.files x.key) ≡ false) (sym is) numbered) (place_of (records_folder project) f.unit.key) (place_its_own (records_folder project) f.unit.key) in
-      ap lacks_number (record_same read (records_folder project) first.files w.files u.key (subst (λ (x : Planned). finite.get w.files (place_of (records_folder project) x.key) ≡ finite.get first.files (place_of (records_folder project) x.key)) is stays)) ∙ numbered
+      let stays = f.kept_stays none (subst (λ (x : Planned). lacks_number (records (records_folder project) first x.key) ≡ false) (sym is) numbered) (place_of (records_folder project) f.unit.key) (place_its_own (records_folder project) f.unit.key) in
+      ap lacks_number (record_same reading (records_folder project) first.files w.files u.key (subst (λ (x : Planned). finite.get w.files (place_of (records_folder project) x.key) ≡ finite.get first.files (place_of (records_folder project) x.key)) is stays)) ∙ numbered
 
   -- A unit could not begin, though something had differed of it.
 
   -- where the fault is none of a start, and no child was tried, nothing is said
-  pub none_tried : (fault : BuildFault) (es : List (Event BadUnit)) (first now : World) (unit : ℕ) → is_of_start fault ≡ false → HadDiffered project read sources command fault es (Began unit false ∷ es) first now
+  pub none_tried : (fault : BuildFault) (es : List (Event BadUnit)) (first now : World) (unit : ℕ) → is_of_start fault ≡ false → HadDiffered project sources command fault es (Began unit false ∷ es) first now
   none_tried fault es first now unit other place spawned is (inl so) = absurd (false≢true (sym other ∙ so))
   none_tried fault es first now unit other place spawned is (inr so) = absurd (false≢true (ap spawned_of is ∙ so))
 
   -- nor where no unit began last
-  pub none_began : (fault : BuildFault) (es : List (Event BadUnit)) (first now : World) → HadDiffered project read sources command fault es es first now
+  pub none_began : (fault : BuildFault) (es : List (Event BadUnit)) (first now : World) → HadDiffered project sources command fault es es first now
   none_began fault es first now place spawned is so = absurd (longer (Began place spawned) es is)
 
   -- it is said of the one that began last
-  pub start_told : (fault : BuildFault) (es : List (Event BadUnit)) (first now : World) (unit : ℕ) (spawned : Bool) → ((is_of_start fault ≡ true) ⊎ (spawned ≡ true) → (reasons : Reasons) × BeganFor project read sources command (Began unit true ∷ es) reasons first now unit)
-      → HadDiffered project read sources command fault es (Began unit spawned ∷ es) first now
+  pub start_told : (fault : BuildFault) (es : List (Event BadUnit)) (first now : World) (unit : ℕ) (spawned : Bool) → ((is_of_start fault ≡ true) ⊎ (spawned ≡ true) → (reasons : Reasons) × BeganFor project sources command (Began unit true ∷ es) reasons first now unit)
+      → HadDiffered project sources command fault es (Began unit spawned ∷ es) first now
   start_told fault es first now unit spawned told place other is so =
-      subst (λ n. (reasons : Reasons) × BeganFor project read sources command (Began n true ∷ es) reasons first now n) (ap unit_of is) (told (subst (λ b. (is_of_start fault ≡ true) ⊎ (b ≡ true)) (sym (ap spawned_of is)) so))
+      subst (λ n. (reasons : Reasons) × BeganFor project sources command (Began n true ∷ es) reasons first now n) (ap unit_of is) (told (subst (λ b. (is_of_start fault ≡ true) ⊎ (b ≡ true)) (sym (ap spawned_of is)) so))
 
   module _ (order : IsInOrder project) where
     -- a path in a unit's folder is one of the unit
@@ -191,10 +191,10 @@ module _ (project : Project) (read : Reading) (sources : World) (command : ℕ �
     -- A unit has done something: it is none that has answered and is good, and where it has begun without a child each file of its folder stays, and where its record had a number at first too, each file.
     module _ (es : List (Event BadUnit)) (reasons : Reasons) (first w w' : World) (i : ℕ) (u : Planned) (there : unit_at project i ≡ Some u)
         (only : ChangesOnly (is_of (records_folder project) u.key) w w') (not_good : is_good_at (slice_get (states_in project es) i) ≡ false) (not_answered : (a : Answer BadUnit) → slice_get (states_in project es) i ≡ Some (Answered a) → ⊥)
-        (own : HasBegun (states_in project es) i → BeganFor project read sources command es reasons first w i → is_started es i ≡ false → lacks_number (record_at read (records_folder project) first.files u.key) ≡ false
+        (own : HasBegun (states_in project es) i → BeganFor project sources command es reasons first w i → is_started es i ≡ false → lacks_number (records (records_folder project) first u.key) ≡ false
         → (q : List ℕ) → finite.get w'.files q ≡ finite.get w.files q)
         (own_folder : HasBegun (states_in project es) i → is_started es i ≡ false → (q : List ℕ) → is_at_or_below u.out q ≡ true → finite.get w'.files q ≡ finite.get w.files q) where
-      folder_now : (place : ℕ) → HasBegun (states_in project es) place → (f : BeganFor project read sources command es reasons first w place) → f.difference ≡ None → (q : List ℕ) → is_at_or_below f.unit.out q ≡ true → finite.get w'.files q ≡ finite.get w.files q
+      folder_now : (place : ℕ) → HasBegun (states_in project es) place → (f : BeganFor project sources command es reasons first w place) → f.difference ≡ None → (q : List ℕ) → is_at_or_below f.unit.out q ≡ true → finite.get w'.files q ≡ finite.get w.files q
       folder_now place has f none q inside = elim (cases_eq place i) [
         | inl same ↦
             let is : f.unit ≡ u = injective (sym f.there ∙ ap (unit_at project) same ∙ there) in
@@ -203,13 +203,13 @@ module _ (project : Project) (read : Reading) (sources : World) (command : ℕ �
         | inr ne ↦ only.files q (not_of_two project order place i f.unit u f.there there ne q (inside_folder place f.unit f.there q inside))
       ]
 
-      kept_now : (place : ℕ) → HasBegun (states_in project es) place → (f : BeganFor project read sources command es reasons first w place) → f.difference ≡ None → lacks_number (record_at read (records_folder project) first.files f.unit.key) ≡ false
+      kept_now : (place : ℕ) → HasBegun (states_in project es) place → (f : BeganFor project sources command es reasons first w place) → f.difference ≡ None → lacks_number (records (records_folder project) first f.unit.key) ≡ false
           → (q : List ℕ) → is_of (records_folder project) f.unit.key q ≡ true → finite.get w'.files q ≡ finite.get w.files q
       kept_now place has f none numbered q inside = elim (cases_eq place i) [
         | inl same ↦
             let is : f.unit ≡ u = injective (sym f.there ∙ ap (unit_at project) same ∙ there) in
-            own (subst (HasBegun (states_in project es)) same has) (subst (BeganFor project read sources command es reasons first w) same f)
-            (ap (is_started es) (sym same) ∙ f.started ∙ ap (λ (o : Option Difference). is_some o) none) (subst (λ (x : Planned). lacks_number (record_at read (records_folder project) first.files x.key) ≡ false) is numbered) q
+            own (subst (HasBegun (states_in project es)) same has) (subst (BeganFor project sources command es reasons first w) same f)
+            (ap (is_started es) (sym same) ∙ f.started ∙ ap (λ (o : Option Difference). is_some o) none) (subst (λ (x : Planned). lacks_number (records (records_folder project) first x.key) ≡ false) is numbered) q
         | inr ne ↦ only.files q (not_of_two project order place i f.unit u f.there there ne q inside)
       ]
 
@@ -217,7 +217,7 @@ module _ (project : Project) (read : Reading) (sources : World) (command : ℕ �
       good_other p good same = false≢true (sym not_good ∙ ap (λ n. is_good_at (slice_get (states_in project es) n)) (sym same) ∙ good)
 
       -- the others rest on the same
-      began_on : AllBegan project read sources command es reasons first w → AllBegan project read sources command es reasons first w'
+      began_on : AllBegan project sources command es reasons first w → AllBegan project sources command es reasons first w'
       began_on began place has = let f = began place has in record {
         unit = f.unit;
         there = f.there;
@@ -243,14 +243,14 @@ module _ (project : Project) (read : Reading) (sources : World) (command : ℕ �
 
     -- a beginning
     pub began_beside : (es : List (Event BadUnit)) (reasons : Reasons) (first w w' : World) (i : ℕ) (u : Planned) → unit_at project i ≡ Some u → slice_get (states_in project es) i ≡ Some Untouched → ChangesOnly (is_of (records_folder project) u.key) w w'
-        → AllBegan project read sources command es reasons first w → AllBegan project read sources command es reasons first w'
+        → AllBegan project sources command es reasons first w → AllBegan project sources command es reasons first w'
     began_beside es reasons first w w' i u there untouched only =
         began_on es reasons first w w' i u there only (ap is_good_at untouched) (λ a at. untouched_apart a (sym untouched ∙ at)) (λ has f. absurd (another (states_in project es) i i untouched has refl)) (λ has. absurd (another (states_in project es) i i untouched has refl))
 
     -- an answer, or a fault in its place
     pub answered_beside : (es : List (Event BadUnit)) (reasons : Reasons) (first w w' : World) (i : ℕ) (u : Planned) → unit_at project i ≡ Some u → slice_get (states_in project es) i ≡ Some Begun → (o : Option Launched) → is_started es i ≡ is_some o
-        → ChangesOnly (is_of (records_folder project) u.key) w w' → (o ≡ None → lacks_number (record_at read (records_folder project) w.files u.key) ≡ false → w' ≡ w) → (o ≡ None → (q : List ℕ) → is_at_or_below u.out q ≡ true → finite.get w'.files q ≡ finite.get w.files q)
-        → AllBegan project read sources command es reasons first w → AllBegan project read sources command es reasons first w'
+        → ChangesOnly (is_of (records_folder project) u.key) w w' → (o ≡ None → lacks_number (records (records_folder project) w u.key) ≡ false → w' ≡ w) → (o ≡ None → (q : List ℕ) → is_at_or_below u.out q ≡ true → finite.get w'.files q ≡ finite.get w.files q)
+        → AllBegan project sources command es reasons first w → AllBegan project sources command es reasons first w'
     answered_beside es reasons first w w' i u there state o started only same folder =
         began_on es reasons first w w' i u there only (ap is_good_at state) (λ a at. begun_apart a (sym state ∙ at)) (λ has f unstarted numbered q.
         ap (λ (v : World). finite.get v.files q) (same (none_of o (sym started ∙ unstarted)) (numbered_now es reasons first w i u there f unstarted numbered)))
@@ -259,7 +259,7 @@ module _ (project : Project) (read : Reading) (sources : World) (command : ℕ �
     -- a child dropped
     pub dropped_beside : (fault : BuildFault) (before es : List (Event BadUnit)) (reasons : Reasons) (first w w' : World) (i : ℕ) (u : Planned) → unit_at project i ≡ Some u → IsLawful (needs_of project) es → CameAfter project fault before es
         → slice_get (states_in project es) i ≡ Some Begun → (o : Option Launched) → is_started es i ≡ is_some o → ChangesOnly (is_of (records_folder project) u.key) w w' → (o ≡ None → (q : List ℕ) → finite.get w'.files q ≡ finite.get w.files q)
-        → AllBegan project read sources command before reasons first w → AllBegan project read sources command before reasons first w'
+        → AllBegan project sources command before reasons first w → AllBegan project sources command before reasons first w'
     dropped_beside fault before es reasons first w w' i u there lawful came state o started only same =
         let flew = flew_before project before es i (is_some o) lawful (or_before project fault before es came) state started in
         began_on before reasons first w w' i u there only flew.not_good flew.not_answered (λ has f unstarted numbered. same (none_of o (sym (flew.started has) ∙ unstarted)))
@@ -267,7 +267,7 @@ module _ (project : Project) (read : Reading) (sources : World) (command : ℕ �
 
     -- and so of one that could not begin
     pub start_beside : (fault : BuildFault) (before es : List (Event BadUnit)) (first w w' : World) (i : ℕ) (u : Planned) → unit_at project i ≡ Some u → slice_get (states_in project es) i ≡ Some Begun → ChangesOnly (is_of (records_folder project) u.key) w w'
-        → HadDiffered project read sources command fault before es first w → HadDiffered project read sources command fault before es first w'
+        → HadDiffered project sources command fault before es first w → HadDiffered project sources command fault before es first w'
     start_beside fault before es first w w' i u there state only started place spawned is so =
         let (reasons, f) = started place spawned is so in
         let begun : slice_get (states_in project (Began place true ∷ before)) i ≡ Some Begun = subst (λ (x : List (Event BadUnit)). slice_get (states_in project x) i ≡ Some Begun) is state in

@@ -12,7 +12,7 @@ use Rattle.pb_project.specs.Targets.{unit_at}
 use Rattle.pb_project.specs.declared.project.Project.{Project}
 use Rattle.pb_run.specs.Standing.{IsInOrder, records_folder}
 use Rattle.pb_soundness.specs.Apart.{is_of}
-use Rattle.pb_soundness.specs.Records.{place_of}
+use Rattle.pb_soundness.specs.Records.{place_of, reading}
 use Rattle.pb_soundness.proofs.Places.{record_same}
 use Rattle.pb_turns.specs.Crew.{needs_of}
 use Rattle.pb_turns.specs.Rows.{is_started}
@@ -41,9 +41,9 @@ none_in_flight project w place u at state apart started = absurd (false≢true s
 module _ (project : Project) (order : IsInOrder project) (es : List (Event BadUnit)) (w w' : World) (unit : ℕ) (u : Planned) (there : unit_at project unit ≡ Some u) (only : ChangesOnly (is_of (records_folder project) u.key) w w') where
   -- another unit has no record, as before
   pub none_still : (place : ℕ) (v : Planned) → unit_at project place ≡ Some v → place ≢ unit → HasNoRecord project v w → HasNoRecord project v w'
-  none_still place v at ne none read =
-      record_same read (records_folder project) w.files w'.files v.key
-      (only.files (place_of (records_folder project) v.key) (not_of_two project order place unit v u at there ne (place_of (records_folder project) v.key) (place_its_own (records_folder project) v.key))) ∙ none read
+  none_still place v at ne none =
+      record_same reading (records_folder project) w.files w'.files v.key
+      (only.files (place_of (records_folder project) v.key) (not_of_two project order place unit v u at there ne (place_of (records_folder project) v.key) (place_its_own (records_folder project) v.key))) ∙ none
 
   module _ (old : KeepsNoneOfBad project es w) where
     -- one has begun

@@ -19,17 +19,17 @@ use Rattle.pb_project.specs.declared.project.Project.{Project}
 use Rattle.pb_project.specs.declared.project.Setup.{Setup}
 use Rattle.pb_project.specs.Targets.{unit_at}
 use Rattle.pb_run.specs.Halves.{awaits_number, child_in}
-use Rattle.pb_run.specs.Landing.{EndsBy}
+use Rattle.pb_run.specs.Running.{EndsBy}
 use Rattle.pb_run.specs.Standing.{IsInOrder, records_folder}
 use Rattle.pb_run.specs.declared.begun.Awaited.{Awaited}
 use Rattle.pb_run.specs.declared.begun.Awaited.TheVariants as awaited
 use Rattle.pb_run.specs.declared.begun.Launched.{Launched}
 use Rattle.pb_soundness.specs.Apart.{is_of}
-use Rattle.pb_soundness.specs.Records.{Reading, out_of, place_of, record_at}
+use Rattle.pb_soundness.specs.Records.{out_of, place_of, reading, records}
 use Rattle.pb_soundness.proofs.Places.{out_place_apart, record_same}
-use Rattle.pb_store.specs.Migrating.{lacks_number}
+use Rattle.pb_store.specs.Folder.{lacks_number}
 use Rattle.pb_store.specs.declared.replaying.Replayed.{Replayed}
-use Rattle.pb_turns.specs.Again.{CarriesAgain}
+use Rattle.pb_turns.specs.Calling.{CarriesAgain}
 use Rattle.pb_turns.specs.Rows.{is_started}
 use Rattle.pb_turns.specs.Story.{states_in, KeepsChildless, OnlyOf}
 use Rattle.pb_turns.proofs.Happening.{started_now, started_other}
@@ -51,19 +51,19 @@ folder_answered project order place u there (awaited.Record again) none answer w
     behind.files q (share_no_path (out_of (records_folder project) u.key) (place_of (records_folder project) u.key) q apart.first apart.second apart.not_below_first apart.not_below_second
     (subst (λ (out : List ℕ). is_at_or_below out q ≡ true) (order.folders place u there) inside)) ∙ ap (λ (x : World). finite.get x.files q) ends.0
 
-module _ (read : Reading) (setup : Setup) (project : Project) (done : List (Option (List Directive))) (first w : World) where
+module _ (setup : Setup) (project : Project) (done : List (Option (List Directive))) (first w : World) where
   -- where its record had a number, it waits for none
-  pub carries_number : (u : Planned) (c : Command) (by : Awaited) → CarriesAgain read setup project done first w u c by → lacks_number (record_at read (records_folder project) first.files u.key) ≡ false → awaits_number by ≡ false
+  pub carries_number : (u : Planned) (c : Command) (by : Awaited) → CarriesAgain setup project done first w u c by → lacks_number (records (records_folder project) first u.key) ≡ false → awaits_number by ≡ false
   carries_number u c (awaited.Child launched) carries numbered = refl
   carries_number u c (awaited.Record again) carries numbered = ap (λ (x : Replayed). not x.numbered) carries.gives ∙ (sym (ap lacks_number carries.here) ∙ numbered)
 
   -- where it lacked one, it waits for one, and its record lacks it still
-  pub carries_none : (u : Planned) (c : Command) (by : Awaited) → is_some (child_in by) ≡ false → CarriesAgain read setup project done first w u c by → lacks_number (record_at read (records_folder project) first.files u.key) ≡ true
-      → (awaits_number by ≡ true) × (lacks_number (record_at read (records_folder project) w.files u.key) ≡ true)
+  pub carries_none : (u : Planned) (c : Command) (by : Awaited) → is_some (child_in by) ≡ false → CarriesAgain setup project done first w u c by → lacks_number (records (records_folder project) first u.key) ≡ true
+      → (awaits_number by ≡ true) × (lacks_number (records (records_folder project) w u.key) ≡ true)
   carries_none u c (awaited.Child launched) none carries lacks = absurd (false≢true (sym none))
   carries_none u c (awaited.Record again) none carries lacks = (
     ap (λ (x : Replayed). not x.numbered) carries.gives ∙ (sym (ap lacks_number carries.here) ∙ lacks),
-    ap lacks_number (record_same read (records_folder project) first.files w.files u.key (carries.stays (place_of (records_folder project) u.key) (place_its_own (records_folder project) u.key))) ∙ lacks,
+    ap lacks_number (record_same reading (records_folder project) first.files w.files u.key (carries.stays (place_of (records_folder project) u.key) (place_its_own (records_folder project) u.key))) ∙ lacks,
   )
 
 -- While they wait, their folders and records stand as at first.

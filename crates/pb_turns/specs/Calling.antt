@@ -1,5 +1,6 @@
--- Which calls of the place the units of a build make, event by event, and in which worlds.
-use Rattle.std.specs.Prelude.{◌≡◌, ◌⊎◌, ◌∷◌, [], ℕ, Bool, true, false, is_some, List, Option, Some, None, Result, Ok, Err, IsOk, IfOk, IfSome}
+-- How units answer, again or anew, and which calls of the place they make, event by event.
+use Rattle.std.specs.Prelude.{◌≡◌, ℕ, true, false, List, Option, Some, slice_get, ◌⊎◌, ◌∷◌, [], Bool, is_some, None, Result, Ok, Err, IsOk, IfErr, IfOk, IfSome}
+use Rattle.std.specs.FinMap as finite
 use Rattle.pb_answer.specs.declared.bad_unit.BadUnit.{BadUnit}
 use Rattle.pb_answer.specs.declared.fault.BuildFault.{BuildFault}
 use Rattle.pb_answer.specs.declared.fault.BuildFault.TheVariants.{Sink, OutOfMemory}
@@ -7,11 +8,12 @@ use Rattle.pb_command.specs.Command.{command_of}
 use Rattle.pb_command.specs.Judge.{ended_by, replied_files}
 use Rattle.pb_directive.specs.declared.directive.Directive.{Directive}
 use Rattle.pb_flight.specs.Events.{Event, Began, Gave}
+use Rattle.pb_flight.specs.declared.flight.Answer.{Answer}
 use Rattle.pb_place.specs.Children.{child_at}
 use Rattle.pb_place.specs.Counts.{Counts}
 use Rattle.pb_place.specs.Folders.{files_in}
 use Rattle.pb_place.specs.Paths.{is_at_or_below}
-use Rattle.pb_place.specs.World.{World, Answers, ChangesOnly, seen_by}
+use Rattle.pb_place.specs.World.{World, Map, Answers, seen_by, ChangesOnly}
 use Rattle.pb_place.specs.declared.child.Reply.{Reply}
 use Rattle.pb_place.specs.declared.child_in_flight.ChildInFlight.{ChildInFlight}
 use Rattle.pb_place.specs.declared.command.Command.{Command}
@@ -20,26 +22,91 @@ use Rattle.pb_place.specs.declared.place.StartFault.{StartFault}
 use Rattle.pb_project.specs.Targets.{unit_at}
 use Rattle.pb_project.specs.declared.project.Project.{Project}
 use Rattle.pb_project.specs.declared.project.Setup.{Setup}
-use Rattle.pb_record.specs.Parts.{IsReading}
-use Rattle.pb_run.specs.Causes.{StopsAt}
-use Rattle.pb_run.specs.Halves.{Basis, child_in, command_in, view_in}
-use Rattle.pb_run.specs.Landing.{CallsBehind, EndsBy, GivesRecord, answered_called}
-use Rattle.pb_run.specs.Launching.{Launches}
-use Rattle.pb_run.specs.Running.{StopsToBegin, past_look}
+use Rattle.pb_record.specs.Commands.{command_of as asked_command}
+use Rattle.pb_record.specs.declared.record.Record.{Record}
+use Rattle.pb_run.specs.Halves.{IsInFlight, Basis, child_in, command_in, view_in}
+use Rattle.pb_run.specs.Outcome.{ran_of, unstarted}
+use Rattle.pb_run.specs.Running.{CallsBehind, EndsBy, GivesRecord, answered_called, Launches, StopsToBegin, past_look}
 use Rattle.pb_run.specs.Standing.{records_folder}
+use Rattle.pb_run.specs.Steps.{IsOfUnit, bare, fault_in}
 use Rattle.pb_run.specs.declared.begun.Awaited.{Awaited}
+use Rattle.pb_run.specs.declared.begun.Awaited.TheVariants as awaited
 use Rattle.pb_run.specs.declared.begun.Launched.{Launched}
+use Rattle.pb_run.specs.declared.ran.Ran.{Ran}
 use Rattle.pb_soundness.specs.Apart.{is_of}
-use Rattle.pb_soundness.specs.Records.{Reading, place_of, record_at}
-use Rattle.pb_store.specs.Differences.{FirstDifference}
-use Rattle.pb_store.specs.Looking.{looked_at}
-use Rattle.pb_store.specs.declared.difference.Difference.{Difference}
+use Rattle.pb_soundness.specs.Inputs.{Agrees, reply_in}
+use Rattle.pb_soundness.specs.Records.{records, place_of}
+use Rattle.pb_store.specs.Differences.{replayed}
+use Rattle.pb_store.specs.declared.replaying.Replayed.{Replayed}
 use Rattle.pb_turns.specs.Rows.{is_started}
+use Rattle.pb_turns.specs.declared.crew.Aloft.{Aloft}
 use Rattle.pb_unit.specs.declared.plan.Planned.{Planned}
+use Rattle.pb_unit_messages.specs.Telling.{unit_lines}
 
--- what it takes to tell the calls of a build: how texts are read as records, the child, the project, the command of the unit at a place, and what its child sees of a world
+-- what comes of a unit by a record, without a child: the judgement of the answer that it gives again to the command that it was asked, by these files
+abbrev pub ran_again : Project → Planned → Record → Map → Ran
+ran_again project u r files = unstarted (ran_of project u (asked_command r.asked) (replayed r).ended files)
+
+-- the unit at a place answered by the record that counted in its place at first: its fault, its lines and what is noted of its run follow from that record, from its command, and from the files of that time
+pub record AnswersAgain (setup : Setup) (project : Project) (done : List (Option (List Directive))) (first : World) (place : ℕ) (answer : Answer BadUnit) : Type 0 where
+  pub unit : Planned
+  pub there : unit_at project place ≡ Some unit
+  pub kept : Record
+  pub here : records (records_folder project) first unit.key ≡ Some kept
+  pub asks : asked_command kept.asked ≡ command_of setup project unit done
+  pub inputs : Agrees project.workspace.target kept.inputs first
+  pub fault : answer.fault ≡ (ran_again project unit kept first.files).bad
+  pub lines : answer.lines ≡ unit_lines project unit false (ran_again project unit kept first.files).messages
+  pub noted : slice_get done place ≡ Some (ran_again project unit kept first.files).directives
+
+-- A unit in flight that waits for that answer.
+
+-- it carries what the record that counted at first gives again to its command, its inputs had their values then, and its folder and its record stand as they did
+pub record WaitsAgain (setup : Setup) (project : Project) (done : List (Option (List Directive))) (first now : World) (u : Planned) (c : Command) (again : Replayed) : Type 0 where
+  pub kept : Record
+  pub here : records (records_folder project) first u.key ≡ Some kept
+  pub asked : asked_command kept.asked ≡ c
+  pub asks : c ≡ command_of setup project u done
+  pub inputs : Agrees project.workspace.target kept.inputs first
+  pub gives : again ≡ replayed kept
+  pub stays : (q : List ℕ) → is_of (records_folder project) u.key q ≡ true → finite.get now.files q ≡ finite.get first.files q
+
+-- of one that has a child nothing is said
+abbrev pub CarriesAgain : Setup → Project → List (Option (List Directive)) → World → World → Planned → Command → Awaited → Type 0
+CarriesAgain setup project done first now u c (awaited.Child launched) = Unit {0}
+CarriesAgain setup project done first now u c (awaited.Record again) = WaitsAgain setup project done first now u c again
+
+-- so of a unit in flight
+abbrev pub FliesAgain : Setup → Project → List (Option (List Directive)) → World → World → Aloft → Type 0
+FliesAgain setup project done first now a = (u : Planned) → unit_at project a.unit ≡ Some u → CarriesAgain setup project done first now u a.begun.command a.begun.awaited
+
+-- what comes of a unit by such a reply
+abbrev pub ran_anew : Project → Planned → Command → Reply → Ran
+ran_anew project u c reply = ran_of project u c (ended_by reply) (replied_files u.out reply)
+
+-- the unit at a place answered what its child returns for what it sees of this world: its folder contains exactly the files of that reply, and its fault, its lines and what is noted of its run follow from it
+pub record AnswersAnew (child : Answers) (setup : Setup) (project : Project) (done : List (Option (List Directive))) (now : World) (place : ℕ) (answer : Answer BadUnit) : Type 0 where
+  pub unit : Planned
+  pub there : unit_at project place ≡ Some unit
+  pub reply : Reply
+  pub replies : reply ≡ reply_in child (command_of setup project unit done) now
+  pub files : files_in unit.out now.files ≡ replied_files unit.out reply
+  pub fault : answer.fault ≡ (ran_anew project unit (command_of setup project unit done) reply).bad
+  pub lines : answer.lines ≡ unit_lines project unit true (ran_anew project unit (command_of setup project unit done) reply).messages
+  pub noted : slice_get done place ≡ Some (ran_anew project unit (command_of setup project unit done) reply).directives
+
+-- A unit in flight that waits for that answer.
+
+-- its child flies, and sees what it saw when it was spawned; of one that has none nothing is said
+abbrev pub CarriesAnew : Answers → Setup → Project → List (Option (List Directive)) → World → List ChildInFlight → (ℕ → Type 0) → Planned → Command → Awaited → Type 0
+CarriesAnew child setup project done now flying still u c (awaited.Child launched) = (c ≡ command_of setup project u done) × IsInFlight child c (seen_by c now) launched.ticket flying still
+CarriesAnew child setup project done now flying still u c (awaited.Record again) = Unit {0}
+
+abbrev pub FliesAnew : Answers → Setup → Project → List (Option (List Directive)) → World → List ChildInFlight → (ℕ → Type 0) → Aloft → Type 0
+FliesAnew child setup project done now flying still a = (u : Planned) → unit_at project a.unit ≡ Some u → CarriesAnew child setup project done now flying still u a.begun.command a.begun.awaited
+
+-- what it takes to tell the calls of a build: the child, the project, the command of the unit at a place, and what its child sees of a world
 pub record CallBasis : Type 0 where
-  pub read : Reading
   pub child : Answers
   pub project : Project
   pub command : ℕ → Planned → Command
@@ -47,12 +114,11 @@ pub record CallBasis : Type 0 where
 
 -- over a basis: the command and the view of the unit in a build from nothing, whatever the world
 abbrev pub call_basis : Basis → CallBasis
-call_basis b = record { read = b.read; child = b.child; project = b.project; command = command_in b; sees = λ place u w. view_in b place u }
+call_basis b = record { child = b.child; project = b.project; command = command_in b; sees = λ place u w. view_in b place u }
 
 -- over any records, true or not: the command that the unit has after what is noted of the runs, and what that sees of the world
-abbrev pub call_basis_on_any : Reading → Answers → Setup → Project → List (Option (List Directive)) → CallBasis
-call_basis_on_any read child setup project done = record {
-  read = read;
+abbrev pub call_basis_on_any : Answers → Setup → Project → List (Option (List Directive)) → CallBasis
+call_basis_on_any child setup project done = record {
   child = child;
   project = project;
   command = λ place u. command_of setup project u done;
@@ -62,24 +128,24 @@ call_basis_on_any read child setup project done = record {
 -- A unit begins.
 
 -- where nothing differed no other call was made, and nothing was changed; else its child was launched
-abbrev pub CallsToBegin : Reading → Answers → Project → Planned → Command → Bool → World → Counts → World → Counts → Type 0
-CallsToBegin read child project u c false before old after new = (after ≡ before) × (new ≡ past_look read true project u c before old)
-CallsToBegin read child project u c true before old after new = (ticket : ℕ) × Launches child c ticket (past_look read true project u c before old) new
+abbrev pub CallsToBegin : Answers → Project → Planned → Command → Bool → World → Counts → World → Counts → Type 0
+CallsToBegin child project u c false before old after new = (after ≡ before) × (new ≡ past_look project u c before old)
+CallsToBegin child project u c true before old after new = (ticket : ℕ) × Launches child c ticket (past_look project u c before old) new
 
 -- the unit at a place began by just these calls
 pub record BeginsCalling (b : CallBasis) (place : ℕ) (spawned : Bool) (before : World) (old : Counts) (after : World) (new : Counts) : Type 0 where
   pub unit : Planned
   pub there : unit_at b.project place ≡ Some unit
   pub only : ChangesOnly (is_of (records_folder b.project) unit.key) before after
-  pub calls : CallsToBegin b.read b.child b.project unit (b.command place unit) spawned before old after new
+  pub calls : CallsToBegin b.child b.project unit (b.command place unit) spawned before old after new
 
 -- it could not begin: it stopped at a call of its look, or something had differed of it, and it stopped as its child was launched
 pub record StopsBeginning (b : CallBasis) (place : ℕ) (fault : BuildFault) (w : World) (old : Counts) (after : World) (new : Counts) : Type 0 where
   pub unit : Planned
   pub there : unit_at b.project place ≡ Some unit
   pub only : ChangesOnly (is_of (records_folder b.project) unit.key) w after
-  pub stops : StopsToBegin b.read true b.project unit (b.command place unit) fault w old new
-  pub differed : StopsAt fault (looked_at b.read true (records_folder b.project) unit.key (b.command place unit) w) old new ⊎ ((difference : Difference) × FirstDifference b.read (records_folder b.project) unit.key (b.command place unit) w (Some difference))
+  pub named : IsOfUnit unit.key fault
+  pub stops : StopsToBegin b.project unit (b.command place unit) (fault_in fault) w old new
 
 -- A unit answers.
 
@@ -96,21 +162,22 @@ pub record EndsAsReplied (reply : Reply) (u : Planned) (ended : Ended) (left : W
 abbrev pub FliesFor : Command → List ChildInFlight → Launched → Type 0
 FliesFor c flying launched = (spawned : ChildInFlight) × (child_at launched.ticket flying ≡ Some spawned) × (spawned.command ≡ c)
 
--- the answer of the unit at a place was taken: the end of its child was asked for, where it has one, which was in flight for the command of the unit, and behind it just the calls came that belong to the answer; where it answers by its record, that is the one that counts now. Where a child was started for it and answered, it gave its reply to what it sees by the basis of calls, of the world that it left. So it is where the place tells its maps, and only there is any of this said
+-- the answer of the unit at a place was taken: the end of its child was asked for, if it has one, and then exactly the calls came that belong to the answer. This is said only of a place that tells its maps
 pub record AnswersCalling (b : CallBasis) (place : ℕ) (spawned : Bool) (result : Result (Unit {0}) BuildFault) (before : World) (old : Counts) (after : World) (new : Counts) : Type 0 where
   pub unit : Planned
   pub there : unit_at b.project place ≡ Some unit
   pub by : Awaited
   pub is_child : spawned ≡ is_some (child_in by)
   pub its : IfSome (child_in by) (FliesFor (b.command place unit) old.starts.flying)
-  pub counts_now : GivesRecord (record_at b.read (records_folder b.project) before.files unit.key) by
+  pub counts_now : GivesRecord (records (records_folder b.project) before unit.key) by
   pub left : World
   pub mid : Counts
   pub answer : Result Ended StartFault
   pub ends : EndsBy by answer (IsOk result) (λ ticket. Unit {0}) before left old mid
   pub replied : spawned ≡ true → IfOk answer (λ ended. EndsAsReplied (reply_by b place unit left) unit ended left)
   pub only : ChangesOnly (is_at_or_below (place_of (records_folder b.project) unit.key)) left after
-  pub calls : CallsBehind unit.key by (answered_called b.read true b.project unit (b.command place unit) left by) answer result mid new
+  pub named : IfErr result (IsOfUnit unit.key)
+  pub calls : CallsBehind by (answered_called b.project unit (b.command place unit) left by) answer (bare result) mid new
 
 -- All of them.
 
@@ -120,23 +187,19 @@ CallsOver b [] first at last now = (last ≡ first) × (now ≡ at)
 CallsOver b (Began place spawned ∷ es) first at last now = (before : World) × (old : Counts) × CallsOver b es first at before old × BeginsCalling b place spawned before old last now
 CallsOver b (Gave place answer ∷ es) first at last now = (before : World) × (old : Counts) × CallsOver b es first at before old × AnswersCalling b place (is_started es place) (Ok tt) before old last now
 
--- a fault that may come of no call: the sink's, and want of memory
-abbrev pub IsCallless : BuildFault → Type 0
-IsCallless fault = (fault ≡ Sink) ⊎ (fault ≡ OutOfMemory)
-
--- where a fault came, these last: as the answer of a unit was taken; as one could not begin; or none, of a fault that needs none
+-- where a fault came, these last: as the answer of a unit was taken; as one could not begin; or none, where the sink or memory failed
 abbrev pub StopsLast : CallBasis → BuildFault → Option ℕ → List (Event BadUnit) → List (Event BadUnit) → World → Counts → World → Counts → Type 0
 StopsLast b fault (Some place) es before w old after new = AnswersCalling b place (is_started before place) (Err fault) w old after new
-StopsLast b fault None es before w old after new = (IsCallless fault × (after ≡ w) × (new ≡ old)) ⊎ ((place : ℕ) × (spawned : Bool) × (es ≡ Began place spawned ∷ before) × StopsBeginning b place fault w old after new)
+StopsLast b fault None es before w old after new = (((fault ≡ Sink) ⊎ (fault ≡ OutOfMemory)) × (after ≡ w) × (new ≡ old)) ⊎ ((place : ℕ) × (spawned : Bool) × (es ≡ Began place spawned ∷ before) × StopsBeginning b place fault w old after new)
 
 -- just these calls were made over the events before a fault, and these last
 abbrev pub CallsCut : CallBasis → BuildFault → Option ℕ → List (Event BadUnit) → List (Event BadUnit) → World → Counts → World → Counts → Type 0
 CallsCut b fault asked es before first at last now = (w : World) × (old : Counts) × CallsOver b before first at w old × StopsLast b fault asked es before w old last now
 
--- over any records, true or not, and whatever reads their texts: just these calls were made, by the commands that the units have after what is noted of the runs
+-- over any records, true or not: just these calls were made, by the commands that the units have after what is noted of the runs
 abbrev pub CallsOnAny : Answers → Setup → Project → List (Option (List Directive)) → List (Event BadUnit) → World → Counts → World → Counts → Type 0
-CallsOnAny child setup project done es first at last now = (read : Reading) → IsReading read → CallsOver (call_basis_on_any read child setup project done) es first at last now
+CallsOnAny child setup project done es first at last now = CallsOver (call_basis_on_any child setup project done) es first at last now
 
 -- and so where a fault came
 abbrev pub CallsCutOnAny : Answers → Setup → Project → List (Option (List Directive)) → BuildFault → Option ℕ → List (Event BadUnit) → List (Event BadUnit) → World → Counts → World → Counts → Type 0
-CallsCutOnAny child setup project done fault asked es before first at last now = (read : Reading) → IsReading read → CallsCut (call_basis_on_any read child setup project done) fault asked es before first at last now
+CallsCutOnAny child setup project done fault asked es before first at last now = CallsCut (call_basis_on_any child setup project done) fault asked es before first at last now

@@ -1,17 +1,34 @@
--- The units in flight of a build, and what holds of them at each moment.
-use Rattle.std.specs.Prelude.{◌≡◌, ◌≢◌, ◌∷◌, [], ℕ, List, map, length, Option, Some, None, is_some, slice_get}
+-- A moment of a build, and what a crew of units holds of its place.
+use Rattle.std.specs.Prelude.{ℕ, ◌≡◌, ◌≢◌, ◌∷◌, [], Bool, IsTrue, List, map, length, Option, Some, None, is_some, slice_get}
 use Rattle.std.specs.List.{flat_map, AllByRecursion}
 use Rattle.pb_flight.specs.Table.{if_so}
+use Rattle.pb_place.specs.At.{At}
 use Rattle.pb_place.specs.Counts.{Counts}
+use Rattle.pb_place.specs.Sinks.{Heard}
+use Rattle.pb_place.specs.World.{World}
 use Rattle.pb_place.specs.declared.child_in_flight.ChildInFlight.{ChildInFlight}
+use Rattle.pb_project.specs.Targets.{unit_at}
 use Rattle.pb_project.specs.declared.project.Project.{Project}
-use Rattle.pb_run.specs.Halves.{child_of}
+use Rattle.pb_run.specs.Halves.{WritesTo, child_of}
 use Rattle.pb_run.specs.Standing.{IsInOrder, IsCommandOf, records_folder}
+use Rattle.pb_run.specs.declared.begun.Begun.{Begun}
 use Rattle.pb_run.specs.declared.begun.Launched.{Launched}
 use Rattle.pb_soundness.specs.Numbers.{IsBefore}
+use Rattle.pb_soundness.specs.Records.{records}
+use Rattle.pb_store.specs.Folder.{HasNumbers}
 use Rattle.pb_turns.specs.declared.crew.Aloft.{Aloft}
 use Rattle.pb_turns.specs.declared.crew.UnitCrew.{UnitCrew}
 use Rattle.pb_unit.specs.declared.plan.Planned.{Planned}
+
+-- the world, the counters of the place, the most children that ever were in flight, and the sink
+pub record Moment : Type 0 where
+  pub world : World
+  pub counts : Counts
+  pub most : ℕ
+  pub heard : Heard
+
+abbrev pub moment : At → Heard → Moment
+moment at heard = record { world = at.world; counts = at.counts; most = at.most; heard = heard }
 
 -- what each unit needs
 abbrev pub needs_of : Project → List (List ℕ)
@@ -49,6 +66,10 @@ abbrev pub AreApart : List ℕ → Type 0
 AreApart [] = Unit {0}
 AreApart (n ∷ ns) = AllByRecursion (λ m. n ≢ m) ns × AreApart ns
 
+-- a unit that has begun, once what differed is among the reasons
+abbrev pub noted : Begun → Begun
+noted begun = record begun { difference = None }
+
 -- a unit in flight is one of the plan, by its own key, for a command of the unit
 pub record IsOfPlan (project : Project) (a : Aloft) : Type 0 where
   pub unit : Planned
@@ -56,7 +77,7 @@ pub record IsOfPlan (project : Project) (a : Aloft) : Type 0 where
   pub key : a.begun.unit ≡ unit.key
   pub asks : IsCommandOf project unit a.begun.command
 
--- what holds of a crew at each moment: its project is in order and its store is that of the project's records; the children in flight are those of its units, each with a ticket of its own; no two of them have one place or one run number, and each has one below the next
+-- what holds of a crew at each moment: its project is in order, its store is that of the project's records, and its units in flight are the children in flight, no two with one place, ticket or run number
 pub record IsManned (c : UnitCrew) (counts : Counts) : Type 0 where
   pub order : IsInOrder c.project
   pub folder : c.store.folder ≡ records_folder c.project
@@ -68,3 +89,13 @@ pub record IsManned (c : UnitCrew) (counts : Counts) : Type 0 where
   pub tickets_apart : AreApart (tickets_of c.aloft.items)
   pub numbers_apart : AreApart (numbers_of c.aloft.items)
   pub before : AllByRecursion (IsBefore c.store.next) (numbers_of c.aloft.items)
+
+-- the child of a unit in flight writes into the unit's own folder
+abbrev pub WritesOwn : Project → List ChildInFlight → Aloft → Type 0
+WritesOwn project flying a = (unit : Planned) → unit_at project a.unit ≡ Some unit → WritesTo unit.out (child_of a.begun) flying
+
+-- what each call of a crew requires, and what holds until one fails
+pub record IsAble (tells : Bool) (c : UnitCrew) (at : At) : Type 0 where
+  -- the store has the numbers of its records
+  pub numbers : IsTrue tells → HasNumbers (records (records_folder c.project) at.world) c.store.numbers
+  pub writes : AllByRecursion (WritesOwn c.project at.counts.starts.flying) c.aloft.items

@@ -1,33 +1,62 @@
--- How the units of a project end.
-use Rattle.std.specs.Prelude.{Bool, ◌≡◌, ◌≢◌, ◌⊎◌, ◌∷◌, [], ℕ, max, true, List, map, length, take, Option, Some, None, IsTrue, IfErr, Result, Ok, Err, slice_get}
+-- How the units of a project end, what remains as their children are dropped, and the laws of it.
+use Rattle.std.specs.Prelude.{◌≡◌, ℕ, true, false, List, Option, Some, Bool, ◌≢◌, ◌⊎◌, ◌∷◌, [], max, map, length, take, None, IsTrue, IfErr, Result, Ok, Err, slice_get}
+use Rattle.std.specs.FinMap as finite
 use Rattle.std.specs.Io.KnownBytes.{Appends}
+use Rattle.std.specs.List.{AllByRecursion}
+use Rattle.pb_answer.specs.declared.bad_unit.BadUnit.{BadUnit}
 use Rattle.pb_answer.specs.declared.fault.BuildFault.{BuildFault}
 use Rattle.pb_answer.specs.declared.summary.Summary.{Summary}
 use Rattle.pb_directive.specs.declared.directive.Directive.{Directive}
-use Rattle.pb_flight.specs.declared.turn.Step.{Step}
-use Rattle.pb_flight.specs.Events.{Event, Anything, started_by, peak}
+use Rattle.pb_flight.specs.Events.{Event, IsLawful, Anything, started_by, peak}
 use Rattle.pb_flight.specs.Steps.{Flies, Anyhow, HandsBack}
 use Rattle.pb_flight.specs.Table.{due, due_first, count_due, first_bad, is_finished, is_good_at}
 use Rattle.pb_flight.specs.declared.flight.Answer.{Answer}
 use Rattle.pb_flight.specs.declared.flight.State.TheVariants.{Untouched, Answered}
+use Rattle.pb_flight.specs.declared.turn.Step.{Step}
 use Rattle.pb_place.specs.Counts.{Counts, counted_finish}
 use Rattle.pb_place.specs.World.{World, Answers}
+use Rattle.pb_place.specs.declared.child_in_flight.ChildInFlight.{ChildInFlight}
+use Rattle.pb_place.specs.declared.command.Command.{Command}
 use Rattle.pb_place.specs.declared.command.Ended.{Ended}
 use Rattle.pb_place.specs.declared.place.StartFault.{StartFault}
 use Rattle.pb_place.specs.declared.place.StartFault.TheVariants as start
 use Rattle.pb_project.specs.Targets.{unit_at}
-use Rattle.pb_answer.specs.declared.bad_unit.BadUnit.{BadUnit}
 use Rattle.pb_project.specs.declared.project.Project.{Project}
 use Rattle.pb_project.specs.declared.project.Setup.{Setup}
-use Rattle.pb_record.specs.Parts.{IsReading}
-use Rattle.pb_run.specs.Halves.{Footing, Basis, basis, Keeps}
-use Rattle.pb_soundness.specs.Records.{Reading}
+use Rattle.pb_run.specs.Halves.{Footing, Basis, basis, Keeps, OnRecords, HasRecord}
+use Rattle.pb_run.specs.Standing.{records_folder}
+use Rattle.pb_soundness.specs.Apart.{is_of}
 use Rattle.pb_turns.specs.Calling.{CallsCut, CallsCutOnAny, CallsOver, CallsOnAny, call_basis}
-use Rattle.pb_turns.specs.Crew.{needs_of, ticket_of_child}
-use Rattle.pb_turns.specs.Moments.{Moment}
-use Rattle.pb_turns.specs.Rows.{Reasons, Row, rows_of, said_from, started_keys, is_success, key_told, said_told, bad_told, differences_of, kept_of, noted_told, summary_of}
-use Rattle.pb_turns.specs.Story.{states_in, untouched, upped, AllAnswerAgain, AllAnswerAnew, AllLeaveRecords, ChangesInFlight, Stops, Spends, IsUntold, LacksNumber, OnlyOf, AllBeganFor, AllBeganOnAny, StartedFor, StartedOnAny, HasGiven, CameAfter, NamesUnit, NumbersGiven, KeepsNoneOfBad, KeepsNoneInFlight, KeepsChildless, NotesStarted}
+use Rattle.pb_turns.specs.Crew.{needs_of, ticket_of_child, Moment}
+use Rattle.pb_turns.specs.Rows.{Reasons, is_started, Row, rows_of, said_from, started_keys, is_success, key_told, said_told, bad_told, differences_of, kept_of, noted_told, summary_of}
+use Rattle.pb_turns.specs.Story.{AllAnswerAnew, AllBegan, AllLeaveRecords, CameAfter, Changes, ChangesInFlight, FliesBeside, HadDiffered, HasNoRecord, states_in, untouched, upped, AllAnswerAgain, Stops, Spends, IsUntold, LacksNumber, OnlyOf, AllBeganFor, AllBeganOnAny, StartedFor, StartedOnAny, HasGiven, NamesUnit, NumbersGiven, KeepsNoneOfBad, KeepsNoneInFlight, KeepsChildless, NotesStarted}
+use Rattle.pb_turns.specs.declared.crew.Aloft.{Aloft}
 use Rattle.pb_unit.specs.declared.plan.Planned.{Planned}
+
+-- The units in flight were these before and are those after; all that the events say of the worlds is still so.
+pub record StaysTold (child : Answers) (project : Project) (first : World) (es : List (Event BadUnit)) (before after : List Aloft) (old new : World) (flying : List ChildInFlight) : Type 0 where
+  pub changes : Changes project first after es new flying
+  -- those after are among those before
+  pub beside : (came : List (Event BadUnit)) (asked : Option ℕ) → AllByRecursion (FliesBeside project came asked) before → AllByRecursion (FliesBeside project came asked) after
+  -- only folders of units that were dropped have changed
+  pub alone : (came : List (Event BadUnit)) (asked : Option ℕ) → AllByRecursion (FliesBeside project came asked) before
+      → ChangesInFlight project came asked old new
+  -- a unit without a record still has none
+  pub unrecorded : (index : ℕ) (unit : Planned) → unit_at project index ≡ Some unit → HasNoRecord project unit old → HasNoRecord project unit new
+  -- nothing has changed of a unit for which no child was started
+  pub childless : (index : ℕ) (unit : Planned) (path : List ℕ) → unit_at project index ≡ Some unit → is_started es index ≡ false
+      → is_of (records_folder project) unit.key path ≡ true → finite.get new.files path ≡ finite.get old.files path
+  -- why units began, or could not begin
+  pub began : (sources : World) (command : ℕ → Planned → Command) (fault : BuildFault) (came : List (Event BadUnit)) (reasons : Reasons)
+      → IsLawful (needs_of project) es → CameAfter project fault came es
+      → AllBegan project sources command came reasons first old → AllBegan project sources command came reasons first new
+  pub started : (sources : World) (command : ℕ → Planned → Command) (fault : BuildFault) (came : List (Event BadUnit))
+      → HadDiffered project sources command fault came es first old → HadDiffered project sources command fault came es first new
+  -- what units answered, and the records that they left
+  pub anew : (setup : Setup) (done : List (Option (List Directive))) → IsLawful (needs_of project) es
+      → AllAnswerAnew child setup project es done old → AllAnswerAnew child setup project es done new
+  pub left : (setup : Setup) (done : List (Option (List Directive))) (next : Option ℕ) → IsLawful (needs_of project) es
+      → AllLeaveRecords child setup project es done next first old → AllLeaveRecords child setup project es done next first new
 
 -- the children of these tickets were asked for their ends, each once, their answers were dropped, and nothing else was called; in which order no counter tells where each answers
 abbrev pub Dropped : List ℕ → Counts → Counts → Type 0
@@ -48,8 +77,8 @@ nothing_said project = map (λ (u : Planned). None) project.plan.planned
 
 -- whatever a build rests on that keeps, before a unit has begun, what the halves of units keep
 abbrev pub Grounding : Answers → Setup → Project → Option ℕ → World → (Basis → Type 0) → Type 0
-Grounding child setup project next w Since = (footing : Footing) (read : Reading) (sources : World) → IsReading read
-    → Keeps (basis footing read child setup project sources) (untouched project) (nothing_said project) next w → Since (basis footing read child setup project sources)
+Grounding child setup project next w Since = (footing : Footing) (sources : World)
+    → Keeps (basis footing child setup project sources) (untouched project) (nothing_said project) next w → Since (basis footing child setup project sources)
 
 -- what stands after some events: what the halves of units keep; each unit that has answered gave its outcome from nothing; the lines that are due are those of the first rows, and so are the first of them
 pub record Stands (b : Basis) (es : List (Event BadUnit)) (new : World) : Type 0 where
@@ -75,8 +104,8 @@ pub record StandsCut (b : Basis) (fault : BuildFault) (es before : List (Event B
   pub began : AllBeganFor b before reasons old new
   pub started : StartedFor b fault before es old new
 
--- the units came to their end, and nothing was set to fail; it is a success exactly where no bad unit is told, and then each of them has answered and is good; the bad unit that is told is the first by the answers; nothing is noted of a unit that has not begun, and of each that has what differed first, which is something exactly where a child was started for it.
--- Over a place that tells its maps, whether the records are true or not: each unit that has begun did so for what differed first of it from the record that counted in its place at first, and where nothing did the units which it reaches were, where the record names them, as it names them (what a child in flight has written so far is left open); one for which no child was started answered by that record, and by the files of its folder as they stood at first; one for which a child was started answered what that gives to what the unit's command sees of the last world, and its folder holds just the files of that reply; which record each of them left (`LeavesRecord`); just these calls were made, and behind them, as the children in flight were dropped, only folders of units changed that have begun with a child and not answered; the run numbers that were given are those of the events (`NumbersGiven`): one that answers takes the next where it is good, has no child, and its record had none at first, and else none; and no record is kept of a unit whose answer was dropped, or was bad where a child was started for it, while of one that has not answered and has no child the folder and the record stand as at first
+-- the units came to their end, and nothing was set to fail. The fields without `tells` say this over every place: what is reported, what was written, and what the counters are.
+-- The others say it over a place that tells its maps, whether the records are true or not: why each unit began, what it answered, which record it left, which numbers were given, and which calls were made
 pub record EndsWhole {S : Type 0} (tells : Bool) (child : Answers) (Turns : S → List ℕ → List ℕ → Step → S → Type 0) (setup : Setup) (project : Project) (next : Option ℕ) (from last : S) (summary : Summary) (old new : Moment) : Type 0 where
   pub es : List (Event BadUnit)
   pub flies : Flies Turns (needs_of project) Anyhow Anything from es last
@@ -106,7 +135,7 @@ pub record EndsWhole {S : Type 0} (tells : Bool) (child : Answers) (Turns : S �
   pub last_world : World
   pub dropping : IsTrue tells → ChangesInFlight project es None last_world new.world
   pub numbers : (after : Option ℕ) × NumbersGiven IsUntold es next after
-  pub taken : IsTrue tells → (read : Reading) → IsReading read → NumbersGiven (LacksNumber project read old.world) es next numbers.0
+  pub taken : IsTrue tells → NumbersGiven (LacksNumber project old.world) es next numbers.0
   pub unkept : IsTrue tells → KeepsNoneOfBad project es new.world
   pub dropped : IsTrue tells → KeepsNoneInFlight project es None new.world
   pub childless : IsTrue tells → KeepsChildless project es None old.world new.world
@@ -118,8 +147,8 @@ pub record EndsWhole {S : Type 0} (tells : Bool) (child : Answers) (Turns : S �
   pub calls : IsTrue tells → Grounding child setup project next old.world (λ b. CallsOver (call_basis b) es old.world old.counts last_world mid)
   pub calls_on_any : IsTrue tells → CallsOnAny child setup project done es old.world old.counts last_world mid
 
--- a fault ended them: its cause, and what the sink had heard, are those of the moment before the children in flight were dropped; no more children flew at one time than by the events before it, and the turn was asked no more; where an answer ended in it, or a unit could not begin, units were missing (`HandsBack`, `Flies`).
--- Over a place that tells its maps the same is said as at a good end, of the units that have begun, of those that have answered and the records that they left, of the calls, of records that are not kept, and of units that wait without a child, and as the children in flight were dropped only folders of other units in flight changed, none of the unit that could not begin, nor of the one whose answer was taken; of one that could not begin, by a fault of its start or for want of memory as its child was tried, something had differed too; and where no run number was left, all were given, likewise
+-- a fault ended them. Its cause, and what the sink heard, are those of the moment before the children in flight were dropped; no unit began after it, and the turn was asked no more (`HandsBack`, `Flies`).
+-- Over a place that tells its maps the same is said as at a good end, of the units that have begun and of those that have answered. If a unit could not begin by a fault of its start, something had differed of it
 pub record EndsCut {S : Type 0} (tells : Bool) (child : Answers) (Turns : S → List ℕ → List ℕ → Step → S → Type 0) (setup : Setup) (project : Project) (next : Option ℕ) (from back : S) (fault : BuildFault) (old new : Moment) : Type 0 where
   pub es : List (Event BadUnit)
   pub last : S
@@ -130,7 +159,7 @@ pub record EndsCut {S : Type 0} (tells : Bool) (child : Answers) (Turns : S → 
   pub heard : new.heard ≡ mid.heard
   pub stops : Stops tells fault project old mid es
   pub spent : Spends IsUntold fault next es
-  pub caused : IsTrue tells → (read : Reading) → IsReading read → Spends (LacksNumber project read old.world) fault next es
+  pub caused : IsTrue tells → Spends (LacksNumber project old.world) fault next es
   pub drained : Drained mid.counts new.counts
   pub landed : new.counts.starts.flying ≡ []
   pub before : List (Event BadUnit)
@@ -157,3 +186,28 @@ pub record EndsCut {S : Type 0} (tells : Bool) (child : Answers) (Turns : S → 
 abbrev pub TurnsEnd : {S : Type 0} → Bool → Answers → (S → List ℕ → List ℕ → Step → S → Type 0) → Setup → Project → Option ℕ → S → S → Result Summary BuildFault → Moment → Moment → Type 0
 TurnsEnd tells child Turns setup project next from last (Ok summary) old new = EndsWhole tells child Turns setup project next from last summary old new
 TurnsEnd tells child Turns setup project next from last (Err fault) old new = EndsCut tells child Turns setup project next from last fault old new
+
+-- in whatever order units begin and answer: where each that has answered gave its outcome from nothing, the lines that are due are those of the first rows, and once all have, up to and with the first bad one, those of all
+abbrev pub SaysFirstRows : Type 0
+SaysFirstRows = (b : Basis) (es : List (Event BadUnit)) (done : List (Option (List Directive))) → ((place : ℕ) (answer : Answer BadUnit) → slice_get (states_in b.project es) place ≡ Some (Answered answer) → HasGiven b es done place answer)
+    → (due (states_in b.project es) ≡ said_from b.project es 0 (take (count_due (states_in b.project es)) (rows_in b))) × (is_finished (states_in b.project es) ≡ true → count_due (states_in b.project es) ≡ length (rows_in b))
+
+-- each unit has its record, from which nothing differs
+abbrev pub EachHasRecord : Basis → World → Type 0
+EachHasRecord b w = (place : ℕ) (u : Planned) → unit_at b.project place ≡ Some u → HasRecord b w place
+
+-- where each unit has its record at first, no child is started
+abbrev pub StartsNothing : Type 0
+StartsNothing = (b : Basis) (es : List (Event BadUnit)) (reasons : Reasons) (first now : World) → IsLawful (needs_of b.project) es → AllBeganFor b es reasons first now → EachHasRecord b first → started_by es ≡ []
+
+-- units that came to a good end over records leave each its record
+abbrev pub LeavesRecords : {S : Type 0} → (S → List ℕ → List ℕ → Step → S → Type 0) → Type 0
+LeavesRecords {S} Turns = (child : Answers) (setup : Setup) (project : Project) (next : Option ℕ) (from last : S) (summary : Summary) (old new : Moment) → EndsWhole true child Turns setup project next from last summary old new
+    → summary.success ≡ true → (sources : World) → Keeps (basis OnRecords child setup project sources) (untouched project) (nothing_said project) next old.world
+    → EachHasRecord (basis OnRecords child setup project sources) new.world
+
+-- and where each has its record at first, no child is started, nor is one told as started
+abbrev pub StartsNoneAgain : {S : Type 0} → (S → List ℕ → List ℕ → Step → S → Type 0) → Type 0
+StartsNoneAgain {S} Turns = (child : Answers) (setup : Setup) (project : Project) (next : Option ℕ) (from last : S) (summary : Summary) (old new : Moment) → EndsWhole true child Turns setup project next from last summary old new
+    → (footing : Footing) (sources : World) → Keeps (basis footing child setup project sources) (untouched project) (nothing_said project) next old.world
+    → EachHasRecord (basis footing child setup project sources) old.world → (new.counts.starts.count ≡ old.counts.starts.count) × (summary.started ≡ [])

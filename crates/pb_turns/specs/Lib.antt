@@ -1,10 +1,5 @@
-pub mod Moments
-pub mod Rows
 pub mod Crew
+pub mod Rows
 pub mod Calling
-pub mod Again
-pub mod Anew
 pub mod Story
 pub mod Ends
-pub mod Summing
-pub mod Laws

@@ -1,6 +1,7 @@
 -- What the units of a build give, one after another in plan order, and what is told of them.
-use Rattle.std.specs.Prelude.{ℕ, suc, Bool, true, false, ◌==◌, ◌+◌, List, [], ◌∷◌, ◌++◌, length, take, Option, Some, None, if◌then◌else◌, slice_get}
+use Rattle.std.specs.Prelude.{ℕ, suc, Bool, true, false, ◌==◌, ◌+◌, List, [], ◌∷◌, ◌++◌, length, take, Option, Some, None, if◌then◌else◌, slice_get, is_none}
 use Rattle.std.specs.List.{flat_map}
+use Rattle.pb_answer.specs.declared.bad_unit.BadUnit.{BadUnit}
 use Rattle.pb_answer.specs.declared.summary.Summary.{Summary}
 use Rattle.pb_directive.specs.declared.directive.Directive.{Directive}
 use Rattle.pb_flight.specs.Events.{Event, Began, Gave, started_by}
@@ -9,15 +10,14 @@ use Rattle.pb_flight.specs.declared.flight.State.TheVariants.{Untouched, Begun, 
 use Rattle.pb_message.specs.declared.message.Message.{Message}
 use Rattle.pb_place.specs.World.{World, Answers}
 use Rattle.pb_project.specs.Targets.{unit_at}
-use Rattle.pb_answer.specs.declared.bad_unit.BadUnit.{BadUnit}
+use Rattle.pb_project.specs.declared.fault.UnitFault.{UnitFault}
 use Rattle.pb_project.specs.declared.project.Project.{Project}
 use Rattle.pb_project.specs.declared.project.Setup.{Setup}
-use Rattle.pb_project.specs.declared.fault.UnitFault.{UnitFault}
 use Rattle.pb_run.specs.Halves.{key_in}
 use Rattle.pb_run.specs.Outcome.{Outcome, Waiting, Good, Bad, outcomes, directives_in}
-use Rattle.pb_unit_messages.specs.Telling.{unit_lines}
 use Rattle.pb_store.specs.declared.difference.Difference.{Difference}
 use Rattle.pb_unit.specs.declared.plan.Planned.{Planned}
+use Rattle.pb_unit_messages.specs.Telling.{unit_lines}
 
 -- a unit of the build and what it gave
 pub record Row : Type 0 where
@@ -169,3 +169,22 @@ count_told units (Some place) = place + 1
 -- the directives of the units that are told, by what is noted of each: of all, or of all up to and with the first bad one
 abbrev pub noted_told : List Planned → List (Option (List Directive)) → Option ℕ → List (List ℕ × List Directive)
 noted_told units noted bad = noted_of (take (count_told (length units) bad) units) (take (count_told (length units) bad) noted)
+
+-- the keys of the units at these places
+abbrev pub keys_at : List Planned → List ℕ → List (List ℕ)
+keys_at units places = flat_map (λ place. key_in (slice_get units place)) places
+
+-- what differed first of the units at these places
+abbrev pub differences_at : Reasons → List ℕ → List Difference
+differences_at reasons places = flat_map (λ place. difference_in (slice_get reasons place)) places
+
+abbrev pub summary_by : List Planned → List (State BadUnit) → List (Option (List Directive)) → List ℕ → Reasons → Option ℕ → Summary
+summary_by units states noted started reasons bad = record {
+  success = is_none (bad_told units states bad);
+  bad = key_told (bad_told units states bad);
+  said = said_told (bad_told units states bad);
+  started = keys_at units started;
+  differences = differences_at reasons started;
+  kept = kept_of units reasons;
+  directives = noted_told units noted bad;
+}

@@ -26,27 +26,21 @@ use Rattle.pb_project.specs.Targets.{unit_at}
 use Rattle.pb_answer.specs.declared.bad_unit.BadUnit.{BadUnit}
 use Rattle.pb_project.specs.declared.project.Project.{Project}
 use Rattle.pb_project.specs.declared.project.Setup.{Setup}
-use Rattle.pb_record.specs.Parts.{IsReading}
 use Rattle.pb_record.specs.declared.record.Record.{Record}
-use Rattle.pb_run.specs.Causes.{HasCause, is_of_start}
+use Rattle.pb_run.specs.Steps.{HasCause, is_of_start}
 use Rattle.pb_run.specs.Halves.{Footing, Basis, basis, outcomes_in, command_in, Keeps, IsBegun, WritesTo, child_of, key_at, needed_keys}
-use Rattle.pb_run.specs.Landing.{record_of}
+use Rattle.pb_run.specs.Running.{record_of}
 use Rattle.pb_run.specs.Outcome.{Outcome, directives_in}
 use Rattle.pb_run.specs.Standing.{records_folder}
 use Rattle.pb_unit_messages.specs.Telling.{unit_lines}
 use Rattle.pb_soundness.specs.Apart.{is_of}
-use Rattle.pb_soundness.specs.Records.{Reading, place_of, record_at}
+use Rattle.pb_soundness.specs.Records.{place_of, records}
 use Rattle.pb_store.specs.Differences.{FirstDifference}
-use Rattle.pb_store.specs.Held.{HoldsNumbers}
-use Rattle.pb_store.specs.Keeping.{numbered}
-use Rattle.pb_store.specs.Migrating.{TakesNext, TakesNumber, lacks_number, migrated}
+use Rattle.pb_store.specs.Folder.{numbered, TakesNext, TakesNumber, lacks_number, migrated}
 use Rattle.pb_store.specs.declared.difference.Difference.{Difference}
-use Rattle.pb_turns.specs.Again.{AnswersAgain, FliesAgain}
+use Rattle.pb_turns.specs.Calling.{AnswersAgain, FliesAgain, AnswersAnew, FliesAnew, CallsCut, CallsCutOnAny, CallsOver, CallsOnAny, call_basis}
 use Rattle.pb_soundness.specs.Inputs.{reply_in}
-use Rattle.pb_turns.specs.Anew.{AnswersAnew, FliesAnew}
-use Rattle.pb_turns.specs.Calling.{CallsCut, CallsCutOnAny, CallsOver, CallsOnAny, call_basis}
-use Rattle.pb_turns.specs.Crew.{needs_of, launched_of}
-use Rattle.pb_turns.specs.Moments.{Moment}
+use Rattle.pb_turns.specs.Crew.{needs_of, launched_of, Moment}
 use Rattle.pb_turns.specs.Rows.{Reasons, fault_in, messages_in, is_started}
 use Rattle.pb_turns.specs.declared.crew.Aloft.{Aloft}
 use Rattle.pb_turns.specs.declared.crew.UnitCrew.{UnitCrew}
@@ -125,7 +119,7 @@ pub record TakesAsAnswered (Lacks : Bool → Type 0) (started : Bool) (fault : O
   pub had : Lacks false → now ≡ before
   pub lacked : started ≡ false → fault ≡ None → Lacks true → TakesNext before now
 
--- the next run number after these events, by the next one at first: a unit that begins takes the next one where a child is started for it, and none where none is. That a record which is kept or numbered has the number that was taken is said of the records (`HasRecord`, `LeavesRecord`); and where a removal failed, or memory was refused, behind the removal of the record of a unit that could not begin, the number that was taken for it is not counted here
+-- the next run number after these events, by the next one at first: a unit takes it as it begins with a child, or as it answers. A number that was taken for a unit that then could not begin is not counted here
 abbrev pub NumbersGiven : (ℕ → Bool → Type 0) → List (Event BadUnit) → Option ℕ → Option ℕ → Type 0
 NumbersGiven Lacks [] first now = now ≡ first
 NumbersGiven Lacks (Began unit true ∷ es) first now = (before : Option ℕ) × NumbersGiven Lacks es first before × TakesNext before now
@@ -159,22 +153,18 @@ events_before [] place = []
 events_before (Began unit spawned ∷ es) place = if unit == place then es else events_before es place
 events_before (Gave unit answer ∷ es) place = events_before es place
 
--- a path is in no folder and no record's place of the units that have begun
-abbrev pub IsOutside : Project → List (Event BadUnit) → List ℕ → Type 0
-IsOutside project es q = (place : ℕ) (u : Planned) → HasBegun (states_in project es) place → unit_at project place ≡ Some u → is_of (records_folder project) u.key q ≡ false
-
 -- only files in the folders and the records' places of these units were changed
 pub record OnlyOf (project : Project) (es : List (Event BadUnit)) (old new : World) : Type 0 where
   pub variables : new.variables ≡ old.variables
-  pub files : (q : List ℕ) → IsOutside project es q → finite.get new.files q ≡ finite.get old.files q
+  pub files : (q : List ℕ) → ((place : ℕ) (u : Planned) → HasBegun (states_in project es) place → unit_at project place ≡ Some u → is_of (records_folder project) u.key q ≡ false) → finite.get new.files q ≡ finite.get old.files q
 
 -- whether the unit at a place has a record without a number
-abbrev pub LacksNumber : Project → Reading → World → ℕ → Bool → Type 0
-LacksNumber project read w place lacks = (u : Planned) → unit_at project place ≡ Some u → lacks_number (record_at read (records_folder project) w.files u.key) ≡ lacks
+abbrev pub LacksNumber : Project → World → ℕ → Bool → Type 0
+LacksNumber project w place lacks = (u : Planned) → unit_at project place ≡ Some u → lacks_number (records (records_folder project) w u.key) ≡ lacks
 
 -- no text counts as the record of this unit
 abbrev pub HasNoRecord : Project → Planned → World → Type 0
-HasNoRecord project u w = (read : Reading) → record_at read (records_folder project) w.files u.key ≡ None
+HasNoRecord project u w = records (records_folder project) w u.key ≡ None
 
 -- a unit in flight for which a child was started has no record; of this one, whose answer was taken, that is not said
 abbrev pub KeepsNoneInFlight : Project → List (Event BadUnit) → Option ℕ → World → Type 0
@@ -185,8 +175,8 @@ abbrev pub KeepsChildless : Project → List (Event BadUnit) → Option ℕ → 
 KeepsChildless project es asked first w = (place : ℕ) (u : Planned) (q : List ℕ) → unit_at project place ≡ Some u → slice_get (states_in project es) place ≡ Some Begun → asked ≢ Some place → is_started es place ≡ false → is_of (records_folder project) u.key q ≡ true
     → finite.get w.files q ≡ finite.get first.files q
 
--- what differed first of the unit at a place when it began, from what its command asks, in a world with these sources in which its record's text was as at first, where only what is of units that had begun before had been changed, and in which the folders and records of the units that it reaches, all of which have answered and are good, and of all that had answered before, stood as they stand now, and of those in flight one with a child had no record, and one without stood as at first; a child was started for it exactly where something differed, and that is noted. Where nothing differed its own folder stands now as at first, and so does its record, where that had a number at first. That world was the first one, where no child had been started yet and no record lacked a number at first
-pub record BeganFor (project : Project) (read : Reading) (sources : World) (command : ℕ → Planned → Command) (es : List (Event BadUnit)) (reasons : Reasons) (first now : World) (place : ℕ) : Type 0 where
+-- what differed first of the unit at a place when it began, in a world in which only units that had begun before had changed anything. A child was started for it if and only if something differed, and that is noted
+pub record BeganFor (project : Project) (sources : World) (command : ℕ → Planned → Command) (es : List (Event BadUnit)) (reasons : Reasons) (first now : World) (place : ℕ) : Type 0 where
   pub unit : Planned
   pub there : unit_at project place ≡ Some unit
   pub world : World
@@ -200,37 +190,37 @@ pub record BeganFor (project : Project) (read : Reading) (sources : World) (comm
   pub unrecorded : KeepsNoneInFlight project (events_before es place) None world
   pub waiting_stay : KeepsChildless project (events_before es place) None first world
   pub difference : Option Difference
-  pub named : FirstDifference read (records_folder project) unit.key (command place unit) world difference
+  pub named : FirstDifference (records_folder project) unit.key (command place unit) world difference
   pub started : is_started es place ≡ is_some difference
   pub noted : slice_get reasons place ≡ Some (Some difference)
   pub folder_stays : difference ≡ None → (q : List ℕ) → is_at_or_below unit.out q ≡ true → finite.get now.files q ≡ finite.get first.files q
-  pub kept_stays : difference ≡ None → lacks_number (record_at read (records_folder project) first.files unit.key) ≡ false → (q : List ℕ) → is_of (records_folder project) unit.key q ≡ true → finite.get now.files q ≡ finite.get first.files q
-  pub unstarted : started_by (events_before es place) ≡ [] → ((p : ℕ) → LacksNumber project read first p false) → world ≡ first
+  pub kept_stays : difference ≡ None → lacks_number (records (records_folder project) first unit.key) ≡ false → (q : List ℕ) → is_of (records_folder project) unit.key q ≡ true → finite.get now.files q ≡ finite.get first.files q
+  pub unstarted : started_by (events_before es place) ≡ [] → ((p : ℕ) → LacksNumber project first p false) → world ≡ first
 
 -- each unit that has begun did so for what differed of it
-abbrev pub AllBegan : Project → Reading → World → (ℕ → Planned → Command) → List (Event BadUnit) → Reasons → World → World → Type 0
-AllBegan project read sources command es reasons first now = (place : ℕ) → HasBegun (states_in project es) place → BeganFor project read sources command es reasons first now place
+abbrev pub AllBegan : Project → World → (ℕ → Planned → Command) → List (Event BadUnit) → Reasons → World → World → Type 0
+AllBegan project sources command es reasons first now = (place : ℕ) → HasBegun (states_in project es) place → BeganFor project sources command es reasons first now place
 
 -- where a unit could not begin, by a fault of its start or for want of memory as its child was tried, something had differed of it, as if its child had been started
-abbrev pub HadDiffered : Project → Reading → World → (ℕ → Planned → Command) → BuildFault → List (Event BadUnit) → List (Event BadUnit) → World → World → Type 0
-HadDiffered project read sources command fault before es first now =
-    (place : ℕ) (spawned : Bool) → es ≡ Began place spawned ∷ before → (is_of_start fault ≡ true) ⊎ (spawned ≡ true) → (reasons : Reasons) × BeganFor project read sources command (Began place true ∷ before) reasons first now place
+abbrev pub HadDiffered : Project → World → (ℕ → Planned → Command) → BuildFault → List (Event BadUnit) → List (Event BadUnit) → World → World → Type 0
+HadDiffered project sources command fault before es first now =
+    (place : ℕ) (spawned : Bool) → es ≡ Began place spawned ∷ before → (is_of_start fault ≡ true) ⊎ (spawned ≡ true) → (reasons : Reasons) × BeganFor project sources command (Began place true ∷ before) reasons first now place
 
 -- each unit that has begun did so over any records, true or not, and whatever reads their texts: with the sources of the first world, and by the command that a unit has after what is noted of the runs
 abbrev pub AllBeganOnAny : Setup → Project → List (Option (List Directive)) → List (Event BadUnit) → Reasons → World → World → Type 0
-AllBeganOnAny setup project done es reasons first now = (read : Reading) → IsReading read → AllBegan project read (from_nothing project.workspace.target first) (λ place u. command_of setup project u done) es reasons first now
+AllBeganOnAny setup project done es reasons first now = AllBegan project (from_nothing project.workspace.target first) (λ place u. command_of setup project u done) es reasons first now
 
 -- and so something had differed of one that could not begin
 abbrev pub StartedOnAny : Setup → Project → List (Option (List Directive)) → BuildFault → List (Event BadUnit) → List (Event BadUnit) → World → World → Type 0
-StartedOnAny setup project done fault before es first now = (read : Reading) → IsReading read → HadDiffered project read (from_nothing project.workspace.target first) (λ place u. command_of setup project u done) fault before es first now
+StartedOnAny setup project done fault before es first now = HadDiffered project (from_nothing project.workspace.target first) (λ place u. command_of setup project u done) fault before es first now
 
 -- over a basis: with its sources, and by the command that a unit has after what the units give from nothing
 abbrev pub AllBeganFor : Basis → List (Event BadUnit) → Reasons → World → World → Type 0
-AllBeganFor b es reasons first now = AllBegan b.project b.read b.sources (command_in b) es reasons first now
+AllBeganFor b es reasons first now = AllBegan b.project b.sources (command_in b) es reasons first now
 
 -- and so something had differed of one that could not begin
 abbrev pub StartedFor : Basis → BuildFault → List (Event BadUnit) → List (Event BadUnit) → World → World → Type 0
-StartedFor b fault before es first now = HadDiffered b.project b.read b.sources (command_in b) fault before es first now
+StartedFor b fault before es first now = HadDiffered b.project b.sources (command_in b) fault before es first now
 
 -- a unit that answered bad, and for which a child was started, has no record
 abbrev pub KeepsNoneOfBad : Project → List (Event BadUnit) → World → Type 0
@@ -262,12 +252,12 @@ pub record Changes (project : Project) (first : World) (aloft : List Aloft) (es 
 
 -- each unit that answered and for which no child was started did so by the record that counted in its place at first, whatever reads the records' texts
 abbrev pub AllAnswerAgain : Setup → Project → List (Event BadUnit) → List (Option (List Directive)) → World → Type 0
-AllAnswerAgain setup project es done first = (read : Reading) → IsReading read → (place : ℕ) (answer : Answer BadUnit) → slice_get (states_in project es) place ≡ Some (Answered answer) → is_started es place ≡ false
-    → AnswersAgain read setup project done first place answer
+AllAnswerAgain setup project es done first = (place : ℕ) (answer : Answer BadUnit) → slice_get (states_in project es) place ≡ Some (Answered answer) → is_started es place ≡ false
+    → AnswersAgain setup project done first place answer
 
 -- and those in flight wait to do so
 pub record Replays (setup : Setup) (project : Project) (done : List (Option (List Directive))) (aloft : List Aloft) (es : List (Event BadUnit)) (first now : World) : Type 0 where
-  pub waits : (read : Reading) → IsReading read → AllByRecursion (λ (a : Aloft). FliesAgain read setup project done first now a) aloft
+  pub waits : AllByRecursion (λ (a : Aloft). FliesAgain setup project done first now a) aloft
   pub gave : AllAnswerAgain setup project es done first
 
 -- each unit that answered and for which a child was started did so by what that gives to what it sees of this world, whether the records are true or not
@@ -285,33 +275,33 @@ events_until [] place = []
 events_until (Began unit spawned ∷ es) place = events_until es place
 events_until (Gave unit answer ∷ es) place = if unit == place then es else events_until es place
 
--- the record of a unit for which a child was started: that of its command, of what its child gives to what it sees of this world, of the values that the inputs which are found in that have in this world, and of the numbers that the records of the needed units have; with this run number
-abbrev pub record_anew : Reading → Answers → Setup → Project → List (Option (List Directive)) → World → Planned → ℕ → Record
-record_anew read child setup project done now u number = record_of read project u (command_of setup project u done) number (ended_by (reply_in child (command_of setup project u done) now)) now
+-- the record of a unit for which a child was started: its command, its child's reply to what it sees of this world, the values that the reply's inputs have here, and the numbers of the needed units; with this run number
+abbrev pub record_anew : Answers → Setup → Project → List (Option (List Directive)) → World → Planned → ℕ → Record
+record_anew child setup project done now u number = record_of project u (command_of setup project u done) number (ended_by (reply_in child (command_of setup project u done) now)) now
 
--- which record stands in this world in the place of the unit at a place that has answered, of which it is said whether a child was started for it, and what had happened before it began, and before it answered. Of a good one for which a child was started: its record, with the run number that was the next as it began. Of a good one without a child: the record that stood at first, where that had a number; else that record with the run number that was the next as it answered, of which there was one, and with the numbers that the records of the needed units have. Of a bad one without a child: what stood at first
-pub record LeavesRecord (read : Reading) (child : Answers) (setup : Setup) (project : Project) (done : List (Option (List Directive))) (started : Bool) (before until : List (Event BadUnit)) (next : Option ℕ) (first now : World) (place : ℕ) (answer : Answer BadUnit) : Type 0 where
+-- which record is in the place of a unit that has answered. Good with a child: its own, with the number that was next as it began. Good without one: the first one, numbered if it had no number. Bad without one: what was there at first
+pub record LeavesRecord (child : Answers) (setup : Setup) (project : Project) (done : List (Option (List Directive))) (started : Bool) (before until : List (Event BadUnit)) (next : Option ℕ) (first now : World) (place : ℕ) (answer : Answer BadUnit) : Type 0 where
   pub unit : Planned
   pub there : unit_at project place ≡ Some unit
   pub anew : started ≡ true → answer.fault ≡ None
-      → (number : ℕ) × NumbersGiven (LacksNumber project read first) before next (Some number) × (record_at read (records_folder project) now.files unit.key ≡ Some (record_anew read child setup project done now unit number))
+      → (number : ℕ) × NumbersGiven (LacksNumber project first) before next (Some number) × (records (records_folder project) now unit.key ≡ Some (record_anew child setup project done now unit number))
   pub again : started ≡ false → answer.fault ≡ None
-      → (number : Option ℕ) × NumbersGiven (LacksNumber project read first) until next number × (lacks_number (record_at read (records_folder project) first.files unit.key) ≡ true → IsSome number)
-      × (record_at read (records_folder project) now.files unit.key ≡ migrated number (numbered (record_at read (records_folder project) now.files) (needed_keys project unit)) (record_at read (records_folder project) first.files unit.key))
+      → (number : Option ℕ) × NumbersGiven (LacksNumber project first) until next number × (lacks_number (records (records_folder project) first unit.key) ≡ true → IsSome number)
+      × (records (records_folder project) now unit.key ≡ migrated number (numbered (records (records_folder project) now) (needed_keys project unit)) (records (records_folder project) first unit.key))
   pub bad : started ≡ false → IsSome answer.fault → finite.get now.files (place_of (records_folder project) unit.key) ≡ finite.get first.files (place_of (records_folder project) unit.key)
 
 -- each unit that answered has left its record so, whether the records are true or not, and whatever reads their texts
 abbrev pub AllLeaveRecords : Answers → Setup → Project → List (Event BadUnit) → List (Option (List Directive)) → Option ℕ → World → World → Type 0
-AllLeaveRecords child setup project es done next first now = (read : Reading) → IsReading read → (place : ℕ) (answer : Answer BadUnit) → slice_get (states_in project es) place ≡ Some (Answered answer)
-    → LeavesRecord read child setup project done (is_started es place) (events_before es place) (events_until es place) next first now place answer
+AllLeaveRecords child setup project es done next first now = (place : ℕ) (answer : Answer BadUnit) → slice_get (states_in project es) place ≡ Some (Answered answer)
+    → LeavesRecord child setup project done (is_started es place) (events_before es place) (events_until es place) next first now place answer
 
 -- the child of a unit in flight was launched with the run number that was the next as the unit began
-abbrev pub CarriesNumber : Project → Reading → List (Event BadUnit) → Option ℕ → World → Aloft → Type 0
-CarriesNumber project read es next first a = IfSome (child_of a.begun) (λ launched. NumbersGiven (LacksNumber project read first) (events_before es a.unit) next (Some launched.number))
+abbrev pub CarriesNumber : Project → List (Event BadUnit) → Option ℕ → World → Aloft → Type 0
+CarriesNumber project es next first a = IfSome (child_of a.begun) (λ launched. NumbersGiven (LacksNumber project first) (events_before es a.unit) next (Some launched.number))
 
 -- those that answered, and those in flight
 pub record Recordings (child : Answers) (setup : Setup) (project : Project) (done : List (Option (List Directive))) (aloft : List Aloft) (es : List (Event BadUnit)) (next : Option ℕ) (first now : World) : Type 0 where
-  pub carries : (read : Reading) → IsReading read → AllByRecursion (CarriesNumber project read es next first) aloft
+  pub carries : AllByRecursion (CarriesNumber project es next first) aloft
   pub gave : AllLeaveRecords child setup project es done next first now
 
 -- a unit in flight has begun so; all that it reaches is good
@@ -328,8 +318,8 @@ pub record Happened (b : Basis) (done : List (Option (List Directive))) (aloft :
   pub gave : (place : ℕ) (answer : Answer BadUnit) → slice_get (states_in b.project es) place ≡ Some (Answered answer) → HasGiven b es done place answer
 
 -- as long as no child is started the world is as at first, where no record lacked a number then
-abbrev pub IsQuiet : Project → Reading → List (Event BadUnit) → World → World → Type 0
-IsQuiet project read es first now = started_by es ≡ [] → ((place : ℕ) → LacksNumber project read first place false) → now ≡ first
+abbrev pub IsQuiet : Project → List (Event BadUnit) → World → World → Type 0
+IsQuiet project es first now = started_by es ≡ [] → ((place : ℕ) → LacksNumber project first place false) → now ≡ first
 
 -- of a unit that has not begun the same is noted as at first
 abbrev pub NotesUnbegun : Project → List (Event BadUnit) → Reasons → Reasons → Type 0
@@ -348,11 +338,11 @@ untouched project = states_in project []
 
 -- whatever a build rests on that kept at first what the halves of units keep: this has happened
 abbrev pub FromFirst : Answers → UnitCrew → Moment → UnitCrew → (Basis → Type 0) → Type 0
-FromFirst child first at c Since = (footing : Footing) (read : Reading) (sources : World) → IsReading read
-    → Keeps (basis footing read child c.setup c.project sources) (untouched c.project) first.done.items first.store.next at.world
-    → Since (basis footing read child c.setup c.project sources)
+FromFirst child first at c Since = (footing : Footing) (sources : World)
+    → Keeps (basis footing child c.setup c.project sources) (untouched c.project) first.done.items first.store.next at.world
+    → Since (basis footing child c.setup c.project sources)
 
--- the story of a crew between two moments, by which its store knows the run numbers of the records of its folder
+-- the story of a crew between two moments
 pub record Story (tells : Bool) (child : Answers) (first : UnitCrew) (at : Moment) (c : UnitCrew) (now : Moment) (still : ℕ → Type 0) (es : List (Event BadUnit)) (given : ℕ) : Type 0 where
   pub setup : c.setup ≡ first.setup
   pub project : c.project ≡ first.project
@@ -365,11 +355,9 @@ pub record Story (tells : Bool) (child : Answers) (first : UnitCrew) (at : Momen
   pub anew : IsTrue tells → Replies child c.setup c.project c.done.items c.aloft.items es now.world now.counts.starts.flying still
   pub left : IsTrue tells → Recordings child c.setup c.project c.done.items c.aloft.items es first.store.next at.world now.world
   pub began : IsTrue tells → AllBeganOnAny c.setup c.project c.done.items es c.reasons.items at.world now.world
-  pub quiet : IsTrue tells → (read : Reading) → IsReading read → IsQuiet c.project read es at.world now.world
-  pub known : c.store.numbers.known ≡ true
-  pub held : IsTrue tells → (read : Reading) → IsReading read → HoldsNumbers (record_at read (records_folder c.project) now.world.files) c.store.numbers
+  pub quiet : IsTrue tells → IsQuiet c.project es at.world now.world
   pub happened : IsTrue tells → FromFirst child first at c (λ b. Happened b c.done.items c.aloft.items c.store.next es now.world now.counts.starts.flying still)
-  pub taken : IsTrue tells → (read : Reading) → IsReading read → NumbersGiven (LacksNumber c.project read at.world) es first.store.next c.store.next
+  pub taken : IsTrue tells → NumbersGiven (LacksNumber c.project at.world) es first.store.next c.store.next
   pub calls : IsTrue tells → FromFirst child first at c (λ b. CallsOver (call_basis b) es at.world at.counts now.world now.counts)
   pub calls_on_any : IsTrue tells → CallsOnAny child c.setup c.project c.done.items es at.world at.counts now.world now.counts
   pub unnoted : NotesUnbegun c.project es first.reasons.items c.reasons.items
@@ -414,6 +402,6 @@ pub record StoryEnds (tells : Bool) (child : Answers) (fault : BuildFault) (aske
   pub began : IsTrue tells → AllBeganOnAny c.setup c.project c.done.items before c.reasons.items at.world now.world
   pub started : IsTrue tells → StartedOnAny c.setup c.project c.done.items fault before es at.world now.world
   pub happened : IsTrue tells → FromFirst child first at c (λ b. Happened b c.done.items c.aloft.items c.store.next es now.world now.counts.starts.flying still)
-  pub caused : IsTrue tells → (read : Reading) → IsReading read → Spends (LacksNumber c.project read at.world) fault first.store.next es
+  pub caused : IsTrue tells → Spends (LacksNumber c.project at.world) fault first.store.next es
   pub calls : IsTrue tells → FromFirst child first at c (λ b. CallsCut (call_basis b) fault asked es before at.world at.counts now.world now.counts)
   pub calls_on_any : IsTrue tells → CallsCutOnAny child c.setup c.project c.done.items fault asked es before at.world at.counts now.world now.counts

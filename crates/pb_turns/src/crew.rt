@@ -9,8 +9,8 @@ ghost use Rattle.pb_flight.specs.declared.flight.State.TheVariants as state;
 ghost use Rattle.pb_place.specs.Counts.{up};
 ghost use Rattle.pb_answer.specs.declared.bad_unit.BadUnit.{BadUnit};
 ghost use Rattle.pb_run.specs.Halves.{child_of};
-ghost use Rattle.pb_turns.specs.Crew.{needs_of, places_of, IsManned};
-ghost use Rattle.pb_turns.specs.Moments.{Moment, moment};
+ghost use Rattle.pb_turns.specs.Crew.{needs_of, noted, places_of, IsAble, IsManned, Moment, moment};
+ghost use Rattle.pb_place.specs.Sinks.{Heard};
 ghost use Rattle.pb_turns.specs.Story.{Story, StoryEnds, states_in};
 
 use pb_answer::{BadUnit, BuildFault};
@@ -19,7 +19,7 @@ use pb_directive::Directives;
 use pb_flight::{Answer, Crew};
 use pb_place::{Out, Place, write_all};
 use pb_project::Setup;
-use pb_run::{Beginning, Begun, OrderedProject, Ran, answer_unit, begin_unit, lines_of_unit};
+use pb_run::{Begun, OrderedProject, Outcome, answer_unit, begin_unit};
 use pb_store::{Difference, Store};
 use std::alloc::{AllocError, Global};
 
@@ -28,7 +28,7 @@ use std::alloc::{AllocError, Global};
 pub struct Aloft {
     /// Its place in plan order.
     pub unit: usize,
-    /// How it has begun.
+    /// How it has begun. The crew's reasons have what differed, which is none here.
     pub begun: Begun,
 }
 
@@ -80,17 +80,19 @@ fn note_begun(
     started: &mut Vec<usize>,
     reasons: &mut Vec<Option<Option<Difference>>>,
     unit: usize,
-    made: Beginning,
+    mut begun: Begun,
 )
     requires room { vec_len aloft.old < vec_capacity aloft.old }
     requires more { vec_len started.old < vec_capacity started.old }
     requires within { unit < length reasons.old.items }
-    ensures aloft { aloft.new.items ≡ aloft.old.items ++ record { unit = unit; begun = made.begun } ∷ [] }
-    ensures started { started.new.items ≡ started.old.items ++ if_so (is_some (child_of made.begun)) unit }
-    ensures reasons { reasons.new.items ≡ slice_set reasons.old.items unit (Some made.difference) }
+    ensures aloft { aloft.new.items
+        ≡ aloft.old.items ++ record { unit = unit; begun = noted begun } ∷ [] }
+    ensures started { started.new.items
+        ≡ started.old.items ++ if_so (is_some (child_of begun)) unit }
+    ensures reasons { reasons.new.items ≡ slice_set reasons.old.items unit (Some begun.difference) }
 {
-    let Beginning { begun, difference } = made;
     let spawned = begun.has_child();
+    let difference = begun.difference.take();
     put(aloft, Aloft { unit, begun });
     if spawned {
         put(started, unit);
@@ -105,18 +107,31 @@ fn begin_at<P: Place>(
     place: &mut P,
     unit: usize,
 ) -> Result<bool, BuildFault>
-    requires manned { IsManned crew.old (P.counts place.old) }
+    requires manned { IsManned crew.old (P.at place.old).counts }
+    requires able { IsAble P.tells crew.old (P.at place.old) }
     requires unit { unit < length (needs_of crew.old.project) }
     requires grounded { Contains (places_of crew.old.aloft.items) unit → ⊥ }
-    ensures manned { IsManned crew.new (P.counts place.new) }
+    ensures manned { IsManned crew.new (P.at place.new).counts }
+    ensures able { OnOk result (IsAble P.tells crew.new (P.at place.new)) }
     ensures project { crew.new.project ≡ crew.old.project }
-    ensures flying { OnOk result (places_of crew.new.aloft.items ≡ places_of crew.old.aloft.items ++ unit ∷ []) }
-    ensures story { (first : UnitCrew) (at : Moment) (taken : Option (List ℕ)) (faults : ℕ) (es : List (Event BadUnit)) (given : ℕ)
-        → Story P.tells P.child first at crew.old (moment (P.world place.old) (P.counts place.old) (P.most place.old) taken faults) (P.still place.old) es given
-        → places_of crew.old.aloft.items ≡ flying_after es → IsLawful (needs_of crew.old.project) es → given ≡ count_due (states_in crew.old.project es) → MayBegin (needs_of crew.old.project) (states_in crew.old.project es) unit
+    ensures flying { OnOk result
+        (places_of crew.new.aloft.items ≡ places_of crew.old.aloft.items ++ unit ∷ []) }
+    ensures story { (first : UnitCrew) (at : Moment) (heard : Heard) (es : List (Event BadUnit))
+        (given : ℕ)
+        → Story P.tells P.child first at crew.old (moment (P.at place.old) heard)
+        (P.at place.old).still es given → places_of crew.old.aloft.items ≡ flying_after es
+        → IsLawful (needs_of crew.old.project) es
+        → given ≡ count_due (states_in crew.old.project es)
+        → MayBegin (needs_of crew.old.project) (states_in crew.old.project es) unit
         → MatchResult result
-        (λ spawned. Story P.tells P.child first at crew.new (moment (P.world place.new) (P.counts place.new) (P.most place.new) taken faults) (P.still place.new) (Began unit spawned ∷ es) given)
-        (λ e. (spawned : Bool) × StoryEnds P.tells P.child e None first at crew.new (moment (P.world place.new) (P.counts place.new) (P.most place.new) taken faults) (P.still place.new) (Began unit spawned ∷ es)) }
+        (λ spawned.
+        Story P.tells P.child first at crew.new (moment (P.at place.new) heard)
+        (P.at place.new).still (Began unit spawned ∷ es) given)
+        (λ e.
+        (spawned : Bool)
+        × StoryEnds P.tells P.child e None first at crew.new
+        (moment (P.at place.new) heard) (P.at place.new).still
+        (Began unit spawned ∷ es)) }
 {
     // Room before the spawn: a child in flight is always noted.
     match make_room(&mut crew.aloft, &mut crew.started) {
@@ -125,7 +140,7 @@ fn begin_at<P: Place>(
     }
     let project = &crew.project;
     let planned = &project.units()[unit];
-    let made = match begin_unit(
+    let begun = match begin_unit(
         alloc,
         place,
         &mut crew.store,
@@ -135,16 +150,16 @@ fn begin_at<P: Place>(
         unit,
         planned,
     ) {
-        Ok(made) => made,
+        Ok(begun) => begun,
         Err(fault) => return Err(fault),
     };
-    let spawned = made.begun.has_child();
+    let spawned = begun.has_child();
     note_begun(
         &mut crew.aloft,
         &mut crew.started,
         &mut crew.reasons,
         unit,
-        made,
+        begun,
     );
     Ok(spawned)
 }
@@ -157,19 +172,14 @@ fn bytes_of(text: Text) -> Bytes
 }
 
 /// Notes what came of a unit, and gives its answer.
-fn note_answer(
-    done: &mut Vec<Option<Directives>>,
-    unit: usize,
-    ran: Ran,
-    lines: Text,
-) -> Answer<BadUnit>
+fn note_answer(done: &mut Vec<Option<Directives>>, unit: usize, outcome: Outcome) -> Answer<BadUnit>
     requires within { unit < length done.old.items }
-    ensures done { done.new.items ≡ slice_set done.old.items unit ran.directives }
-    ensures answer { result ≡ record { fault = ran.bad; lines = lines } }
+    ensures done { done.new.items ≡ slice_set done.old.items unit outcome.directives }
+    ensures answer { result ≡ record { fault = outcome.fault; lines = outcome.lines } }
 {
-    let fault = ran.bad;
-    done[unit] = ran.directives;
-    let lines = bytes_of(lines);
+    let fault = outcome.fault;
+    done[unit] = outcome.directives;
+    let lines = bytes_of(outcome.lines);
     Answer { fault, lines }
 }
 
@@ -180,38 +190,39 @@ fn answer_at<P: Place>(
     place: &mut P,
     index: usize,
 ) -> Result<Answer<BadUnit>, BuildFault>
-    requires manned { IsManned crew.old (P.counts place.old) }
+    requires manned { IsManned crew.old (P.at place.old).counts }
+    requires able { IsAble P.tells crew.old (P.at place.old) }
     requires within { index < length (places_of crew.old.aloft.items) }
-    ensures manned { IsManned crew.new (P.counts place.new) }
+    ensures manned { IsManned crew.new (P.at place.new).counts }
+    ensures able { OnOk result (IsAble P.tells crew.new (P.at place.new)) }
     ensures project { crew.new.project ≡ crew.old.project }
-    ensures flying { places_of crew.new.aloft.items ≡ remove (places_of crew.old.aloft.items) index }
-    ensures story { (first : UnitCrew) (at : Moment) (taken : Option (List ℕ)) (faults : ℕ) (es : List (Event BadUnit)) (given unit : ℕ)
-        → Story P.tells P.child first at crew.old (moment (P.world place.old) (P.counts place.old) (P.most place.old) taken faults) (P.still place.old) es given
-        → places_of crew.old.aloft.items ≡ flying_after es → IsLawful (needs_of crew.old.project) es → given ≡ count_due (states_in crew.old.project es)
-        → slice_get (places_of crew.old.aloft.items) index ≡ Some unit → slice_get (states_in crew.old.project es) unit ≡ Some state.Begun
+    ensures flying { places_of crew.new.aloft.items
+        ≡ remove (places_of crew.old.aloft.items) index }
+    ensures story { (first : UnitCrew) (at : Moment) (heard : Heard) (es : List (Event BadUnit))
+        (given unit : ℕ)
+        → Story P.tells P.child first at crew.old (moment (P.at place.old) heard)
+        (P.at place.old).still es given → places_of crew.old.aloft.items ≡ flying_after es
+        → IsLawful (needs_of crew.old.project) es
+        → given ≡ count_due (states_in crew.old.project es)
+        → slice_get (places_of crew.old.aloft.items) index ≡ Some unit
+        → slice_get (states_in crew.old.project es) unit ≡ Some state.Begun
         → MatchResult result
-        (λ answer. Story P.tells P.child first at crew.new (moment (P.world place.new) (P.counts place.new) (P.most place.new) taken faults) (P.still place.new) (Gave unit answer ∷ es) given)
-        (λ e. StoryEnds P.tells P.child e (Some unit) first at crew.new (moment (P.world place.new) (P.counts place.new) (P.most place.new) taken faults) (P.still place.new) es) }
+        (λ answer.
+        Story P.tells P.child first at crew.new (moment (P.at place.new) heard)
+        (P.at place.new).still (Gave unit answer ∷ es) given)
+        (λ e.
+        StoryEnds P.tells P.child e (Some unit) first at crew.new
+        (moment (P.at place.new) heard) (P.at place.new).still es) }
 {
     // Out of the list first: after a fault too it flies no more.
     let Aloft { unit, begun } = crew.aloft.remove(index);
     let project = &crew.project;
     let planned = &project.units()[unit];
-    let ran = match answer_unit(alloc, place, &mut crew.store, project, unit, planned, begun) {
-        Ok(ran) => ran,
+    let outcome = match answer_unit(alloc, place, &mut crew.store, project, unit, planned, begun) {
+        Ok(outcome) => outcome,
         Err(fault) => return Err(fault),
     };
-    let lines = match lines_of_unit(
-        alloc,
-        project.get(),
-        planned,
-        ran.started,
-        ran.messages.as_slice(),
-    ) {
-        Ok(lines) => lines,
-        Err(_) => return Err(BuildFault::OutOfMemory),
-    };
-    Ok(note_answer(&mut crew.done, unit, ran, lines))
+    Ok(note_answer(&mut crew.done, unit, outcome))
 }
 
 /// The places of the units in flight.
@@ -230,13 +241,17 @@ impl<P: Place, O: Out> Crew<P, O, BadUnit, BuildFault> for UnitCrew {
 
     ghost flying = { λ crew. places_of crew.aloft.items };
 
-    ghost holds = { λ crew place out. IsManned crew (P.counts place) };
+    ghost holds = { λ crew place out. IsManned crew (P.at place).counts };
+
+    ghost able = { λ crew place out. IsAble P.tells crew (P.at place) };
 
     ghost story = { λ first first_place first_out crew place out es given.
-        Story P.tells P.child first (moment (P.world first_place) (P.counts first_place) (P.most first_place) (O.taken first_out) (O.faults first_out)) crew (moment (P.world place) (P.counts place) (P.most place) (O.taken out) (O.faults out)) (P.still place) es given };
+        Story P.tells P.child first (moment (P.at first_place) (O.heard first_out)) crew
+        (moment (P.at place) (O.heard out)) (P.at place).still es given };
 
     ghost stops = { λ fault asked first first_place first_out crew place out es.
-        StoryEnds P.tells P.child fault asked first (moment (P.world first_place) (P.counts first_place) (P.most first_place) (O.taken first_out) (O.faults first_out)) crew (moment (P.world place) (P.counts place) (P.most place) (O.taken out) (O.faults out)) (P.still place) es };
+        StoryEnds P.tells P.child fault asked first (moment (P.at first_place) (O.heard first_out))
+        crew (moment (P.at place) (O.heard out)) (P.at place).still es };
 
     fn flying(&self, alloc: Global) -> Result<Vec<usize>, AllocError> {
         places_of(alloc, self.aloft.as_slice())

@@ -1,6 +1,6 @@
 //! Laws of units by turns. Each function does nothing; its contract is the law.
 
-ghost use Rattle.pb_turns.specs.Laws.{SaysFirstRows, StartsNothing, LeavesRecords, StartsNoneAgain};
+ghost use Rattle.pb_turns.specs.Ends.{SaysFirstRows, StartsNothing, LeavesRecords, StartsNoneAgain};
 
 use pb_flight::Turn;
 

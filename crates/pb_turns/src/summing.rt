@@ -2,8 +2,7 @@
 
 ghost use Rattle.std.specs.Prelude.{◌≡◌, ◌++◌, ◌≤◌, ◌<◌, ℕ, List, length, take, IfOk, IfSome, OnOk, Some, None, slice_get};
 ghost use Rattle.pb_run.specs.Halves.{key_in};
-ghost use Rattle.pb_turns.specs.Rows.{keyed, key_told, said_told, difference_in, kept_key, kept_of, fault_of, with_key, bad_told, noted_of, count_told};
-ghost use Rattle.pb_turns.specs.Summing.{keys_at, differences_at, summary_by};
+ghost use Rattle.pb_turns.specs.Rows.{keyed, key_told, said_told, difference_in, kept_key, kept_of, fault_of, with_key, bad_told, noted_of, count_told, keys_at, differences_at, summary_by};
 
 use pb_answer::{BadUnit, Summary};
 use pb_data::{Bytes, Items, Text, TryCopy};
@@ -236,7 +235,10 @@ pub(crate) fn summary_of(
     requires noted { length units.now ≡ length done.now }
     requires reasoned { length units.now ≡ length reasons.now }
     requires within { IfSome first_bad (λ place. place < length units.now) }
-    ensures { IfOk result (λ summary. summary ≡ summary_by units.now states.items done.now started.now reasons.now first_bad) }
+    ensures { IfOk result
+        (λ summary.
+        summary
+        ≡ summary_by units.now states.items done.now started.now reasons.now first_bad) }
 {
     let count = count_told(units.len(), first_bad);
     let differences = differences_at(alloc, reasons, started)?;

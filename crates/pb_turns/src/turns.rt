@@ -2,14 +2,12 @@
 
 ghost use Rattle.std.specs.Prelude.{◌≡◌, [], ℕ, List, IfOk, IsTrue, length, map, true, None};
 ghost use Rattle.pb_flight.specs.Table.{fresh, first_bad};
-ghost use Rattle.pb_record.specs.Parts.{IsReading};
 ghost use Rattle.pb_run.specs.Standing.{records_folder};
-ghost use Rattle.pb_soundness.specs.Records.{Reading, record_at};
-ghost use Rattle.pb_store.specs.Held.{HoldsNumbers};
-ghost use Rattle.pb_turns.specs.Crew.{needs_of};
+ghost use Rattle.pb_soundness.specs.Records.{records};
+ghost use Rattle.pb_store.specs.Folder.{HasNumbers};
+ghost use Rattle.pb_turns.specs.Crew.{needs_of, moment};
 ghost use Rattle.pb_turns.specs.Ends.{TurnsEnd, nothing_said};
-ghost use Rattle.pb_turns.specs.Moments.{moment};
-ghost use Rattle.pb_turns.specs.Summing.{summary_by};
+ghost use Rattle.pb_turns.specs.Rows.{summary_by};
 
 use crate::crew::UnitCrew;
 use crate::dropping::drain;
@@ -71,7 +69,11 @@ fn sum_up(alloc: Global, crew: &UnitCrew, flight: Flight<BadUnit>) -> Result<Sum
     requires long { length flight.states ≡ length crew.now.project.plan.planned }
     requires noted { length crew.now.done.items ≡ length crew.now.project.plan.planned }
     requires reasoned { length crew.now.reasons.items ≡ length crew.now.project.plan.planned }
-    ensures { IfOk result (λ summary. summary ≡ summary_by crew.now.project.plan.planned flight.states crew.now.done.items crew.now.started.items crew.now.reasons.items (first_bad flight.states)) }
+    ensures { IfOk result
+        (λ summary.
+        summary
+        ≡ summary_by crew.now.project.plan.planned flight.states crew.now.done.items
+        crew.now.started.items crew.now.reasons.items (first_bad flight.states)) }
 {
     let bad = flight.first_bad();
     let states = flight.into_states();
@@ -102,11 +104,11 @@ pub fn run_turns<P: Place, O: Out, T: Turn>(
     turn: &mut T,
 ) -> Result<Summary, BuildFault>
     requires folder { store.folder ≡ records_folder project }
-    requires known { store.numbers.known ≡ true }
-    requires numbers { (read : Reading) → IsReading read → IsTrue P.tells → HoldsNumbers (record_at read (records_folder project) (P.world place.old).files) store.numbers }
-    requires none { (P.counts place.old).starts.flying ≡ [] }
+    requires numbers { IsTrue P.tells →
+        HasNumbers (records (records_folder project) (P.at place.old).world) store.numbers }
+    requires none { (P.at place.old).counts.starts.flying ≡ [] }
     ensures { TurnsEnd P.tells P.child T.turns setup project store.next turn.old turn.new result
-        (moment (P.world place.old) (P.counts place.old) (P.most place.old) (O.taken out.old) (O.faults out.old)) (moment (P.world place.new) (P.counts place.new) (P.most place.new) (O.taken out.new) (O.faults out.new)) }
+        (moment (P.at place.old) (O.heard out.old)) (moment (P.at place.new) (O.heard out.new)) }
 {
     project.is_in_order();
     let mut flight = match flight_of(alloc, &project) {

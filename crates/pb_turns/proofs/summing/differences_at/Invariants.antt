@@ -1,5 +1,5 @@
 use Rattle.std.proofs.Common.{◌≡◌, ◌++◌, drop}
-use Rattle.pb_turns.specs.Summing.{differences_at}
+use Rattle.pb_turns.specs.Rows.{differences_at}
 use Rattle.pb_turns.proofs.summing.differences_at.Given as goal
 
 abbrev pub invariant-loop-place : goal.invariant-loop-place

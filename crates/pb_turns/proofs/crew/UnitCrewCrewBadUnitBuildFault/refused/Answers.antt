@@ -23,9 +23,9 @@ returns g c = λ first first_place last_place first_out last_out es given s. rec
   anew = λ t. (s.anew t).gave;
   left = λ t. (s.left t).gave;
   began = s.began;
-  started = λ t read reading. none_began _ read _ _ OutOfMemory es _ _;
+  started = λ t. none_began _ _ _ OutOfMemory es _ _;
   happened = s.happened;
-  caused = λ t read reading. tt;
-  calls = λ t f r sources reading keeps. (g.P.Place.world last_place, g.P.Place.counts last_place, s.calls t f r sources reading keeps, inl (inr refl, refl, refl));
-  calls_on_any = λ t read reading. (g.P.Place.world last_place, g.P.Place.counts last_place, s.calls_on_any t read reading, inl (inr refl, refl, refl));
+  caused = λ t. tt;
+  calls = λ t f sources keeps. ((g.P.Place.at last_place).world, (g.P.Place.at last_place).counts, s.calls t f sources keeps, inl (inr refl, refl, refl));
+  calls_on_any = λ t. ((g.P.Place.at last_place).world, (g.P.Place.at last_place).counts, s.calls_on_any t, inl (inr refl, refl, refl));
 }

@@ -12,7 +12,7 @@ pub returns-then-write_all-clause-story : goal.returns-then-write_all-clause-sto
 returns-then-write_all-clause-story g c = λ first first_place first_out es given unit answer s lawful was lines. record {
   setup = s.setup;
   project = s.project;
-  goes = goes_told _ _ _ _ _ _ _ _ s.goes refl refl (subst (Appends (g.O.Out.taken c.args.out.now) (g.O.Out.taken c.write_all.new.out)) lines (c.write_all.ensures.all c.if-write_all.true)) (c.write_all.ensures.whole c.if-write_all.true);
+  goes = goes_told _ _ _ _ _ _ _ _ s.goes refl refl (subst (Appends (g.O.Out.heard c.args.out.now).taken (g.O.Out.heard c.write_all.new.out).taken) lines (c.write_all.ensures.all c.if-write_all.true)) (c.write_all.ensures.whole c.if-write_all.true);
   numbers = s.numbers;
   taken = s.taken;
   changes = s.changes;
@@ -22,8 +22,6 @@ returns-then-write_all-clause-story g c = λ first first_place first_out es give
   anew = s.anew;
   left = s.left;
   began = s.began;
-  known = s.known;
-  held = s.held;
   happened = s.happened;
   quiet = s.quiet;
   calls = s.calls;
@@ -37,7 +35,7 @@ returns-else-write_all-clause-story g c = λ first first_place first_out es give
     record {
       setup = s.setup;
       project = s.project;
-      stops = stops_sink _ _ _ _ _ _ _ _ s.goes refl refl g.P.Place.tells es unit answer refl was (subst (λ l. TakesPart l (g.O.Out.taken c.args.out.now) (g.O.Out.taken c.write_all.new.out)) lines (c.write_all.ensures.part c.if-write_all.false))
+      stops = stops_sink _ _ _ _ _ _ _ _ s.goes refl refl g.P.Place.tells es unit answer refl was (subst (λ l. TakesPart l (g.O.Out.heard c.args.out.now).taken (g.O.Out.heard c.write_all.new.out).taken) lines (c.write_all.ensures.part c.if-write_all.false))
           (c.write_all.ensures.fault c.if-write_all.false);
       spent = tt;
       before = Gave unit answer ∷ es;
@@ -52,9 +50,9 @@ returns-else-write_all-clause-story g c = λ first first_place first_out es give
       anew = λ t. (s.anew t).gave;
       left = λ t. (s.left t).gave;
       began = s.began;
-      started = λ t read reading. none_began _ read _ _ Sink (Gave unit answer ∷ es) _ _;
+      started = λ t. none_began _ _ _ Sink (Gave unit answer ∷ es) _ _;
       happened = s.happened;
-      caused = λ t read reading. tt;
-      calls = λ t f r sources reading keeps. (g.P.Place.world c.args.place.now, g.P.Place.counts c.args.place.now, s.calls t f r sources reading keeps, inl (inl refl, refl, refl));
-      calls_on_any = λ t read reading. (g.P.Place.world c.args.place.now, g.P.Place.counts c.args.place.now, s.calls_on_any t read reading, inl (inl refl, refl, refl));
+      caused = λ t. tt;
+      calls = λ t f sources keeps. ((g.P.Place.at c.args.place.now).world, (g.P.Place.at c.args.place.now).counts, s.calls t f sources keeps, inl (inl refl, refl, refl));
+      calls_on_any = λ t. ((g.P.Place.at c.args.place.now).world, (g.P.Place.at c.args.place.now).counts, s.calls_on_any t, inl (inl refl, refl, refl));
     }
