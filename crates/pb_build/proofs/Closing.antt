@@ -5,8 +5,7 @@ use Rattle.pb_answer.specs.declared.fault.BuildFault.{BuildFault}
 use Rattle.pb_answer.specs.declared.fault.BuildFault.TheVariants.{Sink}
 use Rattle.pb_answer.specs.declared.summary.Summary.{Summary}
 use Rattle.pb_place.specs.Counts.{up}
-use Rattle.pb_place.specs.Sinks.{TakesPart}
-use Rattle.pb_turns.specs.Moments.{Heard}
+use Rattle.pb_place.specs.Sinks.{Heard, TakesPart}
 use Rattle.pb_build.specs.Ending.{Finishes}
 
 -- the sink took a part of the line

@@ -9,7 +9,7 @@ use Rattle.pb_place.proofs.Folders.{sources_alike}
 use Rattle.pb_place.proofs.MapLemmas.{get-kept}
 use Rattle.pb_session.specs.declared.step.SessionStep.{SessionStep}
 use Rattle.pb_session.specs.declared.step.SessionStep.TheVariants.{Write, Remove, Set, Unset, Build, Die, Fuse}
-use Rattle.pb_turns.specs.Moments.{Moment}
+use Rattle.pb_turns.specs.Crew.{Moment}
 use Rattle.pb_build.specs.Kept.{SourcesStay}
 use Rattle.pb_build.specs.Environment.{environment_of}
 use Rattle.pb_build.specs.Session.{Point, Course, edit, edited, OneTarget, Unaffected}

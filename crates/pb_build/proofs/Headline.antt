@@ -27,17 +27,16 @@ use Rattle.pb_profile.specs.Line.{folder_of}
 use Rattle.pb_answer.specs.declared.bad_unit.BadUnit.{BadUnit}
 use Rattle.pb_project.specs.declared.project.Project.{Project}
 use Rattle.pb_project.specs.declared.project.Setup.{Setup}
-use Rattle.pb_record.specs.Parts.{IsReading}
 use Rattle.pb_run.specs.Halves.{Footing, OnRecords, OnNothing, Basis, basis, key_in, outcomes_in, Keeps, HoldsBy}
 use Rattle.pb_run.specs.Outcome.{Outcome, Good}
 use Rattle.pb_run.specs.Standing.{records_folder}
-use Rattle.pb_soundness.specs.Records.{Reading, record_at}
+use Rattle.pb_soundness.specs.Records.{reading, records}
 use Rattle.pb_soundness.specs.Sound.{Sound}
-use Rattle.pb_store.specs.Opening.{next_in}
+use Rattle.pb_store.specs.Folder.{next_in}
 use Rattle.pb_store.proofs.Ahead.{opened_ahead}
-use Rattle.pb_turns.specs.Crew.{needs_of, ticket_of_child}
+use Rattle.pb_turns.specs.Crew.{needs_of, ticket_of_child, Moment}
 use Rattle.pb_turns.specs.Ends.{TurnsEnd, Drained, StandsWhole, StandsCut, Stands, nothing_said, rows_in}
-use Rattle.pb_turns.specs.Moments.{Heard, Moment}
+use Rattle.pb_place.specs.Sinks.{Heard}
 use Rattle.pb_turns.specs.Rows.{Row, to_first_bad, is_bad, fault_in, said_from}
 use Rattle.pb_turns.specs.Story.{states_in, untouched, upped, Stops, StopsAt, StopsAtSink, AllBeganFor, IsBeginning, LacksNumber, NamesUnit, NumbersGiven, Spends}
 use Rattle.pb_turns.proofs.Repeating.{dropped_count}
@@ -113,33 +112,33 @@ pub same_folder : (options : Options) (w : World) (project : Project) → IsProj
 same_folder options w project is = ap₂ (λ (t n : List ℕ). below t (folder_of n)) (target_kept options.manifest (environment_of options w.variables).target w project.workspace is.selected.read) is.profile
 
 -- what a build rests on is what the halves of units keep at first
-module _ (read : Reading) (child : Answers) (options : Options) (w : World) (project : Project) (toolchain : List ℕ) (is : IsProject options (environment_of options w.variables).target w project)
+module _ (child : Answers) (options : Options) (w : World) (project : Project) (toolchain : List ℕ) (is : IsProject options (environment_of options w.variables).target w project)
     (says : toolchain_of child (environment_of options w.variables) project (from_nothing (environment_of options w.variables).target w) ≡ Some toolchain) (next : Option ℕ)
-    (is_next : next ≡ next_in read (records_folder project) w) where
+    (is_next : next ≡ next_in (records_folder project) w) where
   abbrev its_basis : Footing → Basis
-  its_basis f = basis f read child (setup_of options (environment_of options w.variables) toolchain) project (from_nothing (environment_of options w.variables).target w)
+  its_basis f = basis f child (setup_of options (environment_of options w.variables) toolchain) project (from_nothing (environment_of options w.variables).target w)
 
-  holds : (f : Footing) → RestsOn f read child options w → HoldsBy f (its_basis f) (untouched project) next w
+  holds : (f : Footing) → RestsOn f child options w → HoldsBy f (its_basis f) (untouched project) next w
   holds OnRecords (sound, honest) = record {
-    honest = honest read record { project = project; toolchain = toolchain; is = is; says = says };
-    sound = subst (λ (f : List ℕ). Sound read judge child f w.files) (sym (same_folder options w project is)) sound;
-    ahead = opened_ahead read (records_folder project) w next is_next;
+    honest = honest record { project = project; toolchain = toolchain; is = is; says = says };
+    sound = subst (λ (f : List ℕ). Sound reading judge child f w.files) (sym (same_folder options w project is)) sound;
+    ahead = opened_ahead (records_folder project) w next is_next;
     recorded = λ place good. absurd (none_good (needs_of project) place good);
   }
-  holds OnNothing none = λ place u there state. subst (λ (f : List ℕ). record_at read f w.files u.key ≡ None) (sym (same_folder options w project is)) (none u.key)
+  holds OnNothing none = λ place u there state. subst (λ (f : List ℕ). records f w u.key ≡ None) (sym (same_folder options w project is)) (none u.key)
 
-  pub rests_first : (f : Footing) → RestsOn f read child options w → Keeps (its_basis f) (untouched project) (nothing_said project) next w
+  pub rests_first : (f : Footing) → RestsOn f child options w → Keeps (its_basis f) (untouched project) (nothing_said project) next w
   rests_first f on =
       first_kept (its_basis f) next w (ap (λ (t : List ℕ). from_nothing t w) (target_kept options.manifest (environment_of options w.variables).target w project.workspace is.selected.read)) (holds f on)
 
-module _ (footing : Footing) (read : Reading) (reading : IsReading read) (child : Answers) (options : Options) where
+module _ (footing : Footing) (child : Answers) (options : Options) where
   -- before the units nothing was changed
-  stay_true : (f : Footing) (old new : World) → RestsOn f read child options old → new ≡ old → LeavesRecords f read child options old new
-  stay_true OnRecords old new (sound, honest) same = subst (λ (w : World). Sound read judge child (records_of options old.variables) w.files) (sym same) sound
+  stay_true : (f : Footing) (old new : World) → RestsOn f child options old → new ≡ old → LeavesRecords f child options old new
+  stay_true OnRecords old new (sound, honest) same = subst (λ (w : World). Sound reading judge child (records_of options old.variables) w.files) (sym same) sound
   stay_true OnNothing old new none same = tt
 
   module _ {S : Type 0} (Turns : S → List ℕ → List ℕ → Step → S → Type 0) (from last : S) where
-    none_gives : (result : Result Summary BuildFault) (old new : Moment) → StopsEarly true child options from last result old new → GivesUnits footing read child (ByTurns Turns from) options result old new
+    none_gives : (result : Result Summary BuildFault) (old new : Moment) → StopsEarly true child options from last result old new → GivesUnits footing child (ByTurns Turns from) options result old new
     none_gives (Ok summary) old new early = absurd (no_fault early.none_began.answer)
     none_gives (Err fault) old new early =
         let same : early.none_began.fault ≡ fault = told_of (Err fault) fault early.none_began.fault refl early.none_began.answer in
@@ -154,7 +153,7 @@ module _ (footing : Footing) (read : Reading) (reading : IsReading read) (child 
 
     module _ (project : Project) (toolchain : List ℕ) (old mid new : Moment) (is : IsProject options (environment_of options old.world.variables).target old.world project)
         (says : toolchain_of child (environment_of options old.world.variables) project (from_nothing (environment_of options old.world.variables).target old.world) ≡ Some toolchain) (next : Option ℕ)
-        (is_next : next ≡ next_in read (records_folder project) old.world) (stays : mid.world ≡ old.world) (queried : mid.counts.starts ≡ up_starts old.counts.starts) (heard : mid.heard ≡ old.heard) (rests : RestsOn footing read child options old.world) where
+        (is_next : next ≡ next_in (records_folder project) old.world) (stays : mid.world ≡ old.world) (queried : mid.counts.starts ≡ up_starts old.counts.starts) (heard : mid.heard ≡ old.heard) (rests : RestsOn footing child options old.world) where
       abbrev setup : Setup
       setup = setup_of options (environment_of options old.world.variables) toolchain
 
@@ -162,10 +161,10 @@ module _ (footing : Footing) (read : Reading) (reading : IsReading read) (child 
       sources = from_nothing (environment_of options old.world.variables).target old.world
 
       abbrev b : Basis
-      b = basis footing read child setup project sources
+      b = basis footing child setup project sources
 
-      kept_first : (f : Footing) → RestsOn f read child options old.world → Keeps (basis f read child setup project sources) (untouched project) (nothing_said project) next mid.world
-      kept_first f on = subst (λ (w : World). Keeps (basis f read child setup project sources) (untouched project) (nothing_said project) next w) (sym stays) (rests_first read child options old.world project toolchain is says next is_next f on)
+      kept_first : (f : Footing) → RestsOn f child options old.world → Keeps (basis f child setup project sources) (untouched project) (nothing_said project) next mid.world
+      kept_first f on = subst (λ (w : World). Keeps (basis f child setup project sources) (untouched project) (nothing_said project) next w) (sym stays) (rests_first child options old.world project toolchain is says next is_next f on)
 
       abbrev units : UnitsOf child options old.world
       units = record { project = project; toolchain = toolchain; is = is; says = says }
@@ -176,8 +175,8 @@ module _ (footing : Footing) (read : Reading) (reading : IsReading read) (child 
       counted es stop starts drained =
           dropped_count (map ticket_of_child stop.starts.flying) stop new.counts drained ∙ (starts ∙ ap (λ (s : Starts). upped (length (started_by es)) s.count) queried)
 
-      leaves : (f : Footing) (es : List (Event BadUnit)) → Stands (basis f read child setup project sources) es new.world → LeavesRecords f read child options old.world new.world
-      leaves OnRecords es stands = subst (λ (f : List ℕ). Sound read judge child f new.world.files) (same_folder options old.world project is) stands.keeps.records.sound
+      leaves : (f : Footing) (es : List (Event BadUnit)) → Stands (basis f child setup project sources) es new.world → LeavesRecords f child options old.world new.world
+      leaves OnRecords es stands = subst (λ (f : List ℕ). Sound reading judge child f new.world.files) (same_folder options old.world project is) stands.keeps.records.sound
       leaves OnNothing es stands = tt
 
       -- the bytes that were handed out since the start
@@ -242,20 +241,20 @@ module _ (footing : Footing) (read : Reading) (reading : IsReading read) (child 
             (sink.taken, subst (λ (l : List ℕ). sink.taken < length l) stands.lines sink.part, first_lines (take sink.taken (due (states_in project es))) _ (ap (take sink.taken) stands.lines) sink.lines)
         lines_before OutOfMemory names stops = let ((n, taken), faults) = stops.by in (n, first_lines (due_first n (states_in project es)) _ (stands.first_lines n) taken)
 
-      next_is : next ≡ next_in read (records_of options old.world.variables) old.world
-      next_is = is_next ∙ ap (λ (f : List ℕ). next_in read f old.world) (same_folder options old.world project is)
+      next_is : next ≡ next_in (records_of options old.world.variables) old.world
+      next_is = is_next ∙ ap (λ (f : List ℕ). next_in f old.world) (same_folder options old.world project is)
 
       turns_give : (result : Result Summary BuildFault) → TurnsEnd true child Turns setup project next from last result mid new
-          → GivesUnits footing read child (ByTurns Turns from) options result old new × LeavesRecords footing read child options old.world new.world
+          → GivesUnits footing child (ByTurns Turns from) options result old new × LeavesRecords footing child options old.world new.world
       turns_give (Ok summary) ends =
-          let whole : StandsWhole b ends.es ends.reasons summary ends.numbers.0 mid.world new.world = ends.told refl footing read sources reading (kept_first footing rests) in (
+          let whole : StandsWhole b ends.es ends.reasons summary ends.numbers.0 mid.world new.world = ends.told refl footing sources (kept_first footing rests) in (
             record {
               flown = record { units = units; es = ends.es; flies = (last, ends.flies); gave = gave_so ends.es whole.stands; starts = counted ends.es ends.mid ends.starts ends.drained; reasons = ends.reasons };
               finished = ends.finished;
               numbers = (
                 ends.numbers.0,
-                subst (λ (n : Option ℕ). NumbersGiven (LacksNumber project read old.world) ends.es n ends.numbers.0) next_is
-                    (subst (λ (w : World). NumbersGiven (LacksNumber project read w) ends.es next ends.numbers.0) stays (ends.taken refl read reading)),
+                subst (λ (n : Option ℕ). NumbersGiven (LacksNumber project old.world) ends.es n ends.numbers.0) next_is
+                    (subst (λ (w : World). NumbersGiven (LacksNumber project w) ends.es next ends.numbers.0) stays (ends.taken refl)),
               );
               unnoted = ends.unnoted;
               answer = whole.answer;
@@ -266,10 +265,10 @@ module _ (footing : Footing) (read : Reading) (reading : IsReading read) (child 
             leaves footing ends.es whole.stands,
           )
       turns_give (Err fault) ends =
-          let cut : StandsCut b fault ends.es ends.before mid.world new.world = ends.told refl footing read sources reading (kept_first footing rests) in (
+          let cut : StandsCut b fault ends.es ends.before mid.world new.world = ends.told refl footing sources (kept_first footing rests) in (
             inr record {
               flown = record { units = units; es = ends.es; flies = (ends.last, ends.flies); gave = gave_so ends.es cut.stands; starts = counted ends.es ends.mid.counts ends.stops.starts ends.drained; reasons = cut.reasons };
-              spent = subst (λ (n : Option ℕ). Spends (LacksNumber project read old.world) fault n ends.es) next_is (subst (λ (w : World). Spends (LacksNumber project read w) fault next ends.es) stays (ends.caused refl read reading));
+              spent = subst (λ (n : Option ℕ). Spends (LacksNumber project old.world) fault n ends.es) next_is (subst (λ (w : World). Spends (LacksNumber project w) fault next ends.es) stays (ends.caused refl));
               lines = lines_before ends.es cut.stands ends.mid ends.heard ends.last ends.flies ends.asked ends.hands ends.before fault ends.names ends.stops;
               before = ends.before;
               came = ends.came;
@@ -278,17 +277,17 @@ module _ (footing : Footing) (read : Reading) (reading : IsReading read) (child 
             leaves footing ends.es cut.stands,
           )
 
-    works_give : (result : Result Summary BuildFault) (old new : Moment) → RestsOn footing read child options old.world → Works true child Turns options from last result old new
-        → GivesUnits footing read child (ByTurns Turns from) options result old new × LeavesRecords footing read child options old.world new.world
+    works_give : (result : Result Summary BuildFault) (old new : Moment) → RestsOn footing child options old.world → Works true child Turns options from last result old new
+        → GivesUnits footing child (ByTurns Turns from) options result old new × LeavesRecords footing child options old.world new.world
     works_give result old new rests (inl early) = (none_gives result old new early, stay_true footing old.world new.world rests (early.none_began.stays refl))
     works_give result old new rests (inr units) =
         let project = units.prepared.project in
         let is = units.prepares.is refl in
         turns_give project is.toolchain old units.mid new is.project is.says units.prepared.store.next
-        (is.next read reading) (units.prepares.stays refl) units.prepares.starts units.heard rests result
+        is.next (units.prepares.stays refl) units.prepares.starts units.heard rests result
         (subst (λ (s : Setup). TurnsEnd true child Turns s project units.prepared.store.next from last result units.mid new) is.setup units.ends)
 
-    builds_give : (result : Result Summary BuildFault) (old new : Moment) → RestsOn footing read child options old.world → Builds true child Turns options from last result old new → Gives footing read child (ByTurns Turns from) options result old new
+    builds_give : (result : Result Summary BuildFault) (old new : Moment) → RestsOn footing child options old.world → Builds true child Turns options from last result old new → Gives footing child (ByTurns Turns from) options result old new
     builds_give result old new rests builds =
         let (units, records) = works_give builds.inner old record new { heard = builds.heard } rests builds.works in
         record { inner = builds.inner; heard = builds.heard; units = units; closes = builds.closes; records = records }
@@ -296,8 +295,8 @@ module _ (footing : Footing) (read : Reading) (reading : IsReading read) (child 
 -- the headline, of every build
 pub headline : {S : Type 0} (tells : Bool) (child : Answers) (Turns : S → List ℕ → List ℕ → Step → S → Type 0) (options : Options) (from last : S) (result : Result Summary BuildFault) (old new : Moment)
     → Builds tells child Turns options from last result old new → Headline tells child (ByTurns Turns from) options result old new
-headline true child Turns options from last result old new builds told footing read reading rests = builds_give footing read reading child options Turns from last result old new rests builds
-headline false child Turns options from last result old new builds told footing read reading rests = absurd (told_false told)
+headline true child Turns options from last result old new builds told footing rests = builds_give footing child options Turns from last result old new rests builds
+headline false child Turns options from last result old new builds told footing rests = absurd (told_false told)
   where
     told_false : IsTrue false → ⊥
     told_false e = cc

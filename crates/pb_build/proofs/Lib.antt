@@ -21,3 +21,4 @@ pub mod SameOutcomes
 pub mod Naming
 pub mod OneResult
 pub mod Flightless
+pub mod Lending

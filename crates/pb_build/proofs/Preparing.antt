@@ -8,15 +8,15 @@ use Rattle.pb_place.specs.World.{World, Answers, from_nothing}
 use Rattle.pb_place.specs.declared.place.PlaceFault.TheVariants as place
 use Rattle.pb_package.specs.declared.options.Options.{Options}
 use Rattle.pb_project.specs.declared.project.Project.{Project}
-use Rattle.pb_run.specs.Causes.{HasCause}
+use Rattle.pb_run.specs.Steps.{HasCause}
 use Rattle.pb_run.specs.Standing.{records_folder}
-use Rattle.pb_store.specs.Causes.{FailsToOpen}
-use Rattle.pb_store.specs.Opening.{next_in}
+use Rattle.pb_store.specs.Calls.{FailsToOpen}
+use Rattle.pb_store.specs.Folder.{next_in}
 use Rattle.pb_store.specs.declared.fault.OpenFault.{OpenFault}
 use Rattle.pb_store.specs.declared.fault.OpenFault.TheVariants as open_fault
 use Rattle.pb_workspace.proofs.Accepted.{target_kept}
 use Rattle.pb_build.specs.Causes.{MayPlan, MayAsk, MayReady, Names}
-use Rattle.pb_turns.specs.Moments.{Moment}
+use Rattle.pb_turns.specs.Crew.{Moment}
 use Rattle.pb_build.specs.Ending.{FailsBefore, IsSilent, IsPrepared, PlansFrom}
 use Rattle.pb_build.specs.Environment.{environment_of}
 use Rattle.pb_build.specs.Planning.{IsProject, IsToldRefusal}
@@ -153,7 +153,7 @@ prepared_of child options environment project v w prepared same is of_world read
       says = subst (λ (env : Environment). toolchain_of child env prepared.project (from_nothing env.target w) ≡ Some ready.toolchain) is says;
       setup = ready.setup ∙ ap (λ env. setup_of options env ready.toolchain) is;
       project = subst (λ (env : Environment). IsProject options env.target w prepared.project) is at;
-      next = λ read reading.
-          subst (λ (x : World). prepared.store.next ≡ next_in read (records_folder prepared.project) x) same
-          (subst (λ (p : Project). prepared.store.next ≡ next_in read (records_folder p) v) (sym ready.project_is) (ready.next read reading));
+      next =
+          subst (λ (x : World). prepared.store.next ≡ next_in (records_folder prepared.project) x) same
+          (subst (λ (p : Project). prepared.store.next ≡ next_in (records_folder p) v) (sym ready.project_is) (ready.next));
     }

@@ -15,10 +15,10 @@ use Rattle.pb_project.specs.declared.project.Project.{Project}
 use Rattle.pb_project.specs.declared.project.Setup.{Setup}
 use Rattle.pb_run.specs.Standing.{IsInOrder, records_folder}
 use Rattle.pb_soundness.specs.Apart.{is_of}
-use Rattle.pb_soundness.specs.Records.{is_key, out_of, place_of}
+use Rattle.pb_soundness.specs.Records.{is_key, out_of, place_of, records}
 use Rattle.pb_soundness.proofs.Places.{out_in, place_in}
 use Rattle.pb_turns.specs.Ends.{TurnsEnd}
-use Rattle.pb_turns.specs.Moments.{Moment}
+use Rattle.pb_turns.specs.Crew.{Moment}
 use Rattle.pb_turns.specs.Story.{OnlyOf}
 use Rattle.pb_workspace.proofs.Accepted.{target_kept}
 use Rattle.pb_build.specs.AnyPlan as plan

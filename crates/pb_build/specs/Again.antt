@@ -4,15 +4,13 @@ use Rattle.pb_answer.specs.declared.summary.Summary.{Summary}
 use Rattle.pb_flight.specs.declared.turn.Step.{Step}
 use Rattle.pb_package.specs.declared.options.Options.{Options}
 use Rattle.pb_place.specs.World.{Answers}
-use Rattle.pb_record.specs.Parts.{IsReading}
 use Rattle.pb_run.specs.Halves.{OnRecords}
-use Rattle.pb_soundness.specs.Records.{Reading}
-use Rattle.pb_turns.specs.Moments.{Moment}
+use Rattle.pb_turns.specs.Crew.{Moment}
 use Rattle.pb_build.specs.Ending.{Builds}
 use Rattle.pb_build.specs.Headline.{RestsOn}
 
 -- A build over true records and an honest child succeeded, and the same build began in the world that it left, by whatever turn: where no fault ends that, it tells no unit as started.
 abbrev pub SameBuildStartsNone : {S T : Type 0} → (S → List ℕ → List ℕ → Step → S → Type 0) → (T → List ℕ → List ℕ → Step → T → Type 0) → Type 0
-SameBuildStartsNone {S} {T} Turns OtherTurns = (read : Reading) (child : Answers) (options : Options) (from last : S) (again end : T) (summary other : Summary) (first second third fourth : Moment) → IsReading read
-    → RestsOn OnRecords read child options first.world → Builds true child Turns options from last (Ok summary) first second → summary.success ≡ true
+SameBuildStartsNone {S} {T} Turns OtherTurns = (child : Answers) (options : Options) (from last : S) (again end : T) (summary other : Summary) (first second third fourth : Moment)
+    → RestsOn OnRecords child options first.world → Builds true child Turns options from last (Ok summary) first second → summary.success ≡ true
     → third.world ≡ second.world → Builds true child OtherTurns options again end (Ok other) third fourth → other.started ≡ []

@@ -11,14 +11,13 @@ use Rattle.pb_package.specs.declared.options.Options.{Options}
 use Rattle.pb_place.specs.Counts.{up_starts}
 use Rattle.pb_place.specs.World.{World, Answers, from_nothing}
 use Rattle.pb_project.specs.declared.project.Project.{Project}
-use Rattle.pb_record.specs.Parts.{IsReading}
-use Rattle.pb_run.specs.Causes.{HasCause}
+use Rattle.pb_run.specs.Steps.{HasCause}
 use Rattle.pb_run.specs.Standing.{IsInOrder, records_folder}
-use Rattle.pb_soundness.specs.Records.{Reading}
 use Rattle.pb_store.specs.Looking.{opened_looked}
-use Rattle.pb_store.specs.Opening.{next_in}
+use Rattle.pb_store.specs.Folder.{next_in}
 use Rattle.pb_turns.specs.Ends.{TurnsEnd}
-use Rattle.pb_turns.specs.Moments.{Heard, Moment}
+use Rattle.pb_place.specs.Sinks.{Heard}
+use Rattle.pb_turns.specs.Crew.{Moment}
 use Rattle.pb_build.specs.Causes.{MayReady, Names, ReadyStopsAt, ready_called}
 use Rattle.pb_build.specs.Ending.{Closes, PicksFirstOf, Stays}
 use Rattle.pb_build.specs.Result.{toolchain_of, setup_of}
@@ -32,7 +31,7 @@ pub record IsReadyFor (child : Answers) (options : Options) (environment : Envir
   pub says : toolchain_of child environment project (from_nothing project.workspace.target w) ≡ Some toolchain
   pub setup : prepared.setup ≡ setup_of options environment toolchain
   pub project_is : prepared.project ≡ project
-  pub next : (read : Reading) → IsReading read → prepared.store.next ≡ next_in read (records_folder project) w
+  pub next : prepared.store.next ≡ next_in (records_folder project) w
 
 -- a fault that says that the compiler does not say its version comes where it does not
 abbrev pub IsSilentFault : Answers → Environment → Project → World → BuildFault → Type 0

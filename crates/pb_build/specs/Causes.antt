@@ -1,14 +1,14 @@
 -- How many children a build has started before its units, which calls it has made, where a fault ends it, and what such a fault names.
-use Rattle.std.specs.Prelude.{◌≡◌, ◌⊎◌, ◌++◌, ◌∷◌, codes, List, [], Result, MatchResult}
+use Rattle.std.specs.Prelude.{◌≡◌, ◌⊎◌, ◌+◌, ◌++◌, ◌∷◌, codes, length, max, List, [], Result, MatchResult, OnErr, OnOk, ℕ}
+use Rattle.pb_place.specs.At.{At}
 use Rattle.pb_place.specs.CallsInTurn.{past_calls}
 use Rattle.pb_place.specs.declared.call.Call.{Call}
 use Rattle.pb_place.specs.declared.call.Call.TheVariants as call
-use Rattle.pb_place.specs.Counts.{Counts, Starts, named_in, one_start, past_call, up_starts}
+use Rattle.pb_place.specs.Counts.{Counts, Starts, named_in, one_start, past_call, up_starts, past_start_fault}
 use Rattle.pb_place.specs.World.{World}
 use Rattle.pb_package.specs.declared.options.Options.{Options}
 use Rattle.pb_project.specs.declared.project.Project.{Project}
-use Rattle.pb_run.specs.Causes.{StopsAt}
-use Rattle.pb_run.specs.Launching.{SpawnEnds}
+use Rattle.pb_run.specs.Steps.{NoStart, StopsAt, HasCause}
 use Rattle.pb_run.specs.Standing.{records_folder}
 use Rattle.pb_store.specs.Looking.{opened_looked}
 use Rattle.pb_workspace.specs.LookedAt.{looked_at}
@@ -17,6 +17,8 @@ use Rattle.pb_build.specs.Planning.{IsProject}
 use Rattle.pb_answer.specs.declared.fault.BuildFault.{BuildFault}
 use Rattle.pb_answer.specs.declared.fault.DeviceFault.TheVariants as device
 use Rattle.pb_answer.specs.declared.fault.BuildFault.TheVariants.{Plan, Toolchain, Child, Device, Sink, OutOfMemory}
+use Rattle.pb_place.specs.declared.place.StartFault.{StartFault}
+use Rattle.pb_place.specs.declared.place.StartFault.TheVariants as start
 
 -- the faults of what comes before the query
 abbrev pub MayPlan : BuildFault → Starts → Starts → Type 0
@@ -58,6 +60,56 @@ Names OutOfMemory new = Unit {0}
 
 abbrev pub NamesCall : {T : Type 0} → Result T BuildFault → Counts → Type 0
 NamesCall result new = MatchResult result (λ _. Unit {0}) (λ e. Names e new)
+
+-- How a child is started for the query.
+
+abbrev pub child_fault : List ℕ → StartFault → BuildFault
+child_fault unit start.CannotStart = Child unit start.CannotStart
+child_fault unit start.Died = Child unit start.Died
+child_fault unit start.Capture = Child unit start.Capture
+child_fault unit start.OutOfMemory = OutOfMemory
+
+-- what a step says of the counters. Where it ended well: no call failed, and so many children were started; as many fly as before. Else: that it may tell this fault after so many starts, and the fault's cause
+abbrev pub Takes : {T : Type 0} → (T → Starts → Starts → Type 0) → (BuildFault → Starts → Starts → Type 0) → Result T BuildFault → Counts → Counts → Type 0
+Takes Begins May result old new = MatchResult result (λ x. (new.failures ≡ old.failures) × Begins x old.starts new.starts) (λ e. May e old.starts new.starts × HasCause e old new)
+
+abbrev pub OneStart : {T : Type 0} → T → Starts → Starts → Type 0
+OneStart x old new = new ≡ up_starts old
+
+-- the faults of a step that starts a child of this name
+abbrev pub MayStart : List ℕ → BuildFault → Starts → Starts → Type 0
+MayStart name (Plan refusal) old new = ⊥
+MayStart name Toolchain old new = ⊥
+MayStart name (Child unit fault) old new = (unit ≡ name) × (new ≡ up_starts old)
+MayStart name (Device unit fault) old new = ⊥
+MayStart name Sink old new = ⊥
+MayStart name OutOfMemory old new = (new ≡ old) ⊎ (new ≡ up_starts old)
+
+-- a child was started and has ended, by one call
+abbrev pub RunsOnce : {T : Type 0} → T → Counts → Counts → Type 0
+RunsOnce x old new = new ≡ past_call (one_start old)
+
+-- the one call, which spawns a child, failed, or the end of that child did; out of memory, it or none was made
+abbrev pub SpawnEnds : BuildFault → Counts → Counts → Type 0
+SpawnEnds (Child unit fault) old new = new ≡ past_start_fault fault (one_start old)
+SpawnEnds OutOfMemory old new = (new ≡ old) ⊎ (new ≡ past_call (one_start old))
+SpawnEnds e old new = ⊥
+
+-- What is done before the units does to the place.
+
+-- it only looks: nothing changes but the counters; a call that failed was the last, and the fault names what it was given
+pub record OnlyLooks {T : Type 0} (May : BuildFault → Starts → Starts → Type 0) (result : Result T BuildFault) (old new : At) : Type 0 where
+  pub world : new.world ≡ old.world
+  pub most : new.most ≡ old.most
+  pub takes : Takes NoStart May result old.counts new.counts
+  pub names : NamesCall result new.counts
+
+-- it starts one child and waits for it, and else only looks
+pub record OnlyAsks {T : Type 0} (May : BuildFault → Starts → Starts → Type 0) (result : Result T BuildFault) (old new : At) : Type 0 where
+  pub world : new.world ≡ old.world
+  pub most : OnOk result (new.most ≡ max old.most (length old.counts.starts.flying + 1))
+  pub most_else : OnErr result ((new.most ≡ old.most) ⊎ (new.most ≡ max old.most (length old.counts.starts.flying + 1)))
+  pub takes : Takes OneStart May result old.counts new.counts
 
 -- Which calls are made before the units.
 

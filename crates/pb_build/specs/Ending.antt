@@ -14,24 +14,23 @@ use Rattle.pb_message.specs.Message.{finish_line}
 use Rattle.pb_package.specs.declared.options.Options.{Options}
 use Rattle.pb_place.specs.CallsInTurn.{past_calls}
 use Rattle.pb_place.specs.Counts.{Counts, named_in, up, up_starts}
-use Rattle.pb_place.specs.Sinks.{TakesPart}
+use Rattle.pb_place.specs.Sinks.{Heard, TakesPart}
 use Rattle.pb_place.specs.World.{World, Answers, from_nothing}
 use Rattle.pb_place.specs.declared.place.Failure.TheVariants.{Called, Started}
 use Rattle.pb_project.specs.declared.project.Project.{Project}
-use Rattle.pb_record.specs.Parts.{IsReading}
-use Rattle.pb_run.specs.Causes.{FailedLast, NoStart, Takes}
+use Rattle.pb_run.specs.Steps.{NoStart}
 use Rattle.pb_run.specs.Standing.{IsInOrder, records_folder}
-use Rattle.pb_soundness.specs.Records.{Reading}
 use Rattle.pb_store.specs.Looking.{opened_looked}
-use Rattle.pb_store.specs.Opening.{next_in}
+use Rattle.pb_store.specs.Folder.{next_in}
 use Rattle.pb_turns.specs.Ends.{TurnsEnd}
-use Rattle.pb_turns.specs.Moments.{Heard, Moment}
-use Rattle.pb_build.specs.Causes.{MayPlan, NamesCall, PlansInTurn, StopsBefore, plan_called, ready_called}
+use Rattle.pb_turns.specs.Crew.{Moment}
+use Rattle.pb_build.specs.Causes.{MayPlan, NamesCall, PlansInTurn, StopsBefore, plan_called, ready_called, Takes}
 use Rattle.pb_build.specs.Environment.{environment_of}
 use Rattle.pb_build.specs.Planning.{IsProject, IsRefused, IsToldRefusal}
 use Rattle.pb_build.specs.Result.{toolchain_of, setup_of}
 use Rattle.pb_build.specs.declared.builder.BuildPlan.{BuildPlan}
 use Rattle.pb_build.specs.declared.builder.Prepared.{Prepared}
+use Rattle.pb_store.specs.Calls.{FailedLast}
 
 -- Before the units.
 
@@ -75,7 +74,7 @@ pub record IsPrepared (child : Answers) (options : Options) (w : World) (prepare
   pub says : toolchain_of child (environment_of options w.variables) prepared.project (from_nothing (environment_of options w.variables).target w) ≡ Some toolchain
   pub setup : prepared.setup ≡ setup_of options (environment_of options w.variables) toolchain
   pub project : IsProject options (environment_of options w.variables).target w prepared.project
-  pub next : (read : Reading) → IsReading read → prepared.store.next ≡ next_in read (records_folder prepared.project) w
+  pub next : prepared.store.next ≡ next_in (records_folder prepared.project) w
 
 -- they start after one query of the compiler, which answered; the project is in order, and nothing was changed; the calls were those of the plan, the query, and the opening of the records, in this order
 pub record Prepares (tells : Bool) (child : Answers) (options : Options) (prepared : Prepared) (old new : World) (before now : Counts) (most : ℕ) (after : ℕ) : Type 0 where
@@ -143,21 +142,23 @@ pub record Builds {S : Type 0} (tells : Bool) (child : Answers) (Turns : S → L
   pub works : Works tells child Turns options from last inner old record new { heard = heard }
   pub closes : Closes inner result heard new.heard
 
--- a build with as many units in flight as the options say, of which those begin that are picked
-abbrev pub BuildsBy : {S : Type 0} → Bool → Answers → (S → List ℕ → ℕ → S → Type 0) → Options → S → Result Summary BuildFault → Moment → Moment → Type 0
-BuildsBy {S} tells child Picks options pick result old new =
-    let from : Jobs S = record { pick = pick; jobs = options.jobs } in (last : Jobs S) × Builds tells child (TurnsOfJobs Picks) options from last result old new
+-- a build with as many units in flight as the options say, of which those begin that are picked, along a chain of the pick's states from the first of these to the second
+abbrev pub BuildsBy : {S : Type 0} → Bool → Answers → (S → List ℕ → ℕ → S → Type 0) → Options → S → S → Result Summary BuildFault → Moment → Moment → Type 0
+BuildsBy {S} tells child Picks options pick picked result old new =
+    let from : Jobs S = record { pick = pick; jobs = options.jobs } in
+    let last : Jobs S = record { pick = picked; jobs = options.jobs } in
+    Builds tells child (TurnsOfJobs Picks) options from last result old new
 
 -- of those that may begin the first in plan order does
 abbrev pub PicksFirstOf : First → List ℕ → ℕ → First → Type 0
 PicksFirstOf old ready place new = PicksFirst ready place
 
 abbrev pub BuildsFirst : Bool → Answers → Options → Result Summary BuildFault → Moment → Moment → Type 0
-BuildsFirst tells child options result old new = (pick : First) × BuildsBy tells child PicksFirstOf options pick result old new
+BuildsFirst tells child options result old new = let pick : First = record {} in BuildsBy tells child PicksFirstOf options pick pick result old new
 
 -- the last does
 abbrev pub PicksLastOf : Last → List ℕ → ℕ → Last → Type 0
 PicksLastOf old ready place new = PicksLast ready place
 
 abbrev pub BuildsLast : Bool → Answers → Options → Result Summary BuildFault → Moment → Moment → Type 0
-BuildsLast tells child options result old new = (pick : Last) × BuildsBy tells child PicksLastOf options pick result old new
+BuildsLast tells child options result old new = let pick : Last = record {} in BuildsBy tells child PicksLastOf options pick pick result old new

@@ -23,20 +23,18 @@ use Rattle.pb_place.specs.Counts.{Starts, name_given, up}
 use Rattle.pb_place.specs.declared.call.Call.{Call}
 use Rattle.pb_place.specs.Folders.{files_in}
 use Rattle.pb_place.specs.Paths.{below}
-use Rattle.pb_place.specs.Sinks.{TakesPart}
+use Rattle.pb_place.specs.Sinks.{Heard, TakesPart}
 use Rattle.pb_place.specs.World.{World, Map, Answers, from_nothing}
 use Rattle.pb_profile.specs.Line.{folder_of}
 use Rattle.pb_answer.specs.declared.bad_unit.BadUnit.{BadUnit}
 use Rattle.pb_project.specs.declared.project.Project.{Project}
-use Rattle.pb_record.specs.Parts.{IsReading}
 use Rattle.pb_run.specs.Halves.{Footing, OnRecords, OnNothing, Basis, basis, key_at, IsHonestOnUnits}
 use Rattle.pb_run.specs.Outcome.{Outcome, Good, outcomes}
-use Rattle.pb_soundness.specs.Records.{Reading, record_at}
+use Rattle.pb_soundness.specs.Records.{reading, records}
 use Rattle.pb_soundness.specs.Sound.{Sound}
 use Rattle.pb_store.specs.Looking.{opened_looked}
-use Rattle.pb_store.specs.Opening.{next_in}
-use Rattle.pb_turns.specs.Crew.{needs_of}
-use Rattle.pb_turns.specs.Moments.{Heard, Moment}
+use Rattle.pb_store.specs.Folder.{next_in}
+use Rattle.pb_turns.specs.Crew.{needs_of, Moment}
 use Rattle.pb_turns.specs.Rows.{Row, Reasons, fault_in, rows_of, said_from, summary_of}
 use Rattle.pb_turns.specs.Story.{states_in, upped, AllBeganFor, CameAfter, LacksNumber, NumbersGiven, Spends}
 use Rattle.pb_unit.specs.declared.plan.Planned.{Planned}
@@ -58,17 +56,17 @@ pub record UnitsOf (child : Answers) (options : Options) (w : World) : Type 0 wh
   pub is : IsProject options (environment_of options w.variables).target w project
   pub says : toolchain_of child (environment_of options w.variables) project (from_nothing (environment_of options w.variables).target w) ≡ Some toolchain
 
-abbrev pub basis_of : (footing : Footing) (read : Reading) (child : Answers) (options : Options) (w : World) → UnitsOf child options w → Basis
-basis_of footing read child options w units = basis footing read child (setup_of options (environment_of options w.variables) units.toolchain) units.project (from_nothing (environment_of options w.variables).target w)
+abbrev pub basis_of : (footing : Footing) (child : Answers) (options : Options) (w : World) → UnitsOf child options w → Basis
+basis_of footing child options w units = basis footing child (setup_of options (environment_of options w.variables) units.toolchain) units.project (from_nothing (environment_of options w.variables).target w)
 
 -- whatever units a build finds in a world, the child is honest on them
 abbrev pub IsHonestBuild : Answers → Options → World → Type 0
-IsHonestBuild child options w = (read : Reading) (units : UnitsOf child options w) → IsHonestOnUnits (basis_of OnRecords read child options w units)
+IsHonestBuild child options w = (units : UnitsOf child options w) → IsHonestOnUnits (basis_of OnRecords child options w units)
 
 -- the records in its folder are true and its child is honest; or no text there counts as a record
-abbrev pub RestsOn : Footing → Reading → Answers → Options → World → Type 0
-RestsOn OnRecords read child options w = Sound read judge child (records_of options w.variables) w.files × IsHonestBuild child options w
-RestsOn OnNothing read child options w = (key : List ℕ) → record_at read (records_of options w.variables) w.files key ≡ None
+abbrev pub RestsOn : Footing → Answers → Options → World → Type 0
+RestsOn OnRecords child options w = Sound reading judge child (records_of options w.variables) w.files × IsHonestBuild child options w
+RestsOn OnNothing child options w = (key : List ℕ) → records (records_of options w.variables) w key ≡ None
 
 -- Its schedule: which events the units of a project may have.
 
@@ -112,16 +110,20 @@ pub record UnitsFly (child : Answers) (Schedule : Project → List (Event BadUni
   pub starts : new.counts.starts.count ≡ upped (length (started_by es)) (up old.counts.starts.count)
   pub reasons : Reasons
 
--- all have answered, or all up to and with the first bad one, beside which later ones may have flown: the summary and the lines are those of what they give from nothing, and say of each whether a child was started for it; the folder of each good one holds exactly its files; and for each unit that began a child was started exactly where something differed from its record, which the summary names, as it names no other unit; from the number after those of the records on there was one for each unit that took one (which of them a record has is said of dropping and keeping it)
-pub record GivesAll (footing : Footing) (read : Reading) (child : Answers) (Schedule : Project → List (Event BadUnit) → Type 0) (options : Options) (summary : Summary) (old new : Moment) : Type 0 where
+-- all units have answered, or all up to and including the first bad one; later ones may have been in flight too
+pub record GivesAll (footing : Footing) (child : Answers) (Schedule : Project → List (Event BadUnit) → Type 0) (options : Options) (summary : Summary) (old new : Moment) : Type 0 where
   pub flown : UnitsFly child Schedule options old new
   pub finished : is_finished (states_in flown.units.project flown.es) ≡ true
-  pub numbers : (after : Option ℕ) × NumbersGiven (LacksNumber flown.units.project read old.world) flown.es (next_in read (records_of options old.world.variables) old.world) after
+  -- each unit that took a run number took the next one, from the number after those of the records on
+  pub numbers : (after : Option ℕ) × NumbersGiven (LacksNumber flown.units.project old.world) flown.es (next_in (records_of options old.world.variables) old.world) after
   pub unnoted : (place : ℕ) → slice_get (states_in flown.units.project flown.es) place ≡ Some Untouched → slice_get flown.reasons place ≡ Some None
+  -- the summary and the lines are those of a clean build, and say for each unit whether a child was started
   pub answer : summary ≡ summary_of flown.units.project flown.es flown.reasons (rows_for child options old.world flown.units)
   pub lines : Appends old.heard.taken new.heard.taken (said_from flown.units.project flown.es 0 (rows_for child options old.world flown.units))
+  -- the folder of each good unit contains exactly its files
   pub files : (place : ℕ) (u : Planned) (made : Map) (directives : Option (List Directive)) (messages : List Message) → slice_get (rows_for child options old.world flown.units) place ≡ Some record { unit = u; outcome = Good made directives messages } → files_in u.out new.world.files ≡ made
-  pub began : AllBeganFor (basis_of footing read child options old.world flown.units) flown.es flown.reasons old.world new.world
+  -- a child was started for a unit that began if and only if something differed from its record
+  pub began : AllBeganFor (basis_of footing child options old.world flown.units) flown.es flown.reasons old.world new.world
 
 -- a call for the unit of this key failed, or no run number is left for it, while units were missing; it has begun and not answered: the lines are those of the longest row of units that have answered
 pub record FailsAt (project : Project) (es : List (Event BadUnit)) (rows : List Row) (key : List ℕ) (old new : Option (List ℕ)) : Type 0 where
@@ -140,38 +142,38 @@ LinesBefore OutOfMemory project es rows old new = (n : ℕ) × Appends old new (
 LinesBefore fault project es rows old new = ⊥
 
 -- a fault came at a unit, at the sink, or for want of memory; for want of a run number, where from the next one of the records on all were given (what had differed of a unit that could not begin is said of the build's units, `StandsCut`)
-pub record GivesFirst (footing : Footing) (read : Reading) (child : Answers) (Schedule : Project → List (Event BadUnit) → Type 0) (options : Options) (fault : BuildFault) (old new : Moment) : Type 0 where
+pub record GivesFirst (footing : Footing) (child : Answers) (Schedule : Project → List (Event BadUnit) → Type 0) (options : Options) (fault : BuildFault) (old new : Moment) : Type 0 where
   pub flown : UnitsFly child Schedule options old new
-  pub spent : Spends (LacksNumber flown.units.project read old.world) fault (next_in read (records_of options old.world.variables) old.world) flown.es
+  pub spent : Spends (LacksNumber flown.units.project old.world) fault (next_in (records_of options old.world.variables) old.world) flown.es
   pub lines : LinesBefore fault flown.units.project flown.es (rows_for child options old.world flown.units) old.heard.taken new.heard.taken
   pub before : List (Event BadUnit)
   pub came : CameAfter flown.units.project fault before flown.es
-  pub began : AllBeganFor (basis_of footing read child options old.world flown.units) before flown.reasons old.world new.world
+  pub began : AllBeganFor (basis_of footing child options old.world flown.units) before flown.reasons old.world new.world
 
--- what is told of a call that failed before the units: behind the query it is the listing of the folder of the records, or the reading of a record directly in it, by which they are opened; at which turn the call failed is said of the whole build (`StopsEarly`)
+-- a call that failed after the query and before the units lists the folder of the records, or reads a record directly in it
 abbrev pub NamesOpened : List ℕ → World → BuildFault → Starts → Starts → Type 0
 NamesOpened folder w (Device name (device.Place fault)) old new = (new ≡ old) ⊎ ((call : Call) × Contains (opened_looked folder w) call × (own_fault call ≡ fault) × (name_given call ≡ name))
 NamesOpened folder w e old new = Unit {0}
 
 -- what was given when the finish line was due
-abbrev pub GivesUnits : Footing → Reading → Answers → (Project → List (Event BadUnit) → Type 0) → Options → Result Summary BuildFault → Moment → Moment → Type 0
-GivesUnits footing read child Schedule options (Ok summary) old new = GivesAll footing read child Schedule options summary old new
-GivesUnits footing read child Schedule options (Err fault) old new =
-    (NoneBegan true child options (Err fault) old new × NamesOpened (records_of options old.world.variables) old.world fault old.counts.starts new.counts.starts) ⊎ GivesFirst footing read child Schedule options fault old new
+abbrev pub GivesUnits : Footing → Answers → (Project → List (Event BadUnit) → Type 0) → Options → Result Summary BuildFault → Moment → Moment → Type 0
+GivesUnits footing child Schedule options (Ok summary) old new = GivesAll footing child Schedule options summary old new
+GivesUnits footing child Schedule options (Err fault) old new =
+    (NoneBegan true child options (Err fault) old new × NamesOpened (records_of options old.world.variables) old.world fault old.counts.starts new.counts.starts) ⊎ GivesFirst footing child Schedule options fault old new
 
 -- the records are true again
-abbrev pub LeavesRecords : Footing → Reading → Answers → Options → World → World → Type 0
-LeavesRecords OnRecords read child options old new = Sound read judge child (records_of options old.variables) new.files
-LeavesRecords OnNothing read child options old new = Unit {0}
+abbrev pub LeavesRecords : Footing → Answers → Options → World → World → Type 0
+LeavesRecords OnRecords child options old new = Sound reading judge child (records_of options old.variables) new.files
+LeavesRecords OnNothing child options old new = Unit {0}
 
 -- what a build gives, however it ends: its units, the finish line, and true records
-pub record Gives (footing : Footing) (read : Reading) (child : Answers) (Schedule : Project → List (Event BadUnit) → Type 0) (options : Options) (result : Result Summary BuildFault) (old new : Moment) : Type 0 where
+pub record Gives (footing : Footing) (child : Answers) (Schedule : Project → List (Event BadUnit) → Type 0) (options : Options) (result : Result Summary BuildFault) (old new : Moment) : Type 0 where
   pub inner : Result Summary BuildFault
   pub heard : Heard
-  pub units : GivesUnits footing read child Schedule options inner old record new { heard = heard }
+  pub units : GivesUnits footing child Schedule options inner old record new { heard = heard }
   pub closes : Closes inner result heard new.heard
-  pub records : LeavesRecords footing read child options old.world new.world
+  pub records : LeavesRecords footing child options old.world new.world
 
 -- The headline: whatever a build rests on, over a place that tells its maps, it gives what the present workspace gives from nothing.
 abbrev pub Headline : Bool → Answers → (Project → List (Event BadUnit) → Type 0) → Options → Result Summary BuildFault → Moment → Moment → Type 0
-Headline tells child Schedule options result old new = IsTrue tells → (footing : Footing) (read : Reading) → IsReading read → RestsOn footing read child options old.world → Gives footing read child Schedule options result old new
+Headline tells child Schedule options result old new = IsTrue tells → (footing : Footing) → RestsOn footing child options old.world → Gives footing child Schedule options result old new

@@ -4,21 +4,20 @@ use Rattle.pb_command.specs.Judge.{judge}
 use Rattle.pb_package.specs.declared.options.Options.{Options}
 use Rattle.pb_place.specs.Paths.{is_at_or_below}
 use Rattle.pb_place.specs.World.{World, Map, Answers}
-use Rattle.pb_record.specs.Parts.{IsReading}
 use Rattle.pb_run.specs.Halves.{OnRecords}
 use Rattle.pb_session.specs.declared.pick.PickBy.{PickBy}
 use Rattle.pb_session.specs.declared.step.SessionStep.{SessionStep}
 use Rattle.pb_session.specs.declared.step.SessionStep.TheVariants.{Write, Remove, Set, Unset, Build, Die, Fuse}
-use Rattle.pb_soundness.specs.Records.{Reading, record_at}
+use Rattle.pb_soundness.specs.Records.{record_at, reading}
 use Rattle.pb_soundness.specs.Sound.{Sound}
-use Rattle.pb_build.specs.Headline.{records_of, IsHonestBuild, Gives}
+use Rattle.pb_build.specs.Headline.{records_of, IsHonestBuild, UnitsOf, Gives}
 use Rattle.pb_build.specs.Session.{Point, Carries, CarriesBuild, ByPicked}
 
 -- no path is at or below both
 abbrev pub ShareNoPath : List ℕ → List ℕ → Type 0
 ShareNoPath folder other = (q : List ℕ) → is_at_or_below folder q ≡ true → is_at_or_below other q ≡ false
 
--- a step spares the records of a folder: an edit outside of it, or one that removes it whole; a build that keeps its records there, whose child is honest; or one that keeps them apart from it
+-- a step spares the records of a folder: an edit outside of it, or one that removes it whole; a build without units, one that keeps its records there and whose child is honest, or one that keeps them apart
 abbrev pub Spares : Answers → List ℕ → SessionStep → World → Type 0
 Spares child folder (Write path text) w = is_at_or_below folder path ≡ false
 Spares child folder (Remove path) w = (is_at_or_below path folder ≡ true) ⊎ ShareNoPath folder path
@@ -26,7 +25,7 @@ Spares child folder (Set name value) w = ⊤
 Spares child folder (Unset name) w = ⊤
 Spares child folder (Die key death) w = ⊤
 Spares child folder (Fuse number) w = ⊤
-Spares child folder (Build options pick) w = ((records_of options w.variables ≡ folder) × IsHonestBuild child options w) ⊎ ShareNoPath folder (records_of options w.variables)
+Spares child folder (Build options pick) w = UnitsOf child options w → ((records_of options w.variables ≡ folder) × IsHonestBuild child options w) ⊎ ShareNoPath folder (records_of options w.variables)
 
 -- the steps were taken in turn, and each spares the records of a folder
 abbrev pub SparingCourse : Answers → List ℕ → List SessionStep → Point → Point → Type 0
@@ -35,15 +34,15 @@ SparingCourse child folder (step ∷ steps) before after = Spares child folder s
 
 -- a folder in which no text counts as a record is sound
 abbrev pub NothingIsSound : Type 0
-NothingIsSound = (read : Reading) (child : Answers) (folder : List ℕ) (files : Map) → ((key : List ℕ) → record_at read folder files key ≡ None) → Sound read judge child folder files
+NothingIsSound = (child : Answers) (folder : List ℕ) (files : Map) → ((key : List ℕ) → record_at reading folder files key ≡ None) → Sound reading judge child folder files
 
 -- Whatever edits and builds came, and however the builds ended, the records of a folder are true that were true at first.
 abbrev pub RecordsStayTrue : Type 0
-RecordsStayTrue = (read : Reading) (child : Answers) (folder : List ℕ) (steps : List SessionStep) (before after : Point) → IsReading read → SparingCourse child folder steps before after
-    → Sound read judge child folder before.moment.world.files → Sound read judge child folder after.moment.world.files
+RecordsStayTrue = (child : Answers) (folder : List ℕ) (steps : List SessionStep) (before after : Point) → SparingCourse child folder steps before after
+    → Sound reading judge child folder before.moment.world.files → Sound reading judge child folder after.moment.world.files
 
 -- Any edits, any builds between: a build after them that keeps its records there, whose child is honest, gives what the present workspace gives from nothing, or a fault with the first of its lines.
 abbrev pub AnyBuildGives : Type 0
-AnyBuildGives = (read : Reading) (child : Answers) (options : Options) (pick : PickBy) (steps : List SessionStep) (before mid after : Point) → IsReading read
-    → SparingCourse child (records_of options mid.moment.world.variables) steps before mid → Sound read judge child (records_of options mid.moment.world.variables) before.moment.world.files
-    → IsHonestBuild child options mid.moment.world → (built : CarriesBuild child options pick mid after) → Gives OnRecords read child (ByPicked pick options) options built.answer.result mid.moment built.ended
+AnyBuildGives = (child : Answers) (options : Options) (pick : PickBy) (steps : List SessionStep) (before mid after : Point)
+    → SparingCourse child (records_of options mid.moment.world.variables) steps before mid → Sound reading judge child (records_of options mid.moment.world.variables) before.moment.world.files
+    → IsHonestBuild child options mid.moment.world → (built : CarriesBuild child options pick mid after) → Gives OnRecords child (ByPicked pick options) options built.answer.result mid.moment built.ended

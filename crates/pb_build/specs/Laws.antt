@@ -9,7 +9,7 @@ use Rattle.pb_build.specs.Ending.{Builds, BuildsFirst}
 use Rattle.pb_build.specs.Environment.{environment_of}
 use Rattle.pb_build.specs.Headline.{ByFirst, ByTurns, Headline, UnitsOf, rows_for}
 use Rattle.pb_build.specs.Result.{BuildResult, Refused, NoToolchain, Finished, IsResult}
-use Rattle.pb_turns.specs.Moments.{Moment}
+use Rattle.pb_turns.specs.Crew.{Moment}
 
 -- two worlds with the same variables and the same files outside the target folder give the same results
 abbrev pub LooksAtSources : Type 0

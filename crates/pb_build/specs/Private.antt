@@ -13,7 +13,7 @@ use Rattle.pb_package.specs.declared.fault.LoadFault.TheVariants as load
 use Rattle.pb_package.specs.declared.options.Options.{Options}
 use Rattle.pb_package.specs.declared.options.Selection.{Selection}
 use Rattle.pb_package.specs.declared.workspace.Workspace.{Workspace}
-use Rattle.pb_run.specs.Causes.{device_fault}
+use Rattle.pb_run.specs.Steps.{device_fault}
 use Rattle.pb_store.specs.declared.fault.OpenFault.{OpenFault}
 use Rattle.pb_store.specs.declared.fault.OpenFault.TheVariants as open_fault
 use Rattle.pb_unit.specs.Plan as plan

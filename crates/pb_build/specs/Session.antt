@@ -1,7 +1,8 @@
 -- A session: edits and builds, one after another. Each build's end and its cause are handed on.
-use Rattle.std.specs.Prelude.{◌≡◌, ◌↔◌, ⊤, ℕ, true, List, [], ◌∷◌, ◌++◌, Option, Result}
+use Rattle.std.specs.Prelude.{◌≡◌, ◌↔◌, ⊤, ℕ, true, List, [], ◌∷◌, ◌++◌, Result}
+use Rattle.pb_place.specs.Sinks.{Heard}
 use Rattle.pb_place.specs.World.{World, Answers, written, removed}
-use Rattle.pb_memory.specs.Memory.{Held, counts_in, set, unset}
+use Rattle.pb_memory.specs.Memory.{Held, at_in, set, unset}
 use Rattle.pb_memory.specs.Tallies.{one_setting}
 use Rattle.pb_memory.specs.declared.in_flight.Death.{Death}
 use Rattle.pb_answer.specs.declared.bad_unit.BadUnit.{BadUnit}
@@ -16,7 +17,7 @@ use Rattle.pb_session.specs.declared.step.SessionStep.{SessionStep}
 use Rattle.pb_session.specs.declared.step.SessionStep.TheVariants.{Write, Remove, Set, Unset, Build, Die, Fuse}
 use Rattle.pb_build.specs.declared.sessions.Answer.{Answer}
 use Rattle.pb_build.specs.Ending.{BuildsFirst, BuildsLast}
-use Rattle.pb_turns.specs.Moments.{Moment, moment}
+use Rattle.pb_turns.specs.Crew.{Moment, moment}
 use Rattle.pb_build.specs.Environment.{environment_of}
 use Rattle.pb_build.specs.Headline.{ByFirst, ByLast, Headline}
 use Rattle.pb_build.specs.Kept.{SourcesStay}
@@ -31,8 +32,8 @@ pub record Point : Type 0 where
   pub deaths : List Death
 
 -- with a place in memory
-abbrev pub point : Held → Option (List ℕ) → ℕ → List Answer → Point
-point memory taken faults answers = record { moment = moment memory.world (counts_in memory) memory.most taken faults; answers = answers; fuse = memory.fuse; deaths = memory.deaths }
+abbrev pub point : Held → Heard → List Answer → Point
+point memory heard answers = record { moment = moment (at_in memory) heard; answers = answers; fuse = memory.fuse; deaths = memory.deaths }
 
 -- an edit makes this of the world, and nothing else happens
 abbrev pub Edits : World → Point → Point → Type 0

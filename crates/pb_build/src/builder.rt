@@ -1,8 +1,7 @@
 //! A whole build.
 
-ghost use Rattle.std.specs.Prelude.{◌≡◌, ◌⊎◌, ◌+◌, [], max, length, true, IsTrue, IfOk, IfErr, MatchResult, OnErr};
-ghost use Rattle.pb_record.specs.Parts.{IsReading};
-ghost use Rattle.pb_build.specs.Causes.{MayPlan, MayReady, NamesCall, PlansInTurn, ReadiesInTurn, StopsBefore, plan_called};
+ghost use Rattle.std.specs.Prelude.{◌≡◌, ◌⊎◌, ◌+◌, [], max, IsTrue, IfOk, IfErr, MatchResult, OnErr};
+ghost use Rattle.pb_build.specs.Causes.{MayPlan, MayReady, NamesCall, PlansInTurn, ReadiesInTurn, StopsBefore, plan_called, OnlyLooks, OnlyAsks};
 ghost use Rattle.pb_build.specs.Ending.{FailsBefore, Finishes, IsPlanOf, PlansFrom, Prepares, Works, Closes, Builds, BuildsBy, BuildsFirst};
 ghost use Rattle.pb_build.specs.Environment.{environment_of};
 ghost use Rattle.pb_build.specs.Headline.{ByTurns, ByPick, ByFirst, Headline};
@@ -12,14 +11,14 @@ ghost use Rattle.pb_build.specs.AnyPlan.{BuildsOn, BuildsOnFirst, IsReadyFor, Is
 ghost use Rattle.pb_build.specs.Private.{IsUnrefused, unopened};
 ghost use Rattle.pb_build.specs.Result.{setup_of};
 ghost use Rattle.pb_message.specs.Message.{finish_line};
-ghost use Rattle.pb_run.specs.Causes.{MakesInTurn, Takes, NoStart, OneStart};
+ghost use Rattle.pb_run.specs.Steps.{MakesInTurn};
 ghost use Rattle.pb_run.specs.Standing.{records_folder};
 ghost use Rattle.pb_project.specs.declared.project.Project.{Project};
-ghost use Rattle.pb_soundness.specs.Records.{Reading, record_at};
-ghost use Rattle.pb_store.specs.Held.{HoldsNumbers};
+ghost use Rattle.pb_soundness.specs.Records.{records};
+ghost use Rattle.pb_store.specs.Folder.{HasNumbers, OpensStore};
 ghost use Rattle.pb_store.specs.Looking.{opened_looked};
-ghost use Rattle.pb_store.specs.Opening.{next_in};
-ghost use Rattle.pb_turns.specs.Moments.{Heard, Moment, moment};
+ghost use Rattle.pb_place.specs.Sinks.{Heard};
+ghost use Rattle.pb_turns.specs.Crew.{Moment, moment};
 
 use crate::environment::{Environment, environment_of};
 use crate::planning::planned;
@@ -101,15 +100,13 @@ fn opened<P: Place>(
     project: &OrderedProject,
 ) -> Result<Store, BuildFault>
     ensures folder { IfOk result (λ store. store.folder ≡ records_folder project.now) }
-    ensures next { (read : Reading) → IsReading read → IsTrue P.tells → IfOk result (λ store. store.next ≡ next_in read (records_folder project.now) (P.world place.old)) }
-    ensures known { IfOk result (λ store. store.numbers.known ≡ true) }
-    ensures numbers { (read : Reading) → IsReading read → IsTrue P.tells → IfOk result (λ store. HoldsNumbers (record_at read (records_folder project.now) (P.world place.new).files) store.numbers) }
-    ensures same { IsTrue P.tells → P.world place.new ≡ P.world place.old }
-    ensures most { P.most place.new ≡ P.most place.old }
-    ensures takes { Takes NoStart MayPlan result (P.counts place.old) (P.counts place.new) }
-    ensures names { NamesCall result (P.counts place.new) }
+    ensures opens { IsTrue P.tells → IfOk result
+        (OpensStore (records_folder project.now) (P.at place.old).world) }
+    ensures quiet { OnlyLooks MayPlan result (P.at place.old) (P.at place.new) }
     ensures unrefused { IfErr result IsUnrefused }
-    ensures calls { IsTrue P.tells → MakesInTurn result (opened_looked (records_folder project.now) (P.world place.old)) (P.counts place.old) (P.counts place.new) }
+    ensures calls { IsTrue P.tells
+        → MakesInTurn result (opened_looked (records_folder project.now) (P.at place.old).world)
+        (P.at place.old).counts (P.at place.new).counts }
 {
     let folder = match records_folder(alloc, project) {
         Ok(folder) => folder,
@@ -129,18 +126,21 @@ fn ready<P: Place>(
     environment: Environment,
     project: OrderedProject,
 ) -> Result<Prepared, BuildFault>
-    ensures folder { IfOk result (λ prepared. prepared.store.folder ≡ records_folder prepared.project) }
-    ensures known { IfOk result (λ prepared. prepared.store.numbers.known ≡ true) }
-    ensures numbers { (read : Reading) → IsReading read → IsTrue P.tells → IfOk result (λ prepared. HoldsNumbers (record_at read (records_folder prepared.project) (P.world place.new).files) prepared.store.numbers) }
-    ensures ready { IsTrue P.tells → IfOk result (IsReadyFor P.child options.now environment project (P.world place.old)) }
+    ensures folder { IfOk result
+        (λ prepared. prepared.store.folder ≡ records_folder prepared.project) }
+    ensures numbers { IsTrue P.tells → IfOk result (λ prepared.
+        HasNumbers (records (records_folder prepared.project) (P.at place.new).world)
+        prepared.store.numbers) }
+    ensures ready { IsTrue P.tells
+        → IfOk result (IsReadyFor P.child options.now environment project (P.at place.old).world) }
     ensures project { IfOk result (λ prepared. prepared.project ≡ project) }
-    ensures silent { IsTrue P.tells → IfErr result (IsSilentFault P.child environment project (P.world place.old)) }
-    ensures same { IsTrue P.tells → P.world place.new ≡ P.world place.old }
-    ensures most { IfOk result (λ prepared. P.most place.new ≡ max (P.most place.old) (length (P.counts place.old).starts.flying + 1)) }
-    ensures most_else { OnErr result ((P.most place.new ≡ P.most place.old) ⊎ (P.most place.new ≡ max (P.most place.old) (length (P.counts place.old).starts.flying + 1))) }
-    ensures takes { Takes OneStart MayReady result (P.counts place.old) (P.counts place.new) }
-    ensures names { NamesCall result (P.counts place.new) }
-    ensures calls { IsTrue P.tells → ReadiesInTurn result (opened_looked (records_folder project) (P.world place.old)) (P.counts place.old) (P.counts place.new) }
+    ensures silent { IsTrue P.tells
+        → IfErr result (IsSilentFault P.child environment project (P.at place.old).world) }
+    ensures asks { OnlyAsks MayReady result (P.at place.old) (P.at place.new) }
+    ensures names { NamesCall result (P.at place.new).counts }
+    ensures calls { IsTrue P.tells
+        → ReadiesInTurn result (opened_looked (records_folder project) (P.at place.old).world)
+        (P.at place.old).counts (P.at place.new).counts }
 {
     let toolchain = match ask(alloc, place, &environment, project.get()) {
         Ok(toolchain) => toolchain,
@@ -188,14 +188,17 @@ pub fn plan_build<P: Place>(
     place: &mut P,
     options: &Options,
 ) -> Result<BuildPlan, BuildFault>
-    ensures plan { IsTrue P.tells → IfOk result (IsPlanOf options.now (P.world place.old)) }
-    ensures same { IsTrue P.tells → P.world place.new ≡ P.world place.old }
-    ensures most { P.most place.new ≡ P.most place.old }
-    ensures unstarted { (P.counts place.new).starts ≡ (P.counts place.old).starts }
-    ensures refused { IsTrue P.tells → IfErr result (IsToldRefusal options.now (environment_of options.now (P.world place.old).variables).target (P.world place.old)) }
-    ensures takes { Takes NoStart MayPlan result (P.counts place.old) (P.counts place.new) }
-    ensures named { NamesCall result (P.counts place.new) }
-    ensures calls { IsTrue P.tells → PlansInTurn result (plan_called options.now (P.world place.old)) (P.counts place.old) (P.counts place.new) }
+    ensures plan { IsTrue P.tells → IfOk result (IsPlanOf options.now (P.at place.old).world) }
+    ensures quiet { OnlyLooks MayPlan result (P.at place.old) (P.at place.new) }
+    ensures unstarted { (P.at place.new).counts.starts ≡ (P.at place.old).counts.starts }
+    ensures refused { IsTrue P.tells
+        → IfErr result
+        (IsToldRefusal options.now
+        (environment_of options.now (P.at place.old).world.variables).target
+        (P.at place.old).world) }
+    ensures calls { IsTrue P.tells
+        → PlansInTurn result (plan_called options.now (P.at place.old).world)
+        (P.at place.old).counts (P.at place.new).counts }
 {
     let environment = match environment_of(alloc, place, options) {
         Ok(environment) => environment,
@@ -218,20 +221,40 @@ fn prepare<P: Place>(
     options: &Options,
     plan: Result<BuildPlan, BuildFault>,
 ) -> Result<Prepared, BuildFault>
-    requires none { (P.counts place.old).starts.flying ≡ [] }
-    ensures folder { IfOk result (λ prepared. prepared.store.folder ≡ records_folder prepared.project) }
-    ensures known { IfOk result (λ prepared. prepared.store.numbers.known ≡ true) }
-    ensures numbers { (read : Reading) → IsReading read → IsTrue P.tells → IfOk result (λ prepared. HoldsNumbers (record_at read (records_folder prepared.project) (P.world place.new).files) prepared.store.numbers) }
-    ensures readies { (heard : Heard) → Readies P.tells P.child options.now plan result record { world = P.world place.old; counts = P.counts place.old; most = P.most place.old; heard = heard } record { world = P.world place.new; counts = P.counts place.new; most = P.most place.new; heard = heard } }
-    ensures prepares { IfOk result (λ prepared. (from : Moment) → PlansFrom P.tells options.now plan from record { world = P.world place.old; counts = P.counts place.old; most = P.most place.old; heard = from.heard }
-        → Prepares P.tells P.child options.now prepared from.world (P.world place.new) from.counts (P.counts place.new) from.most (P.most place.new)) }
-    ensures fails { IfErr result (λ e. (from : Moment) → PlansFrom P.tells options.now plan from record { world = P.world place.old; counts = P.counts place.old; most = P.most place.old; heard = from.heard }
-        → FailsBefore P.tells P.child options.now e from.world from.counts (P.counts place.new)) }
-    ensures stops { IsTrue P.tells → IfErr result (λ e. (from : Moment) → PlansFrom P.tells options.now plan from record { world = P.world place.old; counts = P.counts place.old; most = P.most place.old; heard = from.heard }
-        → StopsBefore options.now from.world e from.counts (P.counts place.new)) }
-    ensures same { IsTrue P.tells → P.world place.new ≡ P.world place.old }
-    ensures most { OnErr result ((P.most place.new ≡ P.most place.old) ⊎ (P.most place.new ≡ max (P.most place.old) 1)) }
-    ensures landed { (P.counts place.new).starts.flying ≡ [] }
+    requires none { (P.at place.old).counts.starts.flying ≡ [] }
+    ensures folder { IfOk result
+        (λ prepared. prepared.store.folder ≡ records_folder prepared.project) }
+    ensures numbers { IsTrue P.tells → IfOk result (λ prepared.
+        HasNumbers (records (records_folder prepared.project) (P.at place.new).world)
+        prepared.store.numbers) }
+    ensures readies { (heard : Heard)
+        → Readies P.tells P.child options.now plan result (moment (P.at place.old) heard)
+        (moment (P.at place.new) heard) }
+    ensures prepares { IfOk result
+        (λ prepared.
+        (from : Moment)
+        → PlansFrom P.tells options.now plan from (moment (P.at place.old) from.heard)
+        → Prepares P.tells P.child options.now prepared from.world
+        (P.at place.new).world from.counts (P.at place.new).counts from.most
+        (P.at place.new).most) }
+    ensures fails { IfErr result
+        (λ e.
+        (from : Moment)
+        → PlansFrom P.tells options.now plan from (moment (P.at place.old) from.heard)
+        → FailsBefore P.tells P.child options.now e from.world from.counts
+        (P.at place.new).counts) }
+    ensures stops { IsTrue P.tells
+        → IfErr result
+        (λ e.
+        (from : Moment)
+        → PlansFrom P.tells options.now plan from
+        (moment (P.at place.old) from.heard)
+        → StopsBefore options.now from.world e from.counts (P.at place.new).counts) }
+    ensures same { (P.at place.new).world ≡ (P.at place.old).world }
+    ensures most { OnErr result
+        (((P.at place.new).most ≡ (P.at place.old).most)
+        ⊎ ((P.at place.new).most ≡ max (P.at place.old).most 1)) }
+    ensures landed { (P.at place.new).counts.starts.flying ≡ [] }
 {
     let plan = match plan {
         Ok(plan) => plan,
@@ -256,10 +279,13 @@ fn work<P: Place, O: Out, T: Turn>(
     plan: Result<BuildPlan, BuildFault>,
     turn: &mut T,
 ) -> Result<Summary, BuildFault>
-    requires none { (P.counts place.old).starts.flying ≡ [] }
-    ensures on { WorksOn P.tells P.child T.turns options.now plan turn.old turn.new result (moment (P.world place.old) (P.counts place.old) (P.most place.old) (O.taken out.old) (O.faults out.old)) (moment (P.world place.new) (P.counts place.new) (P.most place.new) (O.taken out.new) (O.faults out.new)) }
-    ensures works { (from : Moment) → PlansFrom P.tells options.now plan from (moment (P.world place.old) (P.counts place.old) (P.most place.old) (O.taken out.old) (O.faults out.old))
-        → Works P.tells P.child T.turns options.now turn.old turn.new result from (moment (P.world place.new) (P.counts place.new) (P.most place.new) (O.taken out.new) (O.faults out.new)) }
+    requires none { (P.at place.old).counts.starts.flying ≡ [] }
+    ensures on { WorksOn P.tells P.child T.turns options.now plan turn.old turn.new result
+        (moment (P.at place.old) (O.heard out.old)) (moment (P.at place.new) (O.heard out.new)) }
+    ensures works { (from : Moment)
+        → PlansFrom P.tells options.now plan from (moment (P.at place.old) (O.heard out.old))
+        → Works P.tells P.child T.turns options.now turn.old turn.new result from
+        (moment (P.at place.new) (O.heard out.new)) }
 {
     let prepared = match prepare(alloc, place, options, plan) {
         Ok(prepared) => prepared,
@@ -280,7 +306,7 @@ fn finish<O: Out>(
     success: bool,
     inner: Result<Summary, BuildFault>,
 ) -> Result<Summary, BuildFault>
-    ensures { Finishes (finish_line success) inner result record { taken = O.taken out.old; faults = O.faults out.old } record { taken = O.taken out.new; faults = O.faults out.new } }
+    ensures { Finishes (finish_line success) inner result (O.heard out.old) (O.heard out.new) }
 {
     match write_lines(out, finish_line(success)) {
         Ok(()) => inner,
@@ -293,7 +319,7 @@ fn finish<O: Out>(
 
 /// Writes the finish line, but where the build is refused or the sink has failed.
 fn close<O: Out>(out: &mut O, inner: Result<Summary, BuildFault>) -> Result<Summary, BuildFault>
-    ensures { Closes inner result record { taken = O.taken out.old; faults = O.faults out.old } record { taken = O.taken out.new; faults = O.faults out.new } }
+    ensures { Closes inner result (O.heard out.old) (O.heard out.new) }
 {
     match inner {
         Ok(summary) => finish(out, summary.success, Ok(summary)),
@@ -318,12 +344,20 @@ pub fn build_plan_turns<P: Place, O: Out, T: Turn>(
     plan: Result<BuildPlan, BuildFault>,
     turn: &mut T,
 ) -> Result<Summary, BuildFault>
-    requires none { (P.counts place.old).starts.flying ≡ [] }
-    ensures on { BuildsOn P.tells P.child T.turns options.now plan turn.old turn.new result (moment (P.world place.old) (P.counts place.old) (P.most place.old) (O.taken out.old) (O.faults out.old)) (moment (P.world place.new) (P.counts place.new) (P.most place.new) (O.taken out.new) (O.faults out.new)) }
-    ensures kept { IsTrue P.tells → MatchResult plan (λ p. SourcesStay p.project.workspace.target (P.world place.old) (P.world place.new)) (λ e. P.world place.new ≡ P.world place.old) }
-    ensures landed { (P.counts place.new).starts.flying ≡ [] }
-    ensures builds { (from : Moment) → PlansFrom P.tells options.now plan from (moment (P.world place.old) (P.counts place.old) (P.most place.old) (O.taken out.old) (O.faults out.old))
-        → Builds P.tells P.child T.turns options.now turn.old turn.new result from (moment (P.world place.new) (P.counts place.new) (P.most place.new) (O.taken out.new) (O.faults out.new)) }
+    requires none { (P.at place.old).counts.starts.flying ≡ [] }
+    ensures on { BuildsOn P.tells P.child T.turns options.now plan turn.old turn.new result
+        (moment (P.at place.old) (O.heard out.old)) (moment (P.at place.new) (O.heard out.new)) }
+    ensures kept { IsTrue P.tells
+        → MatchResult plan
+        (λ p.
+        SourcesStay p.project.workspace.target (P.at place.old).world
+        (P.at place.new).world)
+        (λ e. (P.at place.new).world ≡ (P.at place.old).world) }
+    ensures landed { (P.at place.new).counts.starts.flying ≡ [] }
+    ensures builds { (from : Moment)
+        → PlansFrom P.tells options.now plan from (moment (P.at place.old) (O.heard out.old))
+        → Builds P.tells P.child T.turns options.now turn.old turn.new result from
+        (moment (P.at place.new) (O.heard out.new)) }
 {
     let inner = work(alloc, place, out, options, plan, turn);
     close(out, inner)
@@ -337,12 +371,20 @@ pub fn build_plan<P: Place, O: Out>(
     options: &Options,
     plan: Result<BuildPlan, BuildFault>,
 ) -> Result<Summary, BuildFault>
-    requires none { (P.counts place.old).starts.flying ≡ [] }
-    ensures on { BuildsOnFirst P.tells P.child options.now plan result (moment (P.world place.old) (P.counts place.old) (P.most place.old) (O.taken out.old) (O.faults out.old)) (moment (P.world place.new) (P.counts place.new) (P.most place.new) (O.taken out.new) (O.faults out.new)) }
-    ensures kept { IsTrue P.tells → MatchResult plan (λ p. SourcesStay p.project.workspace.target (P.world place.old) (P.world place.new)) (λ e. P.world place.new ≡ P.world place.old) }
-    ensures landed { (P.counts place.new).starts.flying ≡ [] }
-    ensures builds { (from : Moment) → PlansFrom P.tells options.now plan from (moment (P.world place.old) (P.counts place.old) (P.most place.old) (O.taken out.old) (O.faults out.old))
-        → BuildsFirst P.tells P.child options.now result from (moment (P.world place.new) (P.counts place.new) (P.most place.new) (O.taken out.new) (O.faults out.new)) }
+    requires none { (P.at place.old).counts.starts.flying ≡ [] }
+    ensures on { BuildsOnFirst P.tells P.child options.now plan result
+        (moment (P.at place.old) (O.heard out.old)) (moment (P.at place.new) (O.heard out.new)) }
+    ensures kept { IsTrue P.tells
+        → MatchResult plan
+        (λ p.
+        SourcesStay p.project.workspace.target (P.at place.old).world
+        (P.at place.new).world)
+        (λ e. (P.at place.new).world ≡ (P.at place.old).world) }
+    ensures landed { (P.at place.new).counts.starts.flying ≡ [] }
+    ensures builds { (from : Moment)
+        → PlansFrom P.tells options.now plan from (moment (P.at place.old) (O.heard out.old))
+        → BuildsFirst P.tells P.child options.now result from
+        (moment (P.at place.new) (O.heard out.new)) }
 {
     let mut jobs = Jobs {
         pick: First {},
@@ -373,35 +415,41 @@ pub fn build_turns<P: Place, O: Out, T: Turn>(
     options: &Options,
     turn: &mut T,
 ) -> Result<Summary, BuildFault>
-    requires none { (P.counts place.old).starts.flying ≡ [] }
+    requires none { (P.at place.old).counts.starts.flying ≡ [] }
     ensures builds { Builds P.tells P.child T.turns options.now turn.old turn.new result
-        (moment (P.world place.old) (P.counts place.old) (P.most place.old) (O.taken out.old) (O.faults out.old)) (moment (P.world place.new) (P.counts place.new) (P.most place.new) (O.taken out.new) (O.faults out.new)) }
+        (moment (P.at place.old) (O.heard out.old)) (moment (P.at place.new) (O.heard out.new)) }
     ensures headline { Headline P.tells P.child (ByTurns T.turns turn.old) options.now result
-        (moment (P.world place.old) (P.counts place.old) (P.most place.old) (O.taken out.old) (O.faults out.old)) (moment (P.world place.new) (P.counts place.new) (P.most place.new) (O.taken out.new) (O.faults out.new)) }
-    ensures kept { IsTrue P.tells → SourcesStay (environment_of options.now (P.world place.old).variables).target (P.world place.old) (P.world place.new) }
-    ensures landed { (P.counts place.new).starts.flying ≡ [] }
+        (moment (P.at place.old) (O.heard out.old)) (moment (P.at place.new) (O.heard out.new)) }
+    ensures kept { IsTrue P.tells
+        → SourcesStay (environment_of options.now (P.at place.old).world.variables).target
+        (P.at place.old).world (P.at place.new).world }
+    ensures landed { (P.at place.new).counts.starts.flying ≡ [] }
 {
     let plan = plan_build(alloc, place, options);
     build_plan_turns(alloc, place, out, options, plan, turn)
 }
 
 /// Builds with as many units in flight at one time as the options say; who picks says which of those that may begin
-/// does. While fewer fly and one may begin, it begins; else the one that was begun first is answered. Faults: those of
+/// does. While fewer fly and one may begin, it begins; else the one that was begun first is answered. The pick is
+/// borrowed: its answers, in turn, lead from its state before the build to its state after it. Faults: those of
 /// `build_turns`.
-pub fn build_with<P: Place, O: Out, K: Pick + Drop>(
+pub fn build_with<P: Place, O: Out, K: Pick>(
     alloc: Global,
     place: &mut P,
     out: &mut O,
     options: &Options,
-    pick: K,
+    pick: &mut K,
 ) -> Result<Summary, BuildFault>
-    requires none { (P.counts place.old).starts.flying ≡ [] }
-    ensures builds { BuildsBy P.tells P.child K.picks options.now pick result
-        (moment (P.world place.old) (P.counts place.old) (P.most place.old) (O.taken out.old) (O.faults out.old)) (moment (P.world place.new) (P.counts place.new) (P.most place.new) (O.taken out.new) (O.faults out.new)) }
-    ensures headline { Headline P.tells P.child (ByPick K.picks options.now pick) options.now result
-        (moment (P.world place.old) (P.counts place.old) (P.most place.old) (O.taken out.old) (O.faults out.old)) (moment (P.world place.new) (P.counts place.new) (P.most place.new) (O.taken out.new) (O.faults out.new)) }
-    ensures kept { IsTrue P.tells → SourcesStay (environment_of options.now (P.world place.old).variables).target (P.world place.old) (P.world place.new) }
-    ensures landed { (P.counts place.new).starts.flying ≡ [] }
+    requires none { (P.at place.old).counts.starts.flying ≡ [] }
+    ensures builds { BuildsBy P.tells P.child K.picks options.now pick.old pick.new result
+        (moment (P.at place.old) (O.heard out.old)) (moment (P.at place.new) (O.heard out.new)) }
+    ensures headline { Headline P.tells P.child (ByPick K.picks options.now pick.old) options.now
+        result (moment (P.at place.old) (O.heard out.old))
+        (moment (P.at place.new) (O.heard out.new)) }
+    ensures kept { IsTrue P.tells
+        → SourcesStay (environment_of options.now (P.at place.old).world.variables).target
+        (P.at place.old).world (P.at place.new).world }
+    ensures landed { (P.at place.new).counts.starts.flying ≡ [] }
 {
     let mut jobs = Jobs {
         pick,
@@ -417,15 +465,18 @@ pub fn build<P: Place, O: Out>(
     out: &mut O,
     options: &Options,
 ) -> Result<Summary, BuildFault>
-    requires none { (P.counts place.old).starts.flying ≡ [] }
+    requires none { (P.at place.old).counts.starts.flying ≡ [] }
     ensures builds { BuildsFirst P.tells P.child options.now result
-        (moment (P.world place.old) (P.counts place.old) (P.most place.old) (O.taken out.old) (O.faults out.old)) (moment (P.world place.new) (P.counts place.new) (P.most place.new) (O.taken out.new) (O.faults out.new)) }
+        (moment (P.at place.old) (O.heard out.old)) (moment (P.at place.new) (O.heard out.new)) }
     ensures headline { Headline P.tells P.child (ByFirst options.now) options.now result
-        (moment (P.world place.old) (P.counts place.old) (P.most place.old) (O.taken out.old) (O.faults out.old)) (moment (P.world place.new) (P.counts place.new) (P.most place.new) (O.taken out.new) (O.faults out.new)) }
-    ensures kept { IsTrue P.tells → SourcesStay (environment_of options.now (P.world place.old).variables).target (P.world place.old) (P.world place.new) }
-    ensures landed { (P.counts place.new).starts.flying ≡ [] }
+        (moment (P.at place.old) (O.heard out.old)) (moment (P.at place.new) (O.heard out.new)) }
+    ensures kept { IsTrue P.tells
+        → SourcesStay (environment_of options.now (P.at place.old).world.variables).target
+        (P.at place.old).world (P.at place.new).world }
+    ensures landed { (P.at place.new).counts.starts.flying ≡ [] }
 {
-    build_with(alloc, place, out, options, First {})
+    let mut first = First {};
+    build_with(alloc, place, out, options, &mut first)
 }
 
 /// The names of the packages without a library to which enabled dependencies of a plan lead.
@@ -444,13 +495,23 @@ pub fn missing_libraries<P: Place>(
     place: &mut P,
     options: &Options,
 ) -> Result<Items<Text>, BuildFault>
-    ensures names { IsTrue P.tells → IfOk result (λ names. (project : Project) × IsProject options.now (environment_of options.now (P.world place.old).variables).target (P.world place.old) project × (names ≡ project.plan.without_library)) }
-    ensures same { IsTrue P.tells → P.world place.new ≡ P.world place.old }
-    ensures most { P.most place.new ≡ P.most place.old }
-    ensures refused { IsTrue P.tells → IfErr result (IsToldRefusal options.now (environment_of options.now (P.world place.old).variables).target (P.world place.old)) }
-    ensures takes { Takes NoStart MayPlan result (P.counts place.old) (P.counts place.new) }
-    ensures named { NamesCall result (P.counts place.new) }
-    ensures calls { IsTrue P.tells → PlansInTurn result (plan_called options.now (P.world place.old)) (P.counts place.old) (P.counts place.new) }
+    ensures names { IsTrue P.tells
+        → IfOk result
+        (λ names.
+        (project : Project)
+        × IsProject options.now
+        (environment_of options.now (P.at place.old).world.variables).target
+        (P.at place.old).world project
+        × (names ≡ project.plan.without_library)) }
+    ensures quiet { OnlyLooks MayPlan result (P.at place.old) (P.at place.new) }
+    ensures refused { IsTrue P.tells
+        → IfErr result
+        (IsToldRefusal options.now
+        (environment_of options.now (P.at place.old).world.variables).target
+        (P.at place.old).world) }
+    ensures calls { IsTrue P.tells
+        → PlansInTurn result (plan_called options.now (P.at place.old).world)
+        (P.at place.old).counts (P.at place.new).counts }
 {
     match plan_build(alloc, place, options) {
         Ok(plan) => Ok(without_library(plan)),

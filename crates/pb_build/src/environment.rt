@@ -3,12 +3,12 @@
 ghost use Rattle.std.specs.Prelude.{◌≡◌, ◌∷◌, [], IfOk, IfErr, IsTrue, codes};
 ghost use Rattle.std.specs.FinMap as finite;
 ghost use Rattle.pb_place.specs.declared.call.Call.TheVariants as call;
-ghost use Rattle.pb_place.specs.Paths.{joined, below, folder_of};
+ghost use Rattle.pb_place.specs.Paths.{below};
 ghost use Rattle.pb_directive.specs.Directives.{words_of};
-ghost use Rattle.pb_build.specs.Causes.{MayPlan, NamesCall, variables_asked};
+ghost use Rattle.pb_build.specs.Causes.{MayPlan, variables_asked, OnlyLooks};
 ghost use Rattle.pb_build.specs.Environment.{set_text, rustc_of, flags_of, told_or, target_of, environment_of, environment_with};
 ghost use Rattle.pb_build.specs.Private.{IsUnrefused};
-ghost use Rattle.pb_run.specs.Causes.{Takes, NoStart, MakesInTurn};
+ghost use Rattle.pb_run.specs.Steps.{MakesInTurn};
 
 use pb_answer::BuildFault;
 use pb_data::{Items, Text, TryCopy};
@@ -49,13 +49,13 @@ fn filled(found: Option<Text>) -> Option<Text>
 /// A variable that is set to some text, asked for by one call: an empty one counts as absent (our own choice).
 #[tactic(auto, using(pb_run::proofs::Calling::call_laws))]
 fn variable<P: Place>(alloc: Global, place: &mut P, name: &str) -> Result<Option<Text>, BuildFault>
-    ensures ok { IsTrue P.tells → IfOk result (λ found. found ≡ set_text (finite.get (P.world place.old).variables name.now)) }
-    ensures same { IsTrue P.tells → P.world place.new ≡ P.world place.old }
-    ensures most { P.most place.new ≡ P.most place.old }
-    ensures takes { Takes NoStart MayPlan result (P.counts place.old) (P.counts place.new) }
-    ensures names { NamesCall result (P.counts place.new) }
+    ensures ok { IsTrue P.tells
+        → IfOk result
+        (λ found. found ≡ set_text (finite.get (P.at place.old).world.variables name.now)) }
+    ensures quiet { OnlyLooks MayPlan result (P.at place.old) (P.at place.new) }
     ensures unrefused { IfErr result IsUnrefused }
-    ensures calls { MakesInTurn result (call.Variable name.now ∷ []) (P.counts place.old) (P.counts place.new) }
+    ensures calls { MakesInTurn result (call.Variable name.now ∷ []) (P.at place.old).counts
+        (P.at place.new).counts }
 {
     let told = match Text::from_str(alloc, name) {
         Ok(told) => told,
@@ -148,7 +148,8 @@ fn environment_with(
     flags: Option<Text>,
     target: Option<Text>,
 ) -> Result<Environment, AllocError>
-    ensures { IfOk result (λ environment. environment ≡ environment_with options.now rustc flags target) }
+    ensures { IfOk result
+        (λ environment. environment ≡ environment_with options.now rustc flags target) }
 {
     let root = options.manifest.folder(alloc)?;
     let target = target_of(alloc, &root, &options.target_dir, &target)?;
@@ -168,13 +169,14 @@ pub(crate) fn environment_of<P: Place>(
     place: &mut P,
     options: &Options,
 ) -> Result<Environment, BuildFault>
-    ensures ok { IsTrue P.tells → IfOk result (λ environment. environment ≡ environment_of options.now (P.world place.old).variables) }
-    ensures same { IsTrue P.tells → P.world place.new ≡ P.world place.old }
-    ensures most { P.most place.new ≡ P.most place.old }
-    ensures takes { Takes NoStart MayPlan result (P.counts place.old) (P.counts place.new) }
-    ensures names { NamesCall result (P.counts place.new) }
+    ensures ok { IsTrue P.tells
+        → IfOk result
+        (λ environment.
+        environment ≡ environment_of options.now (P.at place.old).world.variables) }
+    ensures quiet { OnlyLooks MayPlan result (P.at place.old) (P.at place.new) }
     ensures unrefused { IfErr result IsUnrefused }
-    ensures calls { MakesInTurn result variables_asked (P.counts place.old) (P.counts place.new) }
+    ensures calls { MakesInTurn result variables_asked (P.at place.old).counts
+        (P.at place.new).counts }
 {
     let rustc = match variable(alloc, place, "RUSTC") {
         Ok(rustc) => rustc,

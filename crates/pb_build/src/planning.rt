@@ -1,11 +1,9 @@
 //! What a build is of: the workspace that is read, its features and its plan.
 
 ghost use Rattle.std.specs.Prelude.{◌≡◌, ◌⊎◌, AllPairs, IfOk, IfErr, IsTrue, Ok, Err};
-ghost use Rattle.pb_place.specs.World.{World};
-ghost use Rattle.pb_build.specs.Causes.{MayPlan, NamesCall, PlansInTurn};
-ghost use Rattle.pb_build.specs.Planning.{IsFeatured, IsProject, IsRefused, IsToldRefusal};
+ghost use Rattle.pb_build.specs.Causes.{MayPlan, PlansInTurn, OnlyLooks};
+ghost use Rattle.pb_build.specs.Planning.{IsFeatured, IsProject, IsToldRefusal};
 ghost use Rattle.pb_build.specs.Private.{IsRefusedOf, unread};
-ghost use Rattle.pb_build.specs.declared.environment.Environment.{Environment};
 ghost use Rattle.pb_workspace.specs.Loaded.{workspace_of};
 ghost use Rattle.pb_workspace.specs.LookedAt.{looked_at};
 ghost use Rattle.pb_workspace.specs.Selected.{selected};
@@ -17,7 +15,6 @@ ghost use Rattle.pb_feature.specs.declared.fault.FeatureFault.{FeatureFault};
 ghost use Rattle.pb_unit.specs.declared.fault.PlanFault.{PlanFault};
 ghost use Rattle.pb_package.specs.declared.fault.LoadFault.{LoadFault};
 ghost use Rattle.pb_package.specs.declared.options.Selection.{Selection};
-ghost use Rattle.pb_run.specs.Causes.{Takes, NoStart};
 
 use pb_answer::{BuildFault, DeviceFault, Refusal};
 use pb_data::TryCopy;
@@ -51,13 +48,15 @@ fn read<P: Place>(
     options: &Options,
     target: &PathText,
 ) -> Result<SettledWorkspace, BuildFault>
-    ensures ok { IsTrue P.tells → IfOk result (λ ws. workspace_of options.now.manifest target.now (P.world place.old) ≡ Ok ws) }
-    ensures same { IsTrue P.tells → P.world place.new ≡ P.world place.old }
-    ensures most { P.most place.new ≡ P.most place.old }
-    ensures refused { IsTrue P.tells → IfErr result (IsToldRefusal options.now target.now (P.world place.old)) }
-    ensures takes { Takes NoStart MayPlan result (P.counts place.old) (P.counts place.new) }
-    ensures names { NamesCall result (P.counts place.new) }
-    ensures calls { IsTrue P.tells → PlansInTurn result (looked_at options.now.manifest target.now (P.world place.old)) (P.counts place.old) (P.counts place.new) }
+    ensures ok { IsTrue P.tells
+        → IfOk result
+        (λ ws. workspace_of options.now.manifest target.now (P.at place.old).world ≡ Ok ws) }
+    ensures quiet { OnlyLooks MayPlan result (P.at place.old) (P.at place.new) }
+    ensures refused { IsTrue P.tells
+        → IfErr result (IsToldRefusal options.now target.now (P.at place.old).world) }
+    ensures calls { IsTrue P.tells
+        → PlansInTurn result (looked_at options.now.manifest target.now (P.at place.old).world)
+        (P.at place.old).counts (P.at place.new).counts }
 {
     match load(alloc, place, &options.manifest, target) {
         Ok(workspace) => Ok(workspace),
@@ -72,8 +71,13 @@ fn select<'a>(
     options: &Options,
 ) -> Result<SelectedWorkspace<'a>, BuildFault>
     ensures workspace { IfOk result (λ chosen. chosen.workspace ≡ workspace.now) }
-    ensures ok { IfOk result (λ chosen. selected chosen.workspace options.now ≡ Ok chosen.selection) }
-    ensures refused { IfErr result (λ e. (e ≡ build_fault.OutOfMemory) ⊎ ((fault : LoadFault) × (e ≡ build_fault.Plan (refusal.Load fault)) × (selected workspace.now options.now ≡ Err fault))) }
+    ensures ok { IfOk result
+        (λ chosen. selected chosen.workspace options.now ≡ Ok chosen.selection) }
+    ensures refused { IfErr result
+        (λ e.
+        (e ≡ build_fault.OutOfMemory)
+        ⊎ ((fault : LoadFault) × (e ≡ build_fault.Plan (refusal.Load fault))
+        × (selected workspace.now options.now ≡ Err fault))) }
 {
     match selected(alloc, workspace, options) {
         Ok(chosen) => Ok(chosen),
@@ -85,7 +89,11 @@ fn select<'a>(
 /// The features that are on.
 fn featured(alloc: Global, chosen: &SelectedWorkspace<'_>) -> Result<Features, BuildFault>
     ensures featured { IfOk result (IsFeatured chosen.now.workspace chosen.now.selection) }
-    ensures refused { IfErr result (λ e. (e ≡ build_fault.OutOfMemory) ⊎ ((fault : FeatureFault) × (e ≡ build_fault.Plan (refusal.Feature fault)) × feature.Refuses chosen.now.workspace chosen.now.selection fault)) }
+    ensures refused { IfErr result
+        (λ e.
+        (e ≡ build_fault.OutOfMemory)
+        ⊎ ((fault : FeatureFault) × (e ≡ build_fault.Plan (refusal.Feature fault))
+        × feature.Refuses chosen.now.workspace chosen.now.selection fault)) }
 {
     match resolve(alloc, chosen) {
         Ok(features) => Ok(features),
@@ -101,9 +109,15 @@ fn plan_of(
     features: &Features,
     profile: &str,
 ) -> Result<Plan, BuildFault>
-    ensures planned { IfOk result (plan.IsPlan chosen.now.workspace features.now chosen.now.selection profile.now) }
+    ensures planned { IfOk result
+        (plan.IsPlan chosen.now.workspace features.now chosen.now.selection profile.now) }
     ensures apart { IfOk result (λ planned. AllPairs plan.LieApart planned.planned) }
-    ensures refused { IfErr result (λ e. (e ≡ build_fault.OutOfMemory) ⊎ ((fault : PlanFault) × (e ≡ build_fault.Plan (refusal.Plan fault)) × plan.Refuses chosen.now.workspace features.now chosen.now.selection profile.now fault)) }
+    ensures refused { IfErr result
+        (λ e.
+        (e ≡ build_fault.OutOfMemory)
+        ⊎ ((fault : PlanFault) × (e ≡ build_fault.Plan (refusal.Plan fault))
+        × plan.Refuses chosen.now.workspace features.now chosen.now.selection
+        profile.now fault)) }
 {
     match Plan::plan(alloc, chosen, features, profile) {
         Ok(plan) => Ok(plan),
@@ -118,7 +132,11 @@ fn parts_of(
     options: &Options,
     workspace: &SettledWorkspace,
 ) -> Result<(Features, Plan), BuildFault>
-    ensures parts { IfOk result (λ made. (selection : Selection) × (selected workspace.now options.now ≡ Ok selection) × IsFeatured workspace.now selection made.0 × plan.IsPlan workspace.now made.0 selection options.now.profile made.1) }
+    ensures parts { IfOk result
+        (λ made.
+        (selection : Selection) × (selected workspace.now options.now ≡ Ok selection)
+        × IsFeatured workspace.now selection made.0
+        × plan.IsPlan workspace.now made.0 selection options.now.profile made.1) }
     ensures apart { IfOk result (λ made. AllPairs plan.LieApart made.1.planned) }
     ensures refused { IfErr result (IsRefusedOf options.now workspace.now) }
 {
@@ -142,8 +160,13 @@ fn project_of(
     options: &Options,
     workspace: SettledWorkspace,
 ) -> Result<OrderedProject, BuildFault>
-    ensures project { IfOk result (λ project. (project.workspace ≡ workspace) × (project.profile ≡ options.now.profile) × ((selection : Selection) × (selected workspace options.now ≡ Ok selection)
-        × IsFeatured workspace selection project.features × plan.IsPlan workspace project.features selection options.now.profile project.plan)) }
+    ensures project { IfOk result
+        (λ project.
+        (project.workspace ≡ workspace) × (project.profile ≡ options.now.profile)
+        × ((selection : Selection) × (selected workspace options.now ≡ Ok selection)
+        × IsFeatured workspace selection project.features
+        × plan.IsPlan workspace project.features selection options.now.profile
+        project.plan)) }
     ensures refused { IfErr result (IsRefusedOf options.now workspace) }
 {
     let parts = match parts_of(alloc, options, &workspace) {
@@ -179,13 +202,14 @@ pub(crate) fn planned<P: Place>(
     options: &Options,
     target: &PathText,
 ) -> Result<OrderedProject, BuildFault>
-    ensures project { IsTrue P.tells → IfOk result (IsProject options.now target.now (P.world place.old)) }
-    ensures same { IsTrue P.tells → P.world place.new ≡ P.world place.old }
-    ensures most { P.most place.new ≡ P.most place.old }
-    ensures refused { IsTrue P.tells → IfErr result (IsToldRefusal options.now target.now (P.world place.old)) }
-    ensures takes { Takes NoStart MayPlan result (P.counts place.old) (P.counts place.new) }
-    ensures names { NamesCall result (P.counts place.new) }
-    ensures calls { IsTrue P.tells → PlansInTurn result (looked_at options.now.manifest target.now (P.world place.old)) (P.counts place.old) (P.counts place.new) }
+    ensures project { IsTrue P.tells
+        → IfOk result (IsProject options.now target.now (P.at place.old).world) }
+    ensures quiet { OnlyLooks MayPlan result (P.at place.old) (P.at place.new) }
+    ensures refused { IsTrue P.tells
+        → IfErr result (IsToldRefusal options.now target.now (P.at place.old).world) }
+    ensures calls { IsTrue P.tells
+        → PlansInTurn result (looked_at options.now.manifest target.now (P.at place.old).world)
+        (P.at place.old).counts (P.at place.new).counts }
 {
     let workspace = match read(alloc, place, options, target) {
         Ok(workspace) => workspace,

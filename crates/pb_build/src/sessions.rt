@@ -7,9 +7,9 @@ ghost use Rattle.pb_build.specs.Environment.{environment_of};
 ghost use Rattle.pb_build.specs.Headline.{Headline};
 ghost use Rattle.pb_build.specs.Kept.{SourcesStay};
 ghost use Rattle.pb_build.specs.Session.{Picked, ByPicked, Carries, Course, Loses, Breaks, point};
-ghost use Rattle.pb_memory.specs.Memory.{counts_in, may_fail};
+ghost use Rattle.pb_memory.specs.Memory.{at_in, counts_in, may_fail};
 ghost use Rattle.pb_memory.specs.Tallies.{one_setting};
-ghost use Rattle.pb_turns.specs.Moments.{moment};
+ghost use Rattle.pb_turns.specs.Crew.{moment};
 
 use crate::builder::{build, build_with};
 use pb_answer::{BuildFault, Summary};
@@ -40,10 +40,14 @@ fn built_unfailing<C: Child + Copy, O: Out>(
     requires quiet { may_fail memory.old ≡ false }
     requires unfailed { (counts_in memory.old).failures ≡ 0 }
     ensures picked { Picked C.answers options.now pick result
-        (moment memory.old.world (counts_in memory.old) memory.old.most (O.taken out.old) (O.faults out.old)) (moment memory.new.world (counts_in memory.new) memory.new.most (O.taken out.new) (O.faults out.new)) }
+        (moment (at_in memory.old) (O.heard out.old))
+        (moment (at_in memory.new) (O.heard out.new)) }
     ensures headline { Headline true C.answers (ByPicked pick options.now) options.now result
-        (moment memory.old.world (counts_in memory.old) memory.old.most (O.taken out.old) (O.faults out.old)) (moment memory.new.world (counts_in memory.new) memory.new.most (O.taken out.new) (O.faults out.new)) }
-    ensures kept { SourcesStay (environment_of options.now memory.old.world.variables).target memory.old.world memory.new.world }
+        (moment (at_in memory.old) (O.heard out.old))
+        (moment (at_in memory.new) (O.heard out.new)) }
+    ensures kept { SourcesStay
+        (environment_of options.now memory.old.world.variables).target memory.old.world
+        memory.new.world }
     ensures landed { (counts_in memory.new).starts.flying ≡ [] }
     ensures unfailed { (counts_in memory.new).failures ≡ 0 }
 {
@@ -63,15 +67,18 @@ fn build_picked<C: Child, O: Out>(
 ) -> Result<Summary, BuildFault>
     requires none { (counts_in unfailing.old).starts.flying ≡ [] }
     ensures picked { Picked C.answers options.now pick result
-        (moment unfailing.old.world (counts_in unfailing.old) unfailing.old.most (O.taken out.old) (O.faults out.old)) (moment unfailing.new.world (counts_in unfailing.new) unfailing.new.most (O.taken out.new) (O.faults out.new)) }
+        (moment (at_in unfailing.old) (O.heard out.old))
+        (moment (at_in unfailing.new) (O.heard out.new)) }
     ensures headline { Headline true C.answers (ByPicked pick options.now) options.now result
-        (moment unfailing.old.world (counts_in unfailing.old) unfailing.old.most (O.taken out.old) (O.faults out.old)) (moment unfailing.new.world (counts_in unfailing.new) unfailing.new.most (O.taken out.new) (O.faults out.new)) }
-    ensures kept { SourcesStay (environment_of options.now unfailing.old.world.variables).target unfailing.old.world unfailing.new.world }
+        (moment (at_in unfailing.old) (O.heard out.old))
+        (moment (at_in unfailing.new) (O.heard out.new)) }
+    ensures kept { SourcesStay (environment_of options.now unfailing.old.world.variables).target
+        unfailing.old.world unfailing.new.world }
     ensures landed { (counts_in unfailing.new).starts.flying ≡ [] }
 {
     match pick {
         PickBy::First => build(alloc, unfailing, out, options),
-        PickBy::Last => build_with(alloc, unfailing, out, options, Last {}),
+        PickBy::Last => build_with(alloc, unfailing, out, options, &mut Last {}),
     }
 }
 
@@ -85,15 +92,19 @@ fn built_anyhow<C: Child, O: Out>(
 ) -> Result<Summary, BuildFault>
     requires none { (counts_in memory.old).starts.flying ≡ [] }
     ensures picked { Picked C.answers options.now pick result
-        (moment memory.old.world (counts_in memory.old) memory.old.most (O.taken out.old) (O.faults out.old)) (moment memory.new.world (counts_in memory.new) memory.new.most (O.taken out.new) (O.faults out.new)) }
+        (moment (at_in memory.old) (O.heard out.old))
+        (moment (at_in memory.new) (O.heard out.new)) }
     ensures headline { Headline true C.answers (ByPicked pick options.now) options.now result
-        (moment memory.old.world (counts_in memory.old) memory.old.most (O.taken out.old) (O.faults out.old)) (moment memory.new.world (counts_in memory.new) memory.new.most (O.taken out.new) (O.faults out.new)) }
-    ensures kept { SourcesStay (environment_of options.now memory.old.world.variables).target memory.old.world memory.new.world }
+        (moment (at_in memory.old) (O.heard out.old))
+        (moment (at_in memory.new) (O.heard out.new)) }
+    ensures kept { SourcesStay
+        (environment_of options.now memory.old.world.variables).target memory.old.world
+        memory.new.world }
     ensures landed { (counts_in memory.new).starts.flying ≡ [] }
 {
     match pick {
         PickBy::First => build(alloc, memory, out, options),
-        PickBy::Last => build_with(alloc, memory, out, options, Last {}),
+        PickBy::Last => build_with(alloc, memory, out, options, &mut Last {}),
     }
 }
 
@@ -108,12 +119,18 @@ fn built<C: Child + Copy, O: Out>(
 ) -> Result<Summary, BuildFault>
     requires none { (counts_in memory.old).starts.flying ≡ [] }
     ensures picked { Picked C.answers options.now pick result
-        (moment memory.old.world (counts_in memory.old) memory.old.most (O.taken out.old) (O.faults out.old)) (moment memory.new.world (counts_in memory.new) memory.new.most (O.taken out.new) (O.faults out.new)) }
+        (moment (at_in memory.old) (O.heard out.old))
+        (moment (at_in memory.new) (O.heard out.new)) }
     ensures headline { Headline true C.answers (ByPicked pick options.now) options.now result
-        (moment memory.old.world (counts_in memory.old) memory.old.most (O.taken out.old) (O.faults out.old)) (moment memory.new.world (counts_in memory.new) memory.new.most (O.taken out.new) (O.faults out.new)) }
-    ensures kept { SourcesStay (environment_of options.now memory.old.world.variables).target memory.old.world memory.new.world }
+        (moment (at_in memory.old) (O.heard out.old))
+        (moment (at_in memory.new) (O.heard out.new)) }
+    ensures kept { SourcesStay
+        (environment_of options.now memory.old.world.variables).target memory.old.world
+        memory.new.world }
     ensures landed { (counts_in memory.new).starts.flying ≡ [] }
-    ensures unfailing { memory.old.fuse ≡ 0 → memory.old.deaths ≡ [] → (counts_in memory.old).failures ≡ 0 → (counts_in memory.new).failures ≡ 0 }
+    ensures unfailing { memory.old.fuse ≡ 0 → memory.old.deaths ≡ []
+        → (counts_in memory.old).failures ≡ 0
+        → (counts_in memory.new).failures ≡ 0 }
 {
     if memory.is_unfailing() {
         built_unfailing(alloc, memory, out, options, pick)
@@ -132,9 +149,15 @@ fn add_build<C: Child + Copy, O: Out>(
     answers: &mut Items<Answer>,
 ) -> Result<(), AllocError>
     requires none { (counts_in memory.old).starts.flying ≡ [] }
-    ensures taken { OnOk result (Carries C.answers (Build options.now pick) (point memory.old (O.taken out.old) (O.faults out.old) answers.old) (point memory.new (O.taken out.new) (O.faults out.new) answers.new)) }
+    ensures taken { OnOk result
+        (Carries C.answers (Build options.now pick)
+        (point memory.old (O.heard out.old) answers.old)
+        (point memory.new (O.heard out.new) answers.new)) }
     ensures none { OnOk result ((counts_in memory.new).starts.flying ≡ []) }
-    ensures lost { OnErr result (Loses C.answers (Build options.now pick) (point memory.old (O.taken out.old) (O.faults out.old) answers.old) (point memory.new (O.taken out.new) (O.faults out.new) answers.new)) }
+    ensures lost { OnErr result
+        (Loses C.answers (Build options.now pick)
+        (point memory.old (O.heard out.old) answers.old)
+        (point memory.new (O.heard out.new) answers.new)) }
 {
     let result = built(alloc, memory, out, options, pick);
     memory.fuse(0);
@@ -151,9 +174,13 @@ fn take_step<C: Child + Copy, O: Out>(
     answers: &mut Items<Answer>,
 ) -> Result<(), AllocError>
     requires none { (counts_in memory.old).starts.flying ≡ [] }
-    ensures taken { OnOk result (Carries C.answers step.now (point memory.old (O.taken out.old) (O.faults out.old) answers.old) (point memory.new (O.taken out.new) (O.faults out.new) answers.new)) }
+    ensures taken { OnOk result
+        (Carries C.answers step.now (point memory.old (O.heard out.old) answers.old)
+        (point memory.new (O.heard out.new) answers.new)) }
     ensures none { OnOk result ((counts_in memory.new).starts.flying ≡ []) }
-    ensures lost { OnErr result (Loses C.answers step.now (point memory.old (O.taken out.old) (O.faults out.old) answers.old) (point memory.new (O.taken out.new) (O.faults out.new) answers.new)) }
+    ensures lost { OnErr result
+        (Loses C.answers step.now (point memory.old (O.heard out.old) answers.old)
+        (point memory.new (O.heard out.new) answers.new)) }
 {
     match step {
         SessionStep::Write(path, text) => memory.put(alloc, path, text.as_bytes()),
@@ -168,7 +195,8 @@ fn take_step<C: Child + Copy, O: Out>(
 
 /// Lets the call of this number of the next build fail; 0 lets none.
 fn light<C: Child>(memory: &mut Memory<C>, number: u64) -> Result<(), AllocError>
-    ensures ok { OnOk result (memory.new ≡ record memory.old { tally = one_setting memory.old.tally; fuse = number }) }
+    ensures ok { OnOk result
+        (memory.new ≡ record memory.old { tally = one_setting memory.old.tally; fuse = number }) }
     ensures err { OnErr result (memory.new ≡ memory.old) }
 {
     memory.fuse(number);
@@ -188,8 +216,14 @@ pub fn session<C: Child + Copy, O: Out>(
     steps: &[SessionStep],
 ) -> Result<Items<Answer>, AllocError>
     requires none { (counts_in memory.old).starts.flying ≡ [] }
-    ensures taken { IfOk result (λ answers. Course C.answers steps.now (point memory.old (O.taken out.old) (O.faults out.old) []) (point memory.new (O.taken out.new) (O.faults out.new) answers)) }
-    ensures broken { OnErr result ((answers : List declared.Answer) × Breaks C.answers steps.now (point memory.old (O.taken out.old) (O.faults out.old) []) (point memory.new (O.taken out.new) (O.faults out.new) answers)) }
+    ensures taken { IfOk result
+        (λ answers.
+        Course C.answers steps.now (point memory.old (O.heard out.old) [])
+        (point memory.new (O.heard out.new) answers)) }
+    ensures broken { OnErr result
+        ((answers : List declared.Answer)
+        × Breaks C.answers steps.now (point memory.old (O.heard out.old) [])
+        (point memory.new (O.heard out.new) answers)) }
 {
     let mut answers = Items::new(alloc);
     for step in steps {

@@ -1,24 +1,22 @@
 //! The query of the compiler's version.
 
-ghost use Rattle.std.specs.Prelude.{◌≡◌, ◌⊎◌, ◌+◌, max, length, IfOk, OnErr, IsTrue, MatchResult, Some, None, codes};
+ghost use Rattle.std.specs.Prelude.{◌≡◌, ◌⊎◌, ◌+◌, max, length, IsTrue, IfOk, OnErr, OnOk, MatchResult, Some, None};
 ghost use Rattle.std.specs.List.{list_any};
-ghost use Rattle.pb_place.specs.World.{World, from_nothing};
-ghost use Rattle.pb_build.specs.Causes.{AskEnds, MayAsk};
+ghost use Rattle.pb_place.specs.World.{ChangesOnlyInSome, Ends, from_nothing};
+ghost use Rattle.pb_build.specs.Causes.{AskEnds, MayAsk, OnlyAsks, MayStart, OneStart, RunsOnce, SpawnEnds, Takes, child_fault};
 ghost use Rattle.pb_build.specs.Result.{is_host, says_host, toolchain_in, toolchain_of};
 ghost use Rattle.pb_directive.specs.Lines.{lines_of};
 ghost use Rattle.pb_answer.specs.declared.fault.BuildFault.TheVariants as build_fault;
-ghost use Rattle.pb_run.specs.Causes.{Takes, OneStart};
-ghost use Rattle.pb_run.specs.Launching.{Calls, RunsOnce};
+ghost use Rattle.pb_run.specs.Running.{Calls};
 
 use crate::environment::Environment;
 use pb_answer::BuildFault;
 use pb_command::{ended_fault, query};
-use pb_data::Bytes;
+use pb_data::{Bytes, Text};
 use pb_directive::lines::lines_of;
 use pb_directive::texts::text_of;
-use pb_place::{Ended, Place};
+use pb_place::{Command, Ended, Place, StartFault};
 use pb_project::Project;
-use pb_run::start;
 use std::alloc::Global;
 
 /// Whether a line says the host: `host: ` and something behind it.
@@ -59,6 +57,51 @@ fn toolchain_in(ended: Ended) -> Option<Bytes>
     }
 }
 
+/// Returns the fault of a child that gave no answer, with its name. Out of memory has none.
+fn childless(unit: Text, fault: StartFault) -> BuildFault
+    ensures { result ≡ child_fault unit fault }
+{
+    match fault {
+        StartFault::OutOfMemory => BuildFault::OutOfMemory,
+        fault => BuildFault::Child { unit, fault },
+    }
+}
+
+/// Starts a child, by one call, and waits for its end.
+///
+/// Errors: `Child` with this name, if the child cannot be started or gives no answer; `OutOfMemory`.
+fn start<P: Place>(
+    alloc: Global,
+    place: &mut P,
+    name: &str,
+    command: &Command,
+) -> Result<Ended, BuildFault>
+    ensures ok { IsTrue P.tells → IfOk result (λ ended. Ends (P.child command.now) command.now
+        (P.at place.old).world ended (P.at place.new).world) }
+    ensures only { ChangesOnlyInSome command.now.out (P.at place.old).world
+        (P.at place.new).world }
+
+    // One child more was in flight; after a fault it or none.
+    ensures most { OnOk result ((P.at place.new).most
+        ≡ max (P.at place.old).most (length (P.at place.old).counts.starts.flying + 1)) }
+    ensures most_else { OnErr result (((P.at place.new).most ≡ (P.at place.old).most)
+        ⊎ ((P.at place.new).most
+        ≡ max (P.at place.old).most (length (P.at place.old).counts.starts.flying + 1))) }
+    ensures takes { Takes OneStart (MayStart name.now) result (P.at place.old).counts
+        (P.at place.new).counts }
+    ensures calls { Calls RunsOnce SpawnEnds result (P.at place.old).counts
+        (P.at place.new).counts }
+{
+    let unit = match Text::from_str(alloc, name) {
+        Ok(unit) => unit,
+        Err(_) => return Err(BuildFault::OutOfMemory),
+    };
+    match place.start(alloc, command) {
+        Ok(ended) => Ok(ended),
+        Err(fault) => Err(childless(unit, fault)),
+    }
+}
+
 /// Asks the compiler for its version. Toolchain where it does not say its host; Child, with `-vV`, where it gave no
 /// answer.
 #[tactic(auto, using(crate::proofs::Called::ask_laws))]
@@ -68,13 +111,20 @@ pub(crate) fn ask<P: Place>(
     environment: &Environment,
     project: &Project,
 ) -> Result<Bytes, BuildFault>
-    ensures answer { IsTrue P.tells → MatchResult result (λ toolchain. toolchain_of P.child environment.now project.now (from_nothing project.now.workspace.target (P.world place.old)) ≡ Some toolchain)
-        (λ e. e ≡ build_fault.Toolchain → toolchain_of P.child environment.now project.now (from_nothing project.now.workspace.target (P.world place.old)) ≡ None) }
-    ensures same { IsTrue P.tells → P.world place.new ≡ P.world place.old }
-    ensures most { IfOk result (λ toolchain. P.most place.new ≡ max (P.most place.old) (length (P.counts place.old).starts.flying + 1)) }
-    ensures most_else { OnErr result ((P.most place.new ≡ P.most place.old) ⊎ (P.most place.new ≡ max (P.most place.old) (length (P.counts place.old).starts.flying + 1))) }
-    ensures takes { Takes OneStart MayAsk result (P.counts place.old) (P.counts place.new) }
-    ensures calls { Calls RunsOnce AskEnds result (P.counts place.old) (P.counts place.new) }
+    ensures answer { IsTrue P.tells
+        → MatchResult result
+        (λ toolchain.
+        toolchain_of P.child environment.now project.now
+        (from_nothing project.now.workspace.target (P.at place.old).world)
+        ≡ Some toolchain)
+        (λ e.
+        e ≡ build_fault.Toolchain
+        → toolchain_of P.child environment.now project.now
+        (from_nothing project.now.workspace.target
+        (P.at place.old).world)
+        ≡ None) }
+    ensures asks { OnlyAsks MayAsk result (P.at place.old) (P.at place.new) }
+    ensures calls { Calls RunsOnce AskEnds result (P.at place.old).counts (P.at place.new).counts }
 {
     let command = match query(alloc, &environment.rustc, &project.workspace) {
         Ok(command) => command,

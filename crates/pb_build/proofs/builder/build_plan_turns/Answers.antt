@@ -1,11 +1,11 @@
-use Rattle.pb_turns.specs.Moments.{moment}
+use Rattle.pb_turns.specs.Crew.{moment}
 use Rattle.pb_build.proofs.Staying.{built_kept, built_landed}
 use Rattle.pb_build.proofs.builder.build_plan_turns.Goals as goal
 
 pub returns-clause-on : goal.returns-clause-on
 returns-clause-on g c = record {
   inner = c.work-inner.result;
-  heard = record { taken = g.O.Out.taken c.work-inner.new.out; faults = g.O.Out.faults c.work-inner.new.out };
+  heard = (g.O.Out.heard c.work-inner.new.out);
   works = c.work-inner.ensures.on;
   closes = c.close.ensures;
 }
@@ -13,19 +13,19 @@ returns-clause-on g c = record {
 pub returns-clause-kept : goal.returns-clause-kept
 returns-clause-kept g c told =
     built_kept g.P.Place.tells g.P.Place.child g.T.Turn.turns c.args.options.now c.args.turn.now c.work-inner.new.turn c.args.plan c.close.result
-    (moment (g.P.Place.world c.args.place.now) (g.P.Place.counts c.args.place.now) (g.P.Place.most c.args.place.now) (g.O.Out.taken c.args.out.now) (g.O.Out.faults c.args.out.now))
-    (moment (g.P.Place.world c.work-inner.new.place) (g.P.Place.counts c.work-inner.new.place) (g.P.Place.most c.work-inner.new.place) (g.O.Out.taken c.close.new.out) (g.O.Out.faults c.close.new.out)) told (returns-clause-on g c)
+    (moment (g.P.Place.at c.args.place.now) (g.O.Out.heard c.args.out.now))
+    (moment (g.P.Place.at c.work-inner.new.place) (g.O.Out.heard c.close.new.out)) told (returns-clause-on g c)
 
 pub returns-clause-landed : goal.returns-clause-landed
 returns-clause-landed g c =
     built_landed g.P.Place.tells g.P.Place.child g.T.Turn.turns c.args.options.now c.args.turn.now c.work-inner.new.turn c.args.plan c.close.result
-    (moment (g.P.Place.world c.args.place.now) (g.P.Place.counts c.args.place.now) (g.P.Place.most c.args.place.now) (g.O.Out.taken c.args.out.now) (g.O.Out.faults c.args.out.now))
-    (moment (g.P.Place.world c.work-inner.new.place) (g.P.Place.counts c.work-inner.new.place) (g.P.Place.most c.work-inner.new.place) (g.O.Out.taken c.close.new.out) (g.O.Out.faults c.close.new.out)) c.requires.none (returns-clause-on g c)
+    (moment (g.P.Place.at c.args.place.now) (g.O.Out.heard c.args.out.now))
+    (moment (g.P.Place.at c.work-inner.new.place) (g.O.Out.heard c.close.new.out)) c.requires.none (returns-clause-on g c)
 
 pub returns-clause-builds : goal.returns-clause-builds
 returns-clause-builds g c = λ from planned. record {
   inner = c.work-inner.result;
-  heard = record { taken = g.O.Out.taken c.work-inner.new.out; faults = g.O.Out.faults c.work-inner.new.out };
+  heard = (g.O.Out.heard c.work-inner.new.out);
   works = c.work-inner.ensures.works from planned;
   closes = c.close.ensures;
 }

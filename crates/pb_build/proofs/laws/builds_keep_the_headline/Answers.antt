@@ -7,4 +7,4 @@ pub returns-clause-turns : goal.returns-clause-turns
 returns-clause-turns g c = λ tells child options from last result old new builds. headline tells child g.T.Turn.turns options from last result old new builds
 
 pub returns-clause-first : goal.returns-clause-first
-returns-clause-first g c = λ tells child options result old new builds. headline tells child (TurnsOfJobs PicksFirstOf) options _ builds.1.0 result old new builds.1.1
+returns-clause-first g c = λ tells child options result old new builds. headline tells child (TurnsOfJobs PicksFirstOf) options _ _ result old new builds

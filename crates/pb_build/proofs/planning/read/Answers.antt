@@ -7,9 +7,9 @@ use Rattle.pb_workspace.specs.LookedAt.{looked_at}
 
 pub returns-in-Err-clause-refused : goal.returns-in-Err-clause-refused
 returns-in-Err-clause-refused g c told =
-    subst (IsToldRefusal c.args.options.now c.args.target.now (g.P.Place.world c.args.place.now)) (sym c.unread.ensures)
-    (unread_told c.args.options.now c.args.target.now (g.P.Place.world c.args.place.now) c.in-Err.fault (c.in-Err.ensures.ok told))
+    subst (IsToldRefusal c.args.options.now c.args.target.now (g.P.Place.at c.args.place.now).world) (sym c.unread.ensures)
+    (unread_told c.args.options.now c.args.target.now (g.P.Place.at c.args.place.now).world c.in-Err.fault (c.in-Err.ensures.ok told))
 
 pub returns-in-Err-clause-calls : goal.returns-in-Err-clause-calls
 returns-in-Err-clause-calls g c told =
-    unread_stops c.in-Err.fault c.unread.result (looked_at c.args.options.now.manifest c.args.target.now (g.P.Place.world c.args.place.now)) (g.P.Place.counts c.args.place.now) (g.P.Place.counts c.load.new.place) c.unread.ensures (c.in-Err.ensures.looks told)
+    unread_stops c.in-Err.fault c.unread.result (looked_at c.args.options.now.manifest c.args.target.now (g.P.Place.at c.args.place.now).world) (g.P.Place.at c.args.place.now).counts (g.P.Place.at c.load.new.place).counts c.unread.ensures (c.in-Err.ensures.looks told)

@@ -1,6 +1,6 @@
 use Rattle.std.proofs.Common.{[], ◌∷◌, ◌++◌, refl, ap}
-use Rattle.pb_memory.specs.Memory.{Held, counts_in}
-use Rattle.pb_turns.specs.Moments.{moment}
+use Rattle.pb_memory.specs.Memory.{at_in, Held, counts_in}
+use Rattle.pb_turns.specs.Crew.{moment}
 use Rattle.pb_build.specs.Session.{point}
 use Rattle.pb_place.proofs.Failing.{on_err}
 use Rattle.pb_build.proofs.sessions.add_build.Goals as goal
@@ -8,15 +8,14 @@ use Rattle.pb_build.proofs.sessions.add_build.Goals as goal
 pub returns-clause-taken : goal.returns-clause-taken
 returns-clause-taken g c =
     let built = c.built-result in
-    let taken = g.O.Out.taken built.new.out in
-    let faults = g.O.Out.faults built.new.out in record {
+    let heard = (g.O.Out.heard built.new.out) in record {
       answer = record { result = built.result };
-      ended = moment built.new.memory.world (counts_in built.new.memory) built.new.memory.most taken faults;
+      ended = moment (at_in built.new.memory) heard;
       picked = built.ensures.picked;
       kept = built.ensures.kept;
       headline = built.ensures.headline;
       unfailing = built.ensures.unfailing;
-      behind = ap (λ (m : Held). moment m.world (counts_in m) m.most taken faults) c.fuse.ensures;
+      behind = ap (λ (m : Held). moment (at_in m) heard) c.fuse.ensures;
       answers = c.in_ok-push.ensures.ok;
       fuse = ap (λ (m : Held). m.fuse) c.fuse.ensures;
     }
@@ -24,21 +23,20 @@ returns-clause-taken g c =
 pub returns-in_err-push-clause-lost : goal.returns-in_err-push-clause-lost
 returns-in_err-push-clause-lost g c =
     let built = c.built-result in
-    let taken = g.O.Out.taken built.new.out in
-    let faults = g.O.Out.faults built.new.out in
+    let heard = (g.O.Out.heard built.new.out) in
     let answers = c.args.answers.now ++ record { result = built.result } ∷ [] in
     on_err c.from_residual.result (
-      point c.fuse.new.self taken faults answers,
+      point c.fuse.new.self heard answers,
       record {
         answer = record { result = built.result };
-        ended = moment built.new.memory.world (counts_in built.new.memory) built.new.memory.most taken faults;
+        ended = moment (at_in built.new.memory) heard;
         picked = built.ensures.picked;
         kept = built.ensures.kept;
         headline = built.ensures.headline;
         unfailing = built.ensures.unfailing;
-        behind = ap (λ (m : Held). moment m.world (counts_in m) m.most taken faults) c.fuse.ensures;
+        behind = ap (λ (m : Held). moment (at_in m) heard) c.fuse.ensures;
         answers = refl;
         fuse = ap (λ (m : Held). m.fuse) c.fuse.ensures;
       },
-      ap (point c.fuse.new.self taken faults) c.in_err-push.ensures.err,
+      ap (point c.fuse.new.self heard) c.in_err-push.ensures.err,
     )

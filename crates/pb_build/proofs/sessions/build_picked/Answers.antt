@@ -1,7 +1,7 @@
 use Rattle.std.proofs.Common.{true, sym, subst}
-use Rattle.pb_memory.specs.Memory.{counts_in}
+use Rattle.pb_memory.specs.Memory.{at_in, counts_in}
 use Rattle.pb_session.specs.declared.pick.PickBy.{PickBy}
-use Rattle.pb_turns.specs.Moments.{moment}
+use Rattle.pb_turns.specs.Crew.{moment}
 use Rattle.pb_build.specs.Headline.{Headline}
 use Rattle.pb_build.specs.Session.{ByPicked}
 use Rattle.pb_build.proofs.sessions.build_picked.Goals as goal
@@ -11,6 +11,6 @@ returns-in-Last-clause-headline g c =
     let options = c.args.options.now in
     let before = c.args.unfailing.now in
     let after = c.build_with.new.place in
-    let old = moment before.world (counts_in before) before.most (g.O.Out.taken c.args.out.now) (g.O.Out.faults c.args.out.now) in
-    let new = moment after.world (counts_in after) after.most (g.O.Out.taken c.build_with.new.out) (g.O.Out.faults c.build_with.new.out) in
+    let old = moment (at_in before) (g.O.Out.heard c.args.out.now) in
+    let new = moment (at_in after) (g.O.Out.heard c.build_with.new.out) in
     subst (λ (p : PickBy). Headline true g.C.Child.answers (ByPicked p options) options c.build_with.result old new) (sym c.in-Last.is) c.build_with.ensures.headline

@@ -8,8 +8,8 @@ use Rattle.pb_build.proofs.sessions.session.Given as goal
 abbrev pub invariant-loop-step : goal.invariant-loop-step
 invariant-loop-step g l = record {
   reaches :
-      Reaches g.C.Child.answers l.steps (drop l.step-index l.steps) (point l.initial.memory (g.O.Out.taken l.initial.out) (g.O.Out.faults l.initial.out) []) (point l.memory (g.O.Out.taken l.out) (g.O.Out.faults l.out) l.answers);
+      Reaches g.C.Child.answers l.steps (drop l.step-index l.steps) (point l.initial.memory (g.O.Out.heard l.initial.out) []) (point l.memory (g.O.Out.heard l.out) l.answers);
   breaks :
-      BreaksOff g.C.Child.answers l.steps (drop l.step-index l.steps) (point l.initial.memory (g.O.Out.taken l.initial.out) (g.O.Out.faults l.initial.out) []) (point l.memory (g.O.Out.taken l.out) (g.O.Out.faults l.out) l.answers);
+      BreaksOff g.C.Child.answers l.steps (drop l.step-index l.steps) (point l.initial.memory (g.O.Out.heard l.initial.out) []) (point l.memory (g.O.Out.heard l.out) l.answers);
   none : (counts_in l.memory).starts.flying ≡ [];
 }

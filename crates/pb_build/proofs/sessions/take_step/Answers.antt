@@ -7,14 +7,14 @@ pub returns-in-Build-clause-taken : goal.returns-in-Build-clause-taken
 returns-in-Build-clause-taken g c =
     let memory = c.add_build.new.memory in
     let out = c.add_build.new.out in
-    let before = point c.args.memory.now (g.O.Out.taken c.args.out.now) (g.O.Out.faults c.args.out.now) c.args.answers.now in
-    let after = point memory (g.O.Out.taken out) (g.O.Out.faults out) c.add_build.new.answers in
+    let before = point c.args.memory.now (g.O.Out.heard c.args.out.now) c.args.answers.now in
+    let after = point memory (g.O.Out.heard out) c.add_build.new.answers in
     subst (λ (s : SessionStep). OnOk c.add_build.result (Carries g.C.Child.answers s before after)) (sym c.in-Build.is) c.add_build.ensures.taken
 
 pub returns-in-Build-clause-lost : goal.returns-in-Build-clause-lost
 returns-in-Build-clause-lost g c =
     let memory = c.add_build.new.memory in
     let out = c.add_build.new.out in
-    let before = point c.args.memory.now (g.O.Out.taken c.args.out.now) (g.O.Out.faults c.args.out.now) c.args.answers.now in
-    let left = point memory (g.O.Out.taken out) (g.O.Out.faults out) c.add_build.new.answers in
+    let before = point c.args.memory.now (g.O.Out.heard c.args.out.now) c.args.answers.now in
+    let left = point memory (g.O.Out.heard out) c.add_build.new.answers in
     subst (λ (s : SessionStep). OnErr c.add_build.result (Loses g.C.Child.answers s before left)) (sym c.in-Build.is) c.add_build.ensures.lost
