@@ -118,16 +118,19 @@ features_there_are features = codes "cfg(feature, values(" ++ join_by (λ (f : F
 abbrev pub libraries_at : Project → List ℕ → List Planned
 libraries_at project places = filter (λ (u : Planned). is_library u.unit.what) (filter_map (unit_at project) places)
 
--- What a compile says: the crate's name and its types; where it is written; edition, source and what the compiler writes and how it tells; the settings, and the flags of a binary's linker; the features that are on, and the conditions that the script sets; the features that there are, and the conditions that the script expects; the folder of each library that the unit reaches, and those that the runs which it reaches have named; what the script links, to a binary only where its package has no library; and the libraries of which `Is` holds. `lines` are those of the script that it hears
+-- What the words of a compile say. `lines` are those of the script that it hears; `Is` holds of its libraries.
 pub record CompileSays (project : Project) (unit : Planned) (done : List (Option (List Directive))) (p : Package) (lines : List Directive) (Is : List ℕ → List ℕ → Type 0) (said : List (List ℕ × List ℕ)) : Type 0 where
   pub crate_name : values (codes "--crate-name") said ≡ crate_name_of project unit ∷ []
   pub crate_types : values (codes "--crate-type") said ≡ map crate_type_text (crate_types p.library unit.unit.what)
   pub folder : values (codes "--out-dir") said ≡ unit.out ∷ []
   pub alone : values [] said ≡ (codes "--edition=" ++ edition_text p.edition) ∷ source_by p unit.unit.what ∷ codes "--error-format=json" ∷ codes "--emit=dep-info,link" ∷ []
   pub settings : values (codes "-C") said ≡ map assigned (settings_table unit.unit.what unit.settings) ++ map (λ flag. codes "link-arg=" ++ flag) (linker_flags unit.unit.what lines)
+  -- the features that are on, and the conditions that the script sets; then the features that exist, and those that it expects
   pub conditions : values (codes "--cfg") said ≡ map feature_is_on (features_at project.features unit.unit.owner unit.unit.side) ++ asked (codes "rustc-cfg") lines
   pub expected : values (codes "--check-cfg") said ≡ features_there_are p.features ∷ asked (codes "rustc-check-cfg") lines
+  -- the folder of each library that the unit reaches, and those that the runs which it reaches have named
   pub searched : values (codes "-L") said ≡ map (λ (library : Planned). codes "dependency=" ++ library.out) (libraries_at project unit.reaches) ++ asked (codes "rustc-link-search") (flat_map (said_at done) unit.reaches)
+  -- what the script links: a binary links it only if its package has no library
   pub linked : values (codes "-l") said ≡ (if is_binary unit.unit.what && is_some p.library then [] else asked (codes "rustc-link-lib") lines)
   pub libraries : List (List ℕ × List ℕ)
   pub given : values (codes "--extern") said ≡ map assigned libraries

@@ -82,7 +82,9 @@ links_of_run project u = if is_run u.unit.what then option_and_then (λ (p : Pac
 abbrev pub handed_on : Project → List (Option (List Directive)) → ℕ → List (List ℕ × List ℕ)
 handed_on project done place = option_map_or (λ links. passed links (said_at done place)) (option_and_then (links_of_run project) (unit_at project place)) []
 
--- a run: what every unit has; what its package links; `1` for each feature that is on, in upper case with `_` for `-`; the folder of its files; the platform, as the compiler names it; the settings of its package; the compiler and its flags; and the metadata of the runs that it needs, in plan order. `PROFILE` says whether the profile or one that it inherits from is `release`
+-- a run: the variables of every unit, what its package links, `1` for each feature that is on, its folder, the platform,
+-- the settings of its package, the compiler and its flags, and the metadata of the runs that it needs, in plan order.
+-- `PROFILE` is `release` if the profile, or one from which it inherits, is `release`
 abbrev pub run_table : Setup → Project → Planned → List (Option (List Directive)) → Package → List (List ℕ × List ℕ)
 run_table setup project unit done p =
     package_table setup p ++ row (codes "CARGO_MANIFEST_LINKS") p.links

@@ -14,10 +14,10 @@ pub struct SinkFault;
 /// Writes lines into a sink, all bytes of them or a first part, not all. SinkFault where the sink fails or takes none
 /// of some bytes; its failures have risen then, and nothing is written after.
 pub fn write_lines<O: Out>(out: &mut O, lines: &str) -> Result<(), SinkFault>
-    ensures all { OnOk result (Appends (O.taken out.old) (O.taken out.new) lines.now) }
-    ensures whole { OnOk result (O.faults out.new ≡ O.faults out.old) }
-    ensures part { OnErr result (TakesPart lines.now (O.taken out.old) (O.taken out.new)) }
-    ensures fault { OnErr result (O.faults out.new ≡ up (O.faults out.old)) }
+    ensures all { OnOk result (Appends (O.heard out.old).taken (O.heard out.new).taken lines.now) }
+    ensures whole { OnOk result ((O.heard out.new).faults ≡ (O.heard out.old).faults) }
+    ensures part { OnErr result (TakesPart lines.now (O.heard out.old).taken (O.heard out.new).taken) }
+    ensures fault { OnErr result ((O.heard out.new).faults ≡ up (O.heard out.old).faults) }
 {
     if write_all(out, lines.as_bytes()) {
         Ok(())

@@ -4,7 +4,7 @@ use Rattle.std.proofs.lemmas.Bool.{false≢true}
 use Rattle.std.specs.Io.KnownBytes.{Appends}
 use Rattle.pb_data.specs.Table.{table_of}
 use Rattle.pb_place.specs.Counts.{up}
-use Rattle.pb_place.specs.Sinks.{TakesPart}
+use Rattle.pb_place.specs.Sinks.{Heard, TakesPart}
 use Rattle.pb_place.specs.World.{World}
 use Rattle.pb_place.specs.declared.child.Reply.{Reply}
 use Rattle.pb_place.specs.declared.place.PlaceFault.{PlaceFault}
@@ -16,7 +16,7 @@ use Rattle.pb_mini.specs.declared.request.Request.{Request}
 use Rattle.pb_mini.specs.declared.request.Request.TheVariants.{Version, Run, Compile}
 use Rattle.pb_mini_program.specs.Faults.{of_place}
 use Rattle.pb_mini_program.specs.OutFolder.{folder_for, out_folder, out_dir_variable}
-use Rattle.pb_mini_program.specs.Writing.{FailsAt, FailsToPut, Heard, IsFolder, IsReply, Kept, Outside, Puts, PutsIn, WriteFails, Writes}
+use Rattle.pb_mini_program.specs.Writing.{FailsAt, FailsToPut, IsFolder, IsReply, Kept, Outside, Puts, PutsIn, WriteFails, Writes}
 use Rattle.pb_mini_program.specs.declared.fault.Fault.TheVariants.{Write, OutOfMemory}
 
 -- what holds of the error that is known

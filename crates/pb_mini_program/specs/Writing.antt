@@ -1,22 +1,18 @@
 -- What the program writes of a reply, and at what it stops: first the files, then the output, then standard error. Nothing is written behind a write that failed.
 use Rattle.std.specs.Prelude.{◌≡◌, ◌⊎◌, ℕ, Bool, List, [], ◌∷◌, ◌++◌, Option, Some, None, IsTrue}
 use Rattle.std.specs.Io.KnownBytes.{Appends}
+use Rattle.pb_place.specs.At.{At}
 use Rattle.pb_place.specs.CallsInTurn.{past_calls}
 use Rattle.pb_place.specs.declared.call.Call.{Call}
 use Rattle.pb_place.specs.declared.call.Call.TheVariants as call
 use Rattle.pb_place.specs.Counts.{Counts, up, past_place_fault}
 use Rattle.pb_place.specs.Paths.{below}
-use Rattle.pb_place.specs.Sinks.{TakesPart}
+use Rattle.pb_place.specs.Sinks.{Heard, TakesPart}
 use Rattle.pb_place.specs.World.{World, Torn, put_reply}
 use Rattle.pb_place.specs.declared.child.Reply.{Reply}
 use Rattle.pb_place.specs.declared.place.PlaceFault.TheVariants as place
 use Rattle.pb_mini.specs.Answer.{answered}
 use Rattle.pb_mini_program.specs.OutFolder.{out_folder}
-
--- what a sink has taken, and how often it failed
-pub record Heard : Type 0 where
-  pub taken : Option (List ℕ)
-  pub faults : ℕ
 
 -- all of some bytes were written
 abbrev pub Writes : List ℕ → Heard → Heard → Type 0
@@ -31,8 +27,8 @@ pub record Kept : Type 0 where
   pub world : World
   pub counts : Counts
 
-abbrev pub kept : World → Counts → Kept
-kept world counts = record { world = world; counts = counts }
+abbrev pub kept : At → Kept
+kept at = record { world = at.world; counts = at.counts }
 
 -- each of some files is written in a folder, in turn
 abbrev pub writes_in : List ℕ → List (List ℕ × List ℕ) → List Call
@@ -74,6 +70,10 @@ IsReply shows words shown reply = IsTrue shows → reply ≡ answered words [] s
 abbrev pub IsFolder : Bool → List (List ℕ) → World → Option (List ℕ) → Type 0
 IsFolder shows words shown folder = IsTrue shows → out_folder words shown ≡ folder
 
+-- the same of some files, if they are those of the reply
+abbrev pub IsFolderOf : Bool → List (List ℕ) → World → List (List ℕ × List ℕ) → Option (List ℕ) → Type 0
+IsFolderOf shows words shown files folder = files ≡ (answered words [] shown).files → IsFolder shows words shown folder
+
 -- all its files were put there
 abbrev pub Puts : Bool → Bool → List (List ℕ) → World → Reply → Kept → Kept → Type 0
 Puts shows tells words shown reply old new = (folder : Option (List ℕ)) × IsFolder shows words shown folder × PutsIn tells folder reply.files old new
@@ -84,8 +84,8 @@ pub record Outside : Type 0 where
   pub out : Heard
   pub err : Heard
 
-abbrev pub outside : World → Counts → Option (List ℕ) → ℕ → Option (List ℕ) → ℕ → Outside
-outside world counts out out_faults err err_faults = record { kept = kept world counts; out = record { taken = out; faults = out_faults }; err = record { taken = err; faults = err_faults } }
+abbrev pub outside : At → Heard → Heard → Outside
+outside at out err = record { kept = kept at; out = out; err = err }
 
 -- all was written: the files, the output, and standard error
 abbrev pub WritesAll : Bool → Bool → List (List ℕ) → World → Reply → Outside → Outside → Type 0

@@ -75,9 +75,12 @@ fn path_of(alloc: Global, text: &str) -> Result<Option<PathText>, AllocError>
     }
 }
 
-/// The folder that the variable `OUT_DIR` says, if it says one. Failed is passed on from the view.
+/// Returns the folder that the variable `OUT_DIR` says, if it says one.
+///
+/// Errors: those of the view.
 fn out_dir_variable<V: View>(alloc: Global, view: &V) -> Result<Option<PathText>, ViewFault>
-    ensures folder { IsTrue V.tells → IfOk result (λ folder. folder ≡ out_dir_variable (V.shown view.now)) }
+    ensures folder { IsTrue V.tells
+        → IfOk result (λ folder. folder ≡ out_dir_variable (V.shown view.now)) }
     ensures failed { IfErr result (λ e. e ≡ ViewFault.Failed → V.fails view.now) }
 {
     match view.variable(alloc, "OUT_DIR")? {
@@ -86,9 +89,10 @@ fn out_dir_variable<V: View>(alloc: Global, view: &V) -> Result<Option<PathText>
     }
 }
 
-/// The out folder of a compile, by the first value of `--out-dir`.
+/// Returns the out folder of a compile: the first value of `--out-dir`.
 fn out_dir_of(alloc: Global, words: &[Text]) -> Result<Option<PathText>, AllocError>
-    ensures { IfOk result (λ folder. folder ≡ option_and_then path_of (first_out_dir None words.now)) }
+    ensures { IfOk result
+        (λ folder. folder ≡ option_and_then path_of (first_out_dir None words.now)) }
 {
     match out_dir_in(words) {
         Some(text) => path_of(alloc, text.as_str()),
@@ -106,16 +110,20 @@ fn asks_run(words: &[Text]) -> bool
     }
 }
 
-/// The folder into which the files of a reply go: that of the compile that the words say, or the one that `OUT_DIR`
-/// says to a run; none where there is none. Failed is passed on from the view.
-
+/// Returns the folder into which the files of a reply go, if there is one. For a compile it is the one that the words
+/// say, for a run the one that `OUT_DIR` says.
+///
+/// Errors: those of the view.
 pub(crate) fn out_folder<V: View>(
     alloc: Global,
     words: &[Text],
     view: &V,
 ) -> Result<Option<PathText>, ViewFault>
-    ensures compile { IfOk result (λ folder. (line : CommandLine) → request_of words.now ≡ Ok (Compile line) → folder ≡ Some line.out_dir) }
-    ensures run { IsTrue V.tells → IfOk result (λ folder. (path : List ℕ) → request_of words.now ≡ Ok (Run path) → folder ≡ out_dir_variable (V.shown view.now)) }
+    ensures compile { IfOk result (λ folder. (line : CommandLine)
+        → request_of words.now ≡ Ok (Compile line) → folder ≡ Some line.out_dir) }
+    ensures run { IsTrue V.tells
+        → IfOk result (λ folder. (path : List ℕ) → request_of words.now ≡ Ok (Run path)
+        → folder ≡ out_dir_variable (V.shown view.now)) }
     ensures failed { IfErr result (λ e. e ≡ ViewFault.Failed → V.fails view.now) }
 {
     if asks_run(words) {

@@ -7,7 +7,7 @@ ghost use Rattle.pb_place.specs.World.{put_reply};
 ghost use Rattle.pb_place.specs.declared.child.Reply.{Reply};
 ghost use Rattle.pb_mini.specs.Answer.{answered};
 ghost use Rattle.pb_mini_program.specs.OutFolder.{out_folder};
-ghost use Rattle.pb_mini_program.specs.Writing.{FailsToPut, IsFolder, IsReply, MemoryEnds, PutsIn, StopsPutting, WriteFails, WritesAll, kept, outside, writes_in};
+ghost use Rattle.pb_mini_program.specs.Writing.{FailsToPut, IsFolderOf, IsReply, MemoryEnds, PutsIn, StopsPutting, WriteFails, WritesAll, kept, outside, writes_in};
 
 use crate::fault::Fault;
 use crate::out_folder::out_folder;
@@ -17,16 +17,22 @@ use pb_place::{Out, PathText, Place, PlaceFault, RelativePath, View, write_all};
 use std::alloc::Global;
 
 /// Writes files into a folder, one after another, by their paths there.
+///
+/// Errors: `Write`, `OutOfMemory`; those before are written.
 fn write_files<P: Place>(
     alloc: Global,
     place: &mut P,
     folder: &PathText,
     files: &[(RelativePath, Bytes)],
 ) -> Result<(), PlaceFault>
-    ensures written { IsTrue P.tells → OnOk result (P.world place.new ≡ put_reply (Some folder.now) files.now (P.world place.old)) }
-    ensures whole { OnOk result (P.counts place.new ≡ past_calls (writes_in folder.now files.now) (P.counts place.old)) }
-    ensures fault { IfErr result (λ e. e ≢ PlaceFault.OutOfMemory → FailsToPut P.tells folder.now files.now (kept (P.world place.old) (P.counts place.old)) (kept (P.world place.new) (P.counts place.new))) }
-    ensures memory { IfErr result (λ e. e ≡ PlaceFault.OutOfMemory → StopsPutting P.tells folder.now files.now (kept (P.world place.old) (P.counts place.old)) (kept (P.world place.new) (P.counts place.new))) }
+    ensures written { IsTrue P.tells → OnOk result ((P.at place.new).world
+        ≡ put_reply (Some folder.now) files.now (P.at place.old).world) }
+    ensures whole { OnOk result ((P.at place.new).counts
+        ≡ past_calls (writes_in folder.now files.now) (P.at place.old).counts) }
+    ensures fault { IfErr result (λ e. e ≢ PlaceFault.OutOfMemory → FailsToPut P.tells folder.now
+        files.now (kept (P.at place.old)) (kept (P.at place.new))) }
+    ensures memory { IfErr result (λ e. e ≡ PlaceFault.OutOfMemory → StopsPutting P.tells folder.now
+        files.now (kept (P.at place.old)) (kept (P.at place.new))) }
 {
     for (name, bytes) in files {
         let path = folder.below(alloc, name)?;
@@ -36,7 +42,8 @@ fn write_files<P: Place>(
 }
 
 /// Leaves the files of a reply in its out folder, if there is one.
-
+///
+/// Errors: `Read`, if the view fails; `Write`, if a file cannot be written; `OutOfMemory`.
 fn leave_files<P: Place, V: View>(
     alloc: Global,
     words: &[Text],
@@ -44,14 +51,24 @@ fn leave_files<P: Place, V: View>(
     place: &mut P,
     files: &[(RelativePath, Bytes)],
 ) -> Result<(), Fault>
-    ensures files { IsTrue V.tells → IsTrue P.tells → OnOk result (files.now ≡ (answered words.now [] (V.shown view.now)).files → P.world place.new ≡ put_reply (out_folder words.now (V.shown view.now)) files.now (P.world place.old)) }
-    ensures whole { OnOk result ((folder : Option (List ℕ)) × (files.now ≡ (answered words.now [] (V.shown view.now)).files → IsFolder V.tells words.now (V.shown view.now) folder)
-        × PutsIn P.tells folder files.now (kept (P.world place.old) (P.counts place.old)) (kept (P.world place.new) (P.counts place.new))) }
-    ensures read { IfErr result (λ e. e ≡ Fault.Read → V.fails view.now × (place.new ≡ place.old)) }
-    ensures write { IfErr result (λ e. e ≡ Fault.Write → (folder : List ℕ) × (files.now ≡ (answered words.now [] (V.shown view.now)).files → IsFolder V.tells words.now (V.shown view.now) (Some folder))
-        × FailsToPut P.tells folder files.now (kept (P.world place.old) (P.counts place.old)) (kept (P.world place.new) (P.counts place.new))) }
-    ensures memory { IfErr result (λ e. e ≡ Fault.OutOfMemory → (place.new ≡ place.old) ⊎ ((folder : List ℕ) × (files.now ≡ (answered words.now [] (V.shown view.now)).files → IsFolder V.tells words.now (V.shown view.now) (Some folder))
-        × StopsPutting P.tells folder files.now (kept (P.world place.old) (P.counts place.old)) (kept (P.world place.new) (P.counts place.new)))) }
+    // All files are put in the out folder, or nowhere if there is none.
+    ensures files { IsTrue V.tells → IsTrue P.tells → OnOk result
+        (files.now ≡ (answered words.now [] (V.shown view.now)).files → (P.at place.new).world
+        ≡ put_reply (out_folder words.now (V.shown view.now)) files.now (P.at place.old).world) }
+    ensures whole { OnOk result ((folder : Option (List ℕ))
+        × IsFolderOf V.tells words.now (V.shown view.now) files.now folder
+        × PutsIn P.tells folder files.now (kept (P.at place.old)) (kept (P.at place.new))) }
+
+    // Why it fails.
+    ensures read { IfErr result (λ e. e ≡ Fault.Read → V.fails view.now
+        × (place.new ≡ place.old)) }
+    ensures write { IfErr result (λ e. e ≡ Fault.Write → (folder : List ℕ)
+        × IsFolderOf V.tells words.now (V.shown view.now) files.now (Some folder)
+        × FailsToPut P.tells folder files.now (kept (P.at place.old)) (kept (P.at place.new))) }
+    ensures memory { IfErr result (λ e. e ≡ Fault.OutOfMemory → (place.new ≡ place.old)
+        ⊎ ((folder : List ℕ)
+        × IsFolderOf V.tells words.now (V.shown view.now) files.now (Some folder)
+        × StopsPutting P.tells folder files.now (kept (P.at place.old)) (kept (P.at place.new)))) }
 {
     if files.is_empty() {
         return Ok(());
@@ -62,11 +79,13 @@ fn leave_files<P: Place, V: View>(
     Ok(())
 }
 
-/// Answers to words as the small compiler does: leaves the files of the reply in its out folder, writes its two
-/// streams, and gives its status.
+/// Answers words as the small compiler does, and returns the status of its reply. It leaves the files of the reply in
+/// its out folder, and then writes its two streams. It writes nothing after a failure; what it wrote before stays.
 ///
-/// Read where the view fails, and then nothing is written; Write where a file or a stream cannot be written. What was
-/// written before stays, and nothing is written behind a failure.
+/// Errors:
+/// - `Read`: the view failed. Then nothing was written.
+/// - `Write`: a file or a stream could not be written.
+/// - `OutOfMemory`: memory was refused, before the streams were written.
 pub fn carry_out<V: View, P: Place, O: Out, E: Out>(
     alloc: Global,
     words: &[Text],
@@ -75,20 +94,36 @@ pub fn carry_out<V: View, P: Place, O: Out, E: Out>(
     out: &mut O,
     err: &mut E,
 ) -> Result<i32, Fault>
-    ensures status { IsTrue V.tells → IfOk result (λ status. status ≡ (answered words.now [] (V.shown view.now)).status) }
-    ensures stdout { IsTrue V.tells → OnOk result (Appends (O.taken out.old) (O.taken out.new) (answered words.now [] (V.shown view.now)).stdout) }
-    ensures stderr { IsTrue V.tells → OnOk result (Appends (E.taken err.old) (E.taken err.new) (answered words.now [] (V.shown view.now)).stderr) }
-    ensures files { IsTrue V.tells → IsTrue P.tells → OnOk result (P.world place.new ≡ put_reply (out_folder words.now (V.shown view.now)) (answered words.now [] (V.shown view.now)).files (P.world place.old)) }
-    ensures whole { IfOk result (λ status. (reply : Reply) × IsReply V.tells words.now (V.shown view.now) reply × (status ≡ reply.status) × WritesAll V.tells P.tells words.now (V.shown view.now) reply
-        (outside (P.world place.old) (P.counts place.old) (O.taken out.old) (O.faults out.old) (E.taken err.old) (E.faults err.old))
-        (outside (P.world place.new) (P.counts place.new) (O.taken out.new) (O.faults out.new) (E.taken err.new) (E.faults err.new))) }
-    ensures read { IfErr result (λ e. e ≡ Fault.Read → V.fails view.now × (place.new ≡ place.old) × (out.new ≡ out.old) × (err.new ≡ err.old)) }
-    ensures write { IfErr result (λ e. e ≡ Fault.Write → (reply : Reply) × IsReply V.tells words.now (V.shown view.now) reply × WriteFails V.tells P.tells words.now (V.shown view.now) reply
-        (outside (P.world place.old) (P.counts place.old) (O.taken out.old) (O.faults out.old) (E.taken err.old) (E.faults err.old))
-        (outside (P.world place.new) (P.counts place.new) (O.taken out.new) (O.faults out.new) (E.taken err.new) (E.faults err.new))) }
-    ensures memory { IfErr result (λ e. e ≡ Fault.OutOfMemory → MemoryEnds V.tells P.tells words.now (V.shown view.now)
-        (outside (P.world place.old) (P.counts place.old) (O.taken out.old) (O.faults out.old) (E.taken err.old) (E.faults err.old))
-        (outside (P.world place.new) (P.counts place.new) (O.taken out.new) (O.faults out.new) (E.taken err.new) (E.faults err.new))) }
+    // Over a view that tells what it shows, and a place that tells its maps.
+    ensures status { IsTrue V.tells → IfOk result
+        (λ status. status ≡ (answered words.now [] (V.shown view.now)).status) }
+    ensures stdout { IsTrue V.tells → OnOk result (Appends (O.heard out.old).taken
+        (O.heard out.new).taken (answered words.now [] (V.shown view.now)).stdout) }
+    ensures stderr { IsTrue V.tells → OnOk result (Appends (E.heard err.old).taken
+        (E.heard err.new).taken (answered words.now [] (V.shown view.now)).stderr) }
+    ensures files { IsTrue V.tells → IsTrue P.tells → OnOk result ((P.at place.new).world
+        ≡ put_reply (out_folder words.now (V.shown view.now))
+        (answered words.now [] (V.shown view.now)).files (P.at place.old).world) }
+
+    // Over any: the files, the output and standard error of one reply are written, in this order.
+    ensures whole { IfOk result (λ status. (reply : Reply)
+        × IsReply V.tells words.now (V.shown view.now) reply × (status ≡ reply.status)
+        × WritesAll V.tells P.tells words.now (V.shown view.now) reply
+        (outside (P.at place.old) (O.heard out.old) (E.heard err.old))
+        (outside (P.at place.new) (O.heard out.new) (E.heard err.new))) }
+
+    // Why it fails.
+    ensures read { IfErr result (λ e. e ≡ Fault.Read → V.fails view.now
+        × (place.new ≡ place.old) × (out.new ≡ out.old) × (err.new ≡ err.old)) }
+    ensures write { IfErr result (λ e. e ≡ Fault.Write → (reply : Reply)
+        × IsReply V.tells words.now (V.shown view.now) reply
+        × WriteFails V.tells P.tells words.now (V.shown view.now) reply
+        (outside (P.at place.old) (O.heard out.old) (E.heard err.old))
+        (outside (P.at place.new) (O.heard out.new) (E.heard err.new))) }
+    ensures memory { IfErr result (λ e. e ≡ Fault.OutOfMemory
+        → MemoryEnds V.tells P.tells words.now (V.shown view.now)
+        (outside (P.at place.old) (O.heard out.old) (E.heard err.old))
+        (outside (P.at place.new) (O.heard out.new) (E.heard err.new))) }
 {
     let reply = answer(alloc, words, &[], view)?;
     leave_files(alloc, words, view, place, reply.files.as_slice())?;

@@ -1,5 +1,5 @@
 -- The small compiler is an honest child of a build with these words; so the headline has no premise on the child.
-use Rattle.std.proofs.Common.{◌≡◌, inl, inr, ℕ, true, List, [], ◌∷◌, Some, take, Result, refl, sym, subst}
+use Rattle.std.proofs.Common.{◌⊎◌, ◌≡◌, inl, inr, ℕ, true, List, [], ◌∷◌, Some, take, Result, refl, sym, subst}
 use Rattle.pb_answer.specs.declared.bad_unit.BadUnit.{BadUnit}
 use Rattle.pb_answer.specs.declared.fault.BuildFault.{BuildFault}
 use Rattle.pb_answer.specs.declared.summary.Summary.{Summary}
@@ -16,16 +16,15 @@ use Rattle.pb_run.specs.Halves.{OnRecords, command_in, basis}
 use Rattle.pb_run.specs.Outcome.{directives_of, outcomes}
 use Rattle.pb_session.specs.declared.step.SessionStep.{SessionStep}
 use Rattle.pb_session.specs.declared.step.SessionStep.TheVariants.{Write, Remove, Set, Unset, Build, Die, Fuse}
-use Rattle.pb_record.specs.Parts.{IsReading}
-use Rattle.pb_soundness.specs.Records.{Reading}
+use Rattle.pb_soundness.specs.Records.{reading}
 use Rattle.pb_soundness.specs.Sound.{Sound}
-use Rattle.pb_turns.specs.Moments.{Moment}
+use Rattle.pb_turns.specs.Crew.{Moment}
 use Rattle.pb_unit.specs.Plan.{IsPlan}
 use Rattle.pb_unit.specs.declared.plan.Planned.{Planned}
 use Rattle.pb_workspace.proofs.Accepted.{target_kept}
 use Rattle.pb_build.specs.Environment.{environment_of}
-use Rattle.pb_build.specs.Headline.{records_of, ByTurns, Gives, Headline}
-use Rattle.pb_build.specs.Lasting.{AnyBuildGives, SparingCourse, Spares}
+use Rattle.pb_build.specs.Headline.{records_of, IsHonestBuild, ByTurns, Gives, Headline}
+use Rattle.pb_build.specs.Lasting.{AnyBuildGives, ShareNoPath, SparingCourse, Spares}
 use Rattle.pb_build.specs.Planning.{IsProject}
 use Rattle.pb_build.specs.Result.{setup_of}
 use Rattle.pb_build.specs.Session.{Point}
@@ -59,20 +58,20 @@ module _ (options : Options) (w : World) (small : IsSmallBuild options w) (proje
   }
 
 pub small_builds_are_honest : SmallBuildsAreHonest
-small_builds_are_honest options w small read units place u v at alike seen =
+small_builds_are_honest options w small units place u v at alike seen =
     small_compiler_is_honest (setup_of options (environment_of options w.variables) units.toolchain) units.project u
     (directives_of (take place (outcomes small_compiler (setup_of options (environment_of options w.variables) units.toolchain) units.project (from_nothing (environment_of options w.variables).target w)))) v
     (small.setup units.toolchain) (of_project options w small units.project units.is place u at)
-    (subst (CanTell (command_in (basis OnRecords read small_compiler (setup_of options (environment_of options w.variables) units.toolchain) units.project (from_nothing (environment_of options w.variables).target w)) place u)) (sym seen)
+    (subst (CanTell (command_in (basis OnRecords small_compiler (setup_of options (environment_of options w.variables) units.toolchain) units.project (from_nothing (environment_of options w.variables).target w)) place u)) (sym seen)
     (small.tells units.project units.toolchain units.is units.says place u at))
 
 -- whatever the schedule
-pub small_gives : (Schedule : Project → List (Event BadUnit) → Type 0) (read : Reading) (options : Options) (result : Result Summary BuildFault) (old new : Moment) → IsReading read → Headline true small_compiler Schedule options result old new
-    → IsSmallBuild options old.world → Sound read judge small_compiler (records_of options old.world.variables) old.world.files → Gives OnRecords read small_compiler Schedule options result old new
-small_gives Schedule read options result old new reading headline small sound = headline refl OnRecords read reading (sound, small_builds_are_honest options old.world small)
+pub small_gives : (Schedule : Project → List (Event BadUnit) → Type 0) (options : Options) (result : Result Summary BuildFault) (old new : Moment) → Headline true small_compiler Schedule options result old new
+    → IsSmallBuild options old.world → Sound reading judge small_compiler (records_of options old.world.variables) old.world.files → Gives OnRecords small_compiler Schedule options result old new
+small_gives Schedule options result old new headline small sound = headline refl OnRecords (sound, small_builds_are_honest options old.world small)
 
 pub small_builds_give : {S : Type 0} (Turns : S → List ℕ → List ℕ → Step → S → Type 0) → SmallBuildsGive Turns
-small_builds_give Turns read from options result old new = small_gives (ByTurns Turns from) read options result old new
+small_builds_give Turns from options result old new = small_gives (ByTurns Turns from) options result old new
 
 -- sessions
 spares : (folder : List ℕ) (step : SessionStep) (w : World) → SparesBySmall folder step w → Spares small_compiler folder step w
@@ -82,8 +81,11 @@ spares folder (Set name value) w is = is
 spares folder (Unset name) w is = is
 spares folder (Die key death) w is = is
 spares folder (Fuse number) w is = is
-spares folder (Build options pick) w (small, inl own) = inl (own, small_builds_are_honest options w small)
-spares folder (Build options pick) w (small, inr apart) = inr apart
+spares folder (Build options pick) w is = λ units. by (is units)
+  where
+    by : (IsSmallBuild options w × (records_of options w.variables ≡ folder)) ⊎ ShareNoPath folder (records_of options w.variables) → ((records_of options w.variables ≡ folder) × IsHonestBuild small_compiler options w) ⊎ ShareNoPath folder (records_of options w.variables)
+    by (inl (small, own)) = inl (own, small_builds_are_honest options w small)
+    by (inr apart) = inr apart
 
 course : (folder : List ℕ) (steps : List SessionStep) (before after : Point) → SmallCourse folder steps before after → SparingCourse small_compiler folder steps before after
 course folder [] before after is = is
@@ -92,5 +94,5 @@ course folder (step ∷ steps) before after (spared, (mid, takes, rest)) = (spar
 -- over the law of sessions with any child
 module _ (any_build_gives : AnyBuildGives) where
   pub small_sessions_give : SmallSessionsGive
-  small_sessions_give read options pick steps before mid after reading sound taken small takes =
-      any_build_gives read small_compiler options pick steps before mid after reading (course (records_of options mid.moment.world.variables) steps before mid taken) sound (small_builds_are_honest options mid.moment.world small) takes
+  small_sessions_give options pick steps before mid after sound taken small takes =
+      any_build_gives small_compiler options pick steps before mid after (course (records_of options mid.moment.world.variables) steps before mid taken) sound (small_builds_are_honest options mid.moment.world small) takes

@@ -27,13 +27,12 @@ use Rattle.pb_session.specs.declared.fault.BadSession.TheVariants.{BadForm}
 use Rattle.pb_session.specs.declared.step.SessionStep.{SessionStep}
 use Rattle.pb_session.specs.declared.step.SessionStep.TheVariants.{Write, Remove, Set, Unset, Build, Die, Fuse}
 use Rattle.pb_soundness.specs.Sound.{Sound}
-use Rattle.pb_record.specs.Parts.{IsReading}
 use Rattle.pb_profile.specs.Line.{folder_of}
 use Rattle.pb_command.specs.Judge.{judge}
 use Rattle.std.proofs.lemmas.Bool.{false≢true}
-use Rattle.pb_soundness.specs.Records.{Reading, if_of_key, is_key, place_of, read_text, record_at}
+use Rattle.pb_soundness.specs.Records.{if_of_key, is_key, place_of, read_text, reading, record_at}
 use Rattle.pb_workspace.proofs.FoldersPut.{opened}
-use Rattle.pb_turns.specs.Moments.{Moment}
+use Rattle.pb_turns.specs.Crew.{Moment}
 use Rattle.pb_build.specs.Headline.{IsHonestBuild, records_of}
 use Rattle.pb_build.specs.Lasting.{NothingIsSound, RecordsStayTrue, ShareNoPath, Spares}
 use Rattle.pb_build.specs.Session.{Course, Point, Carries, ByPicked}
@@ -205,10 +204,10 @@ module _ (target : List ℕ) where
   folder_is : (options : Options) (w : World) → IsToldBuild target options w → records_of options w.variables ≡ below target (folder_of options.profile)
   folder_is options w told = ap (λ t. below t (folder_of options.profile)) told.one_target
 
-  module _ (read : Reading) (reading : IsReading read) (records_stay_true : RecordsStayTrue) where
+  module _ (records_stay_true : RecordsStayTrue) where
     -- the records of every profile are true
     abbrev AllSound : World → Type 0
-    AllSound w = (name : List ℕ) → Named name → Sound read judge small_compiler (below target name) w.files
+    AllSound w = (name : List ℕ) → Named name → Sound reading judge small_compiler (below target name) w.files
 
     spares_so : (name : List ℕ) (step : SessionStep) (w : World) → Named name → HasWords step → SourcesAt w → IsToldStep target step w → Spares small_compiler (below target name) step w
     spares_so name (Write path text) w named words files told = outside_within target (below target name) path (lies_within target name named) told
@@ -218,7 +217,7 @@ module _ (target : List ℕ) where
     spares_so name (Unset n) w named words files told = tt
     spares_so name (Die key death) w named words files told = tt
     spares_so name (Fuse number) w named words files told = tt
-    spares_so name (Build options pick) w named words files told = by (bytes_eq (folder_of options.profile) name) refl
+    spares_so name (Build options pick) w named words files told = λ units. by (bytes_eq (folder_of options.profile) name) refl
       where
         by : (b : Bool) → bytes_eq (folder_of options.profile) name ≡ b → ((records_of options w.variables ≡ below target name) × IsHonestBuild small_compiler options w) ⊎ ShareNoPath (below target name) (records_of options w.variables)
         by true same = inl (folder_is options w told ∙ ap (below target) ((bytes_eq-Decides (folder_of options.profile) name).0 same), small_builds_are_honest options w (small_of options w words.0 words.1 files told))
@@ -228,9 +227,9 @@ module _ (target : List ℕ) where
 
     all_sound : (step : SessionStep) (before after : Point) → HasWords step → SourcesAt before.moment.world → IsToldStep target step before.moment.world → Carries small_compiler step before after → AllSound before.moment.world → AllSound after.moment.world
     all_sound step before after words files told takes sound name named =
-        records_stay_true read small_compiler (below target name) (step ∷ []) before after reading (spares_so name step before.moment.world named words files told, (after, takes, refl)) (sound name named)
+        records_stay_true small_compiler (below target name) (step ∷ []) before after (spares_so name step before.moment.world named words files told, (after, takes, refl)) (sound name named)
 
-    step_gives : (step : SessionStep) (before after : Point) → HasWords step → SourcesAt before.moment.world → IsToldStep target step before.moment.world → (taken : Carries small_compiler step before after) → AllSound before.moment.world → StepGives read step before after taken
+    step_gives : (step : SessionStep) (before after : Point) → HasWords step → SourcesAt before.moment.world → IsToldStep target step before.moment.world → (taken : Carries small_compiler step before after) → AllSound before.moment.world → StepGives step before after taken
     step_gives (Write path text) before after words files told takes sound = tt
     step_gives (Remove path) before after words files told takes sound = tt
     step_gives (Set name value) before after words files told takes sound = tt
@@ -238,11 +237,11 @@ module _ (target : List ℕ) where
     step_gives (Die key death) before after words files told takes sound = tt
     step_gives (Fuse number) before after words files told takes sound = tt
     step_gives (Build options pick) before after words files told built sound =
-        small_gives (ByPicked pick options) read options built.answer.result before.moment built.ended reading built.headline (small_of options before.moment.world words.0 words.1 files told)
-        (subst (λ folder. Sound read judge small_compiler folder before.moment.world.files) (sym (folder_is options before.moment.world told)) (sound (folder_of options.profile) (profile_named options.profile told.profile)))
+        small_gives (ByPicked pick options) options built.answer.result before.moment built.ended built.headline (small_of options before.moment.world words.0 words.1 files told)
+        (subst (λ folder. Sound reading judge small_compiler folder before.moment.world.files) (sym (folder_is options before.moment.world told)) (sound (folder_of options.profile) (profile_named options.profile told.profile)))
 
     all_give : (steps : List SessionStep) (before after : Point) (course : Course small_compiler steps before after) → AllByRecursion HasWords steps → SourcesAt before.moment.world → AllSound before.moment.world
-        → AllTold target steps before after course → AllGive read steps before after course
+        → AllTold target steps before after course → AllGive steps before after course
     all_give [] before after course words files sound told = tt
     all_give (step ∷ steps) before after course words files sound told = (
       step_gives step before course.0 words.0 files told.0 course.1 sound,
@@ -250,12 +249,12 @@ module _ (target : List ℕ) where
     )
 
 -- where no file is, no text counts as a record, and all files have paths
-none_at : (read : Reading) (folder key : List ℕ) → record_at read folder finite.empty key ≡ None
+none_at : (folder key : List ℕ) → record_at reading folder finite.empty key ≡ None
 unfolding record_at
-none_at read folder key = by (is_key key)
+none_at folder key = by (is_key key)
   where
-    by : (b : Bool) → (if b then if_of_key key (read_text read (finite.get (finite.empty {K = List ℕ} {X = List ℕ} {R = slice_cmp nat_cmp}) (place_of folder key))) else None) ≡ None
-    by true = ap (λ o. if_of_key key (read_text read o)) (get-empty (slice_cmp nat_cmp) (place_of folder key))
+    by : (b : Bool) → (if b then if_of_key key (read_text reading (finite.get (finite.empty {K = List ℕ} {X = List ℕ} {R = slice_cmp nat_cmp}) (place_of folder key))) else None) ≡ None
+    by true = ap (λ o. if_of_key key (read_text reading o)) (get-empty (slice_cmp nat_cmp) (place_of folder key))
     by false = refl
 
 no_files : (target : List ℕ) (w : World) → w.files ≡ finite.empty → SourcesAt target w
@@ -269,6 +268,6 @@ no_files target w empty path text is =
 
 module _ (records_stay_true : RecordsStayTrue) (nothing_is_sound : NothingIsSound) where
   pub session_files_give : SessionFilesGive
-  session_files_give read bytes target steps before after reading said empty course told =
-      all_give target read reading records_stay_true steps before after course (session_has bytes steps said) (no_files target before.moment.world empty)
-      (λ name named. nothing_is_sound read small_compiler (below target name) before.moment.world.files (λ key. ap (λ files. record_at read (below target name) files key) empty ∙ none_at read (below target name) key)) told
+  session_files_give bytes target steps before after said empty course told =
+      all_give target records_stay_true steps before after course (session_has bytes steps said) (no_files target before.moment.world empty)
+      (λ name named. nothing_is_sound small_compiler (below target name) before.moment.world.files (λ key. ap (λ files. record_at reading (below target name) files key) empty ∙ none_at (below target name) key)) told

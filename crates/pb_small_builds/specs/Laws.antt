@@ -8,14 +8,13 @@ use Rattle.pb_flight.specs.declared.turn.Step.{Step}
 use Rattle.pb_honesty.specs.Honest.{small_compiler}
 use Rattle.pb_package.specs.declared.options.Options.{Options}
 use Rattle.pb_place.specs.World.{World}
-use Rattle.pb_record.specs.Parts.{IsReading}
 use Rattle.pb_run.specs.Halves.{OnRecords}
 use Rattle.pb_session.specs.Sessions.{session_of}
 use Rattle.pb_session.specs.declared.pick.PickBy.{PickBy}
 use Rattle.pb_session.specs.declared.step.SessionStep.{SessionStep}
-use Rattle.pb_soundness.specs.Records.{Reading}
+use Rattle.pb_soundness.specs.Records.{reading}
 use Rattle.pb_soundness.specs.Sound.{Sound}
-use Rattle.pb_turns.specs.Moments.{Moment}
+use Rattle.pb_turns.specs.Crew.{Moment}
 use Rattle.pb_build.specs.Headline.{records_of, IsHonestBuild, ByTurns, Gives, Headline}
 use Rattle.pb_build.specs.Session.{Point, CarriesBuild, Course, ByPicked}
 use Rattle.pb_small_builds.specs.Small.{AllGive, AllTold, IsSmallBuild, SmallCourse}
@@ -26,16 +25,16 @@ SmallBuildsAreHonest = (options : Options) (w : World) → IsSmallBuild options 
 
 -- Over a place that tells its maps and whose child is the small compiler, a build with these words that rests on true records gives what the present workspace gives from nothing, however it ends.
 abbrev pub SmallBuildsGive : {S : Type 0} → (S → List ℕ → List ℕ → Step → S → Type 0) → Type 0
-SmallBuildsGive {S} Turns = (read : Reading) (from : S) (options : Options) (result : Result Summary BuildFault) (old new : Moment) → IsReading read → Headline true small_compiler (ByTurns Turns from) options result old new
-    → IsSmallBuild options old.world → Sound read judge small_compiler (records_of options old.world.variables) old.world.files → Gives OnRecords read small_compiler (ByTurns Turns from) options result old new
+SmallBuildsGive {S} Turns = (from : S) (options : Options) (result : Result Summary BuildFault) (old new : Moment) → Headline true small_compiler (ByTurns Turns from) options result old new
+    → IsSmallBuild options old.world → Sound reading judge small_compiler (records_of options old.world.variables) old.world.files → Gives OnRecords small_compiler (ByTurns Turns from) options result old new
 
 -- Any edits outside of the folder of its records, any such builds between: a build of a session with the small compiler gives it too, where the records of that folder were true before the steps.
 abbrev pub SmallSessionsGive : Type 0
-SmallSessionsGive = (read : Reading) (options : Options) (pick : PickBy) (steps : List SessionStep) (before mid after : Point) → IsReading read
-    → Sound read judge small_compiler (records_of options mid.moment.world.variables) before.moment.world.files → SmallCourse (records_of options mid.moment.world.variables) steps before mid
-    → IsSmallBuild options mid.moment.world → (built : CarriesBuild small_compiler options pick mid after) → Gives OnRecords read small_compiler (ByPicked pick options) options built.answer.result mid.moment built.ended
+SmallSessionsGive = (options : Options) (pick : PickBy) (steps : List SessionStep) (before mid after : Point)
+    → Sound reading judge small_compiler (records_of options mid.moment.world.variables) before.moment.world.files → SmallCourse (records_of options mid.moment.world.variables) steps before mid
+    → IsSmallBuild options mid.moment.world → (built : CarriesBuild small_compiler options pick mid after) → Gives OnRecords small_compiler (ByPicked pick options) options built.answer.result mid.moment built.ended
 
 -- So does each build of a session file that begins without files, of which no more is asked than the file leaves open.
 abbrev pub SessionFilesGive : Type 0
-SessionFilesGive = (read : Reading) (bytes target : List ℕ) (steps : List SessionStep) (before after : Point) → IsReading read → session_of bytes ≡ Ok steps → before.moment.world.files ≡ finite.empty
-    → (course : Course small_compiler steps before after) → AllTold target steps before after course → AllGive read steps before after course
+SessionFilesGive = (bytes target : List ℕ) (steps : List SessionStep) (before after : Point) → session_of bytes ≡ Ok steps → before.moment.world.files ≡ finite.empty
+    → (course : Course small_compiler steps before after) → AllTold target steps before after course → AllGive steps before after course

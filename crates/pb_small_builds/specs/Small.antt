@@ -13,10 +13,9 @@ use Rattle.pb_run.specs.Halves.{OnRecords}
 use Rattle.pb_run.specs.Outcome.{outcomes, command_after, view_of}
 use Rattle.pb_session.specs.declared.step.SessionStep.{SessionStep}
 use Rattle.pb_session.specs.declared.step.SessionStep.TheVariants.{Write, Remove, Build}
-use Rattle.pb_soundness.specs.Records.{Reading}
 use Rattle.pb_unit.specs.declared.plan.Planned.{Planned}
 use Rattle.pb_build.specs.Environment.{environment_of}
-use Rattle.pb_build.specs.Headline.{records_of, Gives}
+use Rattle.pb_build.specs.Headline.{records_of, UnitsOf, Gives}
 use Rattle.pb_build.specs.Lasting.{ShareNoPath, Spares}
 use Rattle.pb_build.specs.Planning.{IsProject}
 use Rattle.pb_build.specs.Result.{toolchain_of, setup_of}
@@ -44,9 +43,9 @@ pub record IsSmallBuild (options : Options) (w : World) : Type 0 where
 
 -- Sessions.
 
--- a step spares the records of a folder: an edit that does; or a build with these words, that keeps its records there or apart from it
+-- a step spares the records of a folder: an edit that does; a build without units, one with these words that keeps its records there, or one that keeps them apart
 abbrev pub SparesBySmall : List ℕ → SessionStep → World → Type 0
-SparesBySmall folder (Build options pick) w = IsSmallBuild options w × ((records_of options w.variables ≡ folder) ⊎ ShareNoPath folder (records_of options w.variables))
+SparesBySmall folder (Build options pick) w = UnitsOf small_compiler options w → (IsSmallBuild options w × (records_of options w.variables ≡ folder)) ⊎ ShareNoPath folder (records_of options w.variables)
 SparesBySmall folder step w = Spares small_compiler folder step w
 
 -- the steps were taken in turn, and each spares the records of a folder
@@ -76,11 +75,11 @@ AllTold target [] before after course = ⊤
 AllTold target (step ∷ steps) before after course = IsToldStep target step before.moment.world × AllTold target steps course.0 after course.2
 
 -- a build among the steps gives what the workspace of that time gives from nothing, or a fault with the first of its lines
-abbrev pub StepGives : (read : Reading) (step : SessionStep) (before after : Point) → Carries small_compiler step before after → Type 0
-StepGives read (Build options pick) before after built = Gives OnRecords read small_compiler (ByPicked pick options) options built.answer.result before.moment built.ended
-StepGives read step before after taken = ⊤
+abbrev pub StepGives : (step : SessionStep) (before after : Point) → Carries small_compiler step before after → Type 0
+StepGives (Build options pick) before after built = Gives OnRecords small_compiler (ByPicked pick options) options built.answer.result before.moment built.ended
+StepGives step before after taken = ⊤
 
 -- and so does each
-abbrev pub AllGive : (read : Reading) (steps : List SessionStep) (before after : Point) → Course small_compiler steps before after → Type 0
-AllGive read [] before after course = ⊤
-AllGive read (step ∷ steps) before after course = StepGives read step before course.0 course.1 × AllGive read steps course.0 after course.2
+abbrev pub AllGive : (steps : List SessionStep) (before after : Point) → Course small_compiler steps before after → Type 0
+AllGive [] before after course = ⊤
+AllGive (step ∷ steps) before after course = StepGives step before course.0 course.1 × AllGive steps course.0 after course.2

@@ -8,7 +8,7 @@ use Rattle.pb_record.specs.declared.record.Needed.TheVariants.{Copies, Numbers}
 use Rattle.pb_record.specs.declared.record.Record.{Record}
 use Rattle.pb_soundness.specs.Grounded.{Standing}
 use Rattle.pb_soundness.specs.Inputs.{Agrees, name_of}
-use Rattle.pb_soundness.specs.Records.{record_at}
+use Rattle.pb_soundness.specs.Records.{records}
 use Rattle.pb_record.specs.Commands.{command_of}
 use Rattle.pb_store.specs.Asking.{SamePart, parts}
 use Rattle.pb_store.specs.Differences.{FirstNeed, FirstOf, HasFiles, HasNumber, IsFirst, IsPresent}
@@ -70,4 +70,4 @@ module _ (folder : List ℕ) (at : Standing) (c : commands.Command) (w : World) 
   back _ _ (words.copied r same inputs copies is key first) = (same, inputs, subst (λ needed. FirstNeed folder at w.files needed key) (sym is) (from_first (HasFiles folder w.files) (λ copy. copy.0) copies key first))
 
 pub differences_are_these : DifferencesAreThese
-differences_are_these read folder key c w found = (only folder (record_at read folder w.files) c w (record_at read folder w.files key) found, back folder (record_at read folder w.files) c w (record_at read folder w.files key) found)
+differences_are_these folder key c w found = (only folder (records folder w) c w (records folder w key) found, back folder (records folder w) c w (records folder w key) found)

@@ -7,6 +7,7 @@ use Rattle.std.proofs.lemmas.Cmp.{nat_list_cmp_total}
 use Rattle.std.proofs.lemmas.Map.Text.{is_eq-slice_cmp}
 use Rattle.std.proofs.lemmas.Slice.Eq.{bytes_eq-Decides}
 use Rattle.pb_command.specs.Command as present
+use Rattle.pb_record.proofs.ReadingLemmas.{reading_reads}
 use Rattle.pb_record.specs.Sorted.{are_sorted}
 use Rattle.pb_run.proofs.Kept.{pairs_sorted}
 use Rattle.pb_store.proofs.Names.{first_is_first, is_name, no_name}
@@ -41,8 +42,8 @@ module _ (row other : Pairs) (name : List ℕ) (sorted : are_sorted row ≡ true
       subst (IsFirstName row other) (one_least row other second name (first_is_first row other second sorted too first) least) first
 
 pub name_is_least : FirstNameIsLeast
-name_is_least read text r setup project u done name reads told =
+name_is_least text r setup project u done name told =
     let c = present.command_of setup project u done in
-    let sorted = ((reads text r).0 told).is.asked.pairs.1 in
+    let sorted = ((reading_reads text r).0 told).is.asked.pairs.1 in
     let too = pairs_sorted project u c (setup, done, refl) in
     (first_is_first r.asked.pairs c.pairs name sorted too, λ least. by_found r.asked.pairs c.pairs name sorted too least (first_name r.asked.pairs c.pairs) refl)

@@ -11,10 +11,9 @@ use Rattle.pb_record.specs.declared.record.Needed.{Needed}
 use Rattle.pb_record.specs.declared.record.Needed.TheVariants.{Copies, Numbers}
 use Rattle.pb_record.specs.declared.record.Record.{Record}
 use Rattle.pb_soundness.specs.Numbers.{after}
-use Rattle.pb_soundness.specs.Records.{Reading, ends_as_record, if_of_key, is_key, number_in, number_of, place_of, read_text, record_at}
+use Rattle.pb_soundness.specs.Records.{Reading, reading, ends_as_record, if_of_key, is_key, number_in, number_of, place_of, read_text, record_at}
 use Rattle.pb_soundness.specs.Reuse.{number_if}
-use Rattle.pb_store.specs.Migrating.{lacks_number}
-use Rattle.pb_store.specs.Opening.{greatest_at, greatest_if, greatest_named}
+use Rattle.pb_store.specs.Folder.{lacks_number, greatest_at, greatest_if, greatest_named}
 use Rattle.pb_turn_laws.specs.Numbers.{NextIsAbove, RecordsAreNumbered, RecordsCount, numbers_at, numbers_in}
 
 -- the greatest of some numbers
@@ -42,30 +41,30 @@ greatest_is (Numbers number needs) =
     let least : max number (fold max 0 rest) ≡ max (max 0 number) (fold max 0 rest) = omega arith in
     ap (max number) (named 0 needs) ∙ least ∙ sym (from_some (max 0 number) rest)
 
-read_is : (read : Reading) (text : Option (List ℕ)) → greatest_if (read_text read text) ≡ fold max 0 (option_map_or (λ (r : Record). numbers_in r.needed) (option_and_then read text) [])
-read_is read None = refl
-read_is read (Some text) = by (read text)
+read_is : (text : Option (List ℕ)) → greatest_if (read_text reading text) ≡ fold max 0 (option_map_or (λ (r : Record). numbers_in r.needed) (option_and_then reading text) [])
+read_is None = refl
+read_is (Some text) = by (reading text)
   where
     by : (r : Option Record) → greatest_if r ≡ fold max 0 (option_map_or (λ (r : Record). numbers_in r.needed) r [])
     by None = refl
     by (Some r) = greatest_is r.needed
 
-at_is : (read : Reading) (files : Map) (path : List ℕ) → greatest_at read files path ≡ fold max 0 (numbers_at read files path)
-at_is read files path = by (ends_as_record path)
+at_is : (files : Map) (path : List ℕ) → greatest_at files path ≡ fold max 0 (numbers_at files path)
+at_is files path = by (ends_as_record path)
   where
-    by : (b : Bool) → (if b then greatest_if (read_text read (finite.get files path)) else 0) ≡ fold max 0 (if b then option_map_or (λ (r : Record). numbers_in r.needed) (option_and_then read (finite.get files path)) [] else [])
-    by true = read_is read (finite.get files path)
+    by : (b : Bool) → (if b then greatest_if (read_text reading (finite.get files path)) else 0) ≡ fold max 0 (if b then option_map_or (λ (r : Record). numbers_in r.needed) (option_and_then reading (finite.get files path)) [] else [])
+    by true = read_is (finite.get files path)
     by false = refl
 
-all_are : (read : Reading) (files : Map) (g : ℕ) (paths : List (List ℕ)) → fold (λ (g : ℕ) (path : List ℕ). max g (greatest_at read files path)) g paths ≡ fold max g (flat_map (numbers_at read files) paths)
-all_are read files g [] = refl
-all_are read files g (path ∷ paths) =
-    all_are read files (max g (greatest_at read files path)) paths
-    ∙ ap (λ n. fold max n (flat_map (numbers_at read files) paths)) (ap (max g) (at_is read files path) ∙ sym (from_some g (numbers_at read files path)))
-    ∙ sym (both g (numbers_at read files path) (flat_map (numbers_at read files) paths))
+all_are : (files : Map) (g : ℕ) (paths : List (List ℕ)) → fold (λ (g : ℕ) (path : List ℕ). max g (greatest_at files path)) g paths ≡ fold max g (flat_map (numbers_at files) paths)
+all_are files g [] = refl
+all_are files g (path ∷ paths) =
+    all_are files (max g (greatest_at files path)) paths
+    ∙ ap (λ n. fold max n (flat_map (numbers_at files) paths)) (ap (max g) (at_is files path) ∙ sym (from_some g (numbers_at files path)))
+    ∙ sym (both g (numbers_at files path) (flat_map (numbers_at files) paths))
 
 pub next_is_above : NextIsAbove
-next_is_above read folder w = ap after (all_are read w.files 0 (listed_directly folder w))
+next_is_above folder w = ap after (all_are w.files 0 (listed_directly folder w))
 
 own_is : (needed : Needed) → number_in needed ≡ slice_get (numbers_in needed) 0
 own_is (Copies copies) = refl
@@ -114,5 +113,5 @@ module _ (read : Reading) (key : List ℕ) (found : Option (List ℕ)) (r : Reco
 
 pub records_count : RecordsCount
 unfolding Counts record_at
-records_count read folder key files r =
-    (counts_only read key (finite.get files (place_of folder key)) r (is_key key) (finite.get files (place_of folder key)) refl, counts_back read key (finite.get files (place_of folder key)) r (is_key key))
+records_count folder key files r =
+    (counts_only reading key (finite.get files (place_of folder key)) r (is_key key) (finite.get files (place_of folder key)) refl, counts_back reading key (finite.get files (place_of folder key)) r (is_key key))

@@ -6,10 +6,9 @@ use Rattle.pb_place.specs.declared.command.Command.{Command}
 use Rattle.pb_project.specs.declared.project.Project.{Project}
 use Rattle.pb_project.specs.declared.project.Setup.{Setup}
 use Rattle.pb_record.specs.Commands.{AsksAs, command_of}
-use Rattle.pb_record.specs.Parts.{IsReading}
 use Rattle.pb_record.specs.declared.asked.Asked.{Asked}
 use Rattle.pb_record.specs.declared.record.Record.{Record}
-use Rattle.pb_soundness.specs.Records.{Reading}
+use Rattle.pb_soundness.specs.Records.{reading}
 use Rattle.pb_store.specs.Asking.{IsFirstName, IsLeastName, SamePart}
 use Rattle.pb_store.specs.declared.difference.CommandPart.{CommandPart}
 use Rattle.pb_unit.specs.declared.plan.Planned.{Planned}
@@ -24,5 +23,5 @@ AskedPartForPart = (a : Asked) (c : Command) → (AsksAs a c ↔ HasEachPart a c
 
 -- The first name at which the variables of a record that was read and those of a unit's command are not the same is, by bytes, the least of which they do not say the same, and no other name is: one whose texts differ, or that only one of them has.
 abbrev pub FirstNameIsLeast : Type 0
-FirstNameIsLeast = (read : Reading) (text : List ℕ) (r : Record) (setup : Setup) (project : Project) (u : Planned) (done : List (Option (List Directive))) (name : List ℕ) → IsReading read → read text ≡ Some r
+FirstNameIsLeast = (text : List ℕ) (r : Record) (setup : Setup) (project : Project) (u : Planned) (done : List (Option (List Directive))) (name : List ℕ) → reading text ≡ Some r
     → IsFirstName r.asked.pairs (present.command_of setup project u done).pairs name ↔ IsLeastName r.asked.pairs (present.command_of setup project u done).pairs name

@@ -9,7 +9,7 @@ use Rattle.pb_record.specs.declared.record.Needed.TheVariants.{Copies, Numbers}
 use Rattle.pb_record.specs.declared.record.Record.{Record}
 use Rattle.pb_soundness.specs.Grounded.{Standing}
 use Rattle.pb_soundness.specs.Inputs.{Agrees, name_of}
-use Rattle.pb_soundness.specs.Records.{Reading, record_at}
+use Rattle.pb_soundness.specs.Records.{records}
 use Rattle.pb_store.specs.Asking.{IsFirstName, SamePart, parts}
 use Rattle.pb_store.specs.Differences.{FirstDifference, HasFiles, HasNumber, IsAsRecorded, IsPresent}
 use Rattle.pb_store.specs.declared.difference.CommandPart.{CommandPart}
@@ -34,5 +34,5 @@ pub data Differs (folder : List ℕ) (at : Standing) (c : commands.Command) (w :
 
 -- This is the first difference of a unit, by the record that counts in its place and those of the units that it needs.
 abbrev pub DifferencesAreThese : Type 0
-DifferencesAreThese = (read : Reading) (folder key : List ℕ) (c : commands.Command) (w : World) (found : Option Difference)
-    → FirstDifference read folder key c w found ↔ Differs folder (record_at read folder w.files) c w (record_at read folder w.files key) found
+DifferencesAreThese = (folder key : List ℕ) (c : commands.Command) (w : World) (found : Option Difference)
+    → FirstDifference folder key c w found ↔ Differs folder (records folder w) c w (records folder w key) found

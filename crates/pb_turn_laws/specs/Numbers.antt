@@ -8,10 +8,9 @@ use Rattle.pb_record.specs.declared.record.Needed.{Needed}
 use Rattle.pb_record.specs.declared.record.Needed.TheVariants.{Copies, Numbers}
 use Rattle.pb_record.specs.declared.record.Record.{Record}
 use Rattle.pb_soundness.specs.Numbers.{after}
-use Rattle.pb_soundness.specs.Records.{Reading, ends_as_record, is_key, number_of, place_of, record_at}
+use Rattle.pb_soundness.specs.Records.{reading, ends_as_record, is_key, number_of, place_of, record_at}
 use Rattle.pb_soundness.specs.Reuse.{number_if}
-use Rattle.pb_store.specs.Migrating.{lacks_number}
-use Rattle.pb_store.specs.Opening.{next_in}
+use Rattle.pb_store.specs.Folder.{lacks_number, next_in}
 
 -- the numbers that a record has and names
 abbrev pub numbers_in : Needed → List ℕ
@@ -24,14 +23,14 @@ RecordsAreNumbered = ((r : Record) → number_of r ≡ slice_get (numbers_in r.n
     × ((o : Option Record) → (number_if o ≡ option_and_then number_of o) × (lacks_number o ≡ option_map_or (λ r. is_none (number_of r)) o false))
 
 -- those of the record at a path, whatever its key is
-abbrev pub numbers_at : Reading → Map → List ℕ → List ℕ
-numbers_at read files path = if ends_as_record path then option_map_or (λ (r : Record). numbers_in r.needed) (option_and_then read (finite.get files path)) [] else []
+abbrev pub numbers_at : Map → List ℕ → List ℕ
+numbers_at files path = if ends_as_record path then option_map_or (λ (r : Record). numbers_in r.needed) (option_and_then reading (finite.get files path)) [] else []
 
 -- The next number is the one after the greatest that the records directly in a folder have and name, so 1 where there is none.
 abbrev pub NextIsAbove : Type 0
-NextIsAbove = (read : Reading) (folder : List ℕ) (w : World) → next_in read folder w ≡ after (fold max 0 (flat_map (numbers_at read w.files) (listed_directly folder w)))
+NextIsAbove = (folder : List ℕ) (w : World) → next_in folder w ≡ after (fold max 0 (flat_map (numbers_at w.files) (listed_directly folder w)))
 
 -- A record counts in the place of a key just where a text stands there that reads as it, and the key is its own.
 abbrev pub RecordsCount : Type 0
-RecordsCount = (read : Reading) (folder key : List ℕ) (files : Map) (r : Record)
-    → (record_at read folder files key ≡ Some r) ↔ ((text : List ℕ) × (finite.get files (place_of folder key) ≡ Some text) × (read text ≡ Some r) × (r.key ≡ key) × (is_key key ≡ true))
+RecordsCount = (folder key : List ℕ) (files : Map) (r : Record)
+    → (record_at reading folder files key ≡ Some r) ↔ ((text : List ℕ) × (finite.get files (place_of folder key) ≡ Some text) × (reading text ≡ Some r) × (r.key ≡ key) × (is_key key ≡ true))

@@ -13,8 +13,8 @@ returns-in_err-leave_files-clause-write g c =
       c.in_ok-reply.reply,
       c.in_ok-reply.ensures.reply,
       file_fails g.V.View.tells g.P.Place.tells c.args.words.now (g.V.View.shown c.args.view.now) c.in_ok-reply.reply c.as_slice.result.now
-          (outside (g.P.Place.world old) (g.P.Place.counts old) (g.O.Out.taken out) (g.O.Out.faults out) (g.E.Out.taken err) (g.E.Out.faults err))
-          (outside (g.P.Place.world new) (g.P.Place.counts new) (g.O.Out.taken out) (g.O.Out.faults out) (g.E.Out.taken err) (g.E.Out.faults err))
+          (outside (g.P.Place.at old) (g.O.Out.heard out) (g.E.Out.heard err))
+          (outside (g.P.Place.at new) (g.O.Out.heard out) (g.E.Out.heard err))
           c.in_ok-reply.ensures.reply c.as_slice.ensures refl refl (c.in_err-leave_files.ensures.write write),
     ))
 
@@ -26,8 +26,8 @@ returns-then-not-write_all-clause-write g c write =
       c.in_ok-reply.ensures.reply,
       inr (inl (
         files_put g.V.View.tells g.P.Place.tells c.args.words.now (g.V.View.shown c.args.view.now) c.in_ok-reply.reply c.as_slice.result.now
-            (kept (g.P.Place.world old) (g.P.Place.counts old)) (kept (g.P.Place.world new) (g.P.Place.counts new)) c.in_ok-reply.ensures.reply c.as_slice.ensures c.in_ok-leave_files.ensures.whole,
-        sink_fails c.as_slice-2.result.now c.in_ok-reply.reply.stdout record { taken = g.O.Out.taken c.args.out.now; faults = g.O.Out.faults c.args.out.now } record { taken = g.O.Out.taken c.write_all.new.out; faults = g.O.Out.faults c.write_all.new.out }
+            (kept (g.P.Place.at old)) (kept (g.P.Place.at new)) c.in_ok-reply.ensures.reply c.as_slice.ensures c.in_ok-leave_files.ensures.whole,
+        sink_fails c.as_slice-2.result.now c.in_ok-reply.reply.stdout (g.O.Out.heard c.args.out.now) (g.O.Out.heard c.write_all.new.out)
             c.as_slice-2.ensures (c.write_all.ensures.part (search rules)) (c.write_all.ensures.fault (search rules)),
         refl,
       )),
@@ -41,10 +41,10 @@ returns-then-not-write_all-2-clause-write g c write =
       c.in_ok-reply.ensures.reply,
       inr (inr (
         files_put g.V.View.tells g.P.Place.tells c.args.words.now (g.V.View.shown c.args.view.now) c.in_ok-reply.reply c.as_slice.result.now
-            (kept (g.P.Place.world old) (g.P.Place.counts old)) (kept (g.P.Place.world new) (g.P.Place.counts new)) c.in_ok-reply.ensures.reply c.as_slice.ensures c.in_ok-leave_files.ensures.whole,
-        sink_takes c.as_slice-2.result.now c.in_ok-reply.reply.stdout record { taken = g.O.Out.taken c.args.out.now; faults = g.O.Out.faults c.args.out.now } record { taken = g.O.Out.taken c.write_all.new.out; faults = g.O.Out.faults c.write_all.new.out }
+            (kept (g.P.Place.at old)) (kept (g.P.Place.at new)) c.in_ok-reply.ensures.reply c.as_slice.ensures c.in_ok-leave_files.ensures.whole,
+        sink_takes c.as_slice-2.result.now c.in_ok-reply.reply.stdout (g.O.Out.heard c.args.out.now) (g.O.Out.heard c.write_all.new.out)
             c.as_slice-2.ensures (c.write_all.ensures.all (search rules)) (c.write_all.ensures.whole (search rules)),
-        sink_fails c.as_slice-3.result.now c.in_ok-reply.reply.stderr record { taken = g.E.Out.taken c.args.err.now; faults = g.E.Out.faults c.args.err.now } record { taken = g.E.Out.taken c.write_all-2.new.out; faults = g.E.Out.faults c.write_all-2.new.out }
+        sink_fails c.as_slice-3.result.now c.in_ok-reply.reply.stderr (g.E.Out.heard c.args.err.now) (g.E.Out.heard c.write_all-2.new.out)
             c.as_slice-3.ensures (c.write_all-2.ensures.part (search rules)) (c.write_all-2.ensures.fault (search rules)),
       )),
     )

@@ -11,7 +11,7 @@ use Rattle.pb_mini_program.proofs.program.leave_files.Goals as goal
 pub returns-then-is_empty-clause-files : goal.returns-then-is_empty-clause-files
 returns-then-is_empty-clause-files g c = λ shown told is.
     let place = c.args.place.now in
-    (no_files g.P.Place.tells (out_folder c.args.words.now (g.V.View.shown c.args.view.now)) c.args.files.now (kept (g.P.Place.world place) (g.P.Place.counts place)) (sym c.is_empty.ensures ∙ c.if-is_empty.true)).1 told
+    (no_files g.P.Place.tells (out_folder c.args.words.now (g.V.View.shown c.args.view.now)) c.args.files.now (kept (g.P.Place.at place)) (sym c.is_empty.ensures ∙ c.if-is_empty.true)).1 told
 
 pub returns-then-is_empty-clause-whole : goal.returns-then-is_empty-clause-whole
 returns-then-is_empty-clause-whole g c =
@@ -19,12 +19,12 @@ returns-then-is_empty-clause-whole g c =
     let folder = out_folder c.args.words.now (g.V.View.shown c.args.view.now) in (
       folder,
       λ has shown. refl,
-      no_files g.P.Place.tells folder c.args.files.now (kept (g.P.Place.world place) (g.P.Place.counts place)) (sym c.is_empty.ensures ∙ c.if-is_empty.true),
+      no_files g.P.Place.tells folder c.args.files.now (kept (g.P.Place.at place)) (sym c.is_empty.ensures ∙ c.if-is_empty.true),
     )
 
 pub returns-in_ok-write_files-clause-files : goal.returns-in_ok-write_files-clause-files
 returns-in_ok-write_files-clause-files g c = λ shown told has.
-    c.in_ok-write_files.ensures.written told ∙ sym (ap (λ folder. put_reply folder c.args.files.now (g.P.Place.world c.args.place.now)) (
+    c.in_ok-write_files.ensures.written told ∙ sym (ap (λ folder. put_reply folder c.args.files.now (g.P.Place.at c.args.place.now).world) (
     found_is c.args.words.now (g.V.View.shown c.args.view.now) c.in_ok-folder.field-0 c.args.files.now c.in_ok-folder.ensures.compile (c.in_ok-folder.ensures.run shown)
     (sym c.is_empty.ensures ∙ c.if-is_empty.false) has ∙ c.in-Some.is))
 
@@ -38,7 +38,7 @@ returns-in_ok-write_files-clause-whole g c = (
 
 pub returns-in_default-clause-files : goal.returns-in_default-clause-files
 returns-in_default-clause-files g c = λ shown told has.
-    sym (ap (λ folder. put_reply folder c.args.files.now (g.P.Place.world c.args.place.now)) (
+    sym (ap (λ folder. put_reply folder c.args.files.now (g.P.Place.at c.args.place.now).world) (
     found_is c.args.words.now (g.V.View.shown c.args.view.now) c.in_ok-folder.field-0 c.args.files.now c.in_ok-folder.ensures.compile (c.in_ok-folder.ensures.run shown)
     (sym c.is_empty.ensures ∙ c.if-is_empty.false) has ∙ none_of c.in_ok-folder.field-0 c.in_default.not-Some))
 

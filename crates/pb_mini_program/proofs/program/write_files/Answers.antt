@@ -10,7 +10,7 @@ returns-in_err-path-clause-memory g c =
     let mid = c.loop-name.place in
     let on : c.loop-name.name-index < length c.args.files.now = omega arith in
     at_any _ c.from_residual.result
-    (stops_before g.P.Place.tells c.args.folder.now c.args.files.now c.loop-name.name-index c.loop-name-item.result (kept (g.P.Place.world old) (g.P.Place.counts old)) (kept (g.P.Place.world mid) (g.P.Place.counts mid))
+    (stops_before g.P.Place.tells c.args.folder.now c.args.files.now c.loop-name.name-index c.loop-name-item.result (kept (g.P.Place.at old)) (kept (g.P.Place.at mid))
     on c.loop-name-item.is c.loop-name.invariant.called c.loop-name.invariant.written)
 
 pub returns-in_err-write-clause-fault : goal.returns-in_err-write-clause-fault
@@ -21,9 +21,9 @@ returns-in_err-write-clause-fault g c =
     let on : c.loop-name.name-index < length c.args.files.now = omega arith in
     at_err _ c.from_residual-in_err-write.result c.in_err-write.field-0.0 (search rules) (λ other.
     fails_at g.P.Place.tells c.args.folder.now c.args.files.now c.loop-name.name-index c.loop-name-item.result c.in_ok-path.path c.as_slice.result.now c.in_err-write.field-0.0
-    (kept (g.P.Place.world old) (g.P.Place.counts old)) (kept (g.P.Place.world mid) (g.P.Place.counts mid)) (kept (g.P.Place.world new) (g.P.Place.counts new))
+    (kept (g.P.Place.at old)) (kept (g.P.Place.at mid)) (kept (g.P.Place.at new))
     on c.loop-name-item.is c.in_ok-path.ensures.path c.as_slice.ensures c.loop-name.invariant.called c.loop-name.invariant.written
-    (c.in_err-write.ensures.fault other) c.in_err-write.ensures.counts c.in_err-write.ensures.err)
+    (c.in_err-write.ensures.changes.fault other) c.in_err-write.ensures.changes.counts c.in_err-write.ensures.err)
 
 pub returns-in_err-write-clause-memory : goal.returns-in_err-write-clause-memory
 returns-in_err-write-clause-memory g c =
@@ -33,17 +33,17 @@ returns-in_err-write-clause-memory g c =
     let on : c.loop-name.name-index < length c.args.files.now = omega arith in
     at_err _ c.from_residual-in_err-write.result c.in_err-write.field-0.0 (search rules) (λ memory.
     stops_at g.P.Place.tells c.args.folder.now c.args.files.now c.loop-name.name-index c.loop-name-item.result c.in_ok-path.path c.as_slice.result.now c.in_err-write.field-0.0
-    (kept (g.P.Place.world old) (g.P.Place.counts old)) (kept (g.P.Place.world mid) (g.P.Place.counts mid)) (kept (g.P.Place.world new) (g.P.Place.counts new))
+    (kept (g.P.Place.at old)) (kept (g.P.Place.at mid)) (kept (g.P.Place.at new))
     on c.loop-name-item.is c.in_ok-path.ensures.path c.as_slice.ensures c.loop-name.invariant.called c.loop-name.invariant.written
-    memory c.in_err-write.ensures.counts c.in_err-write.ensures.err)
+    memory c.in_err-write.ensures.changes.counts c.in_err-write.ensures.err)
 
 pub loop-name-preserved : goal.loop-name-preserved
 loop-name-preserved g c =
     let on : c.loop-name.name-index < length c.args.files.now = omega arith in
     record {
       written = λ told.
-          put_more c.args.folder.now c.args.files.now c.loop-name.name-index c.loop-name-item.result c.in_ok-path.path c.as_slice.result.now (g.P.Place.world c.args.place.now) (g.P.Place.world c.loop-name.place) (g.P.Place.world c.write.new.self)
+          put_more c.args.folder.now c.args.files.now c.loop-name.name-index c.loop-name-item.result c.in_ok-path.path c.as_slice.result.now (g.P.Place.at c.args.place.now).world (g.P.Place.at c.loop-name.place).world (g.P.Place.at c.write.new.self).world
           on c.loop-name-item.is c.in_ok-path.ensures.path c.as_slice.ensures (c.loop-name.invariant.written told) (c.in_ok-write.ensures.ok told);
-      called = past_more c.args.folder.now c.args.files.now c.loop-name.name-index c.loop-name-item.result (g.P.Place.counts c.args.place.now) (g.P.Place.counts c.loop-name.place) (g.P.Place.counts c.write.new.self)
-          on c.loop-name-item.is c.loop-name.invariant.called c.in_ok-write.ensures.counts;
+      called = past_more c.args.folder.now c.args.files.now c.loop-name.name-index c.loop-name-item.result (g.P.Place.at c.args.place.now).counts (g.P.Place.at c.loop-name.place).counts (g.P.Place.at c.write.new.self).counts
+          on c.loop-name-item.is c.loop-name.invariant.called c.in_ok-write.ensures.changes.counts;
     }
