@@ -10,7 +10,8 @@ use Rattle.pb_package.specs.declared.options.Options.{Options}
 use Rattle.pb_build.specs.AnyPlan.{BuildsOnFirst}
 use Rattle.pb_build.specs.Ending.{BuildsFirst, PlansFrom}
 use Rattle.pb_build.specs.declared.builder.BuildPlan.{BuildPlan}
-use Rattle.pb_turns.specs.Moments.{Heard, Moment}
+use Rattle.pb_place.specs.Sinks.{Heard}
+use Rattle.pb_turns.specs.Crew.{Moment}
 use Rattle.pb_tool_program.specs.Details.{detail}
 use Rattle.pb_tool_program.specs.Writing.{Tells, TellsOr}
 

@@ -13,7 +13,8 @@ use Rattle.pb_arguments.specs.declared.asked.Unasked.{Unasked}
 use Rattle.pb_arguments.specs.declared.asked.Unasked.TheVariants.{Help, Wrong, OutOfMemory}
 use Rattle.pb_session.specs.Sessions.{session_of}
 use Rattle.pb_session.specs.declared.fault.BadSession.TheVariants.{BadForm}
-use Rattle.pb_turns.specs.Moments.{Heard, Moment}
+use Rattle.pb_place.specs.Sinks.{Heard}
+use Rattle.pb_turns.specs.Crew.{Moment}
 use Rattle.pb_tool_program.specs.Building.{BuildsTold, error_of}
 use Rattle.pb_tool_program.specs.Session.{Refused, SessionStopped, SessionWritten}
 use Rattle.pb_tool_program.specs.Writing.{Writes, Tells}
@@ -27,11 +28,11 @@ pub record RunsSession (bytes : List ℕ) (status : ℕ) (old new said_before sa
   pub cut : status ≡ 1 → SessionStopped bytes old new ⊎ SessionWritten false bytes old new
   pub quiet : status ≡ 0 → said_after ≡ said_before
   pub untouched : session_of bytes ≡ Err BadForm → new ≡ old
-  pub told : status ≡ 1 → Refused said_before.taken said_after.taken said_before.faults said_after.faults
+  pub told : status ≡ 1 → Refused said_before said_after
 
 -- a bad session: it is told so, and nothing is written
 abbrev pub IsBad : ℕ → Heard → Heard → Heard → Heard → Type 0
-IsBad status old new said_before said_after = (status ≡ 1) × (new ≡ old) × Refused said_before.taken said_after.taken said_before.faults said_after.faults
+IsBad status old new said_before said_after = (status ≡ 1) × (new ≡ old) × Refused said_before said_after
 
 -- what comes of a session's file that gave this when it was read: a file that is not there, or cannot be read, is a bad session
 abbrev pub RunsFound : Result (Option (List ℕ)) PlaceFault → ℕ → Heard → Heard → Heard → Heard → Type 0

@@ -4,9 +4,8 @@ use Rattle.std.specs.Io.KnownBytes.{Appends}
 use Rattle.std.specs.FinMap as map
 use Rattle.pb_mini.specs.Answer.{answered}
 use Rattle.pb_place.specs.Counts.{up, no_calls}
-use Rattle.pb_place.specs.Sinks.{TakesPart}
+use Rattle.pb_place.specs.Sinks.{Heard, TakesPart}
 use Rattle.pb_place.specs.World.{Answers}
-use Rattle.pb_turns.specs.Moments.{Heard}
 use Rattle.pb_build.specs.Session.{Point, Course, Breaks}
 use Rattle.pb_build.specs.declared.sessions.Answer.{Answer}
 use Rattle.pb_answer.specs.ResultLine.{result_line}
@@ -18,9 +17,9 @@ use Rattle.pb_tool_program.specs.Writing.{Writes}
 abbrev pub bad_session : List ℕ
 bad_session = codes "error: bad session\n"
 
--- the session is told to be bad; or, where the sink failed, the first of these bytes, and not all: what it has taken before and after, and its faults before and after
-abbrev pub Refused : Option (List ℕ) → Option (List ℕ) → ℕ → ℕ → Type 0
-Refused old new before after = (Appends old new bad_session × (after ≡ before)) ⊎ (TakesPart bad_session old new × (after ≡ up before))
+-- the session is reported to be bad; or the sink failed, and took a first part of these bytes, not all
+abbrev pub Refused : Heard → Heard → Type 0
+Refused old new = (Appends old.taken new.taken bad_session × (new.faults ≡ old.faults)) ⊎ (TakesPart bad_session old.taken new.taken × (new.faults ≡ up old.faults))
 
 -- a result line for each answer, with a line feed behind it
 abbrev pub lines_of : List Answer → List ℕ

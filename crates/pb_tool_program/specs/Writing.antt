@@ -2,8 +2,7 @@
 use Rattle.std.specs.Prelude.{◌≡◌, ◌⊎◌, ℕ, Bool, true, false, List, [], ◌∷◌}
 use Rattle.std.specs.Io.KnownBytes.{Appends}
 use Rattle.pb_place.specs.Counts.{up}
-use Rattle.pb_place.specs.Sinks.{TakesPart}
-use Rattle.pb_turns.specs.Moments.{Heard}
+use Rattle.pb_place.specs.Sinks.{Heard, TakesPart}
 
 -- all of some bytes were written; or the first of them, and not all, and the sink failed
 abbrev pub Writes : Bool → List ℕ → Heard → Heard → Type 0

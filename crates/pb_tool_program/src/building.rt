@@ -3,7 +3,7 @@
 ghost use Rattle.std.specs.Prelude.{◌≡◌, [], ◌++◌, IfOk, OnOk, Result, Some, string_bytes, codes};
 ghost use Rattle.std.specs.Io.KnownBytes.{Appends};
 ghost use Rattle.pb_build.specs.Ending.{BuildsFirst};
-ghost use Rattle.pb_turns.specs.Moments.{Moment, moment};
+ghost use Rattle.pb_turns.specs.Crew.{Moment, moment};
 ghost use Rattle.pb_answer.specs.ResultLine.{result_line};
 ghost use Rattle.pb_answer.specs.declared.fault.BuildFault.{BuildFault};
 ghost use Rattle.pb_answer.specs.declared.summary.Summary.{Summary};
@@ -65,7 +65,7 @@ fn error_of(alloc: Global, answer: &Result<Summary, BuildFault>) -> Result<Strin
 /// nothing is told, nor where there is no plan: the build then says why. Where memory is refused, that is told, which
 /// takes none.
 fn note<E: Out>(alloc: Global, err: &mut E, plan: &Result<BuildPlan, BuildFault>)
-    ensures { NotesOf plan.now record { taken = E.taken err.old; faults = E.faults err.old } record { taken = E.taken err.new; faults = E.faults err.new } }
+    ensures { NotesOf plan.now (E.heard err.old) (E.heard err.new) }
 {
     let plan = match plan {
         Ok(plan) => plan,
@@ -86,14 +86,14 @@ fn note<E: Out>(alloc: Global, err: &mut E, plan: &Result<BuildPlan, BuildFault>
 
 /// Tells that another build has the target folder.
 fn tell_waiting<E: Out>(err: &mut E)
-    ensures { Tells waiting record { taken = E.taken err.old; faults = E.faults err.old } record { taken = E.taken err.new; faults = E.faults err.new } }
+    ensures { Tells waiting (E.heard err.old) (E.heard err.new) }
 {
     let _ = write_all(err, b"note: another build has the target folder: waiting\n");
 }
 
 /// Takes a folder. Where another build has it, a line says so, and this one waits.
 fn take<P: Place, G: Guard<P, E>, E: Out>(guard: &mut G, place: &P, err: &mut E, folder: &PathText)
-    ensures { Guarded G.asks G.waits guard.old guard.new (Some folder.now) (P.counts place.now) record { taken = E.taken err.old; faults = E.faults err.old } record { taken = E.taken err.new; faults = E.faults err.new } }
+    ensures { Guarded G.asks G.waits guard.old guard.new (Some folder.now) (P.at place.now).counts (E.heard err.old) (E.heard err.new) }
 {
     if guard.is_taken(place, err, folder) {
         tell_waiting(err);
@@ -108,7 +108,7 @@ fn hold<P: Place, G: Guard<P, E>, E: Out>(
     err: &mut E,
     plan: &Result<BuildPlan, BuildFault>,
 )
-    ensures { Guarded G.asks G.waits guard.old guard.new (folder_of plan.now) (P.counts place.now) record { taken = E.taken err.old; faults = E.faults err.old } record { taken = E.taken err.new; faults = E.faults err.new } }
+    ensures { Guarded G.asks G.waits guard.old guard.new (folder_of plan.now) (P.at place.now).counts (E.heard err.old) (E.heard err.new) }
 {
     match plan {
         Ok(plan) => take(guard, place, err, &plan.environment.target),
@@ -119,7 +119,7 @@ fn hold<P: Place, G: Guard<P, E>, E: Out>(
 /// Tells why a build failed, where its status says so. Where memory is refused for that, so much is told, which takes
 /// none.
 fn tell<E: Out>(alloc: Global, err: &mut E, status: u8, answer: &Result<Summary, BuildFault>)
-    ensures { TellsWhy status answer.now record { taken = E.taken err.old; faults = E.faults err.old } record { taken = E.taken err.new; faults = E.faults err.new } }
+    ensures { TellsWhy status answer.now (E.heard err.old) (E.heard err.new) }
 {
     if status == 0 {
         return;
@@ -138,7 +138,7 @@ fn explain_to<E: Out>(
     explain: bool,
     answer: &Result<Summary, BuildFault>,
 )
-    ensures { TellsReasons explain answer.now record { taken = E.taken err.old; faults = E.faults err.old } record { taken = E.taken err.new; faults = E.faults err.new } }
+    ensures { TellsReasons explain answer.now (E.heard err.old) (E.heard err.new) }
 {
     if !explain {
         return;
@@ -156,7 +156,7 @@ fn explain_to<E: Out>(
 /// Tells what the child of a build's bad unit wrote that no message line holds, where it wrote something. Where memory
 /// is refused for that, so much is told, which takes none.
 fn repeat_to<E: Out>(alloc: Global, err: &mut E, answer: &Result<Summary, BuildFault>)
-    ensures { TellsSaid answer.now record { taken = E.taken err.old; faults = E.faults err.old } record { taken = E.taken err.new; faults = E.faults err.new } }
+    ensures { TellsSaid answer.now (E.heard err.old) (E.heard err.new) }
 {
     let summary = match answer {
         Ok(summary) => summary,
@@ -174,7 +174,7 @@ fn repeat_to<E: Out>(alloc: Global, err: &mut E, answer: &Result<Summary, BuildF
 /// Tells what the fault of a build is about, where it says more than its name. Where memory is refused for that, so much
 /// is told, which takes none.
 fn tell_detail<E: Out>(alloc: Global, err: &mut E, answer: &Result<Summary, BuildFault>)
-    ensures { TellsDetail answer.now record { taken = E.taken err.old; faults = E.faults err.old } record { taken = E.taken err.new; faults = E.faults err.new } }
+    ensures { TellsDetail answer.now (E.heard err.old) (E.heard err.new) }
 {
     match detail(alloc, answer) {
         Ok(about) if about.is_empty() => true,
@@ -190,7 +190,7 @@ fn conclude<E: Out>(
     explain: bool,
     answer: &Result<Summary, BuildFault>,
 ) -> u8
-    ensures { Concludes explain answer.now result record { taken = E.taken err.old; faults = E.faults err.old } record { taken = E.taken err.new; faults = E.faults err.new } }
+    ensures { Concludes explain answer.now result (E.heard err.old) (E.heard err.new) }
 {
     explain_to(alloc, err, explain, answer);
     repeat_to(alloc, err, answer);
@@ -215,10 +215,10 @@ pub fn build_options<P: Place, G: Guard<P, E>, O: Out, E: Out>(
     options: &Options,
     explain: bool,
 ) -> u8
-    requires none { (P.counts place.old).starts.flying ≡ [] }
+    requires none { (P.at place.old).counts.starts.flying ≡ [] }
     ensures { BuildsTold P.tells P.child (Guarded G.asks G.waits guard.old guard.new) options.now explain result
-        (moment (P.world place.old) (P.counts place.old) (P.most place.old) (O.taken out.old) (O.faults out.old)) (moment (P.world place.new) (P.counts place.new) (P.most place.new) (O.taken out.new) (O.faults out.new))
-        record { taken = E.taken err.old; faults = E.faults err.old } record { taken = E.taken err.new; faults = E.faults err.new } }
+        (moment (P.at place.old) (O.heard out.old)) (moment (P.at place.new) (O.heard out.new))
+        (E.heard err.old) (E.heard err.new) }
 {
     let plan = plan_build(alloc, place, options);
     note(alloc, err, &plan);

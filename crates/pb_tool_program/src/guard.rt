@@ -2,7 +2,7 @@
 
 ghost use Rattle.std.specs.Prelude.{ℕ, List, Bool};
 ghost use Rattle.pb_place.specs.Counts.{Counts};
-ghost use Rattle.pb_turns.specs.Moments.{Heard};
+ghost use Rattle.pb_place.specs.Sinks.{Heard};
 
 use pb_place::{Out, PathText, Place};
 
@@ -20,9 +20,9 @@ pub trait Guard<P: Place, E: Out> {
     /// Asks for a folder, takes it where it is free, and says whether another build has it. One that cannot be guarded
     /// counts as free.
     fn is_taken(&mut self, place: &P, err: &E, folder: &PathText) -> bool
-        ensures { asks self.old folder.now (P.counts place.now) record { taken = E.taken err.now; faults = E.faults err.now } result self.new };
+        ensures { asks self.old folder.now (P.at place.now).counts (E.heard err.now) result self.new };
 
     /// Waits until the folder that was asked for last is free, and takes it.
     fn wait(&mut self, place: &P, err: &E)
-        ensures { waits self.old (P.counts place.now) record { taken = E.taken err.now; faults = E.faults err.now } self.new };
+        ensures { waits self.old (P.at place.now).counts (E.heard err.now) self.new };
 }

@@ -1,7 +1,7 @@
 //! The whole program over any place.
 
 ghost use Rattle.std.specs.Prelude.{◌≡◌, [], map};
-ghost use Rattle.pb_turns.specs.Moments.{moment};
+ghost use Rattle.pb_turns.specs.Crew.{moment};
 ghost use Rattle.pb_tool_program.specs.Guarding.{Guarded};
 ghost use Rattle.pb_tool_program.specs.Running.{RunsFile, Explains, Runs};
 
@@ -28,8 +28,8 @@ fn run_file<P: Place, O: Out, E: Out>(
     err: &mut E,
 ) -> u8
     ensures { RunsFile P.tells path.now result
-        (moment (P.world place.old) (P.counts place.old) (P.most place.old) (O.taken out.old) (O.faults out.old)) (moment (P.world place.new) (P.counts place.new) (P.most place.new) (O.taken out.new) (O.faults out.new))
-        record { taken = E.taken err.old; faults = E.faults err.old } record { taken = E.taken err.new; faults = E.faults err.new } }
+        (moment (P.at place.old) (O.heard out.old)) (moment (P.at place.new) (O.heard out.new))
+        (E.heard err.old) (E.heard err.new) }
 {
     match place.read(alloc, path) {
         Ok(Some(bytes)) => run_session(alloc, bytes.as_slice(), out, err),
@@ -40,8 +40,8 @@ fn run_file<P: Place, O: Out, E: Out>(
 /// Prints what there is to say of a command line that asks for nothing: help to `out`, what is wrong to `err`.
 fn explain<O: Out, E: Out>(unasked: &Unasked, out: &mut O, err: &mut E) -> u8
     ensures { Explains unasked.now result
-        record { taken = O.taken out.old; faults = O.faults out.old } record { taken = O.taken out.new; faults = O.faults out.new }
-        record { taken = E.taken err.old; faults = E.faults err.old } record { taken = E.taken err.new; faults = E.faults err.new } }
+        (O.heard out.old) (O.heard out.new)
+        (E.heard err.old) (E.heard err.new) }
 {
     match unasked {
         Unasked::Help(text) => {
@@ -76,10 +76,10 @@ pub fn run<S: AsStr, P: Place, G: Guard<P, E>, O: Out, E: Out>(
     out: &mut O,
     err: &mut E,
 ) -> u8
-    requires none { (P.counts place.old).starts.flying ≡ [] }
+    requires none { (P.at place.old).counts.starts.flying ≡ [] }
     ensures { Runs P.tells P.child (Guarded G.asks G.waits guard.old guard.new) (map S.text words.now) folder.now result
-        (moment (P.world place.old) (P.counts place.old) (P.most place.old) (O.taken out.old) (O.faults out.old)) (moment (P.world place.new) (P.counts place.new) (P.most place.new) (O.taken out.new) (O.faults out.new))
-        record { taken = E.taken err.old; faults = E.faults err.old } record { taken = E.taken err.new; faults = E.faults err.new } }
+        (moment (P.at place.old) (O.heard out.old)) (moment (P.at place.new) (O.heard out.new))
+        (E.heard err.old) (E.heard err.new) }
 {
     match read_command_line(alloc, words, folder) {
         Ok(Asked::Build { options, explain }) => {

@@ -17,7 +17,7 @@ use std::alloc::{AllocError, Global};
 /// Says that a session is bad, and gives the status for it.
 pub fn refuse<E: Out>(err: &mut E) -> u8
     ensures status { result ≡ 1 }
-    ensures told { Refused (E.taken err.old) (E.taken err.new) (E.faults err.old) (E.faults err.new) }
+    ensures told { Refused (E.heard err.old) (E.heard err.new) }
 {
     let _ = write_all(err, b"error: bad session\n");
     1
@@ -42,7 +42,7 @@ pub fn write_results<O: Out>(
     answers: &[Answer],
     out: &mut O,
 ) -> Result<bool, AllocError>
-    ensures written { IfOk result (λ whole. Writes whole (lines_of answers.now) record { taken = O.taken out.old; faults = O.faults out.old } record { taken = O.taken out.new; faults = O.faults out.new }) }
+    ensures written { IfOk result (λ whole. Writes whole (lines_of answers.now) (O.heard out.old) (O.heard out.new)) }
     ensures memory { OnErr result (out.new ≡ out.old) }
 {
     let lines = result_lines(alloc, answers)?;
@@ -51,8 +51,8 @@ pub fn write_results<O: Out>(
 
 /// Runs a session and writes its lines. Whether all result lines were written.
 fn carry_out<O: Out>(alloc: Global, bytes: &[u8], out: &mut O) -> Result<bool, BadSession>
-    ensures written { IfOk result (λ whole. SessionWritten whole bytes.now record { taken = O.taken out.old; faults = O.faults out.old } record { taken = O.taken out.new; faults = O.faults out.new }) }
-    ensures stopped { OnErr result (SessionStopped bytes.now record { taken = O.taken out.old; faults = O.faults out.old } record { taken = O.taken out.new; faults = O.faults out.new }) }
+    ensures written { IfOk result (λ whole. SessionWritten whole bytes.now (O.heard out.old) (O.heard out.new)) }
+    ensures stopped { OnErr result (SessionStopped bytes.now (O.heard out.old) (O.heard out.new)) }
     ensures bad { IfErr result (λ e. e ≡ BadForm → session_of bytes.now ≡ Err BadForm) }
     ensures untouched { session_of bytes.now ≡ Err BadForm → out.new ≡ out.old }
 {
@@ -73,11 +73,11 @@ fn carry_out<O: Out>(alloc: Global, bytes: &[u8], out: &mut O) -> Result<bool, B
 /// and the sink took them. A build that is refused or fails is no bad session: its result line says so.
 pub fn run_session<O: Out, E: Out>(alloc: Global, bytes: &[u8], out: &mut O, err: &mut E) -> u8
     ensures status { (result ≡ 0) ⊎ (result ≡ 1) }
-    ensures written { result ≡ 0 → SessionWritten true bytes.now record { taken = O.taken out.old; faults = O.faults out.old } record { taken = O.taken out.new; faults = O.faults out.new } }
-    ensures cut { result ≡ 1 → SessionStopped bytes.now record { taken = O.taken out.old; faults = O.faults out.old } record { taken = O.taken out.new; faults = O.faults out.new } ⊎ SessionWritten false bytes.now record { taken = O.taken out.old; faults = O.faults out.old } record { taken = O.taken out.new; faults = O.faults out.new } }
+    ensures written { result ≡ 0 → SessionWritten true bytes.now (O.heard out.old) (O.heard out.new) }
+    ensures cut { result ≡ 1 → SessionStopped bytes.now (O.heard out.old) (O.heard out.new) ⊎ SessionWritten false bytes.now (O.heard out.old) (O.heard out.new) }
     ensures untouched { session_of bytes.now ≡ Err BadForm → out.new ≡ out.old }
     ensures quiet { result ≡ 0 → err.new ≡ err.old }
-    ensures told { result ≡ 1 → Refused (E.taken err.old) (E.taken err.new) (E.faults err.old) (E.faults err.new) }
+    ensures told { result ≡ 1 → Refused (E.heard err.old) (E.heard err.new) }
 {
     match carry_out(alloc, bytes, out) {
         Ok(true) => 0,

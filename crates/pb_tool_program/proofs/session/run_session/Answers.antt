@@ -6,7 +6,7 @@ pub returns-in-Ok-true-clause-written : goal.returns-in-Ok-true-clause-written
 returns-in-Ok-true-clause-written g c zero =
     let old = c.args.out.now in
     let new = c.carry_out.new.out in
-    subst (λ (whole : Bool). SessionWritten whole c.args.bytes.now record { taken = g.O.Out.taken old; faults = g.O.Out.faults old } record { taken = g.O.Out.taken new; faults = g.O.Out.faults new }) c.in-Ok-true.field-0-test
+    subst (λ (whole : Bool). SessionWritten whole c.args.bytes.now (g.O.Out.heard old) (g.O.Out.heard new)) c.in-Ok-true.field-0-test
     c.in-Ok-true.ensures.written
 
 pub returns-in-Ok-false-clause-cut : goal.returns-in-Ok-false-clause-cut
@@ -14,7 +14,7 @@ returns-in-Ok-false-clause-cut g c one =
     let old = c.args.out.now in
     let new = c.carry_out.new.out in
     inr
-    (subst (λ (whole : Bool). SessionWritten whole c.args.bytes.now record { taken = g.O.Out.taken old; faults = g.O.Out.faults old } record { taken = g.O.Out.taken new; faults = g.O.Out.faults new }) c.in-Ok-false.field-0-test
+    (subst (λ (whole : Bool). SessionWritten whole c.args.bytes.now (g.O.Out.heard old) (g.O.Out.heard new)) c.in-Ok-false.field-0-test
     c.in-Ok-false.ensures.written)
 
 pub returns-in-Err-clause-cut : goal.returns-in-Err-clause-cut
