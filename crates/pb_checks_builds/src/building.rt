@@ -20,7 +20,7 @@ fn runner(alloc: Global) -> Result<Items<Text>, AllocError> {
 }
 
 /// A build of the workspace at `/w` with so many jobs.
-fn options(alloc: Global, jobs: u64) -> Result<Options, Fail> {
+pub fn options(alloc: Global, jobs: u64) -> Result<Options, Fail> {
     let runner = runner(alloc)?;
     let options = no_options(alloc)?;
     Ok(Options {
@@ -37,15 +37,15 @@ fn result_of<P: Place>(
     out: &mut Vec<u8>,
     options: &Options,
 ) -> Result<String, AllocError>
-    requires none { (P.counts place.old).starts.flying ≡ [] }
-    ensures landed { (P.counts place.new).starts.flying ≡ [] }
+    requires none { (P.at place.old).counts.starts.flying ≡ [] }
+    ensures landed { (P.at place.new).counts.starts.flying ≡ [] }
 {
     let mut sink = Over::new(out);
     result_line(alloc, &build(alloc, place, &mut sink, options))
 }
 
 /// Lines, and a last one.
-fn joined(alloc: Global, lines: &[u8], last: &str) -> Result<String, AllocError> {
+pub fn joined(alloc: Global, lines: &[u8], last: &str) -> Result<String, AllocError> {
     let mut said = Shown::new(alloc);
     said.put(&[str::from_utf8(lines).unwrap_or(""), last]);
     said.whole()
@@ -53,8 +53,8 @@ fn joined(alloc: Global, lines: &[u8], last: &str) -> Result<String, AllocError>
 
 /// What a build writes, and then its result line.
 fn said_by<P: Place>(alloc: Global, place: &mut P, options: &Options) -> Result<String, AllocError>
-    requires none { (P.counts place.old).starts.flying ≡ [] }
-    ensures landed { (P.counts place.new).starts.flying ≡ [] }
+    requires none { (P.at place.old).counts.starts.flying ≡ [] }
+    ensures landed { (P.at place.new).counts.starts.flying ≡ [] }
 {
     let mut out = Vec::new(alloc);
     let line = result_of(alloc, place, &mut out, options)?;
@@ -63,8 +63,8 @@ fn said_by<P: Place>(alloc: Global, place: &mut P, options: &Options) -> Result<
 
 /// What a build with so many jobs writes, and then its result line.
 pub fn built<P: Place>(alloc: Global, place: &mut P, jobs: u64) -> Result<String, Fail>
-    requires none { (P.counts place.old).starts.flying ≡ [] }
-    ensures landed { (P.counts place.new).starts.flying ≡ [] }
+    requires none { (P.at place.old).counts.starts.flying ≡ [] }
+    ensures landed { (P.at place.new).counts.starts.flying ≡ [] }
 {
     let options = options(alloc, jobs)?;
     let said = said_by(alloc, place, &options);

@@ -9,4 +9,6 @@ mod failing;
 #[cfg(test)]
 mod old;
 #[cfg(test)]
+mod turning;
+#[cfg(test)]
 mod units;

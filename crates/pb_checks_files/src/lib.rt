@@ -1,5 +1,6 @@
 //! What tests of workspaces share: a child that says nothing, files that are told by one text, the options of a build for
-//! which nothing is asked, texts that are put together, and answers. It holds no test.
+//! which nothing is asked, texts that are put together, answers, and a place whose files no contract follows. It holds no
+//! test.
 #![tactic(auto)]
 
 mod answers;
@@ -7,9 +8,11 @@ mod child;
 mod files;
 mod options;
 mod shown;
+mod untold;
 
 pub use answers::{holds, is_said, is_text};
 pub use child::Silent;
 pub use files::{put_files, workspace_in};
 pub use options::no_options;
 pub use shown::Shown;
+pub use untold::Untold;

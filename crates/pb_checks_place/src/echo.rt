@@ -55,7 +55,8 @@ fn left(
     file: &Bytes,
     value: &Bytes,
 ) -> Result<Items<(RelativePath, Bytes)>, AllocError>
-    ensures { IfOk result (λ files. files ≡ (codes "a", file.now) ∷ (codes "d/b", value.now) ∷ (codes "d/b", file.now) ∷ []) }
+    ensures { IfOk result (λ files. files
+        ≡ (codes "a", file.now) ∷ (codes "d/b", value.now) ∷ (codes "d/b", file.now) ∷ []) }
 {
     let mut files = Items::new(alloc);
     leave(alloc, &mut files, "a", file)?;

@@ -9,8 +9,10 @@ use std::test::Fail;
 /// A write that failed may leave the old file, the first of the new bytes, or no file.
 fn torn_writes()
     ensures old { (path bytes : List ℕ) (w : World) → Torn path bytes w w }
-    ensures first { (path bytes : List ℕ) (n : ℕ) (w : World) → Torn path bytes w (written path (take n bytes) w) }
-    ensures none { (path bytes : List ℕ) (w : World) → Torn path bytes w record w { files = map.remove w.files path } }
+    ensures first { (path bytes : List ℕ) (n : ℕ) (w : World)
+        → Torn path bytes w (written path (take n bytes) w) }
+    ensures none { (path bytes : List ℕ) (w : World)
+        → Torn path bytes w record w { files = map.remove w.files path } }
 {}
 
 /// A removal that failed may leave every file, or none.

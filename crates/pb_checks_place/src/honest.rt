@@ -23,9 +23,11 @@ fn written_then_read<P: Place>(
     bytes: &[u8],
 ) -> Result<Option<Bytes>, PlaceFault>
     ensures found { IsTrue P.tells → IfOk result (λ found. found ≡ Some bytes.now) }
-    ensures world { IsTrue P.tells → OnOk result (P.world place.new ≡ written path.now bytes.now (P.world place.old)) }
-    ensures starts { OnOk result ((P.counts place.new).starts ≡ (P.counts place.old).starts) }
-    ensures quiet { OnOk result ((P.counts place.new).failures ≡ (P.counts place.old).failures) }
+    ensures world { IsTrue P.tells → OnOk result
+        ((P.at place.new).world ≡ written path.now bytes.now (P.at place.old).world) }
+    ensures starts { OnOk result ((P.at place.new).counts.starts ≡ (P.at place.old).counts.starts) }
+    ensures quiet { OnOk result
+        ((P.at place.new).counts.failures ≡ (P.at place.old).counts.failures) }
 {
     place.write(alloc, path, bytes)?;
     let found = place.read(alloc, path)?;
@@ -39,10 +41,14 @@ fn removed_then_read<P: Place>(
     removed_path: &PathText,
     path: &PathText,
 ) -> Result<Option<Bytes>, PlaceFault>
-    ensures found { IsTrue P.tells → IfOk result (λ found. found ≡ (if not (is_at_or_below removed_path.now path.now) then map.get (P.world place.old).files path.now else None)) }
-    ensures world { IsTrue P.tells → OnOk result (P.world place.new ≡ removed removed_path.now (P.world place.old)) }
-    ensures starts { OnOk result ((P.counts place.new).starts ≡ (P.counts place.old).starts) }
-    ensures quiet { OnOk result ((P.counts place.new).failures ≡ (P.counts place.old).failures) }
+    ensures found { IsTrue P.tells → IfOk result (λ found. found
+        ≡ (if not (is_at_or_below removed_path.now path.now)
+        then map.get (P.at place.old).world.files path.now else None)) }
+    ensures world { IsTrue P.tells → OnOk result
+        ((P.at place.new).world ≡ removed removed_path.now (P.at place.old).world) }
+    ensures starts { OnOk result ((P.at place.new).counts.starts ≡ (P.at place.old).counts.starts) }
+    ensures quiet { OnOk result
+        ((P.at place.new).counts.failures ≡ (P.at place.old).counts.failures) }
 {
     place.remove_tree(alloc, removed_path)?;
     let found = place.read(alloc, path)?;
@@ -56,8 +62,10 @@ fn written_then_listed<P: Place>(
     path: &PathText,
     folder: &PathText,
 ) -> Result<Items<PathText>, PlaceFault>
-    ensures listed { IsTrue P.tells → IfOk result (λ paths. list_any (is_same_path path.now) paths ≡ is_below folder.now path.now) }
-    ensures quiet { OnOk result ((P.counts place.new).failures ≡ (P.counts place.old).failures) }
+    ensures listed { IsTrue P.tells → IfOk result
+        (λ paths. list_any (is_same_path path.now) paths ≡ is_below folder.now path.now) }
+    ensures quiet { OnOk result
+        ((P.at place.new).counts.failures ≡ (P.at place.old).counts.failures) }
 {
     place.write(alloc, path, b"")?;
     let paths = place.list(alloc, folder)?;
@@ -71,11 +79,19 @@ fn started_then_read<P: Place>(
     command: &Command,
     path: &PathText,
 ) -> Result<(Ended, Option<Bytes>), Fail>
-    ensures stdout { IsTrue P.tells → IfOk result (λ answer. answer.0.stdout ≡ (P.child command.now (seen_by command.now (P.world place.old))).stdout) }
-    ensures found { IsTrue P.tells → IfOk result (λ answer. answer.1 ≡ map.get (put_reply command.now.out (P.child command.now (seen_by command.now (P.world place.old))).files (P.world place.old)).files path.now) }
-    ensures world { IsTrue P.tells → OnOk result (P.world place.new ≡ put_reply command.now.out (P.child command.now (seen_by command.now (P.world place.old))).files (P.world place.old)) }
-    ensures starts { OnOk result ((P.counts place.new).starts ≡ up_starts (P.counts place.old).starts) }
-    ensures quiet { OnOk result ((P.counts place.new).failures ≡ (P.counts place.old).failures) }
+    ensures stdout { IsTrue P.tells → IfOk result (λ answer. answer.0.stdout
+        ≡ (P.child command.now (seen_by command.now (P.at place.old).world)).stdout) }
+    ensures found { IsTrue P.tells → IfOk result (λ answer. answer.1
+        ≡ map.get (put_reply command.now.out
+        (P.child command.now (seen_by command.now (P.at place.old).world)).files
+        (P.at place.old).world).files path.now) }
+    ensures world { IsTrue P.tells → OnOk result ((P.at place.new).world ≡ put_reply command.now.out
+        (P.child command.now (seen_by command.now (P.at place.old).world)).files
+        (P.at place.old).world) }
+    ensures starts { OnOk result
+        ((P.at place.new).counts.starts ≡ up_starts (P.at place.old).counts.starts) }
+    ensures quiet { OnOk result
+        ((P.at place.new).counts.failures ≡ (P.at place.old).counts.failures) }
 {
     let ended = place.start(alloc, command)?;
     let found = place.read(alloc, path)?;
@@ -91,10 +107,16 @@ fn written_started_removed<P: Place>(
     bytes: &[u8],
     command: &Command,
 ) -> Result<Ended, Fail>
-    ensures stdout { IsTrue P.tells → IfOk result (λ ended. ended.stdout ≡ (P.child command.now (seen_by command.now (written path.now bytes.now (P.world place.old)))).stdout) }
-    ensures world { IsTrue P.tells → OnOk result (P.world place.new ≡ removed path.now (put_reply command.now.out (P.child command.now (seen_by command.now (written path.now bytes.now (P.world place.old)))).files (written path.now bytes.now (P.world place.old)))) }
-    ensures starts { OnOk result ((P.counts place.new).starts ≡ up_starts (P.counts place.old).starts) }
-    ensures quiet { OnOk result ((P.counts place.new).failures ≡ (P.counts place.old).failures) }
+    ensures stdout { IsTrue P.tells → IfOk result (λ ended. ended.stdout ≡ (P.child command.now
+        (seen_by command.now (written path.now bytes.now (P.at place.old).world))).stdout) }
+    ensures world { IsTrue P.tells → OnOk result ((P.at place.new).world ≡ removed path.now
+        (put_reply command.now.out (P.child command.now
+        (seen_by command.now (written path.now bytes.now (P.at place.old).world))).files
+        (written path.now bytes.now (P.at place.old).world))) }
+    ensures starts { OnOk result
+        ((P.at place.new).counts.starts ≡ up_starts (P.at place.old).counts.starts) }
+    ensures quiet { OnOk result
+        ((P.at place.new).counts.failures ≡ (P.at place.old).counts.failures) }
 {
     written_then_read(alloc, place, path, bytes)?;
     let (ended, _) = started_then_read(alloc, place, command, path)?;
@@ -131,10 +153,12 @@ fn torn_in_memory<C: Child>(
     path: &PathText,
     bytes: &[u8],
 ) -> Result<(), PlaceFault>
-    ensures half { IfErr result (λ e. e ≡ PlaceFault.Write → memory.new.world ≡ written path.now (take (length bytes.now / 2) bytes.now) memory.old.world) }
+    ensures half { IfErr result (λ e. e ≡ PlaceFault.Write → memory.new.world
+        ≡ written path.now (take (length bytes.now / 2) bytes.now) memory.old.world) }
     ensures burns { IfOk result (λ _. ⊥) }
     ensures used { IfErr result (λ e. e ≡ PlaceFault.Write → memory.new.fuse ≡ 0) }
-    ensures kept { IfErr result (λ e. e ≡ PlaceFault.OutOfMemory → memory.new.world ≡ memory.old.world) }
+    ensures kept { IfErr result (λ e. e ≡ PlaceFault.OutOfMemory
+        → memory.new.world ≡ memory.old.world) }
 {
     memory.fuse(1);
     memory.write(alloc, path, bytes)

@@ -4,9 +4,9 @@ ghost use Rattle.std.specs.Prelude.{◌≡◌};
 ghost use Rattle.pb_run.specs.Standing.{records_folder};
 
 use crate::units::ready::{Bench, bench_of, project_in};
-use crate::units::steps::{call, make_steps, parts_of, words_of};
+use crate::units::steps::{call, make_steps, parts_of, reopen, words_of};
 use crate::units::trials::FILES;
-use pb_checks_files::{Shown, put_files};
+use pb_checks_files::{Shown, Untold, put_files};
 use pb_memory::Memory;
 use pb_mini::Mini;
 use pb_place::Place;
@@ -15,7 +15,7 @@ use std::alloc::Global;
 use std::test::Fail;
 
 /// What is told of calls that came after the one that failed.
-fn late_told(place: &Memory<Mini>) -> &'static str {
+fn late_told(place: &Untold<Mini>) -> &'static str {
     if place.late() > 0 {
         return " (wrong: a call came after it)";
     }
@@ -23,10 +23,10 @@ fn late_told(place: &Memory<Mini>) -> &'static str {
 }
 
 /// Makes a call, in words, with the call of the place of this number failing, and tells its fault, and what the same
-/// call tells then; nothing where no call failed.
+/// call tells then, with a store that is opened again; nothing if no call failed.
 fn fail_at(
     alloc: Global,
-    place: &mut Memory<Mini>,
+    place: &mut Untold<Mini>,
     project: &OrderedProject,
     bench: &mut Bench,
     line: &str,
@@ -34,15 +34,16 @@ fn fail_at(
 ) -> Result<String, Fail>
     requires folder { bench.old.store.folder ≡ records_folder project.now }
 {
-    let (verb, first, rest) = words_of(line);
-    place.fuse(number);
-    let told = call(alloc, place, project, bench, verb, first, rest)?;
-    place.fuse(0);
+    let (verb, first, _) = words_of(line);
+    place.inside.fuse(number);
+    let told = call(alloc, place, project, bench, verb, first)?;
+    place.inside.fuse(0);
     if place.failures() == 0 {
         return Ok(String::new(alloc));
     }
     let late = late_told(place);
-    let again = call(alloc, place, project, bench, verb, first, rest)?;
+    reopen(alloc, place, project, bench)?;
+    let again = call(alloc, place, project, bench, verb, first)?;
     let mut said = Shown::new(alloc);
     said.put(&[told.as_str(), late, ": ", again.as_str(), ", "]);
     Ok(said.whole()?)
@@ -51,7 +52,7 @@ fn fail_at(
 /// The same of the last of these steps, after those before it.
 fn fail_after(
     alloc: Global,
-    place: &mut Memory<Mini>,
+    place: &mut Untold<Mini>,
     project: &OrderedProject,
     steps: &str,
     number: u64,
@@ -65,7 +66,7 @@ fn fail_after(
 /// The same where the project was refused or not.
 fn fail_if(
     alloc: Global,
-    place: &mut Memory<Mini>,
+    place: &mut Untold<Mini>,
     project: &Option<OrderedProject>,
     steps: &str,
     number: u64,
@@ -79,18 +80,19 @@ fn fail_if(
 /// The same on the project of the files, in a place without files.
 fn fail_in(
     alloc: Global,
-    place: &mut Memory<Mini>,
+    place: &mut Untold<Mini>,
     steps: &str,
     number: u64,
 ) -> Result<String, Fail> {
-    put_files(alloc, place, FILES)?;
-    let project = project_in(alloc, place)?;
+    put_files(alloc, &mut place.inside, FILES)?;
+    let project = project_in(alloc, &mut place.inside)?;
     fail_if(alloc, place, &project, steps, number)
 }
 
 /// The same in a fresh place.
 fn try_at(alloc: Global, steps: &str, number: u64) -> Result<String, Fail> {
-    fail_in(alloc, &mut Memory::new(alloc, Mini), steps, number)
+    let inside = Memory::new(alloc, Mini);
+    fail_in(alloc, &mut Untold { inside }, steps, number)
 }
 
 /// Lets each call of the place fail in turn, until none does.
@@ -113,10 +115,7 @@ const TRIALS: &str =
     "=== run 0\n= fault a.target.lib Device: nothing is kept of it, fault a.target.lib Device: nothing is kept of it, fault a.target.lib Device: nothing is kept of it, fault a.target.lib CannotStart: nothing is kept of it, fault a.target.lib Died: nothing is kept of it, fault a.target.lib Device: nothing is kept of it, fault a.target.lib Device: nothing is kept of it, fault a.target.lib Device: nothing is kept of it, fault a.target.lib Device: nothing is kept of it, fault a.target.lib Device: nothing is kept of it, \n\
      === run 0\nrun 0\n= fault a.target.lib Device: same, fault a.target.lib Device: same, fault a.target.lib Device: same, fault a.target.lib Device: same, fault a.target.lib Device: same, \n\
      === run 0\nfile /w/a/src/n two\nrun 0\n= fault a.target.lib Device: `/w/a/src/n` has changed, fault a.target.lib Device: `/w/a/src/n` has changed, fault a.target.lib Device: `/w/a/src/n` has changed, fault a.target.lib Device: `/w/a/src/n` has changed, fault a.target.lib Device: nothing is kept of it, fault a.target.lib CannotStart: nothing is kept of it, fault a.target.lib Died: nothing is kept of it, fault a.target.lib Device: nothing is kept of it, fault a.target.lib Device: nothing is kept of it, fault a.target.lib Device: nothing is kept of it, fault a.target.lib Device: nothing is kept of it, fault a.target.lib Device: nothing is kept of it, \n\
-     === run 1\nrun 2\n= fault b.target.run Device: nothing is kept of it, fault b.target.run Device: nothing is kept of it, fault b.target.run Device: nothing is kept of it, fault b.target.run CannotStart: nothing is kept of it, fault b.target.run Died: nothing is kept of it, fault b.target.run Device: nothing is kept of it, fault b.target.run Device: nothing is kept of it, fault b.target.run Device: nothing is kept of it, fault b.target.run Device: nothing is kept of it, fault b.target.run Device: nothing is kept of it, fault b.target.run Device: nothing is kept of it, \n\
-     === both 0 1\n= fault a.target.lib Device: nothing is kept of it; nothing is kept of it, fault a.target.lib Device: nothing is kept of it; nothing is kept of it, fault a.target.lib Device: nothing is kept of it; nothing is kept of it, fault a.target.lib CannotStart: nothing is kept of it; nothing is kept of it, fault b.target.script Device: nothing is kept of it; nothing is kept of it, fault b.target.script Device: nothing is kept of it; nothing is kept of it, fault b.target.script Device: nothing is kept of it; nothing is kept of it, fault b.target.script CannotStart: nothing is kept of it; nothing is kept of it, fault a.target.lib Died: nothing is kept of it; nothing is kept of it, fault a.target.lib Device: nothing is kept of it; nothing is kept of it, fault a.target.lib Device: nothing is kept of it; nothing is kept of it, fault a.target.lib Device: nothing is kept of it; nothing is kept of it, fault a.target.lib Device: nothing is kept of it; nothing is kept of it, fault a.target.lib Device: nothing is kept of it; nothing is kept of it, nothing is kept of it; fault b.target.script Died: same; nothing is kept of it, nothing is kept of it; fault b.target.script Device: same; nothing is kept of it, nothing is kept of it; fault b.target.script Device: same; nothing is kept of it, nothing is kept of it; fault b.target.script Device: same; nothing is kept of it, \n\
-     === turned 0 1\n= fault a.target.lib Device: nothing is kept of it; nothing is kept of it, fault a.target.lib Device: nothing is kept of it; nothing is kept of it, fault a.target.lib Device: nothing is kept of it; nothing is kept of it, fault a.target.lib CannotStart: nothing is kept of it; nothing is kept of it, fault b.target.script Device: nothing is kept of it; nothing is kept of it, fault b.target.script Device: nothing is kept of it; nothing is kept of it, fault b.target.script Device: nothing is kept of it; nothing is kept of it, fault b.target.script CannotStart: nothing is kept of it; nothing is kept of it, fault b.target.script Died: nothing is kept of it; nothing is kept of it, fault b.target.script Device: nothing is kept of it; nothing is kept of it, fault b.target.script Device: nothing is kept of it; nothing is kept of it, fault b.target.script Device: nothing is kept of it; nothing is kept of it, nothing is kept of it; fault a.target.lib Died: same; nothing is kept of it, nothing is kept of it; fault a.target.lib Device: same; nothing is kept of it, nothing is kept of it; fault a.target.lib Device: same; nothing is kept of it, nothing is kept of it; fault a.target.lib Device: same; nothing is kept of it, nothing is kept of it; fault a.target.lib Device: same; nothing is kept of it, nothing is kept of it; fault a.target.lib Device: same; nothing is kept of it, \n\
-     === both 0 1\nfile /w/a/src/n two\nturned 0 1\n= fault a.target.lib Device: same; `/w/a/src/n` has changed, fault a.target.lib Device: same; `/w/a/src/n` has changed, fault a.target.lib Device: same; `/w/a/src/n` has changed, fault a.target.lib Device: same; `/w/a/src/n` has changed, fault a.target.lib Device: same; nothing is kept of it, fault a.target.lib CannotStart: same; nothing is kept of it, fault b.target.script Device: same; nothing is kept of it, fault b.target.script Device: same; nothing is kept of it, fault b.target.script Device: same; nothing is kept of it, same; fault a.target.lib Died: same; nothing is kept of it, same; fault a.target.lib Device: same; nothing is kept of it, same; fault a.target.lib Device: same; nothing is kept of it, same; fault a.target.lib Device: same; nothing is kept of it, same; fault a.target.lib Device: same; nothing is kept of it, same; fault a.target.lib Device: same; nothing is kept of it, \n";
+     === run 1\nrun 2\n= fault b.target.run Device: nothing is kept of it, fault b.target.run Device: nothing is kept of it, fault b.target.run Device: nothing is kept of it, fault b.target.run CannotStart: nothing is kept of it, fault b.target.run Died: nothing is kept of it, fault b.target.run Device: nothing is kept of it, fault b.target.run Device: nothing is kept of it, fault b.target.run Device: nothing is kept of it, fault b.target.run Device: nothing is kept of it, fault b.target.run Device: nothing is kept of it, fault b.target.run Device: nothing is kept of it, \n";
 
 /// Adds a case of which something else is told to `wrong`, and what is told; and one that has no steps.
 fn try_case(alloc: Global, case: &str, wrong: &mut Shown) -> Result<(), Fail> {

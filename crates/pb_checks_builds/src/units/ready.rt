@@ -4,7 +4,7 @@ ghost use Rattle.std.specs.Prelude.{◌≡◌, IfOk};
 ghost use Rattle.pb_run.specs.Standing.{records_folder};
 
 use pb_build::plan_build;
-use pb_checks_files::no_options;
+use pb_checks_files::{Untold, no_options};
 use pb_data::{Bytes, Items, Text};
 use pb_directive::Directives;
 use pb_memory::Memory;
@@ -72,7 +72,7 @@ fn setup_of(alloc: Global) -> Result<Setup, AllocError> {
 /// Opens the store of a project's records.
 pub fn store_of(
     alloc: Global,
-    place: &mut Memory<Mini>,
+    place: &mut Untold<Mini>,
     project: &OrderedProject,
 ) -> Result<Store, Fail>
     ensures folder { IfOk result (λ store. store.folder ≡ records_folder project.now) }
@@ -105,7 +105,7 @@ fn nothing_told(alloc: Global, project: &OrderedProject) -> Result<Told, AllocEr
 /// What the units of a project are run with at first.
 pub fn bench_of(
     alloc: Global,
-    place: &mut Memory<Mini>,
+    place: &mut Untold<Mini>,
     project: &OrderedProject,
 ) -> Result<Bench, Fail>
     ensures folder { IfOk result (λ bench. bench.store.folder ≡ records_folder project.now) }

@@ -1,21 +1,17 @@
-//! The run of a unit, its halves beside those of another, and what they tell in words.
+//! The run of a unit, the beginning of one that is dropped, and what they tell in words.
 
-ghost use Rattle.std.specs.Prelude.{◌≡◌, IfOk, IfSome, Some, true, slice_get};
+ghost use Rattle.std.specs.Prelude.{◌≡◌, IfSome, Some, true, slice_get};
 ghost use Rattle.pb_place.specs.Children.{is_flying};
 ghost use Rattle.pb_memory.specs.Memory.{counts_in};
 ghost use Rattle.pb_run.specs.Halves.{child_of};
-ghost use Rattle.pb_run.specs.Standing.{IsCommandOf, records_folder};
+ghost use Rattle.pb_run.specs.Standing.{records_folder};
 
 use crate::units::ready::{Bench, Told};
 use pb_answer::{BuildFault, Summary, result_line};
-use pb_memory::Memory;
+use pb_checks_files::Untold;
 use pb_mini::Mini;
-use pb_place::Place;
 use pb_project::unit_at;
-use pb_run::{
-    Awaited, Beginning, Begun, OrderedProject, Ran, Run, answer_unit, begin_unit, drop_unit,
-    lines_of_unit, run_unit,
-};
+use pb_run::{Awaited, Begun, OrderedProject, Outcome, begin_unit, drop_unit, run_unit};
 use pb_store::Difference;
 use pb_unit::Planned;
 use std::alloc::{AllocError, Global};
@@ -35,16 +31,12 @@ fn tell_difference(alloc: Global, difference: &Option<Difference>) -> Result<Str
 }
 
 /// What came of a unit, in words: what differed, and why it is bad, if it is.
-fn tell_ran(
-    alloc: Global,
-    ran: &Ran,
-    difference: &Option<Difference>,
-) -> Result<String, AllocError> {
-    let mut said = tell_difference(alloc, difference)?;
-    if ran.started != difference.is_some() {
+fn tell_outcome(alloc: Global, outcome: &Outcome) -> Result<String, AllocError> {
+    let mut said = tell_difference(alloc, &outcome.difference)?;
+    if outcome.started != outcome.difference.is_some() {
         said.push_str(" (wrong)")?;
     }
-    if let Some(bad) = &ran.bad {
+    if let Some(bad) = &outcome.fault {
         let fault = format!(in alloc; ", but {}", bad.fault)?;
         said.push_str(fault.as_str())?;
     }
@@ -54,23 +46,14 @@ fn tell_ran(
 /// Notes what came of a unit, and tells it in words.
 fn note(
     alloc: Global,
-    project: &OrderedProject,
-    unit: &Planned,
     told: &mut Told,
     index: usize,
-    ran: Ran,
-    difference: &Option<Difference>,
+    outcome: Outcome,
 ) -> Result<String, AllocError> {
-    let said = tell_ran(alloc, &ran, difference)?;
-    told.lines = lines_of_unit(
-        alloc,
-        project.get(),
-        unit,
-        ran.started,
-        ran.messages.as_slice(),
-    )?;
+    let said = tell_outcome(alloc, &outcome)?;
+    told.lines = outcome.lines;
     if index < told.done.len() {
-        told.done[index] = ran.directives;
+        told.done[index] = outcome.directives;
     }
     Ok(said)
 }
@@ -78,7 +61,7 @@ fn note(
 /// Runs the unit at a place.
 pub fn run(
     alloc: Global,
-    place: &mut Memory<Mini>,
+    place: &mut Untold<Mini>,
     project: &OrderedProject,
     bench: &mut Bench,
     index: usize,
@@ -101,34 +84,23 @@ pub fn run(
         index,
         unit,
     ) {
-        Ok(run) => {
-            let Run { ran, difference } = run;
-            note(
-                alloc,
-                project,
-                unit,
-                &mut bench.told,
-                index,
-                ran,
-                &difference,
-            )
-        }
+        Ok(outcome) => note(alloc, &mut bench.told, index, outcome),
         Err(fault) => tell_fault(alloc, fault),
     }
 }
 
 /// Whether the child of a unit that has begun is in flight, where it has one.
-fn is_aloft(place: &Memory<Mini>, begun: &Begun) -> bool
-    ensures { result ≡ true → IfSome (child_of begun.now) (λ launched. is_flying launched.ticket (counts_in place.now).starts.flying ≡ true) }
+fn is_aloft(place: &Untold<Mini>, begun: &Begun) -> bool
+    ensures { result ≡ true → IfSome (child_of begun.now) (λ launched. is_flying launched.ticket (counts_in place.now.inside).starts.flying ≡ true) }
 {
     match &begun.awaited {
-        Awaited::Child(launched) => place.flies(launched.ticket),
+        Awaited::Child(launched) => place.inside.flies(launched.ticket),
         Awaited::Record(_) => true,
     }
 }
 
 /// Drops a unit that has begun.
-fn drop_begun(alloc: Global, place: &mut Memory<Mini>, begun: &Begun) {
+fn drop_begun(alloc: Global, place: &mut Untold<Mini>, begun: &Begun) {
     if is_aloft(place, begun) {
         drop_unit(alloc, place, begun);
     }
@@ -137,17 +109,15 @@ fn drop_begun(alloc: Global, place: &mut Memory<Mini>, begun: &Begun) {
 /// Begins a unit.
 fn begin(
     alloc: Global,
-    place: &mut Memory<Mini>,
+    place: &mut Untold<Mini>,
     project: &OrderedProject,
     bench: &mut Bench,
     index: usize,
     unit: &Planned,
-) -> Result<Beginning, BuildFault>
+) -> Result<Begun, BuildFault>
     requires unit { slice_get project.now.plan.planned index ≡ Some unit.now }
     requires folder { bench.old.store.folder ≡ records_folder project.now }
     ensures folder { bench.new.store.folder ≡ records_folder project.now }
-    ensures named { IfOk result (λ made. made.begun.unit ≡ unit.now.key) }
-    ensures asks { IfOk result (λ made. IsCommandOf project.now unit.now made.begun.command) }
 {
     let done = bench.told.done.as_slice();
     begin_unit(
@@ -165,7 +135,7 @@ fn begin(
 /// Begins the unit at a place, and drops it.
 pub fn begin_and_drop(
     alloc: Global,
-    place: &mut Memory<Mini>,
+    place: &mut Untold<Mini>,
     project: &OrderedProject,
     bench: &mut Bench,
     index: usize,
@@ -178,159 +148,10 @@ pub fn begin_and_drop(
         None => return String::from_str(alloc, "no unit"),
     };
     match begin(alloc, place, project, bench, index, unit) {
-        Ok(made) => {
-            drop_begun(alloc, place, &made.begun);
-            tell_difference(alloc, &made.difference)
+        Ok(begun) => {
+            drop_begun(alloc, place, &begun);
+            tell_difference(alloc, &begun.difference)
         }
-        Err(fault) => tell_fault(alloc, fault),
-    }
-}
-
-/// Takes the answer of a unit that has begun.
-fn answer(
-    alloc: Global,
-    place: &mut Memory<Mini>,
-    project: &OrderedProject,
-    bench: &mut Bench,
-    index: usize,
-    unit: &Planned,
-    made: Beginning,
-) -> Result<String, AllocError>
-    requires unit { slice_get project.now.plan.planned index ≡ Some unit.now }
-    requires folder { bench.old.store.folder ≡ records_folder project.now }
-    requires named { made.begun.unit ≡ unit.now.key }
-    requires asks { IsCommandOf project.now unit.now made.begun.command }
-    ensures folder { bench.new.store.folder ≡ records_folder project.now }
-{
-    let Beginning { begun, difference } = made;
-    if !is_aloft(place, &begun) {
-        return String::from_str(alloc, "no child");
-    }
-    match answer_unit(alloc, place, &mut bench.store, project, index, unit, begun) {
-        Ok(ran) => note(
-            alloc,
-            project,
-            unit,
-            &mut bench.told,
-            index,
-            ran,
-            &difference,
-        ),
-        Err(fault) => tell_fault(alloc, fault),
-    }
-}
-
-/// What two answers tell.
-fn joined(
-    first: Result<String, AllocError>,
-    second: Result<String, AllocError>,
-) -> Result<String, AllocError> {
-    let mut said = first?;
-    let more = second?;
-    said.push_str("; ")?;
-    said.push_str(more.as_str())?;
-    Ok(said)
-}
-
-/// Takes the answers of two units that have begun, one after the other; after a fault of the first the other is dropped.
-fn answer_both(
-    alloc: Global,
-    place: &mut Memory<Mini>,
-    project: &OrderedProject,
-    bench: &mut Bench,
-    one: usize,
-    first: &Planned,
-    made: Beginning,
-    other: usize,
-    second: &Planned,
-    more: Beginning,
-) -> Result<String, AllocError>
-    requires first { slice_get project.now.plan.planned one ≡ Some first.now }
-    requires second { slice_get project.now.plan.planned other ≡ Some second.now }
-    requires folder { bench.old.store.folder ≡ records_folder project.now }
-    requires named { (made.begun.unit ≡ first.now.key) × (more.begun.unit ≡ second.now.key) }
-    requires asks { IsCommandOf project.now first.now made.begun.command × IsCommandOf project.now second.now more.begun.command }
-    ensures folder { bench.new.store.folder ≡ records_folder project.now }
-{
-    let failures = place.failures();
-    let said = answer(alloc, place, project, bench, one, first, made);
-    if place.failures() > failures {
-        drop_begun(alloc, place, &more.begun);
-        return said;
-    }
-    joined(
-        said,
-        answer(alloc, place, project, bench, other, second, more),
-    )
-}
-
-/// Begins the second of two units, the first of which has begun, and takes their answers, that of the second first where
-/// they are turned. Where the second cannot begin, the first is dropped.
-fn begin_second(
-    alloc: Global,
-    place: &mut Memory<Mini>,
-    project: &OrderedProject,
-    bench: &mut Bench,
-    one: usize,
-    first: &Planned,
-    made: Beginning,
-    other: usize,
-    second: &Planned,
-    turned: bool,
-) -> Result<String, AllocError>
-    requires first { slice_get project.now.plan.planned one ≡ Some first.now }
-    requires second { slice_get project.now.plan.planned other ≡ Some second.now }
-    requires folder { bench.old.store.folder ≡ records_folder project.now }
-    requires named { made.begun.unit ≡ first.now.key }
-    requires asks { IsCommandOf project.now first.now made.begun.command }
-    ensures folder { bench.new.store.folder ≡ records_folder project.now }
-{
-    match begin(alloc, place, project, bench, other, second) {
-        Err(fault) => {
-            drop_begun(alloc, place, &made.begun);
-            drop(made);
-            tell_fault(alloc, fault)
-        }
-        Ok(more) => {
-            if turned {
-                answer_both(
-                    alloc, place, project, bench, other, second, more, one, first, made,
-                )
-            } else {
-                answer_both(
-                    alloc, place, project, bench, one, first, made, other, second, more,
-                )
-            }
-        }
-    }
-}
-
-/// Begins the units at two places, one after the other, and takes their answers, that of the second first where they are
-/// turned. Where the second cannot begin, the first is dropped, and after a fault of an answer the other one.
-pub fn run_both(
-    alloc: Global,
-    place: &mut Memory<Mini>,
-    project: &OrderedProject,
-    bench: &mut Bench,
-    one: usize,
-    other: usize,
-    turned: bool,
-) -> Result<String, AllocError>
-    requires folder { bench.old.store.folder ≡ records_folder project.now }
-    ensures folder { bench.new.store.folder ≡ records_folder project.now }
-{
-    let first = match unit_at(project.get(), one) {
-        Some(unit) => unit,
-        None => return String::from_str(alloc, "no unit"),
-    };
-    let second = match unit_at(project.get(), other) {
-        Some(unit) => unit,
-        None => return String::from_str(alloc, "no unit"),
-    };
-    match begin(alloc, place, project, bench, one, first) {
-        Ok(made) => begin_second(
-            alloc, place, project, bench, one, first, made, other, second, turned,
-        ),
         Err(fault) => tell_fault(alloc, fault),
     }
 }

@@ -5,7 +5,8 @@ ghost use Rattle.pb_place.specs.declared.place.StartFault.TheVariants as StartFa
 ghost use Rattle.pb_run.specs.Standing.{records_folder};
 
 use crate::units::ready::{Bench, put_file, store_of};
-use crate::units::running::{begin_and_drop, run, run_both};
+use crate::units::running::{begin_and_drop, run};
+use pb_checks_files::Untold;
 use pb_data::{Bytes, Text};
 use pb_memory::Memory;
 use pb_mini::Mini;
@@ -87,23 +88,19 @@ fn number_of(word: &str) -> usize {
 /// Runs units, in words; nothing where the word is none of a run.
 pub fn call(
     alloc: Global,
-    place: &mut Memory<Mini>,
+    place: &mut Untold<Mini>,
     project: &OrderedProject,
     bench: &mut Bench,
     verb: &str,
     first: &str,
-    rest: &str,
 ) -> Result<String, Fail>
     requires folder { bench.old.store.folder ≡ records_folder project.now }
     ensures folder { bench.new.store.folder ≡ records_folder project.now }
 {
-    let one = number_of(first);
-    let other = number_of(rest);
+    let index = number_of(first);
     match verb {
-        "run" => Ok(run(alloc, place, project, bench, one)?),
-        "drop" => Ok(begin_and_drop(alloc, place, project, bench, one)?),
-        "both" => Ok(run_both(alloc, place, project, bench, one, other, false)?),
-        "turned" => Ok(run_both(alloc, place, project, bench, one, other, true)?),
+        "run" => Ok(run(alloc, place, project, bench, index)?),
+        "drop" => Ok(begin_and_drop(alloc, place, project, bench, index)?),
         _ => Ok(String::new(alloc)),
     }
 }
@@ -133,10 +130,11 @@ fn look(
     }
 }
 
-/// Opens the store anew.
-fn reopen(
+/// Opens the store again: it contains the run numbers of the records, and they are not those of a world that was edited, or
+/// behind a call that failed.
+pub fn reopen(
     alloc: Global,
-    place: &mut Memory<Mini>,
+    place: &mut Untold<Mini>,
     project: &OrderedProject,
     bench: &mut Bench,
 ) -> Result<(), Fail>
@@ -159,7 +157,7 @@ fn add(told: &mut String, said: &str) -> Result<(), Fail> {
 /// One step.
 fn step(
     alloc: Global,
-    place: &mut Memory<Mini>,
+    place: &mut Untold<Mini>,
     project: &OrderedProject,
     bench: &mut Bench,
     line: &str,
@@ -172,18 +170,18 @@ fn step(
     if verb == "open" {
         return reopen(alloc, place, project, bench);
     }
-    change(alloc, place, verb, first, rest)?;
+    change(alloc, &mut place.inside, verb, first, rest)?;
     set_up(alloc, &mut bench.setup, verb, first)?;
-    let said = call(alloc, place, project, bench, verb, first, rest)?;
+    let said = call(alloc, place, project, bench, verb, first)?;
     add(told, said.as_str())?;
-    let seen = look(alloc, place, bench, verb, first)?;
+    let seen = look(alloc, &place.inside, bench, verb, first)?;
     add(told, seen.as_str())
 }
 
 /// Makes steps, one a line, with `, ` behind what each tells.
 pub fn make_steps(
     alloc: Global,
-    place: &mut Memory<Mini>,
+    place: &mut Untold<Mini>,
     project: &OrderedProject,
     bench: &mut Bench,
     steps: &str,

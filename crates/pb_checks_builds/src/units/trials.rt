@@ -2,7 +2,7 @@
 
 use crate::units::ready::{bench_of, project_in};
 use crate::units::steps::{make_steps, parts_of};
-use pb_checks_files::{Shown, put_files};
+use pb_checks_files::{Shown, Untold, put_files};
 use pb_memory::Memory;
 use pb_mini::Mini;
 use pb_run::OrderedProject;
@@ -17,7 +17,7 @@ pub const FILES: &str =
 /// What steps on a project tell.
 fn told_by(
     alloc: Global,
-    place: &mut Memory<Mini>,
+    place: &mut Untold<Mini>,
     project: &OrderedProject,
     steps: &str,
 ) -> Result<String, Fail> {
@@ -28,7 +28,7 @@ fn told_by(
 /// The same where the project was refused or not.
 fn told_if(
     alloc: Global,
-    place: &mut Memory<Mini>,
+    place: &mut Untold<Mini>,
     project: &Option<OrderedProject>,
     steps: &str,
 ) -> Result<String, Fail> {
@@ -39,15 +39,16 @@ fn told_if(
 }
 
 /// What steps on the project of these files tell, in a place without files.
-fn told_in(alloc: Global, place: &mut Memory<Mini>, steps: &str) -> Result<String, Fail> {
-    put_files(alloc, place, FILES)?;
-    let project = project_in(alloc, place)?;
+fn told_in(alloc: Global, place: &mut Untold<Mini>, steps: &str) -> Result<String, Fail> {
+    put_files(alloc, &mut place.inside, FILES)?;
+    let project = project_in(alloc, &mut place.inside)?;
     told_if(alloc, place, &project, steps)
 }
 
 /// The same in a fresh place.
 fn tried(alloc: Global, steps: &str) -> Result<String, Fail> {
-    told_in(alloc, &mut Memory::new(alloc, Mini), steps)
+    let inside = Memory::new(alloc, Mini);
+    told_in(alloc, &mut Untold { inside }, steps)
 }
 
 /// Trials, each behind `=== `: steps, one a line, and behind `= ` what they tell.
@@ -65,23 +66,16 @@ const TRIALS: &str =
      === run 0\nrun 1\nrun 2\nrun 3\nfile /w/b/x\nrun 0\nrun 1\nrun 2\nrun 3\n= nothing is kept of it, nothing is kept of it, nothing is kept of it, nothing is kept of it, same, same, `/w/b` has changed, `b.target.run` was built anew, \n\
      === run 0\ngone /w/target/debug/a.target.lib.record\nrun 0\n= nothing is kept of it, nothing is kept of it, \n\
      === run 0\nfile /w/target/debug/a.target.lib.record record 2\nrun 0\n= nothing is kept of it, nothing is kept of it, \n\
-     === die a.target.lib CannotStart\nrun 0\nthere /w/target/debug/a.target.lib.record\nthere /w/target/debug/a.target.lib/a.d\nrun 0\n= fault a.target.lib CannotStart, gone, gone, nothing is kept of it, \n\
-     === die a.target.lib Died\nrun 0\nthere /w/target/debug/a.target.lib.record\nthere /w/target/debug/a.target.lib/a.d\nrun 0\n= fault a.target.lib Died, gone, there, nothing is kept of it, \n\
-     === die a.target.lib Capture\nrun 0\nthere /w/target/debug/a.target.lib.record\nthere /w/target/debug/a.target.lib/a.d\nrun 0\n= fault a.target.lib Capture, gone, there, nothing is kept of it, \n\
-     === run 0\nfile /w/a/src/n two\ndie a.target.lib CannotStart\nrun 0\nthere /w/target/debug/a.target.lib.record\nfile /w/a/src/n one\nrun 0\nrun 0\n= nothing is kept of it, fault a.target.lib CannotStart, gone, nothing is kept of it, same, \n\
-     === both 0 1\nthere /w/target/debug/a.target.lib.record\nthere /w/target/debug/b.target.script.record\nboth 0 1\n= nothing is kept of it; nothing is kept of it, there, there, same; same, \n\
-     === turned 0 1\nthere /w/target/debug/a.target.lib.record\nthere /w/target/debug/b.target.script.record\nturned 0 1\n= nothing is kept of it; nothing is kept of it, there, there, same; same, \n\
-     === both 1 0\nturned 1 0\n= nothing is kept of it; nothing is kept of it, same; same, \n\
-     === both 0 1\nfile /w/a/src/n two\nboth 0 1\n= nothing is kept of it; nothing is kept of it, `/w/a/src/n` has changed; same, \n\
-     === both 0 1\nfile /w/a/src/n two\nturned 1 0\n= nothing is kept of it; nothing is kept of it, `/w/a/src/n` has changed; same, \n\
-     === die a.target.lib Died\nboth 0 1\nboth 0 1\n= fault a.target.lib Died, nothing is kept of it; nothing is kept of it, \n\
-     === die b.target.script CannotStart\nboth 0 1\nthere /w/target/debug/a.target.lib.record\nboth 0 1\n= fault b.target.script CannotStart, gone, nothing is kept of it; nothing is kept of it, \n\
+     === die a.target.lib CannotStart\nrun 0\nthere /w/target/debug/a.target.lib.record\nthere /w/target/debug/a.target.lib/a.d\nopen\nrun 0\n= fault a.target.lib CannotStart, gone, gone, nothing is kept of it, \n\
+     === die a.target.lib Died\nrun 0\nthere /w/target/debug/a.target.lib.record\nthere /w/target/debug/a.target.lib/a.d\nopen\nrun 0\n= fault a.target.lib Died, gone, there, nothing is kept of it, \n\
+     === die a.target.lib Capture\nrun 0\nthere /w/target/debug/a.target.lib.record\nthere /w/target/debug/a.target.lib/a.d\nopen\nrun 0\n= fault a.target.lib Capture, gone, there, nothing is kept of it, \n\
+     === run 0\nfile /w/a/src/n two\ndie a.target.lib CannotStart\nrun 0\nthere /w/target/debug/a.target.lib.record\nfile /w/a/src/n one\nopen\nrun 0\nrun 0\n= nothing is kept of it, fault a.target.lib CannotStart, gone, nothing is kept of it, same, \n\
      === drop 0\nthere /w/target/debug/a.target.lib.record\nstarts\nrun 0\ndrop 0\nstarts\nrun 0\n= nothing is kept of it, gone, 1 starts, nothing is kept of it, same, 2 starts, same, \n\
      === run 0\nfile /w/a/src/n two\ndrop 0\nthere /w/target/debug/a.target.lib.record\nfile /w/a/src/n one\nrun 0\n= nothing is kept of it, `/w/a/src/n` has changed, gone, nothing is kept of it, \n\
      === file /w/a/src/lib.rs fail no\nrun 0\nlines\nthere /w/target/debug/a.target.lib.record\nrun 0\n= nothing is kept of it, but the child ended with status 1, {\"reason\":\"compiler-message\",\"package_id\":\"path+file:///w/a#0.0.0\",\"manifest_path\":\"/w/a/Cargo.toml\",\"target\":{\"kind\":[\"lib\"],\"crate_types\":[\"lib\"],\"name\":\"a\",\"src_path\":\"/w/a/src/lib.rs\",\"edition\":\"2015\"},\"message\":{\"level\":\"error\",\"message\":\"no\",\"line\":1}}\n, gone, nothing is kept of it, but the child ended with status 1, \n\
      === file /w/b/build.rs exit 3\nrun 1\nrun 2\nthere /w/target/debug/b.target.run.record\nrun 2\n= nothing is kept of it, nothing is kept of it, but the child ended with status 3, gone, nothing is kept of it, but the child ended with status 3, \n\
      === file /w/b/build.rs print cargo::nope\nrun 1\nrun 2\n= nothing is kept of it, nothing is kept of it, but a line of the script's output is refused: line 1 has a bad value, \n\
-     === fuse 1\nrun 0\nlate\nfuse 0\nrun 0\n= fault a.target.lib Device, 0 late, nothing is kept of it, \n\
+     === fuse 1\nrun 0\nlate\nfuse 0\nopen\nrun 0\n= fault a.target.lib Device, 0 late, nothing is kept of it, \n\
      === run 9\n= no unit, \n";
 
 /// Adds a case of which something else is told to `wrong`, and what is told; and one that has no steps.

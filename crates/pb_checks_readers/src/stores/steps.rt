@@ -2,30 +2,30 @@
 
 ghost use Rattle.std.specs.Prelude.{◌≡◌, true, Some};
 ghost use Rattle.pb_record.specs.Sorted.{are_sorted};
-ghost use Rattle.pb_soundness.specs.Records.{is_key, out_of};
+ghost use Rattle.pb_soundness.specs.Records.{out_of};
 
 use crate::stores::units::{command_with, ended, input_names, needs, own_command, own_key};
 use crate::stores::world::{prepare, put_file, put_first, replaced, take_away, text_at};
-use pb_checks_files::Shown;
-use pb_data::{Items, Text, with_next};
+use pb_checks_files::{Shown, Untold};
+use pb_data::{Items, with_next};
 use pb_memory::Memory;
 use pb_mini::Mini;
-use pb_place::{Command, PathText, Place};
+use pb_place::{Command, Ended, PathText};
 use pb_record::InputName;
-use pb_store::{Compared, OpenFault, Replayed, Store, StoreFault};
+use pb_store::{Compared, Difference, Key, OpenFault, Replayed, Store, StoreFault};
 use std::alloc::Global;
 use std::mem;
 use std::test::Fail;
 
 /// The store of the profile folder of a place.
-fn opened<P: Place>(alloc: Global, place: &mut P) -> Result<Store, Fail> {
+fn opened(alloc: Global, place: &mut Untold<Mini>) -> Result<Store, Fail> {
     let folder = PathText::parse(alloc, "/t/debug")?;
     Ok(Store::open(alloc, place, folder)?)
 }
 
 /// Prepares a place, and opens the store of its profile folder.
-pub fn begin(alloc: Global, place: &mut Memory<Mini>) -> Result<Store, Fail> {
-    prepare(alloc, place)?;
+pub fn begin(alloc: Global, place: &mut Untold<Mini>) -> Result<Store, Fail> {
+    prepare(alloc, &mut place.inside)?;
     opened(alloc, place)
 }
 
@@ -44,7 +44,7 @@ fn put_opened(out: &mut Shown, answer: &Result<Store, OpenFault>) {
 }
 
 /// What opening the store tells.
-fn tell_open<P: Place>(alloc: Global, place: &mut P, out: &mut Shown) -> Result<(), Fail> {
+fn tell_open(alloc: Global, place: &mut Untold<Mini>, out: &mut Shown) -> Result<(), Fail> {
     let folder = PathText::parse(alloc, "/t/debug")?;
     let answer = Store::open(alloc, place, folder);
     put_opened(out, &answer);
@@ -52,12 +52,17 @@ fn tell_open<P: Place>(alloc: Global, place: &mut P, out: &mut Shown) -> Result<
     Ok(())
 }
 
-/// Puts what is given again, in words: the streams, the status, and whether the record has a number.
-fn put_replayed(out: &mut Shown, again: &Replayed) {
-    let stdout = str::from_utf8(again.ended.stdout.as_slice()).unwrap_or("wrong");
-    let stderr = str::from_utf8(again.ended.stderr.as_slice()).unwrap_or("wrong");
+/// Puts how a child ended, in words: the streams and the status.
+fn put_ended(out: &mut Shown, ended: &Ended) {
+    let stdout = str::from_utf8(ended.stdout.as_slice()).unwrap_or("wrong");
+    let stderr = str::from_utf8(ended.stderr.as_slice()).unwrap_or("wrong");
     out.put(&[stdout, " ", stderr, " "]);
-    out.put_words(&again.ended.status);
+    out.put_words(&ended.status);
+}
+
+/// Puts the recorded answer, in words, and whether the record has a number.
+fn put_replayed(out: &mut Shown, again: &Replayed) {
+    put_ended(out, &again.ended);
     out.put(&[if again.numbered {
         " numbered"
     } else {
@@ -65,36 +70,70 @@ fn put_replayed(out: &mut Shown, again: &Replayed) {
     }]);
 }
 
-/// Puts what differs, or that it is the same, or what is given again then.
-fn put_compared(out: &mut Shown, answer: &Result<Compared, StoreFault>, is_replayed: bool) {
+/// Puts what differs, or the recorded answer if nothing does.
+fn put_compared(out: &mut Shown, answer: &Result<Compared, StoreFault>) {
     match answer {
         Ok(Compared::Differs(difference)) => out.put_words(difference),
-        Ok(Compared::Same(again)) => {
-            if is_replayed {
-                put_replayed(out, again);
-            } else {
-                out.put(&["same"]);
-            }
-        }
+        Ok(Compared::Same(again)) => put_replayed(out, again),
         Err(fault) => out.put_words(fault),
     }
 }
 
-/// What differs of the unit for its command with something put in place of something in it, or what its record gives
-/// again.
-pub fn tell_compared<P: Place>(
+/// Puts what differs, or that nothing does.
+fn put_difference(out: &mut Shown, answer: &Result<Option<Difference>, StoreFault>) {
+    match answer {
+        Ok(Some(difference)) => out.put_words(difference),
+        Ok(None) => out.put(&["same"]),
+        Err(fault) => out.put_words(fault),
+    }
+}
+
+/// Puts what differs of the unit for its command with something in it replaced.
+pub fn tell_difference(
     alloc: Global,
-    place: &mut P,
+    place: &mut Untold<Mini>,
     store: &Store,
     change: (&str, &str),
-    is_replayed: bool,
     out: &mut Shown,
 ) -> Result<(), Fail> {
     let key = own_key(alloc)?;
     let command = command_with(alloc, change.0, change.1)?;
     let answer = store.differs(alloc, place, &key, &command);
     drop(command);
-    put_compared(out, &answer, is_replayed);
+    put_difference(out, &answer);
+    drop(answer);
+    Ok(())
+}
+
+/// Puts what differs of the unit, or its recorded answer, from one comparison.
+fn tell_compared(
+    alloc: Global,
+    place: &mut Untold<Mini>,
+    store: &Store,
+    out: &mut Shown,
+) -> Result<(), Fail> {
+    let key = own_key(alloc)?;
+    let command = command_with(alloc, "", "")?;
+    let answer = store.compare(alloc, place, &key, &command);
+    drop(command);
+    put_compared(out, &answer);
+    drop(answer);
+    Ok(())
+}
+
+/// Puts the unit's recorded answer.
+fn tell_replay(
+    alloc: Global,
+    place: &mut Untold<Mini>,
+    store: &Store,
+    out: &mut Shown,
+) -> Result<(), Fail> {
+    let key = own_key(alloc)?;
+    let answer = store.replay(alloc, place, &key);
+    match &answer {
+        Ok(ended) => put_ended(out, ended),
+        Err(fault) => out.put_words(fault),
+    }
     drop(answer);
     Ok(())
 }
@@ -119,9 +158,9 @@ fn put_dropped(out: &mut Shown, answer: &Result<u64, StoreFault>) {
 }
 
 /// What dropping the unit's record tells.
-fn tell_drop<P: Place>(
+fn tell_drop(
     alloc: Global,
-    place: &mut P,
+    place: &mut Untold<Mini>,
     store: &mut Store,
     out: &mut Shown,
 ) -> Result<(), Fail> {
@@ -133,16 +172,15 @@ fn tell_drop<P: Place>(
 }
 
 /// What keeping the record of a command tells.
-fn tell_kept<P: Place>(
+fn tell_kept(
     alloc: Global,
-    place: &mut P,
+    place: &mut Untold<Mini>,
     store: &mut Store,
     number: u64,
-    key: &Text,
+    key: &Key,
     command: &Command,
     out: &mut Shown,
 ) -> Result<(), Fail>
-    requires key { is_key key.now ≡ true }
     requires out { command.now.out ≡ Some (out_of store.old.folder key.now) }
     requires sorted { are_sorted command.now.pairs ≡ true }
 {
@@ -166,9 +204,9 @@ fn tell_kept<P: Place>(
 }
 
 /// What keeping the unit's record tells.
-fn tell_keep<P: Place>(
+fn tell_keep(
     alloc: Global,
-    place: &mut P,
+    place: &mut Untold<Mini>,
     store: &mut Store,
     number: &str,
     out: &mut Shown,
@@ -182,9 +220,9 @@ fn tell_keep<P: Place>(
 }
 
 /// What migrating the unit's record tells.
-fn tell_migrate<P: Place>(
+fn tell_migrate(
     alloc: Global,
-    place: &mut P,
+    place: &mut Untold<Mini>,
     store: &mut Store,
     out: &mut Shown,
 ) -> Result<(), Fail> {
@@ -243,8 +281,9 @@ fn change(
     Ok(true)
 }
 
-/// Opens the store again once the world was changed, since it holds the numbers of the records; its next number stays.
-fn open_again<P: Place>(alloc: Global, place: &mut P, store: &mut Store) -> Result<(), Fail> {
+/// Opens the store again: it contains the run numbers of the records, and they are not those of a world that was edited, or
+/// behind a call that failed. Its next number stays.
+pub fn open_again(alloc: Global, place: &mut Untold<Mini>, store: &mut Store) -> Result<(), Fail> {
     let Store {
         folder,
         next: _,
@@ -256,9 +295,9 @@ fn open_again<P: Place>(alloc: Global, place: &mut P, store: &mut Store) -> Resu
 }
 
 /// Puts what a call of the store tells, in words. Whether the word is one of a call. `spent` leaves the store no number.
-pub fn call<P: Place>(
+pub fn call(
     alloc: Global,
-    place: &mut P,
+    place: &mut Untold<Mini>,
     store: &mut Store,
     verb: &str,
     words: (&str, &str),
@@ -266,10 +305,11 @@ pub fn call<P: Place>(
 ) -> Result<bool, Fail> {
     let told = match verb {
         "open" => tell_open(alloc, place, out),
-        "differs" => tell_compared(alloc, place, store, words, false, out),
+        "compare" => tell_compared(alloc, place, store, out),
+        "differs" => tell_difference(alloc, place, store, words, out),
         "drop" => tell_drop(alloc, place, store, out),
         "keep" => tell_keep(alloc, place, store, words.0, out),
-        "replay" => tell_compared(alloc, place, store, ("", ""), true, out),
+        "replay" => tell_replay(alloc, place, store, out),
         "migrate" => tell_migrate(alloc, place, store, out),
         "spent" => {
             store.next = None;
@@ -284,7 +324,7 @@ pub fn call<P: Place>(
 /// One step, with `, ` behind what a call tells.
 pub fn step(
     alloc: Global,
-    place: &mut Memory<Mini>,
+    place: &mut Untold<Mini>,
     store: &mut Store,
     line: &str,
     out: &mut Shown,
@@ -294,11 +334,11 @@ pub fn step(
     let first = words.next().unwrap_or("");
     let second = words.next().unwrap_or("");
     let third = words.next().unwrap_or("");
-    if change(alloc, place, verb, first, second, third)? {
+    if change(alloc, &mut place.inside, verb, first, second, third)? {
         open_again(alloc, place, store)?;
     }
     if verb == "show" {
-        tell_text(alloc, place, first, out)?;
+        tell_text(alloc, &place.inside, first, out)?;
         out.put(&[", "]);
     } else if call(alloc, place, store, verb, (first, second), out)? {
         out.put(&[", "]);

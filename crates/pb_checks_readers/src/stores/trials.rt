@@ -1,7 +1,7 @@
 //! Trials: steps on a profile folder, and what they tell.
 
 use crate::stores::steps::{begin, step};
-use pb_checks_files::Shown;
+use pb_checks_files::{Shown, Untold};
 use pb_memory::Memory;
 use pb_mini::Mini;
 use pb_store::Store;
@@ -11,7 +11,7 @@ use std::test::Fail;
 /// Whether the steps of a line, which has `~` for each line feed, tell what it says with the store of a place.
 fn tells_with(
     alloc: Global,
-    place: &mut Memory<Mini>,
+    place: &mut Untold<Mini>,
     store: &mut Store,
     line: &str,
 ) -> Result<bool, Fail> {
@@ -26,7 +26,9 @@ fn tells_with(
 
 /// The same on a fresh profile folder at a place of their own. A step `open` opens a store beside the one of the trial.
 fn is_right(alloc: Global, line: &str) -> Result<bool, Fail> {
-    let mut place = Memory::new(alloc, Mini);
+    let mut place = Untold {
+        inside: Memory::new(alloc, Mini),
+    };
     let tells = match begin(alloc, &mut place) {
         Ok(mut store) => {
             let tells = tells_with(alloc, &mut place, &mut store, line);
@@ -113,21 +115,27 @@ edit /t/debug/a.target.lib.record lib_3_ lib_18446744073709551615_~open -> spent
 drop~drop~open -> dropped 8, dropped 9, next 4, "#;
 
 /// Records that are dropped, kept, given again and migrated.
-const KEPT: &str = r#"replay -> out err 0 numbered, 
-first~replay -> out err 0 without number, 
-gone /t/debug/a.target.lib.record~replay -> nothing is kept of it, 
-edit /t/debug/a.target.lib.record _a _c~replay -> nothing is kept of it, 
-drop~differs~replay -> dropped 8, nothing is kept of it, nothing is kept of it, 
-drop~keep 8~differs~replay~open -> dropped 8, kept, same, out err 0 numbered, next 9, 
+const KEPT: &str = r#"replay -> out err 0, 
+first~replay -> out err 0, 
+file /w/a fm~replay -> out err 0, 
+gone /t/debug/a.target.lib.record~replay -> a file could not be read, 
+edit /t/debug/a.target.lib.record _a _c~replay -> a file could not be read, 
+edit /t/debug/a.target.lib.record end_ end~replay -> a file could not be read, 
+compare -> out err 0 numbered, 
+first~compare -> out err 0 without number, 
+gone /t/debug/a.target.lib.record~compare -> nothing is kept of it, 
+edit /t/debug/a.target.lib.record _a _c~compare -> nothing is kept of it, 
+drop~differs~compare -> dropped 8, nothing is kept of it, nothing is kept of it, 
+drop~keep 8~differs~compare~open -> dropped 8, kept, same, out err 0 numbered, next 9, 
 drop~keep 8~show /t/debug/a.target.lib.record -> dropped 8, kept, record 2~8~12~a.target.lib~5~rustc~1~2~-C~2~/w~1~1~A~1~1~21~/t/debug/a.target.lib~2~/t~3~x~y~1~21~/t/debug/b.target.lib~4~f~4~/w/a~2~fn~t~4~/w/d~1~1~x~1~1~v~1~V~1~1~v~v~1~U~0~1~12~b.target.lib~3~3~out~3~err~end~, 
 file /w/a fm~gone /w/d~set U~unset V~edit /t/debug/b.target.lib.record 3 5~drop~keep 8~differs~set V v~differs -> dropped 8, kept, same, `V` has changed, 
 first~open~migrate~differs~show /t/debug/a.target.lib.record~open -> next 4, migrated, same, record 2~8~12~a.target.lib~5~rustc~1~2~-C~2~/w~1~1~A~1~1~21~/t/debug/a.target.lib~2~/t~3~x~y~1~21~/t/debug/b.target.lib~4~f~4~/w/a~2~fn~t~4~/w/d~1~1~x~1~1~v~1~V~1~1~v~v~1~U~0~1~12~b.target.lib~3~3~out~3~err~end~, next 9, 
-first~migrate~replay~drop -> migrated, out err 0 numbered, dropped 9, 
+first~migrate~compare~drop -> migrated, out err 0 numbered, dropped 9, 
 migrate~open~differs~drop -> migrated, next 8, same, dropped 8, 
 gone /t/debug/a.target.lib.record~migrate~differs~drop -> migrated, nothing is kept of it, dropped 8, "#;
 
 /// No number is left.
-const WITHOUT_NUMBER: &str = r#"spent~drop~replay -> no run number is left, out err 0 numbered, 
+const WITHOUT_NUMBER: &str = r#"spent~drop~compare -> no run number is left, out err 0 numbered, 
 spent~gone /t~drop -> no run number is left, 
 spent~first~migrate~differs~open -> no run number is left, same, next 4, 
 spent~migrate~differs -> migrated, same, 

@@ -8,15 +8,15 @@ use crate::stores::world::{OWN, replaced};
 use pb_data::{Bytes, Items, Text, TryCopy};
 use pb_place::{Command, Ended, PathFault, PathText, RelativePath};
 use pb_record::{Asked, InputName, Record, read_record};
+use pb_store::Key;
 use std::alloc::{AllocError, Global};
 use std::test::Fail;
 
 /// The key of the unit.
 #[tactic(auto, unfolding(pb_soundness::specs::Records::is_key))]
-pub fn own_key(alloc: Global) -> Result<Text, AllocError>
-    ensures { IfOk result (λ key. is_key key ≡ true) }
-{
-    Text::from_str(alloc, "a.target.lib")
+pub fn own_key(alloc: Global) -> Result<Key, AllocError> {
+    let text = Text::from_str(alloc, "a.target.lib")?;
+    Ok(Key::new(text))
 }
 
 /// The keys of the units that it needs.
@@ -106,17 +106,17 @@ fn with_out(asked: Asked, out: PathText) -> Command
 }
 
 /// The output folder of a unit.
-fn out_path(alloc: Global, folder: &PathText, key: &Text) -> Result<PathText, Fail>
+fn out_path(alloc: Global, folder: &PathText, key: &Key) -> Result<PathText, Fail>
     ensures { IfOk result (λ path. path ≡ out_of folder.now key.now) }
 {
-    let relative = RelativePath::of(key.copy(alloc)?).ok_or("no path")?;
+    let relative = RelativePath::of(key.as_text().copy(alloc)?).ok_or("no path")?;
     let path = folder.below(alloc, &relative);
     drop(relative);
     Ok(path?)
 }
 
 /// The unit's command, which writes into its folder.
-pub fn own_command(alloc: Global, folder: &PathText, key: &Text) -> Result<Command, Fail>
+pub fn own_command(alloc: Global, folder: &PathText, key: &Key) -> Result<Command, Fail>
     ensures out { IfOk result (λ c. c.out ≡ Some (out_of folder.now key.now)) }
     ensures sorted { IfOk result (λ c. are_sorted c.pairs ≡ true) }
 {
