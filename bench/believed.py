@@ -1,7 +1,8 @@
 #!/usr/bin/env python3
 """What a reader of a promise has to believe: `believed.py [NAME] [--laws] [--but=NAME=NAME,.. ..]` counts the definitions of
 `specs/` on which one stands, with all that they stand on in turn, and their lines without comments, imports and empty
-lines, by crate. Where none is named it is `Headline` of pb_build with `ByFirst`, the schedule of `build`.
+lines, by crate. If none is named it is `Headline` of pb_build with `ByFirst`, the schedule of `build`,
+and `IsReading`, which the law `records_have_a_reading` says of `reading`.
 `--but=NAME=NAME,..` counts, in place of what one definition stands on, the statements of the laws that say it in other
 words; a reader who believes the laws reads these, and of the definition its type. Names are CRATE.File.name, or a last part that is there once. What std,
 the toolchain's crates and the types of the code say is left out. `--laws` takes all laws of LAWS: of records and true
@@ -75,7 +76,7 @@ LAWS = """
 --but=pb_draft.Between.text_between=TextsLeadBetween
 --but=pb_workspace.MemberFolders.folders_meant=TextsMeanFolders
 --but=pb_workspace.Members.parts_match=PartsMatchNames
---but=pb_store.Opening.next_in=NextIsAbove
+--but=pb_store.Folder.next_in=NextIsAbove
 --but=pb_profile.Line.checked_line=LinesAreChecked
 --but=pb_directive.Lines.trimmed=LinesAreTrimmed
 --but=pb_place.Paths.path_of=PathsAreSpelled
@@ -84,7 +85,7 @@ LAWS = """
 --but=pb_soundness.Records.record_at=RecordsCount
 --but=pb_soundness.Records.number_of=RecordsAreNumbered
 --but=pb_soundness.Reuse.number_if=RecordsAreNumbered
---but=pb_store.Migrating.lacks_number=RecordsAreNumbered
+--but=pb_store.Folder.lacks_number=RecordsAreNumbered
 --but=pb_store.Differences.FirstDifference=DifferencesAreThese
 """.split()
 
@@ -190,7 +191,8 @@ for it in sys.argv[1:] + (LAWS if "--laws" in sys.argv else []):
     if it.startswith("--but="):
         old, _, new = it[6:].partition("=")
         instead[named(old)] = {named(part) for part in new.split(",") if part}
-starts = [named(it) for it in words] or [named("pb_build.Headline.Headline"), named("pb_build.Headline.ByFirst")]
+starts = [named(it) for it in words] or [
+    named("pb_build.Headline.Headline"), named("pb_build.Headline.ByFirst"), named("pb_record.Parts.IsReading")]
 stops = {old: set() for old in instead}
 
 

@@ -4,7 +4,8 @@
  * does so at each Nth alone. What came of them is written to FILE: for each row of allocations of which the same came a
  * line `MODE FIRST COUNT STATUS LENGTH LENGTH`, with the mode `alone` or `on`, the number of the first, how many, the exit
  * status (a signal with a minus before it), and below it what was written to standard output and to standard error, of
- * these lengths. Standard output has to be a file that can be read. Read by `failing.sh` and `refused.sh`. */
+ * these lengths. Standard output has to be a file that can be read. Children of the process have a malloc as any other. Read by
+ * `failing.sh`, `growths.sh` and `refused.sh`. */
 #include <errno.h>
 #include <fcntl.h>
 #include <stdio.h>
@@ -96,6 +97,7 @@ static void try_here(int on) {
 __attribute__((constructor)) static void begin(void) {
     const char *which = getenv("FAILING_ALLOCATION"), *path = getenv("OUTCOMES"), *step = getenv("EVERY");
     failing = which ? atol(which) : 0;
+    unsetenv("LD_PRELOAD");
     from_then_on = getenv("FROM_THEN_ON") != NULL;
     if (step)
         every = atol(step);
