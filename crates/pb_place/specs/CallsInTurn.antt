@@ -9,9 +9,11 @@ use Rattle.pb_place.specs.declared.place.PlaceFault.TheVariants as place
 -- the fault that a call answers where it fails, but for want of memory
 abbrev pub own_fault : Call → PlaceFault
 own_fault (call.Read path) = place.Read
+own_fault (call.IsFile path) = place.Read
 own_fault (call.List folder) = place.List
 own_fault (call.ListOutside folder left_out) = place.List
 own_fault (call.ListDirectly folder) = place.List
+own_fault (call.ListFolders folder left_out) = place.List
 own_fault (call.Write path) = place.Write
 own_fault (call.Remove path) = place.Remove
 own_fault (call.Variable name) = place.Variable

@@ -15,12 +15,16 @@ use std::alloc::{AllocError, Global};
 pub enum Call {
     /// A file is read.
     Read(PathText),
+    /// It is asked whether a file is at a path.
+    IsFile(PathText),
     /// All files below a folder are listed.
     List(PathText),
     /// The files below a folder are listed, but those at or below another path.
     ListOutside(PathText, PathText),
     /// The files directly in a folder are listed.
     ListDirectly(PathText),
+    /// The folders directly in a folder are listed, but those that hold only what is at or below another path.
+    ListFolders(PathText, PathText),
     /// A file is written.
     Write(PathText),
     /// What stands at or below a path is removed.
@@ -35,6 +39,13 @@ impl Call {
         ensures { IfOk result (λ it. it ≡ call.Read path.now) }
     {
         Ok(Call::Read(path.copy(alloc)?))
+    }
+
+    /// To ask whether a file is at a path. The one fault is want of memory.
+    pub fn is_file(alloc: Global, path: &PathText) -> Result<Call, AllocError>
+        ensures { IfOk result (λ it. it ≡ call.IsFile path.now) }
+    {
+        Ok(Call::IsFile(path.copy(alloc)?))
     }
 
     /// To list all files below a folder. The one fault is want of memory.
@@ -64,6 +75,20 @@ impl Call {
         Ok(Call::ListDirectly(folder.copy(alloc)?))
     }
 
+    /// To list the folders directly in a folder, but those that hold only what is at or below another path. The one
+    /// fault is want of memory.
+    pub fn list_folders(
+        alloc: Global,
+        folder: &PathText,
+        left_out: &PathText,
+    ) -> Result<Call, AllocError>
+        ensures { IfOk result (λ it. it ≡ call.ListFolders folder.now left_out.now) }
+    {
+        let folder = folder.copy(alloc)?;
+        let left_out = left_out.copy(alloc)?;
+        Ok(Call::ListFolders(folder, left_out))
+    }
+
     /// To write a file. The one fault is want of memory.
     pub fn write(alloc: Global, path: &PathText) -> Result<Call, AllocError>
         ensures { IfOk result (λ it. it ≡ call.Write path.now) }
@@ -91,9 +116,11 @@ impl Call {
     {
         match self {
             Call::Read(_) => PlaceFault::Read,
+            Call::IsFile(_) => PlaceFault::Read,
             Call::List(_) => PlaceFault::List,
             Call::ListOutside(_, _) => PlaceFault::List,
             Call::ListDirectly(_) => PlaceFault::List,
+            Call::ListFolders(_, _) => PlaceFault::List,
             Call::Write(_) => PlaceFault::Write,
             Call::Remove(_) => PlaceFault::Remove,
             Call::Variable(_) => PlaceFault::Variable,

@@ -1,6 +1,6 @@
 //! Files and variables in sorted maps, which contracts see as finite maps.
 
-ghost use Rattle.std.specs.Prelude.{◌≡◌, ◌==◌, ◌+◌, ℕ, List, Bool, true, not, length, drop, None, ◌++◌, ◌∷◌, if◌then◌else◌, IfOk, OnOk, OnErr, string_bytes};
+ghost use Rattle.std.specs.Prelude.{◌≡◌, ◌==◌, ◌+◌, ℕ, List, Bool, true, not, length, drop, map as each, Some, None, is_some, ◌++◌, ◌∷◌, if◌then◌else◌, IfOk, OnOk, OnErr, string_bytes};
 ghost use Rattle.std.specs.List.{list_all, list_any, filter};
 ghost use Rattle.std.specs.Ordering.{nat_cmp};
 ghost use Rattle.std.specs.Cmp.Lexicographic.{slice_cmp};
@@ -12,11 +12,12 @@ ghost use Rattle.std.specs.BTreeMap.Range.{entries_between};
 ghost use Rattle.std.specs.FinMap as map;
 ghost use Rattle.std.specs.Option.{option_copied};
 ghost use Rattle.pb_place.specs.Paths.{is_path, stem, is_below, is_at_or_below};
-ghost use Rattle.pb_place.specs.World.{is_directly_in, is_same_path, AgreeBut, PartlyRemovedAt};
+ghost use Rattle.pb_place.specs.World.{is_directly_in, is_same_path, first_folder, folder_towards, is_last, with_new, folders_among, AgreeBut, PartlyRemovedAt};
 ghost use Rattle.pb_place.specs.Copies.{put_one, put_from, PutsSome, half_removed};
 ghost use Rattle.pb_place.specs.Maps.{files_of};
 
-use crate::path::{PathText, is_at_or_below, stem};
+use crate::path::{PathText, is_at_or_below, parts_of, stem};
+use crate::relative::RelativePath;
 use pb_data::{Bytes, Items, Text, TryCopy};
 use std::alloc::{AllocError, Global};
 use std::collections::BTreeMap;
@@ -119,6 +120,38 @@ impl FileMap {
         let names = names_below(alloc, &self.inside, folder.as_str())?;
         let names = names_without_slash(alloc, names, folder)?;
         Ok(paths_of(alloc, names)?)
+    }
+
+    /// Does nothing. It tells that each file has a normalised absolute path. It takes no memory.
+    pub fn have_paths(&self)
+        ensures { (path bytes : List ℕ) → map.get self.now path ≡ Some bytes
+            → is_path path ≡ true }
+    {
+        let _inside = &self.inside;
+    }
+
+    /// Whether a file is at a path. It takes no memory.
+    pub fn has(&self, path: &PathText) -> bool
+        ensures { result ≡ is_some (map.get self.now path.now) }
+    {
+        self.get(path).is_some()
+    }
+
+    /// The folders directly in a folder below which a file is, apart from the files at or below another path: each
+    /// once, in the order of these files. The one fault is want of memory.
+    pub fn list_folders(
+        &self,
+        alloc: Global,
+        folder: &PathText,
+        left_out: &PathText,
+    ) -> Result<Items<PathText>, AllocError>
+        ensures { IfOk result (λ folders. folders ≡ folders_among folder.now
+            (map.keys (map.retain_keys
+            (map.retain_keys self.now (λ q. not (is_at_or_below left_out.now q)))
+            (is_below folder.now)))) }
+    {
+        let paths = self.list_outside(alloc, folder, left_out)?;
+        folders_among(alloc, folder, paths.as_slice())
     }
 
     /// Removes the file at a path and the files below it. Where memory is refused, nothing changes.
@@ -343,6 +376,76 @@ fn paths_of(alloc: Global, names: Vec<Text>) -> Result<Items<PathText>, AllocErr
         paths.push(PathText::of_text(name))?;
     }
     Ok(paths)
+}
+
+/// The first of two or more parts.
+fn first_folder<'a>(parts: &[&'a str]) -> Option<&'a str>
+    ensures { option_copied result ≡ first_folder (each (λ part. part.now) parts.now) }
+{
+    match parts {
+        [first, _, ..] => Some(*first),
+        _ => None,
+    }
+}
+
+/// The folder directly in a folder through which a path leads, if it leads through one.
+fn folder_towards(
+    alloc: Global,
+    folder: &PathText,
+    path: &PathText,
+) -> Result<Option<PathText>, AllocError>
+    ensures { IfOk result (λ found. found ≡ folder_towards folder.now path.now) }
+{
+    let rest = match path.inside(alloc, folder)? {
+        Some(rest) => rest,
+        None => return Ok(None),
+    };
+    let parts = parts_of(alloc, rest.as_str())?;
+    match first_folder(parts.as_slice()) {
+        Some(name) => {
+            let name = RelativePath::name(alloc, name)?;
+            Ok(Some(folder.below(alloc, &name)?))
+        }
+        None => Ok(None),
+    }
+}
+
+/// Whether a path is the last of some.
+fn is_last(path: &PathText, paths: &[PathText]) -> bool
+    ensures { result ≡ is_last path.now paths.now }
+{
+    match paths.last() {
+        Some(last) => *path == *last,
+        None => false,
+    }
+}
+
+/// Adds a folder at the end, if there is one and it is not the last.
+fn put_new(folders: &mut Items<PathText>, folder: Option<PathText>) -> Result<(), AllocError>
+    ensures { OnOk result (folders.new ≡ with_new folders.old folder) }
+{
+    if let Some(folder) = folder {
+        if !is_last(&folder, folders.as_slice()) {
+            folders.push(folder)?;
+        }
+    }
+    Ok(())
+}
+
+/// The folders directly in a folder through which some paths lead, in their order, and none twice in a row.
+fn folders_among(
+    alloc: Global,
+    folder: &PathText,
+    paths: &[PathText],
+) -> Result<Items<PathText>, AllocError>
+    ensures { IfOk result (λ folders. folders ≡ folders_among folder.now paths.now) }
+{
+    let mut folders = Items::new(alloc);
+    for path in paths {
+        let towards = folder_towards(alloc, folder, path)?;
+        put_new(&mut folders, towards)?;
+    }
+    Ok(folders)
 }
 
 /// Takes the files at some keys away.

@@ -5,7 +5,7 @@ ghost use Rattle.std.specs.FinMap as map;
 ghost use Rattle.pb_place.specs.At.{At, LooksOnce, ChangesOnce, Spawns, Finishes, Starts};
 ghost use Rattle.pb_place.specs.Children.{child_at, is_flying, LandsAs};
 ghost use Rattle.pb_place.specs.Paths.{is_at_or_below};
-ghost use Rattle.pb_place.specs.World.{Answers, written, removed, listed, listed_directly, Torn, PartlyRemoved, Ends};
+ghost use Rattle.pb_place.specs.World.{Answers, FilesHavePaths, has_file, written, removed, listed, listed_directly, listed_folders, Torn, PartlyRemoved, Ends};
 ghost use Rattle.pb_place.specs.declared.call.Call.TheVariants as call;
 ghost use Rattle.pb_place.specs.declared.place.PlaceFault.TheVariants as place_fault;
 ghost use Rattle.pb_place.specs.declared.place.StartFault.TheVariants as start_fault;
@@ -125,6 +125,15 @@ pub trait Place {
         ensures looks { LooksOnce (call.Read path.now) result (at self.old) (at self.new) }
         ensures fails { IfErr result (λ e. e ≢ PlaceFault.OutOfMemory → fails self.old) };
 
+    /// Returns whether a file is at a path.
+    ///
+    /// Errors: `Read`; `OutOfMemory`.
+    fn is_file(&mut self, alloc: Global, path: &PathText) -> Result<bool, PlaceFault>
+        ensures ok { IsTrue tells → IfOk result
+            (λ answer. answer ≡ has_file path.now (at self.old).world) }
+        ensures looks { LooksOnce (call.IsFile path.now) result (at self.old) (at self.new) }
+        ensures fails { IfErr result (λ e. e ≢ PlaceFault.OutOfMemory → fails self.old) };
+
     /// Returns the paths of all files below a folder, in byte order. The folder's own path is not among them.
     ///
     /// Errors: `List`; `OutOfMemory`.
@@ -161,6 +170,25 @@ pub trait Place {
         ensures ok { IsTrue tells → IfOk result
             (λ paths. paths ≡ listed_directly folder.now (at self.old).world) }
         ensures looks { LooksOnce (call.ListDirectly folder.now) result
+            (at self.old) (at self.new) }
+        ensures fails { IfErr result (λ e. e ≢ PlaceFault.OutOfMemory → fails self.old) };
+
+    /// Returns the paths of the folders directly in a folder, each once. It does not look into them.
+    ///
+    /// In the maps a folder is one below which a file is, apart from the files at or below another path. A machine also
+    /// has folders without files: it may return them too, but not that other path.
+    ///
+    /// Errors: `List`; `OutOfMemory`.
+    fn list_folders(
+        &mut self,
+        alloc: Global,
+        folder: &PathText,
+        left_out: &PathText,
+    ) -> Result<Items<PathText>, PlaceFault>
+        ensures ok { IsTrue tells → IfOk result
+            (λ folders. folders
+            ≡ listed_folders folder.now (removed left_out.now (at self.old).world)) }
+        ensures looks { LooksOnce (call.ListFolders folder.now left_out.now) result
             (at self.old) (at self.new) }
         ensures fails { IfErr result (λ e. e ≢ PlaceFault.OutOfMemory → fails self.old) };
 
@@ -235,6 +263,11 @@ pub trait Place {
         let ticket = self.spawn(alloc, command)?;
         self.finish(alloc, ticket)
     }
+
+    /// Does nothing. It tells that each file in the maps has a normalised absolute path. It takes no memory, and is not
+    /// counted.
+    fn files_have_paths(&self)
+        ensures { IsTrue tells → FilesHavePaths (at self.now).world };
 
     /// Returns how many calls failed, at most `u64::MAX`. It takes no memory.
     fn failures(&self) -> u64
