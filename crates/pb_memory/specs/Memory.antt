@@ -16,13 +16,19 @@ use Rattle.pb_memory.specs.declared.in_flight.Flying.{Flying}
 use Rattle.pb_memory.specs.declared.in_flight.Death.{Death}
 use Rattle.pb_place.specs.declared.place.StartFault.{StartFault}
 
--- what a place in memory holds: its maps, its counters without what flies, and the children in flight, each with the fault of its end if it has one; the most that ever flew; the fuse, 0 where no call is to fail, and else the number of calls to the one that fails; and the starts that will fail
+-- What a place in memory holds.
 pub record Held : Type 0 where
+  -- its files and variables
   pub world : World
+  -- its counters, without the children in flight
   pub tally : Counts
+  -- the children in flight, each with the fault with which its end will be answered, if it has one
   pub flying : List (Flying (Option StartFault))
+  -- the most children that were ever in flight
   pub most : ℕ
+  -- the number of calls to the one that is to fail, or 0 if none is
   pub fuse : ℕ
+  -- the starts that will fail
   pub deaths : List Death
 
 -- its counters

@@ -23,11 +23,14 @@ call_parts (call.ListDirectly folder) = (3, (folder, []))
 call_parts (call.Write path) = (4, (path, []))
 call_parts (call.Remove path) = (5, (path, []))
 call_parts (call.Variable name) = (6, (name, []))
+call_parts (call.IsFile path) = (7, (path, []))
+call_parts (call.ListFolders folder left_out) = (8, (folder, left_out))
 
 abbrev pub call_made : ℕ × (List ℕ × List ℕ) → Call
 call_made (n, (given, left_out)) =
     if n == 0 then call.Read given else (if n == 1 then call.List given else (if n == 2 then call.ListOutside given left_out
-    else (if n == 3 then call.ListDirectly given else (if n == 4 then call.Write given else (if n == 5 then call.Remove given else call.Variable given)))))
+    else (if n == 3 then call.ListDirectly given else (if n == 4 then call.Write given else (if n == 5 then call.Remove given
+    else (if n == 6 then call.Variable given else (if n == 7 then call.IsFile given else call.ListFolders given left_out)))))))
 
 pub call_back : (c : Call) → call_made (call_parts c) ≡ c
 call_back (call.Read path) = refl
@@ -37,6 +40,8 @@ call_back (call.ListDirectly folder) = refl
 call_back (call.Write path) = refl
 call_back (call.Remove path) = refl
 call_back (call.Variable name) = refl
+call_back (call.IsFile path) = refl
+call_back (call.ListFolders folder left_out) = refl
 
 abbrev pub call_code : Coded Call
 call_code = code_by (ℕ × (List ℕ × List ℕ)) (coded× coded_ℕ (coded× text_code text_code)) call_parts call_made call_back

@@ -4,7 +4,7 @@ ghost use Rattle.std.specs.Prelude.{◌≡◌, ◌≢◌, ℕ, Bool, true, false
 ghost use Rattle.std.specs.FinMap as map;
 ghost use Rattle.pb_place.specs.At.{LooksOnce, ChangesOnce, Spawns, Finishes, Starts};
 ghost use Rattle.pb_place.specs.Paths.{is_at_or_below};
-ghost use Rattle.pb_place.specs.World.{written, removed, listed, listed_directly, Torn, PartlyRemoved, Ends};
+ghost use Rattle.pb_place.specs.World.{has_file, written, removed, listed, listed_directly, listed_folders, Torn, PartlyRemoved, Ends};
 ghost use Rattle.pb_place.specs.declared.call.Call.TheVariants as call;
 ghost use Rattle.pb_place.specs.Children.{is_flying, child_at, LandsAs};
 ghost use Rattle.pb_memory.specs.Seen.{call_failed, start_failed, seen, seen_end};
@@ -102,6 +102,20 @@ impl<P: Place> Place for Seen<P> {
         answer
     }
 
+    fn is_file(&mut self, alloc: Global, path: &PathText) -> Result<bool, PlaceFault>
+        ensures ok { IsTrue P.tells → IfOk result
+            (λ answer. answer ≡ has_file path.now (P.at self.old.place).world) }
+        ensures looks { LooksOnce (call.IsFile path.now) result
+            (P.at self.old.place) (P.at self.new.place) }
+        ensures fails { IfErr result (λ e. e ≢ PlaceFault.OutOfMemory → P.fails self.old.place) }
+        ensures seen { (self.new.faulted, self.new.after)
+            ≡ seen (call_failed result) (self.old.faulted, self.old.after) }
+    {
+        let answer = self.place.is_file(alloc, path);
+        self.note(call_failed(&answer));
+        answer
+    }
+
     fn list(&mut self, alloc: Global, folder: &PathText) -> Result<Items<PathText>, PlaceFault>
         ensures ok { IsTrue P.tells → IfOk result
             (λ paths. paths ≡ listed folder.now (P.at self.old.place).world) }
@@ -150,6 +164,25 @@ impl<P: Place> Place for Seen<P> {
             ≡ seen (call_failed result) (self.old.faulted, self.old.after) }
     {
         let answer = self.place.list_directly(alloc, folder);
+        self.note(call_failed(&answer));
+        answer
+    }
+
+    fn list_folders(
+        &mut self,
+        alloc: Global,
+        folder: &PathText,
+        left_out: &PathText,
+    ) -> Result<Items<PathText>, PlaceFault>
+        ensures ok { IsTrue P.tells → IfOk result (λ folders. folders
+            ≡ listed_folders folder.now (removed left_out.now (P.at self.old.place).world)) }
+        ensures looks { LooksOnce (call.ListFolders folder.now left_out.now) result
+            (P.at self.old.place) (P.at self.new.place) }
+        ensures fails { IfErr result (λ e. e ≢ PlaceFault.OutOfMemory → P.fails self.old.place) }
+        ensures seen { (self.new.faulted, self.new.after)
+            ≡ seen (call_failed result) (self.old.faulted, self.old.after) }
+    {
+        let answer = self.place.list_folders(alloc, folder, left_out);
         self.note(call_failed(&answer));
         answer
     }
@@ -239,6 +272,10 @@ impl<P: Place> Place for Seen<P> {
     {
         let ticket = self.spawn(alloc, command)?;
         self.finish(alloc, ticket)
+    }
+
+    fn files_have_paths(&self) {
+        self.place.files_have_paths();
     }
 
     fn failures(&self) -> u64 {

@@ -67,6 +67,10 @@ impl<C: Child> Place for Unfailing<C> {
         self.inside.read(alloc, path)
     }
 
+    fn is_file(&mut self, alloc: Global, path: &PathText) -> Result<bool, PlaceFault> {
+        self.inside.is_file(alloc, path)
+    }
+
     fn list(&mut self, alloc: Global, folder: &PathText) -> Result<Items<PathText>, PlaceFault> {
         self.inside.list(alloc, folder)
     }
@@ -88,6 +92,15 @@ impl<C: Child> Place for Unfailing<C> {
         self.inside.list_directly(alloc, folder)
     }
 
+    fn list_folders(
+        &mut self,
+        alloc: Global,
+        folder: &PathText,
+        left_out: &PathText,
+    ) -> Result<Items<PathText>, PlaceFault> {
+        self.inside.list_folders(alloc, folder, left_out)
+    }
+
     fn write(&mut self, alloc: Global, path: &PathText, bytes: &[u8]) -> Result<(), PlaceFault> {
         self.inside.write(alloc, path, bytes)
     }
@@ -106,6 +119,10 @@ impl<C: Child> Place for Unfailing<C> {
 
     fn finish(&mut self, alloc: Global, ticket: u64) -> Result<Ended, StartFault> {
         self.inside.finish(alloc, ticket)
+    }
+
+    fn files_have_paths(&self) {
+        self.inside.files_have_paths();
     }
 
     fn failures(&self) -> u64 {

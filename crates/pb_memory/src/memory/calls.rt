@@ -3,7 +3,7 @@
 
 ghost use Rattle.std.specs.Prelude.{◌≡◌, ◌≢◌, ◌-◌, true, IfOk, IfErr, OnErr, Err};
 ghost use Rattle.std.specs.FinMap as map;
-ghost use Rattle.pb_place.specs.World.{removed, listed, listed_directly, ChangesOnly, Torn, PartlyRemoved, Ends};
+ghost use Rattle.pb_place.specs.World.{has_file, removed, listed, listed_directly, listed_folders, ChangesOnly, Torn, PartlyRemoved, Ends};
 ghost use Rattle.pb_place.specs.Paths.{is_at_or_below};
 ghost use Rattle.pb_place.specs.CallsInTurn.{own_fault};
 ghost use Rattle.pb_place.specs.declared.call.Call.TheVariants as call;
@@ -115,6 +115,18 @@ impl<C: Child> Place for Memory<C> {
         Ok(found)
     }
 
+    fn is_file(&mut self, alloc: Global, path: &PathText) -> Result<bool, PlaceFault>
+        ensures ok { IfOk result (λ answer. answer ≡ has_file path.now self.old.world) }
+        ensures answers { FailsByFuse (call.IsFile path.now) result self.old }
+        ensures state { self.new ≡ called (call.IsFile path.now) result self.old }
+    {
+        if self.fuse == 1 {
+            return self.fail(Call::is_file(alloc, path));
+        }
+        self.pass();
+        Ok(self.files.has(path))
+    }
+
     fn list(&mut self, alloc: Global, folder: &PathText) -> Result<Items<PathText>, PlaceFault>
         ensures ok { IfOk result (λ paths. paths ≡ listed folder.now self.old.world) }
         ensures answers { FailsByFuse (call.List folder.now) result self.old }
@@ -163,6 +175,26 @@ impl<C: Child> Place for Memory<C> {
         self.pass();
         let paths = self.files.list_directly(alloc, folder)?;
         Ok(paths)
+    }
+
+    fn list_folders(
+        &mut self,
+        alloc: Global,
+        folder: &PathText,
+        left_out: &PathText,
+    ) -> Result<Items<PathText>, PlaceFault>
+        ensures ok { IfOk result (λ folders. folders
+            ≡ listed_folders folder.now (removed left_out.now self.old.world)) }
+        ensures answers { FailsByFuse (call.ListFolders folder.now left_out.now) result self.old }
+        ensures state { self.new
+            ≡ called (call.ListFolders folder.now left_out.now) result self.old }
+    {
+        if self.fuse == 1 {
+            return self.fail(Call::list_folders(alloc, folder, left_out));
+        }
+        self.pass();
+        let folders = self.files.list_folders(alloc, folder, left_out)?;
+        Ok(folders)
     }
 
     fn write(&mut self, alloc: Global, path: &PathText, bytes: &[u8]) -> Result<(), PlaceFault>
@@ -249,6 +281,10 @@ impl<C: Child> Place for Memory<C> {
     {
         let ticket = self.spawn(alloc, command)?;
         self.finish(alloc, ticket)
+    }
+
+    fn files_have_paths(&self) {
+        self.files.have_paths();
     }
 
     fn failures(&self) -> u64 {
