@@ -1,6 +1,6 @@
 //! A place of real files, variables and children.
 
-ghost use Rattle.std.specs.Prelude.{◌≡◌, ◌≢◌, ◌⊎◌, ℕ, ◌+◌, ◌<◌, ◌++◌, ◌∷◌, [], true, false, length, max, IfOk, IfErr, OnOk, OnErr, IfSome};
+ghost use Rattle.std.specs.Prelude.{◌≡◌, ◌≢◌, ◌⊎◌, ℕ, ◌+◌, ◌<◌, ◌++◌, ◌∷◌, [], true, false, length, max, Err, IfOk, IfErr, OnOk, OnErr, IfSome};
 ghost use Rattle.std.specs.FinMap as map;
 ghost use Rattle.pb_place.specs.Counts.{no_calls, without};
 ghost use Rattle.pb_place.specs.Children.{is_flying, most_after};
@@ -8,11 +8,9 @@ ghost use Rattle.pb_memory.specs.InFlight.{children_in};
 ghost use Rattle.pb_memory.specs.Tallies.{flown};
 ghost use Rattle.std.specs.Vec.{vec_len, vec_capacity};
 ghost use Rattle.pb_host.specs.Flying.{silent_child};
-ghost use Rattle.pb_place.specs.declared.child.ViewFault.TheVariants as view_fault;
-ghost use Rattle.pb_place.specs.declared.place.PlaceFault.TheVariants as place_fault;
 
-use crate::listing::{files_below, files_directly, files_outside};
-use crate::reading::{file_at, variable_of};
+use crate::listing::{files_below, files_directly, files_outside, folders_directly};
+use crate::reading::{file_at, is_file, variable_of};
 use crate::starting::{finish, spawn};
 use crate::writing::{remove_tree, write_file};
 use pb_data::{Bytes, Items, Text, TryCopy, with_next};
@@ -32,7 +30,9 @@ use std::rt::{Env, Files};
 /// It follows links. The rest is our own choice, as for the limits of the other formats:
 /// - A path is absent if nothing is there, if its link leads nowhere, or if it is neither a file nor a folder.
 /// - It is a failure to read a file of more than 4,294,967,296 bytes, or a variable whose value is not UTF-8.
-/// - It is a failure to list a folder that contains a name that is not UTF-8. `list_directly` passes over such a name.
+/// - It is a failure to list a folder that contains a name that is not UTF-8. `list_directly` and `list_folders` pass
+///   over such a name.
+/// - `list_folders` returns also folders without files.
 /// - It is a failure to list a folder with folders more than 128 levels below it.
 /// - A removal removes a link itself, and not what it leads to.
 ///
@@ -156,14 +156,15 @@ fn add_child<K: Drop>(flying: &mut Vec<Flying<K>>, most: u64, one: Flying<K>) ->
     most.max(flying.len() as u64)
 }
 
-/// Returns the fault of a call for a view's fault: out of memory, or the call's own.
-fn fault_of(fault: ViewFault, own: PlaceFault) -> PlaceFault
-    ensures memory { fault ≡ view_fault.OutOfMemory → result ≡ place_fault.OutOfMemory }
-    ensures own { fault ≡ view_fault.Failed → result ≡ own }
+/// Returns what a view answered. Its failure becomes the call's own fault; out of memory stays.
+fn told<T>(answer: Result<T, ViewFault>, own: PlaceFault) -> Result<T, PlaceFault>
+    ensures own { IfErr result (λ e. e ≢ PlaceFault.OutOfMemory → e ≡ own) }
+    ensures memory { answer ≡ Err ViewFault.OutOfMemory → result ≡ Err PlaceFault.OutOfMemory }
 {
-    match fault {
-        ViewFault::Failed => own,
-        ViewFault::OutOfMemory => PlaceFault::OutOfMemory,
+    match answer {
+        Ok(found) => Ok(found),
+        Err(ViewFault::Failed) => Err(own),
+        Err(ViewFault::OutOfMemory) => Err(PlaceFault::OutOfMemory),
     }
 }
 
@@ -189,10 +190,13 @@ impl<'a, R: Files + Env + Processes + AllocGlobal> Place for HostPlace<'a, R> {
 
     fn read(&mut self, alloc: Global, path: &PathText) -> Result<Option<Bytes>, PlaceFault> {
         let call = self.tally.kept(Call::read(alloc, path))?;
-        let answer = match file_at(self.runtime, path.as_str()) {
-            Ok(found) => Ok(found),
-            Err(fault) => Err(fault_of(fault, PlaceFault::Read)),
-        };
+        let answer = told(file_at(self.runtime, path.as_str()), PlaceFault::Read);
+        self.tally.count(call, answer)
+    }
+
+    fn is_file(&mut self, alloc: Global, path: &PathText) -> Result<bool, PlaceFault> {
+        let call = self.tally.kept(Call::is_file(alloc, path))?;
+        let answer = told(is_file(self.runtime, path.as_str()), PlaceFault::Read);
         self.tally.count(call, answer)
     }
 
@@ -225,6 +229,19 @@ impl<'a, R: Files + Env + Processes + AllocGlobal> Place for HostPlace<'a, R> {
         self.tally.count(call, answer)
     }
 
+    fn list_folders(
+        &mut self,
+        alloc: Global,
+        folder: &PathText,
+        left_out: &PathText,
+    ) -> Result<Items<PathText>, PlaceFault> {
+        let call = self
+            .tally
+            .kept(Call::list_folders(alloc, folder, left_out))?;
+        let answer = folders_directly(self.runtime, alloc, folder, left_out);
+        self.tally.count(call, answer)
+    }
+
     fn write(&mut self, alloc: Global, path: &PathText, bytes: &[u8]) -> Result<(), PlaceFault> {
         let call = self.tally.kept(Call::write(alloc, path))?;
         let answer = write_file(self.runtime, alloc, path, bytes);
@@ -239,10 +256,7 @@ impl<'a, R: Files + Env + Processes + AllocGlobal> Place for HostPlace<'a, R> {
 
     fn variable(&mut self, alloc: Global, name: &str) -> Result<Option<Text>, PlaceFault> {
         let call = self.tally.kept(Call::variable(alloc, name))?;
-        let answer = match variable_of(self.runtime, name) {
-            Ok(found) => Ok(found),
-            Err(fault) => Err(fault_of(fault, PlaceFault::Variable)),
-        };
+        let answer = told(variable_of(self.runtime, name), PlaceFault::Variable);
         self.tally.count(call, answer)
     }
 
@@ -255,6 +269,8 @@ impl<'a, R: Files + Env + Processes + AllocGlobal> Place for HostPlace<'a, R> {
         let answer = self.end(alloc, ticket);
         self.tally.count_finish(answer)
     }
+
+    fn files_have_paths(&self) {}
 
     fn failures(&self) -> u64 {
         self.tally.failures()

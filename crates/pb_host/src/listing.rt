@@ -1,9 +1,9 @@
 //! Listing real folders.
 
-ghost use Rattle.std.specs.Prelude.{◌≡◌, ◌≢◌, ◌+◌, ◌++◌, ◌∷◌, [], true, Some, IfOk, IfErr, OnOk};
-ghost use Rattle.pb_place.specs.Paths.{is_below};
+ghost use Rattle.std.specs.Prelude.{◌≡◌, ◌≢◌, ◌+◌, ◌++◌, ◌∷◌, [], true, Some, All, map, IfOk, IfErr, OnOk};
+ghost use Rattle.pb_place.specs.Paths.{is_below, is_at_or_below};
 ghost use Rattle.std.specs.Option.{option_copied};
-ghost use Rattle.pb_host.specs.Listing.{AreBelow, AreOutside, AreOrdered, KeepsBelow, KeepsOutside, is_left_out};
+ghost use Rattle.pb_host.specs.Listing.{AreBelow, AreOutside, AreOrdered, KeepsBelow, KeepsOutside, StaysBelow, is_left_out};
 
 use crate::reading::{Standing, says_absent, standing_of};
 use crate::writing::fault_of;
@@ -240,10 +240,12 @@ fn has_no_text<R: Files + AllocGlobal>(entry: &io::Result<fs::DirEntry<&R>>) -> 
     }
 }
 
-/// Files the entries of a folder whose names are UTF-8. Where the one that is listed is not there, it has none.
+/// Files the entries of a folder that are not left out and whose names are UTF-8. Where the one that is listed is not
+/// there, it has none.
 fn take_named<R: Files + AllocGlobal>(
     runtime: &R,
     alloc: Global,
+    left_out: Option<&PathText>,
     found: &mut Found,
     here: &Waiting,
 ) -> Result<(), PlaceFault>
@@ -255,19 +257,20 @@ fn take_named<R: Files + AllocGlobal>(
     };
     for entry in entries {
         if !has_no_text(&entry) {
-            take_told(runtime, alloc, None, found, here, entry)?;
+            take_told(runtime, alloc, left_out, found, here, entry)?;
         }
     }
     Ok(())
 }
 
-/// The files directly in a folder, as they come. What its folders hold is not looked at.
-fn files_here<R: Files + AllocGlobal>(
+/// What is directly in a folder and is not left out, as it comes. What its folders hold is not looked at.
+fn found_here<R: Files + AllocGlobal>(
     runtime: &R,
     alloc: Global,
+    left_out: Option<&PathText>,
     folder: &PathText,
-) -> Result<Vec<PathText>, PlaceFault>
-    ensures below { IfOk result (λ files. AreBelow folder.now files.items) }
+) -> Result<Found, PlaceFault>
+    ensures below { IfOk result (λ found. StaysBelow folder.now found) }
     ensures fault { IfErr result (λ e. e ≢ PlaceFault.OutOfMemory → e ≡ PlaceFault.List) }
 {
     let here = Waiting {
@@ -278,8 +281,8 @@ fn files_here<R: Files + AllocGlobal>(
         files: Vec::new(alloc),
         waiting: Vec::new(alloc),
     };
-    take_named(runtime, alloc, &mut found, &here)?;
-    Ok(found.files)
+    take_named(runtime, alloc, left_out, &mut found, &here)?;
+    Ok(found)
 }
 
 /// The paths of all files below a folder that are not left out, in byte order; none where no folder stands at the path.
@@ -346,7 +349,42 @@ pub(crate) fn files_directly<R: Files + AllocGlobal>(
     ensures ordered { IfOk result AreOrdered }
     ensures fault { IfErr result (λ e. e ≢ PlaceFault.OutOfMemory → e ≡ PlaceFault.List) }
 {
-    let mut here = files_here(runtime, alloc, folder)?;
-    here.sort()?;
-    Ok(Items::from_vec(here))
+    let mut found = found_here(runtime, alloc, None, folder)?;
+    found.files.sort()?;
+    Ok(Items::from_vec(found.files))
+}
+
+/// The paths of some folders that wait.
+fn folders_of(alloc: Global, waiting: Vec<Waiting>) -> Result<Vec<PathText>, PlaceFault>
+    ensures folders { IfOk result
+        (λ folders. folders.items ≡ map (λ here. here.folder) waiting.items) }
+    ensures fault { IfErr result (λ e. e ≡ PlaceFault.OutOfMemory) }
+{
+    let mut folders = Vec::new(alloc);
+    for here in waiting {
+        folders.push(here.folder)?;
+    }
+    Ok(folders)
+}
+
+/// The paths of the folders directly in a folder that are not left out, in byte order; none where no folder stands at
+/// the path. What they hold is not looked at, so nothing in them is a failure. A name that is not UTF-8 is passed over.
+pub(crate) fn folders_directly<R: Files + AllocGlobal>(
+    runtime: &R,
+    alloc: Global,
+    folder: &PathText,
+    left_out: &PathText,
+) -> Result<Items<PathText>, PlaceFault>
+    ensures below { IfOk result (All (λ path. is_at_or_below folder.now path ≡ true)) }
+    ensures ordered { IfOk result AreOrdered }
+    ensures fault { IfErr result (λ e. e ≢ PlaceFault.OutOfMemory → e ≡ PlaceFault.List) }
+{
+    if folder.starts_with(left_out) {
+        return Ok(Items::new(alloc));
+    }
+    let found = found_here(runtime, alloc, Some(left_out), folder)?;
+    drop(found.files);
+    let mut folders = folders_of(alloc, found.waiting)?;
+    folders.sort()?;
+    Ok(Items::from_vec(folders))
 }

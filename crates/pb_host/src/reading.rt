@@ -71,12 +71,33 @@ pub(crate) fn standing_at<R: Files>(runtime: &R, path: &str) -> Result<Standing,
     }
 }
 
-/// The bytes of a file that had so many a moment ago. Room for these is made at once, so that a file that stands still
-/// is read in one call and its end in another.
+/// Whether a file stands at a path, links followed. Failed where it cannot be told.
+pub(crate) fn is_file<R: Files>(runtime: &R, path: &str) -> Result<bool, ViewFault> {
+    match standing_at(runtime, path)? {
+        Standing::File(_) => Ok(true),
+        Standing::Folder | Standing::Nothing => Ok(false),
+    }
+}
+
+/// Reads the first bytes of a file, and says how many; none if the call was interrupted.
+fn read_first<F: Read>(file: &mut F, bytes: &mut [u8]) -> io::Result<usize> {
+    match file.read(bytes) {
+        Err(error) if error.kind() == ErrorKind::Interrupted => Ok(0),
+        answer => answer,
+    }
+}
+
+/// The bytes of a file that had so many a moment ago. One call asks for these and one more: if it gives just these, the
+/// file has ended there. Else the rest is read until a call gives nothing.
 fn bytes_at<R: Files + AllocGlobal>(runtime: &R, path: &str, length: u64) -> io::Result<Vec<u8>> {
     let mut file = fs::open(runtime, path)?;
-    let mut bytes = Vec::with_capacity(runtime.alloc(), length as usize)?;
-    file.read_to_end(&mut bytes)?;
+    let mut bytes = Vec::new(runtime.alloc());
+    bytes.resize((length as usize).saturating_add(1), 0)?;
+    let count = read_first(&mut file, bytes.as_mut_slice())?;
+    bytes.truncate(count);
+    if count as u64 != length {
+        file.read_to_end(&mut bytes)?;
+    }
     Ok(bytes)
 }
 
