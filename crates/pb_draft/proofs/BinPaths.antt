@@ -1,4 +1,4 @@
--- The paths of binaries in `src/bin` are relative ones.
+-- The paths of binaries inside `src/bin` are relative ones.
 use Rattle.std.proofs.Common.{◌≡◌, ◌&&◌, ◌||◌, ℕ, true, false, not, cond, List, [], ◌∷◌, ◌++◌, codes, refl, ap, ◌∙◌}
 use Rattle.std.proofs.lemmas.Bool.{false≢true}
 use Rattle.std.specs.List.{list_all, onto_first}
@@ -25,7 +25,7 @@ append_none : (xs : List ℕ) → xs ++ [] ≡ xs
 append_none [] = refl
 append_none (x ∷ xs) = ap (λ ys. x ∷ ys) (append_none xs)
 
-pub flat_is_relative : (name : List ℕ) → letters.is_name name ≡ true → is_relative (codes "src/bin/" ++ (name ++ codes ".rs")) ≡ true
+pub flat_is_relative : (name : List ℕ) → letters.is_name name ≡ true → is_relative (name ++ codes ".rs") ≡ true
 unfolding letters.is_name
 flat_is_relative [] is = absurd (false≢true is)
 flat_is_relative (b ∷ name) is =
@@ -34,7 +34,7 @@ flat_is_relative (b ∷ name) is =
     let clean = without 0 no_zero (b ∷ name) (codes ".rs") all refl in
     ap (list_all is_name) whole ∙ ap (λ t. not t && true) (either (stays (b ∷ name ++ codes ".rs") || leads_up (b ∷ name ++ codes ".rs")) _ (leads_on b name (codes "rs") refl) clean)
 
-pub nested_is_relative : (name : List ℕ) → letters.is_name name ≡ true → is_relative (codes "src/bin/" ++ (name ++ codes "/main.rs")) ≡ true
+pub nested_is_relative : (name : List ℕ) → letters.is_name name ≡ true → is_relative (name ++ codes "/main.rs") ≡ true
 unfolding letters.is_name
 nested_is_relative [] is = absurd (false≢true is)
 nested_is_relative (b ∷ name) is =

@@ -2,10 +2,12 @@ pub mod EnabledNames
 pub mod WantedOrder
 pub mod Resolving
 pub mod SourceLemmas
+pub mod OwnFiles
 pub mod Listed
 pub mod BinPaths
 pub mod Steps
 pub mod Looking
+pub mod InTurn
 pub mod Failed
 pub mod Puttings
 pub mod Naming

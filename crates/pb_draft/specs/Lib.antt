@@ -1,6 +1,7 @@
 pub mod Between
 pub mod Taken
 pub mod Causes
+pub mod OwnFile
 pub mod Looks
 pub mod Sources
 pub mod Wanted

@@ -1,25 +1,31 @@
--- What a step looks at: the calls of the place, in order, each with the path that it is given, up to the first refusal; and which these are for the folder of one package (our own choice where The Cargo Book is silent).
+-- What a step looks at: the calls of the place, in order, each with the path that it is given, up to the first refusal.
+-- Which these are for the folder of one package is our own choice, since The Cargo Book does not say it.
 use Rattle.std.specs.Prelude.{◌≡◌, ℕ, false, true, if◌then◌else◌, List, [], ◌∷◌, ◌++◌, Result, Ok, Err, MatchResult}
+use Rattle.std.specs.List.{flat_map}
 use Rattle.pb_place.specs.CallsInTurn.{FailsAt, MakesSome, past_calls}
 use Rattle.pb_place.specs.declared.call.Call.{Call}
 use Rattle.pb_place.specs.declared.call.Call.TheVariants as call
 use Rattle.pb_place.specs.Counts.{Counts, name_given}
-use Rattle.pb_place.specs.Paths.{is_at_or_below}
+use Rattle.pb_place.specs.Paths.{below, is_at_or_below}
 use Rattle.pb_package.specs.declared.fault.LoadFault.{LoadFault}
 use Rattle.pb_package.specs.declared.fault.LoadFault.TheVariants.{Place}
+use Rattle.pb_draft.specs.declared.own_file.OwnFile.{OwnFile}
 use Rattle.pb_draft.specs.Causes.{is_failure, is_outside}
 use Rattle.pb_draft.specs.FoundBinaries.{bin_folder}
-use Rattle.pb_draft.specs.Listings.{source_folder}
+use Rattle.pb_draft.specs.OwnFile.{name_of, own_files}
 
 -- the call that failed was one of these: those before it went well, and it was the last
 abbrev pub FailsOn : LoadFault → List Call → Counts → Counts → Type 0
 FailsOn (Place path fault) calls old new = FailsAt fault calls old new
 FailsOn e calls old new = ⊥
 
--- where a value or a refusal is told, just these calls were made; where memory was refused, the first few of them; where a call failed, it was one of these, and the last. Each call is counted, and the one that failed is kept, so the calls are told in their order
+-- where an error ended these calls: a refusal came after all of them, out of memory after the first few, and a failed call is one of them and the last
+abbrev pub LooksUntil : LoadFault → List Call → Counts → Counts → Type 0
+LooksUntil e calls old new = (is_outside e ≡ false → new ≡ past_calls calls old) × (is_failure e ≡ false → MakesSome calls old new) × (is_failure e ≡ true → FailsOn e calls old new)
+
+-- exactly these calls were made, or those up to an error. Each call is counted, and the one that failed is kept, so the counters also say their order
 abbrev pub Looks : {T : Type 0} → Result T LoadFault → List Call → Counts → Counts → Type 0
-Looks result calls old new = MatchResult result (λ _. new ≡ past_calls calls old)
-    (λ e. (is_outside e ≡ false → new ≡ past_calls calls old) × (is_failure e ≡ false → MakesSome calls old new) × (is_failure e ≡ true → FailsOn e calls old new))
+Looks result calls old new = MatchResult result (λ _. new ≡ past_calls calls old) (λ e. LooksUntil e calls old new)
 
 -- a call on a path, unless that lies at or below the target folder
 abbrev pub looked : List ℕ → Call → List Call
@@ -30,6 +36,10 @@ abbrev pub after : {A : Type 0} → Result A LoadFault → (A → List Call) →
 after (Ok x) next = next x
 after (Err e) next = []
 
--- the files directly in the folder of a package are listed, those directly in its `src`, and those below its `src/bin`
+-- the question whether the folder of a package has one of the files with a fixed place
+abbrev pub own_asked : List ℕ → List ℕ → OwnFile → List Call
+own_asked target folder file = looked target (call.IsFile (below folder (name_of file)))
+
+-- in the folder of a package: a question for each file with a fixed place, and then the files below its `src/bin` are listed
 abbrev pub listings_at : List ℕ → List ℕ → List Call
-listings_at target folder = looked target (call.ListDirectly folder) ++ (looked target (call.ListDirectly (source_folder folder)) ++ looked target (call.ListOutside (bin_folder folder) target))
+listings_at target folder = flat_map (own_asked target folder) own_files ++ looked target (call.ListOutside (bin_folder folder) target)

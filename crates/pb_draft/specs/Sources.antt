@@ -1,8 +1,7 @@
 -- What the folder of a package has, where The Cargo Book looks for it (Manifest Format, Cargo Targets, Build Scripts). `sources` is the world without what lies at or below the target folder.
-use Rattle.std.specs.Prelude.{ℕ, Bool, is_some, if◌then◌else◌, codes, List, [], ◌∷◌, ◌++◌, Option, Some, None}
-use Rattle.std.specs.FinMap as finite
+use Rattle.std.specs.Prelude.{ℕ, Bool, if◌then◌else◌, codes, List, [], ◌∷◌, ◌++◌, Option, Some, None}
 use Rattle.pb_place.specs.Paths.{below, is_absolute, names_of, path_of}
-use Rattle.pb_place.specs.World.{World}
+use Rattle.pb_place.specs.World.{World, has_file}
 use Rattle.pb_manifest.specs.Library.{library_name}
 use Rattle.pb_manifest.specs.declared.package.Build.{Build}
 use Rattle.pb_manifest.specs.declared.package.Build.TheVariants as build
@@ -11,15 +10,11 @@ use Rattle.pb_manifest.specs.declared.target.CrateType.TheVariants.{Lib}
 use Rattle.pb_manifest.specs.declared.target.Library.{Library as written}
 use Rattle.pb_package.specs.declared.package.Library.{Library}
 
--- a file of the sources
-abbrev pub has_file : List ℕ → World → Bool
-has_file path sources = is_some (finite.get sources.files path)
-
--- one in the package's folder
+-- a file of the sources has this name from the package's folder
 abbrev pub has_own_file : List ℕ → World → List ℕ → Bool
 has_own_file folder sources name = has_file (below folder name) sources
 
--- its path, where it is one
+-- its path, if it is there
 abbrev pub own_source : List ℕ → World → List ℕ → Option (List ℕ)
 own_source folder sources name = if has_own_file folder sources name then Some (below folder name) else None
 

@@ -1,6 +1,6 @@
 //! The binaries of a package.
 
-ghost use Rattle.std.specs.Prelude.{◌≡◌, ◌++◌, All, IfOk, OnOk, true, false, codes, map};
+ghost use Rattle.std.specs.Prelude.{◌≡◌, ◌++◌, All, IfOk, OnOk, true, false, map};
 ghost use Rattle.pb_place.specs.Paths.{below};
 ghost use Rattle.pb_place.specs.World.{World};
 ghost use Rattle.pb_manifest.specs.Letters.{is_name};
@@ -9,27 +9,27 @@ ghost use Rattle.pb_draft.specs.Listings.{AreListingsOf};
 ghost use Rattle.std.specs.List.{AllByRecursion};
 ghost use Rattle.pb_draft.specs.Drafted.{IsBinaryNamed, AreBinaries};
 
-use crate::listings::{Listings, own_source};
+use crate::listings::{Listings, bin_path, bin_source, own_source};
+use crate::own_file::OwnFile;
 use crate::sorted::Sorted;
-use crate::source::{own_path, resolved};
+use crate::source::resolved;
 use pb_data::{Items, Text, TryCopy};
 use pb_manifest::WrittenPath;
 use pb_package::{BinariesByName, Binary};
 use pb_place::PathText;
 use std::alloc::{AllocError, Global};
 
-/// A path in `src/bin`.
-fn in_bin(alloc: Global, name: &str, end: &str) -> Result<Text, AllocError>
-    ensures { IfOk result (λ text. text ≡ codes "src/bin/" ++ (name.now ++ end.now)) }
+/// Returns a name and what follows it.
+fn with_end(alloc: Global, name: &str, end: &str) -> Result<Text, AllocError>
+    ensures { IfOk result (λ text. text ≡ name.now ++ end.now) }
 {
-    let mut text = String::from_str(alloc, "src/bin/")?;
-    text.push_str(name)?;
+    let mut text = String::from_str(alloc, name)?;
     text.push_str(end)?;
     Ok(Text::new(text))
 }
 
-/// `src/bin/NAME.rs` or `src/bin/NAME/main.rs`, the first that is a file of the sources.
-#[tactic(auto, using(crate::proofs::BinPaths::bin_laws, crate::proofs::Listed::listed_laws))]
+/// Returns `src/bin/NAME.rs` or `src/bin/NAME/main.rs`, the first that is a file of the sources.
+#[tactic(auto, using(crate::proofs::BinPaths::bin_laws))]
 fn looked_in_bin(
     alloc: Global,
     listings: &Listings,
@@ -40,25 +40,25 @@ fn looked_in_bin(
     ensures ok { (sources : World) → AreListingsOf folder.now sources listings.now
         → IfOk result (λ path. path ≡ looked_in_bin folder.now sources name.now) }
 {
-    let flat = in_bin(alloc, name, ".rs")?;
-    if let Some(path) = own_source(alloc, listings, folder, flat.as_str())? {
+    let flat = with_end(alloc, name, ".rs")?;
+    if let Some(path) = bin_source(alloc, listings, folder, flat.as_str())? {
         return Ok(Some(path));
     }
-    let nested = in_bin(alloc, name, "/main.rs")?;
-    own_source(alloc, listings, folder, nested.as_str())
+    let nested = with_end(alloc, name, "/main.rs")?;
+    bin_source(alloc, listings, folder, nested.as_str())
 }
 
-/// `src/bin/NAME.rs`, whether it is there or not.
+/// Returns `src/bin/NAME.rs`, whether it is there or not.
 #[tactic(auto, using(crate::proofs::BinPaths::bin_laws))]
 fn flat_path(alloc: Global, folder: &PathText, name: &str) -> Result<PathText, AllocError>
     requires { is_name name.now ≡ true }
     ensures { IfOk result (λ path. path ≡ below folder.now (flat_source name.now)) }
 {
-    let flat = in_bin(alloc, name, ".rs")?;
-    own_path(alloc, folder, flat.as_str())
+    let flat = with_end(alloc, name, ".rs")?;
+    bin_path(alloc, folder, flat.as_str())
 }
 
-/// The source of a `[[bin]]` without path that is not named as its package.
+/// Returns the source of a `[[bin]]` without path that is not named as its package.
 fn looked_for_other(
     alloc: Global,
     listings: &Listings,
@@ -75,8 +75,7 @@ fn looked_for_other(
     flat_path(alloc, folder, name)
 }
 
-/// The source of a `[[bin]]` without path that is named as its package.
-#[tactic(auto, using(crate::proofs::Listed::listed_laws))]
+/// Returns the source of a `[[bin]]` without path that is named as its package.
 fn looked_for_main(
     alloc: Global,
     listings: &Listings,
@@ -87,18 +86,21 @@ fn looked_for_main(
     ensures ok { (sources : World) → AreListingsOf folder.now sources listings.now
         → IfOk result (λ path. path ≡ looked_for folder.now sources true name.now) }
 {
-    if let Some(path) = own_source(alloc, listings, folder, "src/main.rs")? {
+    if let Some(path) = own_source(alloc, listings, folder, OwnFile::Main)? {
         return Ok(path);
     }
     if let Some(path) = looked_in_bin(alloc, listings, folder, name)? {
         return Ok(path);
     }
-    own_path(alloc, folder, "src/main.rs")
+    OwnFile::Main.path(alloc, folder)
 }
 
-/// The source of a `[[bin]]` of a package (The Cargo Book, Cargo Targets): the path that it writes, as it is;
-/// else the first that is a file of `src/main.rs`, where it is named as its package, `src/bin/NAME.rs` and
-/// `src/bin/NAME/main.rs`, and the first of these where none is.
+/// Returns the source of a `[[bin]]` of a package (The Cargo Book, Cargo Targets): the path that it writes, as it is.
+///
+/// If it writes none, this is the first file of `src/main.rs`, if it is named as its package, `src/bin/NAME.rs` and
+/// `src/bin/NAME/main.rs`. If none of them is a file, it is the first of these paths.
+///
+/// Errors: memory is refused.
 pub fn binary_source(
     alloc: Global,
     listings: &Listings,

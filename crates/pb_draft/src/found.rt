@@ -8,16 +8,18 @@ ghost use Rattle.pb_manifest.specs.Letters.{is_crate_name, is_name};
 ghost use Rattle.pb_draft.specs.Drafted.{IsWrittenLibrary, IsLibraryNamed};
 
 use crate::listings::{Listings, has_own_file, own_source};
-use crate::source::{own_path, resolved};
+use crate::own_file::OwnFile;
+use crate::source::resolved;
 use pb_data::{Items, Text, with_next};
 use pb_manifest::{Build, CrateType, WrittenPath, library_name};
 use pb_package::Library;
 use pb_place::PathText;
 use std::alloc::{AllocError, Global};
 
-/// The README of a package that names none: the first of `README.md`, `README.txt` and `README` that is a
-/// file of its folder (The Cargo Book, Manifest Format).
-#[tactic(auto, using(crate::proofs::Listed::listed_laws))]
+/// Returns the README of a package that names none: the first of `README.md`, `README.txt` and `README` that is a file
+/// of its folder (The Cargo Book, Manifest Format). If none is, it returns the empty text.
+///
+/// Errors: memory is refused.
 pub fn found_readme(
     alloc: Global,
     listings: &Listings,
@@ -26,21 +28,22 @@ pub fn found_readme(
     ensures ok { (sources : World) → AreListingsOf folder.now sources listings.now
         → IfOk result (λ text. text ≡ found_readme folder.now sources) }
 {
-    if has_own_file(alloc, listings, folder, "README.md")? {
+    if has_own_file(listings, OwnFile::ReadmeMd) {
         return Text::from_str(alloc, "README.md");
     }
-    if has_own_file(alloc, listings, folder, "README.txt")? {
+    if has_own_file(listings, OwnFile::ReadmeTxt) {
         return Text::from_str(alloc, "README.txt");
     }
-    if has_own_file(alloc, listings, folder, "README")? {
+    if has_own_file(listings, OwnFile::Readme) {
         return Text::from_str(alloc, "README");
     }
     Text::from_str(alloc, "")
 }
 
-/// The source of a package's build script, where it has one (The Cargo Book, Build Scripts): `build.rs` where
-/// that is a file, unless `build` says otherwise. A path that `build` writes is taken as it is.
-#[tactic(auto, using(crate::proofs::Listed::listed_laws))]
+/// Returns the source of a package's build script, if it has one (The Cargo Book, Build Scripts): `build.rs` if that is
+/// a file, unless `build` says otherwise. A path that `build` writes is taken as it is.
+///
+/// Errors: memory is refused.
 pub fn script_of(
     alloc: Global,
     listings: &Listings,
@@ -51,9 +54,9 @@ pub fn script_of(
         → IfOk result (λ script. script ≡ script_of folder.now sources build.now) }
 {
     match build {
-        Build::Discovered => own_source(alloc, listings, folder, "build.rs"),
+        Build::Discovered => own_source(alloc, listings, folder, OwnFile::BuildScript),
         Build::Standard => {
-            let script = own_path(alloc, folder, "build.rs")?;
+            let script = OwnFile::BuildScript.path(alloc, folder)?;
             Ok(Some(script))
         }
         Build::Never => Ok(None),
@@ -64,7 +67,7 @@ pub fn script_of(
     }
 }
 
-/// The source of a library: the path that `[lib]` writes, else `src/lib.rs`.
+/// Returns the source of a library: the path that `[lib]` writes, or `src/lib.rs`.
 fn library_source(
     alloc: Global,
     folder: &PathText,
@@ -74,11 +77,11 @@ fn library_source(
 {
     match path {
         Some(path) => resolved(alloc, folder, path),
-        None => own_path(alloc, folder, "src/lib.rs"),
+        None => OwnFile::Library.path(alloc, folder),
     }
 }
 
-/// `lib` alone.
+/// Returns `lib` alone.
 fn standard_types(alloc: Global) -> Result<Items<CrateType>, AllocError>
     ensures { IfOk result (λ types. types ≡ served_types []) }
 {
@@ -87,7 +90,7 @@ fn standard_types(alloc: Global) -> Result<Items<CrateType>, AllocError>
     Ok(types)
 }
 
-/// The crate types of a library: `lib` alone where none is written.
+/// Returns the crate types of a library: `lib` alone if none is written.
 fn served_types(alloc: Global, types: Items<CrateType>) -> Result<Items<CrateType>, AllocError>
     ensures { IfOk result (λ served. served ≡ served_types types) }
 {
@@ -97,7 +100,7 @@ fn served_types(alloc: Global, types: Items<CrateType>) -> Result<Items<CrateTyp
     Ok(types)
 }
 
-/// The library of a `[lib]` table.
+/// Returns the library of a `[lib]` table.
 fn written_library(
     alloc: Global,
     folder: &PathText,
@@ -118,8 +121,7 @@ fn written_library(
     })
 }
 
-/// The library of a package without a `[lib]` table: `src/lib.rs` where that is a file.
-#[tactic(auto, using(crate::proofs::Listed::listed_laws))]
+/// Returns the library of a package without a `[lib]` table: `src/lib.rs`, if that is a file.
 fn found_library(
     alloc: Global,
     listings: &Listings,
@@ -131,7 +133,7 @@ fn found_library(
         → IfOk result (λ library. library ≡ found_library folder.now sources name) }
     ensures named { IfOk result (λ library. IfSome library IsLibraryNamed) }
 {
-    let source = match own_source(alloc, listings, folder, "src/lib.rs")? {
+    let source = match own_source(alloc, listings, folder, OwnFile::Library)? {
         Some(source) => source,
         None => return Ok(None),
     };
@@ -143,8 +145,10 @@ fn found_library(
     }))
 }
 
-/// The library of a package of this name, where it has one (The Cargo Book, Cargo Targets): that of `[lib]`,
-/// else `src/lib.rs` where that is a file.
+/// Returns the library of a package of this name, if it has one (The Cargo Book, Cargo Targets): that of `[lib]`, or
+/// `src/lib.rs`, if that is a file.
+///
+/// Errors: memory is refused.
 #[tactic(auto, using(crate::proofs::Naming::library_laws))]
 pub fn library_of(
     alloc: Global,

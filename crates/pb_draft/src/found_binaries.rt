@@ -12,8 +12,8 @@ ghost use Rattle.pb_manifest.specs.Letters.{is_name};
 ghost use Rattle.pb_draft.specs.Drafted.{IsBinaryNamed};
 
 use crate::between::names_in;
-use crate::listings::{Listings, own_source};
-use crate::source::own_path;
+use crate::listings::{Listings, bin_folder, own_source};
+use crate::own_file::OwnFile;
 use pb_data::{Items, Text, TryCopy};
 use pb_manifest::letters::is_name;
 use pb_package::Binary;
@@ -174,11 +174,13 @@ fn binaries_from(
     Ok(binaries)
 }
 
-/// The binaries that a package's folder has (The Cargo Book, Cargo Targets): of `src/bin/NAME/main.rs`, of
-/// `src/bin/NAME.rs` and of `src/main.rs`, which is named as the package, in this order; so of two of one name
-/// the later counts. NAME has the letters of a package's name. What lies at or below the target folder is left
-/// out.
-#[tactic(auto, using(crate::proofs::Listed::listed_laws))]
+/// Returns the binaries that a package's folder has (The Cargo Book, Cargo Targets), in this order: of
+/// `src/bin/NAME/main.rs`, of `src/bin/NAME.rs`, and of `src/main.rs`, which is named as the package.
+///
+/// If two have one name, the later counts. NAME has the letters of a package's name. What lies at or below the target
+/// folder is left out.
+///
+/// Errors: memory is refused.
 pub fn found_binaries(
     alloc: Global,
     listings: &Listings,
@@ -190,8 +192,8 @@ pub fn found_binaries(
         → IfOk result (λ binaries. binaries ≡ found_binaries folder.now sources name.now) }
     ensures named { IfOk result (AllByRecursion IsBinaryNamed) }
 {
-    let bin = own_path(alloc, folder, "src/bin")?;
-    let main = own_source(alloc, listings, folder, "src/main.rs")?;
+    let bin = bin_folder(alloc, folder)?;
+    let main = own_source(alloc, listings, folder, OwnFile::Main)?;
     let binaries = binaries_from(alloc, name, &bin, listings.in_bin.as_slice(), main)?;
     Ok(binaries)
 }

@@ -14,6 +14,7 @@ mod found_binaries;
 pub mod keys;
 mod laws;
 mod listings;
+mod own_file;
 pub mod settling;
 mod sorted;
 pub mod source;

@@ -1,33 +1,94 @@
-//! What is looked at in the folder of a package.
+//! What is seen of the folder of a package.
 
-ghost use Rattle.std.specs.Prelude.{◌≡◌, IfOk, IfErr, IsTrue, true, if◌then◌else◌, Some, None};
-ghost use Rattle.pb_place.specs.Paths.{is_relative};
+ghost use Rattle.std.specs.Prelude.{◌≡◌, ◌++◌, ℕ, List, IfOk, IfErr, IsTrue, true, codes, filter};
+ghost use Rattle.std.specs.List.{flat_map, list_any};
+ghost use Rattle.std.specs.Str.{bytes_eq};
+ghost use Rattle.pb_place.specs.Paths.{below, is_relative};
 ghost use Rattle.pb_place.specs.World.{World, from_nothing};
-ghost use Rattle.pb_draft.specs.Looks.{Looks, listings_at};
+ghost use Rattle.pb_draft.specs.Looks.{Looks, listings_at, own_asked};
 ghost use Rattle.pb_draft.specs.Causes.{is_outside, OnlyLooks};
-ghost use Rattle.pb_draft.specs.Listings.{AreListingsOf, is_listed, is_among, is_seen};
+ghost use Rattle.pb_draft.specs.FoundBinaries.{bin_folder};
+ghost use Rattle.pb_draft.specs.Listings.{AreListingsOf, is_there};
+ghost use Rattle.pb_draft.specs.OwnFile.{name_of, own_files};
 ghost use Rattle.pb_draft.specs.Sources.{has_own_file, own_source};
 
-use crate::source::{listed_sources, own_path, sources_directly};
+use crate::own_file::{OWN_FILES, OwnFile};
+use crate::source::{is_source, listed_sources, own_path};
 use pb_data::Items;
 use pb_package::LoadFault;
 use pb_place::{PathText, Place};
 use std::alloc::{AllocError, Global};
 
-/// What the folder of a package has: all that is found there is decided by these three lists, each in byte order.
+/// What the folder of a package has. These two lists decide all that is found there.
 #[derive(Drop)]
 pub struct Listings {
-    /// The files directly in the folder.
-    pub own: Items<PathText>,
-    /// Those directly in its `src`.
-    pub in_src: Items<PathText>,
-    /// Those below its `src/bin`.
+    /// The files with a fixed place, in the order in which they are asked for.
+    pub own: Items<OwnFile>,
+    /// The files below its `src/bin`, in byte order.
     pub in_bin: Items<PathText>,
 }
 
-/// Returns the three listings of the folder of a package. It looks at nothing at or below the target folder.
+/// Returns the path of the folder `src/bin` of a package.
 ///
-/// Errors: `Place`, if a listing failed, with its path; `OutOfMemory`.
+/// Errors: memory is refused.
+pub fn bin_folder(alloc: Global, folder: &PathText) -> Result<PathText, AllocError>
+    ensures { IfOk result (λ path. path ≡ bin_folder folder.now) }
+{
+    own_path(alloc, folder, "src/bin")
+}
+
+/// Returns whether the folder of a package has a file with a fixed place. It does not ask for one at or below the target
+/// folder.
+///
+/// Errors: `Place`, if the question failed, with its path; `OutOfMemory`.
+fn is_there<P: Place>(
+    alloc: Global,
+    place: &mut P,
+    target: &PathText,
+    folder: &PathText,
+    file: OwnFile,
+) -> Result<bool, LoadFault>
+    ensures ok { IsTrue P.tells → IfOk result (λ answer. answer
+        ≡ is_there folder.now (from_nothing target.now (P.at place.old).world) file) }
+    ensures outside { IfErr result (λ e. is_outside e ≡ true) }
+    ensures quiet { OnlyLooks result (P.at place.old) (P.at place.new) }
+    ensures looks { Looks result (own_asked target.now folder.now file)
+        (P.at place.old).counts (P.at place.new).counts }
+{
+    let path = file.path(alloc, folder)?;
+    is_source(alloc, place, target, &path)
+}
+
+/// Returns the files with a fixed place that the folder of a package has. It asks for each of them in turn, but for none
+/// at or below the target folder.
+///
+/// Errors: `Place`, if a question failed, with its path; `OutOfMemory`.
+fn files_there<P: Place>(
+    alloc: Global,
+    place: &mut P,
+    target: &PathText,
+    folder: &PathText,
+) -> Result<Items<OwnFile>, LoadFault>
+    ensures ok { IsTrue P.tells → IfOk result (λ own. own
+        ≡ filter (is_there folder.now (from_nothing target.now (P.at place.old).world)) own_files) }
+    ensures outside { IfErr result (λ e. is_outside e ≡ true) }
+    ensures quiet { OnlyLooks result (P.at place.old) (P.at place.new) }
+    ensures looks { Looks result (flat_map (own_asked target.now folder.now) own_files)
+        (P.at place.old).counts (P.at place.new).counts }
+{
+    let mut own = Items::new(alloc);
+    for file in OWN_FILES {
+        if is_there(alloc, place, target, folder, file)? {
+            own.push(file)?;
+        }
+    }
+    Ok(own)
+}
+
+/// Returns what the folder of a package has. It asks for each file with a fixed place, and then it lists `src/bin`. It
+/// looks at nothing at or below the target folder.
+///
+/// Errors: `Place`, if a question or the listing failed, with its path; `OutOfMemory`.
 pub fn listings_of<P: Place>(
     alloc: Global,
     place: &mut P,
@@ -41,82 +102,85 @@ pub fn listings_of<P: Place>(
     ensures looks { Looks result (listings_at target.now folder.now)
         (P.at place.old).counts (P.at place.new).counts }
 {
-    let src = own_path(alloc, folder, "src")?;
-    let bin = own_path(alloc, folder, "src/bin")?;
-    let own = sources_directly(alloc, place, target, folder)?;
-    let in_src = match sources_directly(alloc, place, target, &src) {
-        Ok(in_src) => in_src,
-        Err(fault) => {
-            drop((own, src, bin));
-            return Err(fault);
-        }
-    };
+    let bin = bin_folder(alloc, folder)?;
+    let own = files_there(alloc, place, target, folder)?;
     let in_bin = listed_sources(alloc, place, target, &bin);
-    drop((src, bin));
+    drop(bin);
     match in_bin {
-        Ok(in_bin) => Ok(Listings {
-            own,
-            in_src,
-            in_bin,
-        }),
+        Ok(in_bin) => Ok(Listings { own, in_bin }),
         Err(fault) => {
-            drop((own, in_src));
+            drop(own);
             Err(fault)
         }
     }
 }
 
-/// Whether a path is among some.
-fn is_among(path: &PathText, paths: &[PathText]) -> bool
-    ensures { result ≡ is_among path.now paths.now }
+/// Returns whether a file with a fixed place is one of the sources.
+pub fn has_own_file(listings: &Listings, file: OwnFile) -> bool
+    ensures { (folder : List ℕ) (sources : World) → AreListingsOf folder sources listings.now
+        → result ≡ has_own_file folder sources (name_of file) }
 {
-    paths.iter().any(|other| *path == *other)
+    listings.own.as_slice().contains(&file)
 }
 
-/// Whether a path was seen.
-fn is_seen(path: &PathText, listings: &Listings) -> bool
-    ensures { result ≡ is_seen path.now listings.now }
-{
-    is_among(path, listings.own.as_slice())
-        || is_among(path, listings.in_src.as_slice())
-        || is_among(path, listings.in_bin.as_slice())
-}
-
-/// Returns whether a file of a package's folder is among the sources.
+/// Returns the path of a file with a fixed place, if it is one of the sources.
 ///
-/// Requires: a name that the listings contain if its file is there.
-pub fn has_own_file(
-    alloc: Global,
-    listings: &Listings,
-    folder: &PathText,
-    name: &str,
-) -> Result<bool, AllocError>
-    requires path { is_relative name.now ≡ true }
-    requires listed { is_listed folder.now name.now ≡ true }
-    ensures { (sources : World) → AreListingsOf folder.now sources listings.now
-        → IfOk result (λ answer. answer ≡ has_own_file folder.now sources name.now) }
-{
-    let path = own_path(alloc, folder, name)?;
-    Ok(is_seen(&path, listings))
-}
-
-/// Returns the path of a file of a package's folder, if it is one of the sources.
-///
-/// Requires: a name that the listings contain if its file is there.
+/// Errors: memory is refused.
 pub fn own_source(
     alloc: Global,
     listings: &Listings,
     folder: &PathText,
-    name: &str,
+    file: OwnFile,
 ) -> Result<Option<PathText>, AllocError>
-    requires path { is_relative name.now ≡ true }
-    requires listed { is_listed folder.now name.now ≡ true }
     ensures { (sources : World) → AreListingsOf folder.now sources listings.now
-        → IfOk result (λ path. path ≡ own_source folder.now sources name.now) }
+        → IfOk result (λ path. path ≡ own_source folder.now sources (name_of file)) }
 {
-    if !has_own_file(alloc, listings, folder, name)? {
+    if !has_own_file(listings, file) {
         return Ok(None);
     }
-    let path = own_path(alloc, folder, name)?;
+    let path = file.path(alloc, folder)?;
+    Ok(Some(path))
+}
+
+/// Returns the path of a file in the folder `src/bin` of a package, whether it is there or not.
+///
+/// Errors: memory is refused.
+#[tactic(auto, using(crate::proofs::Listed::bin_laws))]
+pub fn bin_path(alloc: Global, folder: &PathText, rest: &str) -> Result<PathText, AllocError>
+    requires { is_relative rest.now ≡ true }
+    ensures { IfOk result (λ path. path ≡ below folder.now (codes "src/bin/" ++ rest.now)) }
+{
+    let bin = bin_folder(alloc, folder)?;
+    own_path(alloc, &bin, rest)
+}
+
+/// Returns whether a path was listed in `src/bin`.
+fn is_in_bin(listings: &Listings, path: &PathText) -> bool
+    ensures { result ≡ list_any (bytes_eq path.now) listings.now.in_bin }
+{
+    listings
+        .in_bin
+        .as_slice()
+        .iter()
+        .any(|other| *path == *other)
+}
+
+/// Returns the path of a file in the folder `src/bin` of a package, if it is one of the sources.
+///
+/// Errors: memory is refused.
+pub fn bin_source(
+    alloc: Global,
+    listings: &Listings,
+    folder: &PathText,
+    rest: &str,
+) -> Result<Option<PathText>, AllocError>
+    requires { is_relative rest.now ≡ true }
+    ensures { (sources : World) → AreListingsOf folder.now sources listings.now → IfOk result
+        (λ path. path ≡ own_source folder.now sources (codes "src/bin/" ++ rest.now)) }
+{
+    let path = bin_path(alloc, folder, rest)?;
+    if !is_in_bin(listings, &path) {
+        return Ok(None);
+    }
     Ok(Some(path))
 }

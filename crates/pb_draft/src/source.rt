@@ -1,10 +1,10 @@
 //! Files of the sources: what lies at or below the target folder is left out.
 
-ghost use Rattle.std.specs.Prelude.{◌≡◌, IfOk, IfErr, IsTrue, true, not, filter};
+ghost use Rattle.std.specs.Prelude.{◌≡◌, IfOk, IfErr, IsTrue, true};
 ghost use Rattle.std.specs.FinMap as finite;
 ghost use Rattle.pb_place.specs.declared.call.Call.TheVariants as call;
-ghost use Rattle.pb_place.specs.Paths.{below, is_at_or_below, is_relative};
-ghost use Rattle.pb_place.specs.World.{from_nothing, listed, listed_directly};
+ghost use Rattle.pb_place.specs.Paths.{below, is_relative};
+ghost use Rattle.pb_place.specs.World.{from_nothing, has_file, listed, listed_folders};
 ghost use Rattle.pb_draft.specs.Looks.{Looks, looked};
 ghost use Rattle.pb_draft.specs.Causes.{is_outside, fault_at, OnlyLooks};
 ghost use Rattle.pb_draft.specs.Sources.{resolved};
@@ -52,51 +52,31 @@ pub fn source<P: Place>(
     }
 }
 
-/// Returns those of some paths that are not at or below the target folder.
-fn sources_among(
-    alloc: Global,
-    target: &PathText,
-    paths: Items<PathText>,
-) -> Result<Items<PathText>, AllocError>
-    ensures { IfOk result
-        (λ kept. kept ≡ filter (λ path. not (is_at_or_below target.now path)) paths) }
-{
-    let mut kept = Items::new(alloc);
-    for path in paths.into_vec() {
-        if !path.starts_with(target) {
-            kept.push(path)?;
-        }
-    }
-    Ok(kept)
-}
-
-/// Returns the files of the sources directly in a folder, in byte order. It does not list a folder at or below the
-/// target folder.
+/// Returns whether a file of the sources is at a path. It does not ask for a path at or below the target folder.
 ///
-/// Errors: `Place`, if the listing failed, with its path; `OutOfMemory`.
-#[tactic(auto, using(crate::proofs::SourceLemmas::listing_laws))]
-pub fn sources_directly<P: Place>(
+/// Errors: `Place`, if the question failed, with its path; `OutOfMemory`.
+#[tactic(auto, using(crate::proofs::SourceLemmas::asking_laws))]
+pub fn is_source<P: Place>(
     alloc: Global,
     place: &mut P,
     target: &PathText,
-    folder: &PathText,
-) -> Result<Items<PathText>, LoadFault>
-    ensures ok { IsTrue P.tells → IfOk result (λ paths. paths
-        ≡ listed_directly folder.now (from_nothing target.now (P.at place.old).world)) }
+    path: &PathText,
+) -> Result<bool, LoadFault>
+    ensures ok { IsTrue P.tells → IfOk result (λ answer. answer
+        ≡ has_file path.now (from_nothing target.now (P.at place.old).world)) }
     ensures outside { IfErr result (λ e. is_outside e ≡ true) }
     ensures quiet { OnlyLooks result (P.at place.old) (P.at place.new) }
-    ensures looks { Looks result (looked target.now (call.ListDirectly folder.now))
+    ensures looks { Looks result (looked target.now (call.IsFile path.now))
         (P.at place.old).counts (P.at place.new).counts }
 {
-    if folder.starts_with(target) {
-        return Ok(Items::new(alloc));
+    if path.starts_with(target) {
+        return Ok(false);
     }
-    let named = folder.copy(alloc)?;
-    let paths = match place.list_directly(alloc, folder) {
-        Ok(paths) => paths,
-        Err(fault) => return Err(failed(named, fault)),
-    };
-    Ok(sources_among(alloc, target, paths)?)
+    let named = path.copy(alloc)?;
+    match place.is_file(alloc, path) {
+        Ok(answer) => Ok(answer),
+        Err(fault) => Err(failed(named, fault)),
+    }
 }
 
 /// Returns the files of the sources below a folder, in byte order. It looks at nothing at or below the target folder.
@@ -122,6 +102,34 @@ pub fn listed_sources<P: Place>(
     let named = folder.copy(alloc)?;
     match place.list_outside(alloc, folder, target) {
         Ok(paths) => Ok(paths),
+        Err(fault) => Err(failed(named, fault)),
+    }
+}
+
+/// Returns the folders directly in a folder that hold sources, each once. It does not list a folder at or below the
+/// target folder.
+///
+/// Errors: `Place`, if the listing failed, with its path; `OutOfMemory`.
+#[tactic(auto, using(crate::proofs::SourceLemmas::listing_laws))]
+pub fn source_folders<P: Place>(
+    alloc: Global,
+    place: &mut P,
+    target: &PathText,
+    folder: &PathText,
+) -> Result<Items<PathText>, LoadFault>
+    ensures ok { IsTrue P.tells → IfOk result (λ folders. folders
+        ≡ listed_folders folder.now (from_nothing target.now (P.at place.old).world)) }
+    ensures outside { IfErr result (λ e. is_outside e ≡ true) }
+    ensures quiet { OnlyLooks result (P.at place.old) (P.at place.new) }
+    ensures looks { Looks result (looked target.now (call.ListFolders folder.now target.now))
+        (P.at place.old).counts (P.at place.new).counts }
+{
+    if folder.starts_with(target) {
+        return Ok(Items::new(alloc));
+    }
+    let named = folder.copy(alloc)?;
+    match place.list_folders(alloc, folder, target) {
+        Ok(folders) => Ok(folders),
         Err(fault) => Err(failed(named, fault)),
     }
 }

@@ -1,6 +1,11 @@
-use Rattle.std.proofs.Common.{◌∙◌}
-use Rattle.pb_draft.proofs.Listed.{seen-listed}
+use Rattle.std.proofs.Common.{◌∙◌, ap}
+use Rattle.std.specs.List.{list_any}
+use denote.Enum.Bare.{sameb}
+use Rattle.pb_draft.specs.contracts.own_file.OwnFile.{the_type}
+use Rattle.pb_draft.specs.Listings.{is_there}
+use Rattle.pb_draft.proofs.OwnFiles.{own_kept}
 use Rattle.pb_draft.proofs.listings.has_own_file.Goals as goal
 
 pub returns : goal.returns
-returns c sources are = c.is_seen.ensures ∙ seen-listed c.args.folder.now c.args.name.now _ sources c.args.listings.now are c.requires.listed c.in_ok-path.ensures
+returns c folder sources are =
+    c.contains.ensures.value ∙ ap (list_any (λ other. sameb the_type other c.args.file)) (c.as_slice.ensures ∙ are.own) ∙ own_kept (is_there folder sources) c.args.file
