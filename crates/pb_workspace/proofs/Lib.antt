@@ -1,8 +1,10 @@
 pub mod RowLemmas
+pub mod NamesOfPaths
 pub mod Promised
 pub mod EachOne
 pub mod Leading
 pub mod LookingOver
+pub mod Walking
 pub mod RoundSteps
 pub mod Keeping
 pub mod FoldersPut
@@ -11,5 +13,7 @@ pub mod FoldersPlaced
 pub mod Fuel
 pub mod WholeWorkspace
 pub mod GlobRelation
+pub mod FoldersListed
+pub mod FoldersTaken
 pub mod Chosen
 pub mod Accepted

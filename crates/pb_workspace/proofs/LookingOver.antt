@@ -1,7 +1,5 @@
 -- What the readings of folders, rounds and a whole workspace look at, step for step.
-use Rattle.std.proofs.Common.{◌≡◌, ◌∙◌, ◌++◌, ◌<◌, ◌≤◌, ◌+◌, ◌-◌, ℕ, zero, suc, true, false, List, [], ◌∷◌, drop, get_or, length, Result, Ok, Err, refl, sym, ap, subst, arith, append_assoc}
-use Rattle.std.proofs.Math.Seq.{drop-cons}
-use Rattle.std.specs.List.{flat_map}
+use Rattle.std.proofs.Common.{◌≡◌, ◌∙◌, ◌++◌, ◌<◌, ◌≤◌, ◌+◌, ◌-◌, ℕ, suc, true, false, List, ◌∷◌, Result, Ok, Err, refl, sym, ap, subst, arith}
 use Rattle.pb_data.specs.Gives.{◌>>=◌}
 use Rattle.pb_place.specs.CallsInTurn.{past_calls}
 use Rattle.pb_place.specs.declared.call.Call.{Call}
@@ -95,7 +93,7 @@ module _ (target : List ℕ) (f : Frame) (begun : Reading) (w : World) where
   rounds_at v meant read = rounds_looked 257 (draft_at (from_nothing target v) f meant) (folder_looked target (from_nothing target v) f) read
 
   pub others_looks : (meant : Members) (folders : List (List ℕ)) (one two : World) (read : Reading) (result : Result Reading LoadFault) (old first mid new : Counts)
-      → meant ≡ member_folders (from_nothing target w) f → folders ≡ folders_of meant → one ≡ w → two ≡ w → first ≡ past_calls (members_looked target f) old
+      → meant ≡ member_folders (from_nothing target w) f → folders ≡ folders_of meant → one ≡ w → two ≡ w → first ≡ past_calls (members_looked target (from_nothing target w) f) old
       → all_read (draft_at (from_nothing target one) f meant) begun folders ≡ Ok read
       → mid ≡ past_calls (all_looked (draft_at (from_nothing target one) f meant) (folder_looked target (from_nothing target one) f) begun folders) first
       → Looks result (rounds_looked 257 (draft_at (from_nothing target two) f meant) (folder_looked target (from_nothing target two) f) read) mid new
@@ -106,10 +104,10 @@ module _ (target : List ℕ) (f : Frame) (begun : Reading) (w : World) where
       looks_step result (λ v r. rounds_at v meant r) (λ v. all_of v meant) (λ v. all_at v meant) read w one two first mid new same then
       (subst (λ xs. all_read (draft_at (from_nothing target one) f meant) begun xs ≡ Ok read) put is)
       (subst (λ xs. mid ≡ past_calls (all_looked (draft_at (from_nothing target one) f meant) (folder_looked target (from_nothing target one) f) begun xs) first) put before) more in
-      looks_both result (members_looked target f) _ old first new begins (subst (λ m. Looks result (all_at w m ++ after (all_of w m) (rounds_at w m)) first new) are whole)
+      looks_both result (members_looked target (from_nothing target w) f) _ old first new begins (subst (λ m. Looks result (all_at w m ++ after (all_of w m) (rounds_at w m)) first new) are whole)
 
   pub others_stop : (meant : Members) (folders : List (List ℕ)) (one : World) (e : LoadFault) (old first new : Counts)
-      → meant ≡ member_folders (from_nothing target w) f → folders ≡ folders_of meant → one ≡ w → first ≡ past_calls (members_looked target f) old
+      → meant ≡ member_folders (from_nothing target w) f → folders ≡ folders_of meant → one ≡ w → first ≡ past_calls (members_looked target (from_nothing target w) f) old
       → (is_outside e ≡ false → all_read (draft_at (from_nothing target one) f meant) begun folders ≡ Err e)
       → Ends e (all_looked (draft_at (from_nothing target one) f meant) (folder_looked target (from_nothing target one) f) begun folders) first new
       → Ends e (others_looked target (from_nothing target w) f begun) old new
@@ -119,44 +117,12 @@ module _ (target : List ℕ) (f : Frame) (begun : Reading) (w : World) where
       looks_stop e (λ v r. rounds_at v meant r) (λ v. all_of v meant) (λ v. all_at v meant) w one first new same
       (λ inside. subst (λ xs. all_read (draft_at (from_nothing target one) f meant) begun xs ≡ Err e) put (told inside))
       (subst (λ xs. Ends e (all_looked (draft_at (from_nothing target one) f meant) (folder_looked target (from_nothing target one) f) begun xs) first new) put before) in
-      ends_both e (members_looked target f) _ old first new begins (subst (λ m. Ends e (all_at w m ++ after (all_of w m) (rounds_at w m)) first new) are whole)
+      ends_both e (members_looked target (from_nothing target w) f) _ old first new begins (subst (λ m. Ends e (all_at w m ++ after (all_of w m) (rounds_at w m)) first new) are whole)
 
-  pub others_none : (e : LoadFault) (old first : Counts) → is_outside e ≡ true → is_failure e ≡ false → first ≡ past_calls (members_looked target f) old → Ends e (others_looked target (from_nothing target w) f begun) old first
+  pub others_none : (e : LoadFault) (old first : Counts) → is_outside e ≡ true → is_failure e ≡ false → first ≡ past_calls (members_looked target (from_nothing target w) f) old → Ends e (others_looked target (from_nothing target w) f begun) old first
   unfolding others_looked
-  others_none e old first outside here begins = ends_both e (members_looked target f) _ old first first begins (looks_none e _ first first outside here refl)
+  others_none e old first outside here begins = ends_both e (members_looked target (from_nothing target w) f) _ old first first begins (looks_none e _ first first outside here refl)
 
-  pub others_first : (e : LoadFault) (old new : Counts) → is_outside e ≡ true → Ends e (members_looked target f) old new → Ends e (others_looked target (from_nothing target w) f begun) old new
+  pub others_first : (e : LoadFault) (old new : Counts) → is_outside e ≡ true → Ends e (members_looked target (from_nothing target w) f) old new → Ends e (others_looked target (from_nothing target w) f begun) old new
   unfolding others_looked
-  others_first e old new outside before = looks_first e (members_looked target f) _ old new outside before
-
--- no text is left
-pub texts_end : (f : List ℕ → List Call) (texts : List (List ℕ)) (i : ℕ) (c : Counts) → length texts ≤ i → c ≡ past_calls (flat_map f (drop i texts)) c
-texts_end f [] zero c at = refl
-texts_end f [] (suc i) c at = refl
-texts_end f (x ∷ texts) zero c at = absurd (omega arith)
-texts_end f (x ∷ texts) (suc i) c at = texts_end f texts i c (omega arith)
-
--- texts in turn
-module _ (texts : List (List ℕ)) (i : ℕ) (text : List ℕ) (lt : i < length texts) (is : text ≡ get_or texts i text) where
-  cut_at : drop i texts ≡ text ∷ drop (suc i) texts
-  cut_at = drop-cons texts i text lt ∙ ap (λ x. x ∷ drop (suc i) texts) (sym is)
-
-  -- the calls for them
-  module _ (f : List ℕ → List Call) where
-    pub texts_looks : {T : Type 0} (result : Result T LoadFault) (old mid new : Counts) → mid ≡ past_calls (f text) old → Looks result (flat_map f (drop (i + 1) texts)) mid new → Looks result (flat_map f (drop i texts)) old new
-    texts_looks result old mid new before more =
-        let next : i + 1 ≡ suc i = omega arith in
-        subst (λ xs. Looks result (flat_map f xs) old new) (sym cut_at) (looks_both result (f text) (flat_map f (drop (suc i) texts)) old mid new before (subst (λ n. Looks result (flat_map f (drop n texts)) mid new) next more))
-
-    pub texts_stop : (e : LoadFault) (old new : Counts) → is_outside e ≡ true → Ends e (f text) old new → Ends e (flat_map f (drop i texts)) old new
-    texts_stop e old new outside before = subst (λ xs. Ends e (flat_map f xs) old new) (sym cut_at) (looks_first e (f text) (flat_map f (drop (suc i) texts)) old new outside before)
-
-    pub texts_none : (e : LoadFault) (old mid : Counts) → is_outside e ≡ true → is_failure e ≡ false → mid ≡ past_calls (f text) old → Ends e (flat_map f (drop i texts)) old mid
-    texts_none e old mid outside here before = texts_looks {T = ℕ} (Err e) old mid mid before (looks_none e _ mid mid outside here refl)
-
-  -- the folders of them
-  pub texts_made : (f : List ℕ → List (List ℕ)) (whole made now_made folders : List (List ℕ)) → now_made ≡ made ++ folders → folders ≡ f text → made ++ flat_map f (drop i texts) ≡ whole → now_made ++ flat_map f (drop (i + 1) texts) ≡ whole
-  texts_made f whole made now_made folders pushed are before =
-      let next : i + 1 ≡ suc i = omega arith in
-      ap (λ m. m ++ flat_map f (drop (i + 1) texts)) (pushed ∙ ap (λ fs. made ++ fs) are) ∙ append_assoc made (f text) (flat_map f (drop (i + 1) texts))
-      ∙ ap (λ n. made ++ (f text ++ flat_map f (drop n texts))) next ∙ ap (λ xs. made ++ flat_map f xs) (sym cut_at) ∙ before
+  others_first e old new outside before = looks_first e (members_looked target (from_nothing target w) f) _ old new outside before

@@ -1,23 +1,24 @@
 -- What a reading of a workspace looks at (our own choice where The Cargo Book is silent): the calls of the place, in order, each with the path that it is given, up to the first refusal. `sources` is the world without what lies at or below the target folder.
-use Rattle.std.specs.Prelude.{ℕ, zero, suc, nat_le, if◌then◌else◌, List, [], ◌∷◌, ◌++◌, length, Option, Some, None, Result}
+use Rattle.std.specs.Prelude.{ℕ, zero, suc, nat_le, if◌then◌else◌, codes, List, [], ◌∷◌, ◌++◌, length, Option, Some, None, Result}
 use Rattle.std.specs.List.{flat_map}
 use Rattle.std.specs.Str.{bytes_eq}
 use Rattle.pb_place.specs.declared.call.Call.{Call}
 use Rattle.pb_place.specs.declared.call.Call.TheVariants as call
-use Rattle.pb_place.specs.Paths.{folder_of}
+use Rattle.pb_place.specs.Paths.{below, folder_of}
 use Rattle.pb_place.specs.World.{World, from_nothing}
 use Rattle.pb_manifest.specs.declared.package.Package.{Package}
 use Rattle.pb_package.specs.declared.fault.LoadFault.{LoadFault}
 use Rattle.pb_draft.specs.declared.draft.Draft.{Draft}
 use Rattle.pb_draft.specs.declared.draft.Tables.{Tables}
 use Rattle.pb_workspace.specs.declared.frame.Frame.{Frame}
+use Rattle.pb_workspace.specs.declared.member.Part.{Part}
 use Rattle.pb_workspace.specs.declared.rounds.Reading.{Reading}
 use Rattle.pb_draft.specs.declared.wanted.Standing.{Standing}
 use Rattle.pb_workspace.specs.ByFolder.{folders_of, has}
 use Rattle.pb_workspace.specs.Frames.{frame_of}
 use Rattle.pb_workspace.specs.Globs.{is_glob}
 use Rattle.pb_workspace.specs.Loaded.{root_parts, root_read}
-use Rattle.pb_workspace.specs.MemberFolders.{base_of, is_manifest, member_folders}
+use Rattle.pb_workspace.specs.MemberFolders.{folders_kept, is_fixed, is_manifest, member_folders, one_step}
 use Rattle.pb_workspace.specs.Members.{parts_meant}
 use Rattle.pb_workspace.specs.Rounds.{all_read, draft_at, one_read, parts_at, round, standing_in}
 use Rattle.pb_draft.specs.Looks.{after, listings_at, looked}
@@ -50,17 +51,35 @@ unfoldable pub rounds_looked : ℕ → (List ℕ → Result Draft LoadFault) →
 rounds_looked zero read look r = []
 rounds_looked (suc n) read look r = round_looked read look r ++ after (round read r) (λ now. rounds_looked n read look now)
 
--- of each glob its base
-abbrev pub text_looked : List ℕ → Frame → List ℕ → List Call
-text_looked target f text = if is_glob text then looked target (call.ListOutside (base_of (parts_meant f.root text)) target) else []
+-- a fixed part looks at nothing; any other lists the folders in a folder
+abbrev pub step_looked : List ℕ → Part → List ℕ → List Call
+step_looked target part folder = if is_fixed part then [] else looked target (call.ListFolders folder target)
 
-abbrev pub members_looked : List ℕ → Frame → List Call
-members_looked target f = flat_map (text_looked target f) f.members
+-- parts in turn, each in all folders to which those before it lead
+abbrev pub walk_looked : List ℕ → World → List Part → List (List ℕ) → List Call
+walk_looked target sources [] folders = []
+walk_looked target sources (part ∷ parts) folders = flat_map (step_looked target part) folders ++ walk_looked target sources parts (flat_map (one_step sources part) folders)
+
+-- whether the folder has a manifest
+abbrev pub manifest_looked : List ℕ → List ℕ → List Call
+manifest_looked target folder = looked target (call.IsFile (below folder (codes "Cargo.toml")))
+
+-- a glob is walked, and then a manifest is looked for in each folder that `exclude` does not leave out
+abbrev pub glob_looked : List ℕ → World → Frame → List Part → List Call
+glob_looked target sources f parts = walk_looked target sources parts (codes "/" ∷ []) ++ flat_map (manifest_looked target) (folders_kept sources f parts)
+
+-- a folder that is written out is not looked at
+abbrev pub text_looked : List ℕ → World → Frame → List ℕ → List Call
+text_looked target sources f text = if is_glob text then glob_looked target sources f (parts_meant f.root text) else []
+
+-- the texts in turn
+abbrev pub members_looked : List ℕ → World → Frame → List Call
+members_looked target sources f = flat_map (text_looked target sources f) f.members
 
 -- the members, and then what path dependencies lead to
 unfoldable pub others_looked : List ℕ → World → Frame → Reading → List Call
 others_looked target sources f begun =
-    members_looked target f
+    members_looked target sources f
     ++ (all_looked (draft_at sources f (member_folders sources f)) (folder_looked target sources f) begun (folders_of (member_folders sources f))
     ++ after (all_read (draft_at sources f (member_folders sources f)) begun (folders_of (member_folders sources f))) (λ read. rounds_looked 257 (draft_at sources f (member_folders sources f)) (folder_looked target sources f) read))
 

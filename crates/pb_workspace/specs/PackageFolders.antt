@@ -1,4 +1,5 @@
--- That 257 rounds are enough; and, in the words of the loader's drafts, which folders hold the packages of a workspace (The Cargo Book, Workspaces and Specifying Dependencies). The latter words serve proofs: in words of its own `Folders` of `pb_package_laws` says it. `sources` is the world without what lies at or below the target folder, `f` what the root manifest says of its workspace.
+-- That 257 rounds are enough; and which folders hold the packages of a workspace, in the words of the loader's drafts (The Cargo Book, Workspaces and Specifying Dependencies).
+-- The latter words serve proofs: `Folders` of `pb_package_laws` says it in words of its own. `sources` is the world without what lies at or below the target folder, `f` what the root manifest says of its workspace.
 use Rattle.std.specs.Prelude.{◌≡◌, ℕ, ◌+◌, ◌≤◌, List, length, Option, Some, Ok, Result, Contains}
 use Rattle.pb_place.specs.Paths.{folder_of}
 use Rattle.pb_place.specs.World.{World}

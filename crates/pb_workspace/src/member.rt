@@ -1,25 +1,24 @@
 //! Which folders the texts of `members`, `default-members` and `exclude` mean.
 
-ghost use Rattle.std.specs.Prelude.{◌≡◌, ◌++◌, IfOk, OnOk, map};
-ghost use Rattle.std.specs.List.{fold, list_any};
-ghost use Rattle.pb_place.specs.Paths.{is_absolute, is_at_or_below, leads_up, parts_of, stays};
+ghost use Rattle.std.specs.Prelude.{◌≡◌, ◌++◌, ◌||◌, IfOk, OnOk, map, true};
+ghost use Rattle.std.specs.List.{fold, list_all, list_any};
+ghost use Rattle.pb_place.specs.Paths.{is_absolute, is_at_or_below, is_relative, leads_up, parts_of, stays};
 ghost use Rattle.pb_draft.specs.Between.{names_in};
 ghost use Rattle.pb_workspace.specs.Members.{is_excluded, plain_parts, further, start_of, parts_meant, part_matches, parts_match, means};
 ghost use Rattle.pb_draft.specs.Sources.{resolved};
 
 use crate::glob::matches;
-use pb_data::Text;
 use pb_draft::source::resolved;
 use pb_draft::{cut_at_slashes, names_in};
 use pb_manifest::WrittenPath;
-use pb_place::PathText;
+use pb_place::{PathText, RelativePath};
 use std::alloc::{AllocError, Global};
 
 /// A part of what a folder has to be for a text to mean it.
 #[derive(Drop)]
 pub struct Part {
     /// A name, or a pattern for one.
-    pub text: Text,
+    pub text: RelativePath,
     /// Whether `*` and `?` stand for other characters.
     pub is_pattern: bool,
 }
@@ -43,13 +42,18 @@ pub fn is_excluded(
     Ok(false)
 }
 
-/// The names of a folder, as parts that stand for themselves.
+/// Returns the names of a folder, as parts that stand for themselves.
+///
+/// Errors: memory is refused.
+///
+/// Requires: each of them is a path inside a folder. The names of a path are.
 fn plain_parts(alloc: Global, names: &[&str]) -> Result<Vec<Part>, AllocError>
+    requires { list_all is_relative (map (λ name. name.now) names.now) ≡ true }
     ensures { IfOk result (λ parts. parts.items ≡ plain_parts (map (λ name. name.now) names.now)) }
 {
     let mut parts = Vec::new(alloc);
     for name in names {
-        let text = Text::from_str(alloc, *name)?;
+        let text = RelativePath::name(alloc, *name)?;
         parts.push(Part {
             text,
             is_pattern: false,
@@ -80,7 +84,12 @@ fn start_of(alloc: Global, root: &PathText, text: &str) -> Result<Vec<Part>, All
 }
 
 /// Goes one part further.
+///
+/// Errors: memory is refused.
+///
+/// Requires: the part stays, leads up, or is a path inside a folder. The parts of a text without byte 0 do.
 fn go_further(alloc: Global, parts: &mut Vec<Part>, part: &str) -> Result<(), AllocError>
+    requires { stays part.now || (leads_up part.now || is_relative part.now) ≡ true }
     ensures { OnOk result (parts.new.items ≡ further parts.old.items part.now) }
 {
     if part == "" || part == "." {
@@ -90,7 +99,7 @@ fn go_further(alloc: Global, parts: &mut Vec<Part>, part: &str) -> Result<(), Al
         parts.pop();
         return Ok(());
     }
-    let text = Text::from_str(alloc, part)?;
+    let text = RelativePath::name(alloc, part)?;
     parts.push(Part {
         text,
         is_pattern: true,

@@ -1,172 +1,112 @@
 //! The folders that `members` means.
 
-ghost use Rattle.std.specs.Prelude.{◌≡◌, ◌++◌, [], ◌∷◌, IfOk, IfErr, OnOk, IsTrue, true, map, filter, string_bytes};
+ghost use Rattle.std.specs.Prelude.{◌≡◌, ◌++◌, [], ◌∷◌, codes, IfOk, IfErr, OnOk, IsTrue, true, filter};
 ghost use Rattle.std.specs.List.{flat_map};
-ghost use Rattle.pb_place.specs.declared.call.Call.TheVariants as call;
-ghost use Rattle.pb_place.specs.Paths.{folder_of};
-ghost use Rattle.pb_place.specs.World.{from_nothing, listed};
-ghost use Rattle.pb_draft.specs.Looks.{Looks, looked};
-ghost use Rattle.pb_workspace.specs.LookedAt.{text_looked, members_looked};
+ghost use Rattle.pb_place.specs.Paths.{below, last_part};
+ghost use Rattle.pb_place.specs.World.{from_nothing};
 ghost use Rattle.pb_draft.specs.Causes.{is_outside, OnlyLooks};
+ghost use Rattle.pb_draft.specs.Looks.{Looks};
 ghost use Rattle.pb_draft.specs.Sources.{resolved};
-ghost use Rattle.pb_workspace.specs.MemberFolders.{is_fixed, fixed_text, base_of, is_manifest, is_taken, folders_taken, folders_meant, member_folders};
+ghost use Rattle.pb_workspace.specs.Globs.{matches};
+ghost use Rattle.pb_workspace.specs.LookedAt.{glob_looked, manifest_looked, members_looked, step_looked, text_looked, walk_looked};
+ghost use Rattle.pb_workspace.specs.MemberFolders.{folders_meant, folders_taken, has_manifest, is_fixed, is_kept, is_manifest, led_to, member_folders, one_step};
 
 use crate::by_folder::{ByFolder, put_folders};
 use crate::frame::Frame;
-use crate::glob::is_glob;
-use crate::member::{Part, is_excluded, is_meant, parts_meant};
+use crate::glob::{is_glob, matches};
+use crate::member::{Part, is_excluded, parts_meant};
 use pb_data::Items;
-use pb_draft::source::{listed_sources, resolved};
+use pb_draft::source::{is_source, own_path, resolved, source_folders};
 use pb_manifest::WrittenPath;
 use pb_package::LoadFault;
 use pb_place::{PathText, Place};
 use std::alloc::{AllocError, Global};
 
-/// Whether only one name matches a part.
-fn is_fixed(part: &Part) -> bool
-    ensures { result ≡ is_fixed part.now }
-{
-    !(part.is_pattern && is_glob(part.text.as_str()))
-}
-
-/// A slash and the parts before the first with `*` or `?`, each with a slash behind it.
-fn fixed_text(alloc: Global, parts: &[Part]) -> Result<String, AllocError>
-    ensures { IfOk result (λ text. string_bytes text ≡ 47 ∷ fixed_text parts.now) }
-{
-    let mut text = String::from_str(alloc, "/")?;
-    for part in parts {
-        if !is_fixed(part) {
-            return Ok(text);
-        }
-        text.push_str(part.text.as_str())?;
-        text.push_str("/")?;
-    }
-    Ok(text)
-}
-
-/// The folder at or below which all folders lie that these parts mean. Its text holds no byte 0, so it is one.
-#[tactic(auto, using(pb_draft::proofs::Resolving::parsing_laws))]
-fn base_of(alloc: Global, parts: &[Part]) -> Result<PathText, AllocError>
-    ensures { IfOk result (λ base. base ≡ base_of parts.now) }
-{
-    let text = fixed_text(alloc, parts)?;
-    match PathText::parse(alloc, text.as_str()) {
-        Ok(base) => Ok(base),
-        Err(_) => Err(AllocError),
-    }
-}
-
-/// Whether a path is named `Cargo.toml`.
+/// Returns whether a path is named `Cargo.toml`.
 pub fn is_manifest(path: &PathText) -> bool
     ensures { result ≡ is_manifest path.now }
 {
     path.last_part() == "Cargo.toml"
 }
 
-/// The folders of the manifests among some files.
-fn manifest_folders(alloc: Global, paths: &[PathText]) -> Result<Items<PathText>, AllocError>
-    ensures { IfOk result (λ folders. folders ≡ map folder_of (filter is_manifest paths.now)) }
+/// Returns whether only one name matches a part.
+fn is_fixed(part: &Part) -> bool
+    ensures { result ≡ is_fixed part.now }
 {
-    let mut folders = Items::new(alloc);
-    for path in paths {
-        if is_manifest(path) {
-            folders.push(path.folder(alloc)?)?;
-        }
-    }
-    Ok(folders)
+    !(part.is_pattern && is_glob(part.text.as_str()))
 }
 
-/// Whether a glob takes a folder.
-fn is_taken(
+/// Returns those of some folders whose names a pattern matches.
+///
+/// Errors: memory is refused.
+fn matching(
     alloc: Global,
-    frame: &Frame,
-    parts: &[Part],
-    folder: &PathText,
-) -> Result<bool, AllocError>
-    ensures { IfOk result (λ answer. answer ≡ is_taken frame.now parts.now folder.now) }
-{
-    if !is_meant(alloc, parts, folder)? {
-        return Ok(false);
-    }
-    let excluded = is_excluded(alloc, &frame.root, frame.exclude.as_slice(), folder)?;
-    Ok(!excluded)
-}
-
-/// Those of some folders that a glob takes.
-fn taken_among(
-    alloc: Global,
-    frame: &Frame,
-    parts: &[Part],
+    pattern: &str,
     folders: Items<PathText>,
 ) -> Result<Items<PathText>, AllocError>
-    ensures { IfOk result (λ taken. taken ≡ filter (is_taken frame.now parts.now) folders) }
+    ensures { IfOk result
+        (λ named. named ≡ filter (λ folder. matches pattern.now (last_part folder)) folders) }
 {
-    let mut taken = Items::new(alloc);
+    let mut named = Items::new(alloc);
     for folder in folders.into_vec() {
-        if is_taken(alloc, frame, parts, &folder)? {
-            taken.push(folder)?;
+        if matches(alloc, pattern, folder.last_part())? {
+            named.push(folder)?;
         }
     }
-    Ok(taken)
+    Ok(named)
 }
 
-/// Returns the folders with a manifest that a glob takes. It lists the files below the glob's base once.
-fn folders_taken<P: Place>(
-    alloc: Global,
-    place: &mut P,
-    target: &PathText,
-    frame: &Frame,
-    parts: &[Part],
-) -> Result<Items<PathText>, LoadFault>
-    ensures ok { IsTrue P.tells → IfOk result (λ folders. folders
-        ≡ folders_taken (from_nothing target.now (P.at place.old).world) frame.now parts.now) }
-    ensures outside { IfErr result (λ e. is_outside e ≡ true) }
-    ensures quiet { OnlyLooks result (P.at place.old) (P.at place.new) }
-    ensures looks { Looks result
-        (looked target.now (call.ListOutside (base_of parts.now) target.now))
-        (P.at place.old).counts (P.at place.new).counts }
-{
-    let base = base_of(alloc, parts)?;
-    let paths = listed_sources(alloc, place, target, &base)?;
-    let folders = manifest_folders(alloc, paths.as_slice())?;
-    let taken = taken_among(alloc, frame, parts, folders)?;
-    Ok(taken)
-}
-
-/// The folder that a text writes out.
-fn folder_written(
-    alloc: Global,
-    root: &PathText,
-    text: &WrittenPath,
-) -> Result<Items<PathText>, AllocError>
-    ensures { IfOk result (λ folders. folders ≡ resolved root.now text.now ∷ []) }
+/// Returns one folder as a list.
+///
+/// Errors: memory is refused.
+fn alone(alloc: Global, folder: PathText) -> Result<Items<PathText>, AllocError>
+    ensures { IfOk result (λ folders. folders ≡ folder ∷ []) }
 {
     let mut folders = Items::new(alloc);
-    folders.push(resolved(alloc, root, text)?)?;
+    folders.push(folder)?;
     Ok(folders)
 }
 
-/// Returns the folders that one text of `members` means.
-fn folders_meant<P: Place>(
+/// Returns the folder that a part names in a folder, whatever is there.
+///
+/// Errors: memory is refused.
+fn folder_named(
+    alloc: Global,
+    folder: &PathText,
+    part: &Part,
+) -> Result<Items<PathText>, AllocError>
+    ensures { IfOk result (λ folders. folders ≡ below folder.now part.now.text ∷ []) }
+{
+    let named = folder.below(alloc, &part.text)?;
+    alone(alloc, named)
+}
+
+/// Returns the folders to which a part leads from a folder (The Cargo Book, Workspaces). A part that only one name
+/// matches leads to the folder of that name there, whatever is there, and looks at nothing. Any other part leads to the
+/// folders there whose names it matches, and lists the folders there once (our own choice).
+///
+/// Errors: `Place`, if the listing failed, with its path; `OutOfMemory`.
+fn one_step<P: Place>(
     alloc: Global,
     place: &mut P,
     target: &PathText,
-    frame: &Frame,
-    text: &WrittenPath,
+    part: &Part,
+    folder: &PathText,
 ) -> Result<Items<PathText>, LoadFault>
     ensures ok { IsTrue P.tells → IfOk result (λ folders. folders
-        ≡ folders_meant (from_nothing target.now (P.at place.old).world) frame.now text.now) }
+        ≡ one_step (from_nothing target.now (P.at place.old).world) part.now folder.now) }
     ensures outside { IfErr result (λ e. is_outside e ≡ true) }
     ensures quiet { OnlyLooks result (P.at place.old) (P.at place.new) }
-    ensures looks { Looks result (text_looked target.now frame.now text.now)
+    ensures looks { Looks result (step_looked target.now part.now folder.now)
         (P.at place.old).counts (P.at place.new).counts }
 {
-    if is_glob(text.as_str()) {
-        let parts = parts_meant(alloc, &frame.root, text)?;
-        return folders_taken(alloc, place, target, frame, parts.as_slice());
+    if is_fixed(part) {
+        let named = folder_named(alloc, folder, part)?;
+        return Ok(named);
     }
-    let folders = folder_written(alloc, &frame.root, text)?;
-    Ok(folders)
+    let folders = source_folders(alloc, place, target, folder)?;
+    let named = matching(alloc, part.text.as_str(), folders)?;
+    Ok(named)
 }
 
 /// Adds folders at the end.
@@ -179,7 +119,204 @@ fn add_folders(made: &mut Items<PathText>, folders: Items<PathText>) -> Result<(
     Ok(())
 }
 
+/// Returns the folders to which a part leads from some folders, folder for folder.
+///
+/// Errors: those of `one_step`.
+fn all_steps<P: Place>(
+    alloc: Global,
+    place: &mut P,
+    target: &PathText,
+    part: &Part,
+    folders: &[PathText],
+) -> Result<Items<PathText>, LoadFault>
+    ensures ok { let sources = from_nothing target.now (P.at place.old).world in
+        IsTrue P.tells → IfOk result
+        (λ led. led ≡ flat_map (one_step sources part.now) folders.now) }
+    ensures outside { IfErr result (λ e. is_outside e ≡ true) }
+    ensures quiet { OnlyLooks result (P.at place.old) (P.at place.new) }
+    ensures looks { Looks result (flat_map (step_looked target.now part.now) folders.now)
+        (P.at place.old).counts (P.at place.new).counts }
+{
+    let mut led = Items::new(alloc);
+    for folder in folders {
+        let found = one_step(alloc, place, target, part, folder)?;
+        add_folders(&mut led, found)?;
+    }
+    Ok(led)
+}
+
+/// Returns the folders to which parts lead from some folders, one part after the other.
+///
+/// Errors: those of `one_step`.
+fn led_to<P: Place>(
+    alloc: Global,
+    place: &mut P,
+    target: &PathText,
+    parts: &[Part],
+    begun: Items<PathText>,
+) -> Result<Items<PathText>, LoadFault>
+    ensures ok { let sources = from_nothing target.now (P.at place.old).world in
+        IsTrue P.tells → IfOk result (λ led. led ≡ led_to sources parts.now begun) }
+    ensures outside { IfErr result (λ e. is_outside e ≡ true) }
+    ensures quiet { OnlyLooks result (P.at place.old) (P.at place.new) }
+    ensures looks { let sources = from_nothing target.now (P.at place.old).world in
+        IsTrue P.tells → Looks result (walk_looked target.now sources parts.now begun)
+        (P.at place.old).counts (P.at place.new).counts }
+{
+    let mut led = begun;
+    for part in parts {
+        led = all_steps(alloc, place, target, part, led.as_slice())?;
+    }
+    Ok(led)
+}
+
+/// Returns the root of all paths, as a list. Its text is a path, so nothing but memory can be refused.
+///
+/// Errors: memory is refused.
+fn root_alone(alloc: Global) -> Result<Items<PathText>, AllocError>
+    ensures { IfOk result (λ folders. folders ≡ codes "/" ∷ []) }
+{
+    match PathText::parse(alloc, "/") {
+        Ok(root) => alone(alloc, root),
+        Err(_) => Err(AllocError),
+    }
+}
+
+/// Returns those of some folders that `exclude` does not leave out.
+///
+/// Errors: memory is refused.
+fn kept_among(
+    alloc: Global,
+    frame: &Frame,
+    folders: Items<PathText>,
+) -> Result<Items<PathText>, AllocError>
+    ensures { IfOk result (λ kept. kept ≡ filter (is_kept frame.now) folders) }
+{
+    let mut kept = Items::new(alloc);
+    for folder in folders.into_vec() {
+        if !is_excluded(alloc, &frame.root, frame.exclude.as_slice(), &folder)? {
+            kept.push(folder)?;
+        }
+    }
+    Ok(kept)
+}
+
+/// Returns whether a folder has a manifest.
+///
+/// Errors: `Place`, if the question failed, with its path; `OutOfMemory`.
+fn has_manifest<P: Place>(
+    alloc: Global,
+    place: &mut P,
+    target: &PathText,
+    folder: &PathText,
+) -> Result<bool, LoadFault>
+    ensures ok { IsTrue P.tells → IfOk result (λ answer. answer
+        ≡ has_manifest (from_nothing target.now (P.at place.old).world) folder.now) }
+    ensures outside { IfErr result (λ e. is_outside e ≡ true) }
+    ensures quiet { OnlyLooks result (P.at place.old) (P.at place.new) }
+    ensures looks { Looks result (manifest_looked target.now folder.now)
+        (P.at place.old).counts (P.at place.new).counts }
+{
+    let path = own_path(alloc, folder, "Cargo.toml")?;
+    is_source(alloc, place, target, &path)
+}
+
+/// Returns those of some folders that have a manifest.
+///
+/// Errors: those of `has_manifest`.
+fn with_manifests<P: Place>(
+    alloc: Global,
+    place: &mut P,
+    target: &PathText,
+    folders: Items<PathText>,
+) -> Result<Items<PathText>, LoadFault>
+    ensures ok { let sources = from_nothing target.now (P.at place.old).world in
+        IsTrue P.tells → IfOk result (λ taken. taken ≡ filter (has_manifest sources) folders) }
+    ensures outside { IfErr result (λ e. is_outside e ≡ true) }
+    ensures quiet { OnlyLooks result (P.at place.old) (P.at place.new) }
+    ensures looks { Looks result (flat_map (manifest_looked target.now) folders)
+        (P.at place.old).counts (P.at place.new).counts }
+{
+    let mut taken = Items::new(alloc);
+    for folder in folders.into_vec() {
+        let is_taken = has_manifest(alloc, place, target, &folder)?;
+        if !is_taken {
+            continue;
+        }
+        taken.push(folder)?;
+    }
+    Ok(taken)
+}
+
+/// Returns the folders that a glob takes: those to which its parts lead from the root of all paths, that `exclude` does
+/// not leave out, and that have a manifest. It does not ask for the manifest of a folder that `exclude` leaves out (our
+/// own choice).
+///
+/// Errors: those of `one_step`; those of `has_manifest`.
+fn folders_taken<P: Place>(
+    alloc: Global,
+    place: &mut P,
+    target: &PathText,
+    frame: &Frame,
+    parts: &[Part],
+) -> Result<Items<PathText>, LoadFault>
+    ensures ok { IsTrue P.tells → IfOk result (λ folders. folders
+        ≡ folders_taken (from_nothing target.now (P.at place.old).world) frame.now parts.now) }
+    ensures outside { IfErr result (λ e. is_outside e ≡ true) }
+    ensures quiet { OnlyLooks result (P.at place.old) (P.at place.new) }
+    ensures looks { let sources = from_nothing target.now (P.at place.old).world in
+        IsTrue P.tells → Looks result (glob_looked target.now sources frame.now parts.now)
+        (P.at place.old).counts (P.at place.new).counts }
+{
+    let begun = root_alone(alloc)?;
+    let led = led_to(alloc, place, target, parts, begun)?;
+    let kept = kept_among(alloc, frame, led)?;
+    with_manifests(alloc, place, target, kept)
+}
+
+/// Returns the folder that a text writes out.
+///
+/// Errors: memory is refused.
+fn folder_written(
+    alloc: Global,
+    root: &PathText,
+    text: &WrittenPath,
+) -> Result<Items<PathText>, AllocError>
+    ensures { IfOk result (λ folders. folders ≡ resolved root.now text.now ∷ []) }
+{
+    let folder = resolved(alloc, root, text)?;
+    alone(alloc, folder)
+}
+
+/// Returns the folders that one text of `members` means.
+///
+/// Errors: those of `folders_taken`.
+fn folders_meant<P: Place>(
+    alloc: Global,
+    place: &mut P,
+    target: &PathText,
+    frame: &Frame,
+    text: &WrittenPath,
+) -> Result<Items<PathText>, LoadFault>
+    ensures ok { IsTrue P.tells → IfOk result (λ folders. folders
+        ≡ folders_meant (from_nothing target.now (P.at place.old).world) frame.now text.now) }
+    ensures outside { IfErr result (λ e. is_outside e ≡ true) }
+    ensures quiet { OnlyLooks result (P.at place.old) (P.at place.new) }
+    ensures looks { let sources = from_nothing target.now (P.at place.old).world in
+        IsTrue P.tells → Looks result (text_looked target.now sources frame.now text.now)
+        (P.at place.old).counts (P.at place.new).counts }
+{
+    if is_glob(text.as_str()) {
+        let parts = parts_meant(alloc, &frame.root, text)?;
+        return folders_taken(alloc, place, target, frame, parts.as_slice());
+    }
+    let folders = folder_written(alloc, &frame.root, text)?;
+    Ok(folders)
+}
+
 /// Returns the folders that texts of `members` mean, text for text.
+///
+/// Errors: those of `folders_meant`.
 fn folders_of_texts<P: Place>(
     alloc: Global,
     place: &mut P,
@@ -192,7 +329,9 @@ fn folders_of_texts<P: Place>(
         (λ folders. folders ≡ flat_map (folders_meant sources frame.now) texts.now) }
     ensures outside { IfErr result (λ e. is_outside e ≡ true) }
     ensures quiet { OnlyLooks result (P.at place.old) (P.at place.new) }
-    ensures looks { Looks result (flat_map (text_looked target.now frame.now) texts.now)
+    ensures looks { let sources = from_nothing target.now (P.at place.old).world in
+        IsTrue P.tells → Looks result
+        (flat_map (text_looked target.now sources frame.now) texts.now)
         (P.at place.old).counts (P.at place.new).counts }
 {
     let mut made = Items::new(alloc);
@@ -205,8 +344,11 @@ fn folders_of_texts<P: Place>(
 
 /// Returns the folders that `members` means, each once, in byte order (The Cargo Book, Workspaces).
 ///
-/// They are those that are written out, and those with a manifest that a glob means and `exclude` does not leave
-/// out. A folder at or below the target folder is left out.
+/// They are the folders that are written out, and those with a manifest that a glob matches and `exclude` does not
+/// leave out. A glob takes no folder at or below the target folder. It looks only where its parts lead: `crates/*`
+/// lists the folders in `crates`, and nothing below them (our own choice).
+///
+/// Errors: `Place`, if a call failed, with its path; `OutOfMemory`.
 pub fn member_folders<P: Place>(
     alloc: Global,
     place: &mut P,
@@ -217,7 +359,8 @@ pub fn member_folders<P: Place>(
         ≡ member_folders (from_nothing target.now (P.at place.old).world) frame.now) }
     ensures outside { IfErr result (λ e. is_outside e ≡ true) }
     ensures quiet { OnlyLooks result (P.at place.old) (P.at place.new) }
-    ensures looks { Looks result (members_looked target.now frame.now)
+    ensures looks { let sources = from_nothing target.now (P.at place.old).world in
+        IsTrue P.tells → Looks result (members_looked target.now sources frame.now)
         (P.at place.old).counts (P.at place.new).counts }
 {
     let folders = folders_of_texts(alloc, place, target, frame, frame.members.as_slice())?;
