@@ -1,5 +1,5 @@
 -- Which paths in `src/bin` give which binaries.
-use Rattle.std.proofs.Common.{inl, inr, ◌≡◌, ◌≢◌, ◌∙◌, ◌&&◌, ◌||◌, ◌==◌, ◌+◌, ℕ, suc, arith, Bool, true, false, not, cond, if◌then◌else◌, codes, List, [], ◌∷◌, ◌++◌, length, drop, Contains, Option, Some, None, is_some, refl, sym, ap, subst, append_assoc}
+use Rattle.std.proofs.Common.{◌≡◌, ◌≢◌, ◌∙◌, ◌&&◌, ◌==◌, ◌+◌, ℕ, suc, arith, Bool, true, false, not, cond, if◌then◌else◌, codes, List, [], ◌∷◌, ◌++◌, length, drop, Contains, Option, Some, None, is_some, refl, sym, ap, subst, append_assoc}
 use Rattle.std.proofs.lemmas.Bool.{false≢true}
 use Rattle.std.proofs.lemmas.Bool.Decides.{nat_tests}
 use Rattle.std.proofs.lemmas.List.{append-nil}
@@ -7,58 +7,21 @@ use Rattle.std.proofs.lemmas.Slice.Eq.{bytes_eq-Decides}
 use Rattle.std.specs.FinMap as finite
 use Rattle.std.specs.List.{filter, filter_map, list_all, list_any}
 use Rattle.std.specs.Str.{bytes_eq}
-use Rattle.pb_closure.proofs.Membership.{none, head, tail, cases, to_kept, from_kept}
+use Rattle.pb_closure.proofs.Membership.{to_kept, from_kept}
 use Rattle.pb_manifest.specs.Features.{parted}
 use Rattle.pb_manifest.specs.Letters as letters
 use Rattle.pb_manifest.proofs.Parting.{parted_around}
 use Rattle.pb_manifest.proofs.Parting.{parted_some}
 use Rattle.pb_package.proofs.NamesInPaths.{no_slash, no_dot, without}
 use Rattle.pb_package.specs.declared.package.Binary.{Binary}
-use Rattle.pb_place.proofs.MapLemmas.{among_keys, get-kept, same_bytes}
 use Rattle.pb_place.proofs.PathLemmas.{and_right, parts_joined, slashed_parts}
 use Rattle.pb_place.proofs.TakenApart.{joins_again, found_inside, parts_lone}
 use Rattle.pb_place.specs.Paths.{below, stem, inside, is_below, is_name, is_path, is_relative, parts_of, slashed}
-use Rattle.pb_place.specs.World.{World, listed, is_same_path, FilesHavePaths}
+use Rattle.pb_place.specs.World.{World, listed, FilesHavePaths}
 use Rattle.pb_draft.specs.Between.{names_in, is_word}
 use Rattle.pb_draft.specs.FoundBinaries.{stem_in, flat_name, nested_name, name_by, name_inside, found_at, binary_at, bin_folder}
+use Rattle.pb_workspace.proofs.FoldersListed.{listed_each, listed_only}
 use Rattle.pb_package_laws.specs.Files.{is_file}
-
--- paths among some
-any_there : (q : List ℕ) (xs : List (List ℕ)) → list_any (is_same_path q) xs ≡ true → Contains xs q
-any_there q [] h = cc
-any_there q (x ∷ xs) h = by (is_same_path q x) refl h (λ on. any_there q xs on)
-  where
-    by : (b : Bool) → is_same_path q x ≡ b → (b || list_any (is_same_path q) xs) ≡ true → (list_any (is_same_path q) xs ≡ true → Contains xs q) → Contains (x ∷ xs) q
-    by true at h rest = subst (Contains (x ∷ xs)) ((bytes_eq-Decides x q).0 (same_bytes x q ∙ at)) (head x xs)
-    by false at h rest = tail x xs q (rest h)
-
-there_any : (q : List ℕ) (xs : List (List ℕ)) → Contains xs q → list_any (is_same_path q) xs ≡ true
-there_any q [] h = absurd (none q h)
-there_any q (x ∷ xs) h = elim (cases x xs q h) [
-  | inl here ↦ ap (λ b. b || list_any (is_same_path q) xs) (sym (same_bytes x q) ∙ (bytes_eq-Decides x q).1 here)
-  | inr later ↦ or_on (is_same_path q x) _ (there_any q xs later)
-]
-  where
-    or_on : (a b : Bool) → b ≡ true → (a || b) ≡ true
-    or_on true b on = refl
-    or_on false b on = on
-
-module _ (sources : World) (folder : List ℕ) where
-  abbrev has_file : List ℕ → Bool
-  has_file path = is_some (finite.get sources.files path)
-
-  listed_any : (bin q : List ℕ) → list_any (is_same_path q) (listed bin sources) ≡ is_some (cond (is_below bin q) (finite.get sources.files q) None)
-  listed_any bin q = among_keys (finite.retain_keys sources.files (is_below bin)) q ∙ ap is_some (get-kept sources.files (is_below bin) q)
-
-  pub listed_to : (bin q : List ℕ) → is_below bin q ≡ true → has_file q ≡ true → Contains (listed bin sources) q
-  listed_to bin q in_it there = any_there q (listed bin sources) (listed_any bin q ∙ ap (λ b. is_some (cond b (finite.get sources.files q) None)) in_it ∙ there)
-
-  pub listed_from : (bin q : List ℕ) → Contains (listed bin sources) q → has_file q ≡ true
-  listed_from bin q is = by (is_below bin q) (sym (listed_any bin q) ∙ there_any q (listed bin sources) is)
-    where
-      by : (b : Bool) → is_some (cond b (finite.get sources.files q) None) ≡ true → has_file q ≡ true
-      by true h = h
-      by false h = cc
 
 -- the folder `src/bin`
 bin_stem : (folder : List ℕ) → stem (bin_folder folder) ≡ bin_folder folder
@@ -189,7 +152,7 @@ found_to sources folder nested b is =
     ap (λ o. found_at (below folder (place_in nested b.name)) (name_inside nested o)) in_it ∙ ap (found_at (below folder (place_in nested b.name))) (named_so nested b.name is.letters_are) in
     let same : record { name = b.name; source = below folder (place_in nested b.name); required_features = [] } ≡ b = λ i. record { name = b.name; source = sym is.source i; required_features = sym is.features i } in
     to_kept (binary_at nested (bin_folder folder)) (listed (bin_folder folder) sources) (below folder (place_in nested b.name)) b
-    (listed_to sources folder (bin_folder folder) (below folder (place_in nested b.name)) (is_inside (bin_folder folder) _ rest in_it) is.file) (gives ∙ ap (λ x. Some x) same)
+    (listed_each sources (bin_folder folder) (below folder (place_in nested b.name)) (is_inside (bin_folder folder) _ rest in_it) is.file) (gives ∙ ap (λ x. Some x) same)
 
 -- the names of what is found say its place
 says_flat : (rest name : List ℕ) (names : List (List ℕ)) → 47 ∷ rest ≡ slashed names → flat_name names ≡ Some name → (letters.is_name name ≡ true) × (rest ≡ name ++ codes ".rs")
@@ -231,7 +194,7 @@ says_place false rest name names whole h = says_flat rest name names whole h
 pub found_from : (sources : World) (folder : List ℕ) (nested : Bool) (b : Binary) → FilesHavePaths sources → Contains (list_in sources folder nested) b → IsFoundIn sources folder nested b
 found_from sources folder nested b paths among =
     let k = from_kept (binary_at nested (bin_folder folder)) (listed (bin_folder folder) sources) b among in
-    by k.0 (listed_from sources folder (bin_folder folder) k.0 k.1) (inside (bin_folder folder) k.0) refl k.2
+    by k.0 (listed_only sources (bin_folder folder) k.0 k.1).1 (inside (bin_folder folder) k.0) refl k.2
   where
     some_path : (path : List ℕ) (found : Option (List ℕ)) → finite.get sources.files path ≡ found → is_some found ≡ true → is_path path ≡ true
     some_path path None at h = cc

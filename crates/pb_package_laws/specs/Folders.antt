@@ -1,4 +1,4 @@
--- Which folders hold the packages of a workspace (The Cargo Book, Workspaces and Specifying Dependencies): the least set that holds the root package's, the members' and the folder of each path dependency of a package in the set. `f` is what the root manifest `r` says of its workspace.
+-- Which folders hold the packages of a workspace (The Cargo Book, Workspaces and Specifying Dependencies). `f` is what the root manifest `r` says of its workspace.
 use Rattle.std.specs.Prelude.{◌≡◌, ℕ, Bool, codes, List, ◌++◌, Some, Contains}
 use Rattle.pb_closure.specs.Closure.{Reached}
 use Rattle.pb_manifest.specs.declared.dependency.Dependency.{Dependency}
@@ -28,6 +28,6 @@ pub record LeadsTo (sources : World) (f : Frame) (from to : List ℕ) : Type 0 w
   pub features : List (List ℕ)
   pub asks : Asks f.root from f.given.dependencies d to s default features
 
--- the least set
+-- the least set that holds the folder of the root package, those of the members, and that of each path dependency of a package in the set
 abbrev pub IsPackageFolder : World → Frame → Manifest → List ℕ → Type 0
 IsPackageFolder sources f r = Reached (IsFirst sources f r) (LeadsTo sources f)
