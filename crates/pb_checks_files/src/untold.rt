@@ -29,6 +29,10 @@ impl<C: Child> Place for Untold<C> {
         self.inside.read(alloc, path)
     }
 
+    fn is_file(&mut self, alloc: Global, path: &PathText) -> Result<bool, PlaceFault> {
+        self.inside.is_file(alloc, path)
+    }
+
     fn list(&mut self, alloc: Global, folder: &PathText) -> Result<Items<PathText>, PlaceFault> {
         self.inside.list(alloc, folder)
     }
@@ -50,6 +54,15 @@ impl<C: Child> Place for Untold<C> {
         self.inside.list_directly(alloc, folder)
     }
 
+    fn list_folders(
+        &mut self,
+        alloc: Global,
+        folder: &PathText,
+        left_out: &PathText,
+    ) -> Result<Items<PathText>, PlaceFault> {
+        self.inside.list_folders(alloc, folder, left_out)
+    }
+
     fn write(&mut self, alloc: Global, path: &PathText, bytes: &[u8]) -> Result<(), PlaceFault> {
         self.inside.write(alloc, path, bytes)
     }
@@ -69,6 +82,8 @@ impl<C: Child> Place for Untold<C> {
     fn finish(&mut self, alloc: Global, ticket: u64) -> Result<Ended, StartFault> {
         self.inside.finish(alloc, ticket)
     }
+
+    fn files_have_paths(&self) {}
 
     fn failures(&self) -> u64 {
         self.inside.failures()

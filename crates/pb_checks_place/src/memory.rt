@@ -208,6 +208,30 @@ const LISTS_DIRECTLY: &str = "directly /w/target -> /w/target/dep /w/target/hidd
      counts -> 0 0\n\
      starts -> 0 0";
 
+/// Asks for files, and lists the folders directly in a folder.
+const ASKS: &str = "is /w/a -> true\n\
+     is /w/a/b -> true\n\
+     is /w -> false\n\
+     is /w/abc -> false\n\
+     is / -> false\n\
+     folders / /x -> /w \n\
+     folders /w /x -> /w/a /w/target \n\
+     folders /w /w/target -> /w/a \n\
+     folders /w /w/target/dep -> /w/a /w/target \n\
+     folders /w/target /x -> /w/target/dep \n\
+     folders /w/target /w/target/dep -> \n\
+     folders /w/target /w -> \n\
+     folders /w/a /x -> \n\
+     folders /x /y -> \n\
+     counts -> 0 0\n\
+     fuse 1 -> done\n\
+     is /w/a -> Read\n\
+     counts -> 1 0\n\
+     fuse 1 -> done\n\
+     folders /w /x -> List\n\
+     counts -> 2 0\n\
+     seen -> 2 1";
+
 /// Writes and removes.
 const WRITES_AND_REMOVES: &str = "remove /w/target -> done\n\
      list / -> /w/a /w/a/b /w/ab \n\
@@ -264,6 +288,7 @@ static CALLS: &[&str] = &[
     LISTS_AND_READS,
     LISTS_OUTSIDE,
     LISTS_DIRECTLY,
+    ASKS,
     WRITES_AND_REMOVES,
     EDITS,
     STARTS,

@@ -93,6 +93,14 @@ fn listed(
     text
 }
 
+/// `true`, `false`, or the fault.
+fn truth(alloc: Global, answer: Result<bool, PlaceFault>) -> Result<String, AllocError> {
+    match answer {
+        Ok(answer) => format!(in alloc; "{answer}"),
+        Err(fault) => fault_text(alloc, fault),
+    }
+}
+
 /// `done`, or the fault.
 pub fn done(alloc: Global, answer: Result<(), PlaceFault>) -> Result<String, AllocError> {
     match answer {
@@ -121,6 +129,8 @@ pub fn answer<P: Place>(
         "list" => listed(alloc, root, place.list(alloc, path)),
         "outside" => listed(alloc, root, place.list_outside(alloc, path, other)),
         "directly" => listed(alloc, root, place.list_directly(alloc, path)),
+        "folders" => listed(alloc, root, place.list_folders(alloc, path, other)),
+        "is" => truth(alloc, place.is_file(alloc, path)),
         "write" => done(alloc, place.write(alloc, path, step.text.as_bytes())),
         "remove" => done(alloc, place.remove_tree(alloc, path)),
         "variable" => value_text(alloc, place.variable(alloc, step.name)),

@@ -44,6 +44,27 @@ const IN_THE_WAY: &str = "write f x -> done\n\
      read f -> x\n\
      counts -> 3 1";
 
+/// Folders directly in a folder, and questions.
+const ASKED: &str = "write a/b/c one -> done\n\
+     write a/d x -> done\n\
+     write a/e/f x -> done\n\
+     link a/l e\n\
+     link a/nowhere nothing\n\
+     link a/here .\n\
+     folders a a/x -> /a/b /a/e /a/here /a/l \n\
+     folders a a/b -> /a/e /a/here /a/l \n\
+     folders a a -> \n\
+     folders a/d a/x -> \n\
+     folders no a -> \n\
+     is a/d -> true\n\
+     is a/b -> false\n\
+     is a/b/c -> true\n\
+     is a/l/f -> true\n\
+     is a/d/x -> false\n\
+     is a/nowhere -> false\n\
+     is no -> false\n\
+     counts -> 0 0";
+
 /// Folders that the listing bears, 128 of them one in another with a file, and one too many.
 const NESTED: &str = "write \
      d/d/d/d/d/d/d/d/d/d/d/d/d/d/d/d/\
@@ -91,6 +112,7 @@ static FOLDERS: &[(&str, &str)] = &[
     ("circle", CIRCLE),
     ("left-out", LEFT_OUT),
     ("directly", DIRECTLY),
+    ("asked", ASKED),
     ("nested", NESTED),
 ];
 
