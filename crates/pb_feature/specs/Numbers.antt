@@ -1,4 +1,5 @@
--- The numbers of what can hold, for the rules that are written down; they serve private functions alone. A package has a row of numbers: that it is on; that it is given a feature that it does not have; its features; its entries. Each stands for two, one a side.
+-- The numbers of what can hold, for the rules that are written down; they serve private functions alone. Each stands for two, one a side.
+-- A package has a row of numbers: that it is on; that it is given a feature that it does not have; its features; its entries.
 use Rattle.std.specs.Prelude.{ℕ, zero, suc, ◌+◌, ◌*◌, List, [], ◌∷◌, Option, Some, None, length, slice_get, slice_index_or, if◌then◌else◌}
 use Rattle.std.specs.Str.{bytes_eq}
 use Rattle.pb_manifest.specs.declared.feature.Feature.{Feature}

@@ -79,7 +79,7 @@ RemovalEnds path (step.Store store.NumbersSpent) old new = ⊥
 RemovalEnds path (step.Store store.OutOfMemory) old new = (new ≡ old) ⊎ (new ≡ past_call old)
 RemovalEnds path (step.Start fault) old new = ⊥
 
--- the same of one that takes a run number first: where none is left, no call was made
+-- the same of a removal that needs a run number: if none is left, no call was made
 abbrev pub DropEnds : List ℕ → StepFault → Counts → Counts → Type 0
 DropEnds path (step.Store store.NumbersSpent) old new = new ≡ old
 DropEnds path e old new = RemovalEnds path e old new
@@ -211,7 +211,7 @@ pub record BeginsUnit (tells : Bool) (child : Answers) (project : Project) (u : 
   -- over a place that tells its maps the report is the first difference
   pub differs : IsTrue tells → FirstDifference (records_folder project) u.key begun.command old.world begun.difference
   pub spawned : is_some (child_of begun) ≡ is_some begun.difference
-  -- the child takes the next run number, writes into the unit's folder, and flies: spawned over an empty folder, and no text counts as the unit's record
+  -- the child takes the next run number, is counted among those in flight, and writes into the unit's folder: it was spawned over an empty folder, and no text counts as the unit's record
   pub number : MatchOption (child_of begun) (now.next ≡ before.next) (λ launched. (before.next ≡ Some launched.number) × (now.next ≡ after launched.number))
   pub most : MatchOption (child_of begun) (new.most ≡ old.most) (λ launched. new.most ≡ max old.most (length old.counts.starts.flying + 1))
   pub writes : WritesTo u.out (child_of begun) new.counts.starts.flying
@@ -229,7 +229,7 @@ StopsToBegin project u c fault w old new = StepStopsAt fault (unit_looks project
 
 pub record FailsToBegin (tells : Bool) (project : Project) (u : Planned) (c : Command) (old new : At) (e : StepFault) : Type 0 where
   pub stops : IsTrue tells → StopsToBegin project u c e old.world old.counts new.counts
-  -- only where something differs does a call of the launch fail, does anything change, or is a child started
+  -- only where something differs does a call of the launch fail, does anything change, or is a spawn tried
   pub cause : IsTrue tells → starts e ≡ true → Differs project u c old.world
   pub spared : IsTrue tells → (new.world ≡ old.world) ⊎ Differs project u c old.world
   pub tried : IsTrue tells → (new.counts.starts ≡ old.counts.starts) ⊎ Differs project u c old.world

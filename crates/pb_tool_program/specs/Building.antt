@@ -90,16 +90,21 @@ abbrev pub folder_of : Result BuildPlan BuildFault → Option (List ℕ)
 folder_of (Ok plan) = Some plan.environment.target
 folder_of (Err fault) = None
 
--- A build was planned, and that plan carried out, and the place was asked for nothing else; its target folder was guarded once its packages without a library were noted, while the place's counters stood as the plan had left them: no child was started yet. What is written beside the output are the notes before it, that it waits, and what is told behind it.
+-- A build was planned, and that plan carried out, and the place was asked for nothing else.
 pub record BuildsTold (tells : Bool) (child : Answers) (Guards : Option (List ℕ) → Counts → Heard → Heard → Type 0) (options : Options) (explain : Bool) (status : ℕ) (old new : Moment) (said_before said_after : Heard) : Type 0 where
+  -- its plan
   pub plan : Result BuildPlan BuildFault
   pub planned : Moment
   pub plans : PlansFrom tells options plan old planned
+  -- what was written beside the output first: notes on its packages without a library
   pub noted : Heard
   pub notes : NotesOf plan said_before noted
+  -- its target folder was guarded then: the place's counters stood as the plan had left them, so no child was started yet
   pub held : Heard
   pub guards : Guards (folder_of plan) planned.counts noted held
+  -- the plan was carried out
   pub answer : Result Summary BuildFault
   pub on : BuildsOnFirst tells child options plan answer planned new
   pub builds : BuildsFirst tells child options answer old new
+  -- what is told behind it
   pub concluded : Concludes explain answer status held said_after
