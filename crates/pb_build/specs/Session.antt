@@ -1,7 +1,7 @@
 -- A session: edits and builds, one after another. Each build's end and its cause are handed on.
 use Rattle.std.specs.Prelude.{◌≡◌, ◌↔◌, ⊤, ℕ, true, List, [], ◌∷◌, ◌++◌, Result}
 use Rattle.pb_place.specs.Sinks.{Heard}
-use Rattle.pb_place.specs.World.{World, Answers, written, removed}
+use Rattle.pb_place.specs.World.{World, Answers, FilesHavePaths, written, removed}
 use Rattle.pb_memory.specs.Memory.{Held, at_in, set, unset}
 use Rattle.pb_memory.specs.Tallies.{one_setting}
 use Rattle.pb_memory.specs.declared.in_flight.Death.{Death}
@@ -53,14 +53,19 @@ ByPicked Last options = ByLast options
 abbrev pub set_anew : Moment → Moment
 set_anew m = record m { counts = one_setting m.counts }
 
--- a build: it kept the headline and added its answer; where nothing was set to fail, and nothing had failed before, no call of it failed; it was set once in all which calls are to fail, which the starts count, and none is to fail any more
+-- A build.
 pub record CarriesBuild (child : Answers) (options : Options) (pick : PickBy) (before after : Point) : Type 0 where
   pub answer : Answer
   pub ended : Moment
   pub picked : Picked child options pick answer.result before.moment ended
+  -- it changed no source, and kept the headline
   pub kept : SourcesStay (environment_of options before.moment.world.variables).target before.moment.world ended.world
   pub headline : Headline true child (ByPicked pick options) options answer.result before.moment ended
+  -- whatever it wrote, each file has a normalised absolute path
+  pub paths : FilesHavePaths ended.world
+  -- if nothing was set to fail, and nothing had failed before, no call of it failed
   pub unfailing : before.fuse ≡ 0 → before.deaths ≡ [] → before.moment.counts.failures ≡ 0 → ended.counts.failures ≡ 0
+  -- it added its answer; and it was set once in all which calls are to fail, which the starts count: none is to fail any more
   pub behind : after.moment ≡ set_anew ended
   pub answers : after.answers ≡ before.answers ++ answer ∷ []
   pub fuse : after.fuse ≡ 0

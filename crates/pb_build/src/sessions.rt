@@ -17,7 +17,7 @@ use pb_data::Items;
 use pb_flight::Last;
 use pb_memory::{Memory, Unfailing};
 use pb_package::Options;
-use pb_place::{Child, Out};
+use pb_place::{Child, Out, Place};
 use pb_session::{PickBy, SessionStep};
 use std::alloc::{AllocError, Global};
 
@@ -160,6 +160,7 @@ fn add_build<C: Child + Copy, O: Out>(
         (point memory.new (O.heard out.new) answers.new)) }
 {
     let result = built(alloc, memory, out, options, pick);
+    memory.files_have_paths();
     memory.fuse(0);
     answers.push(Answer { result })?;
     Ok(())
