@@ -1,20 +1,19 @@
 -- A workspace that is read: it is settled, and its root, the folders of its packages and their sources have normalised absolute paths.
 use Rattle.std.proofs.Common.{◌≡◌, ◌∙◌, ◌≤◌, inl, inr, ℕ, Bool, true, false, codes, if◌then◌else◌, List, [], ◌∷◌, length, map, Contains, Option, Some, None, IfSome, Result, Ok, refl, sym, ap, subst}
-use Rattle.std.specs.Prelude.{filter}
 use Rattle.std.specs.List.{AllByRecursion}
 use Rattle.std.specs.List.Sorted.{IsStrictlySortedBy}
 use Rattle.pb_closure.specs.Closure.{start, onward}
 use Rattle.pb_manifest_reader.specs.Promises.{IsPath, IsSharedDependency, IsWorkspaceTable}
 use Rattle.pb_manifest.specs.declared.manifest.WorkspaceTable.{WorkspaceTable}
 use Rattle.pb_manifest.specs.declared.package.Package.{Package as WrittenPackage}
-use Rattle.pb_order.proofs.Elements.{contains_cases, contains_map, contains_head, contains_none, contains_tail, filter_contains, map_contains}
+use Rattle.pb_order.proofs.Elements.{contains_cases, contains_head, contains_map, contains_none, contains_tail}
 use Rattle.pb_package.specs.Settled.{IsAscending, IsSettled}
 use Rattle.pb_package.specs.declared.fault.LoadFault.{LoadFault}
 use Rattle.pb_package.specs.declared.package.Library.{Library}
 use Rattle.pb_package.specs.declared.package.Package.{Package}
 use Rattle.pb_package.specs.declared.workspace.Workspace.{Workspace}
 use Rattle.pb_place.specs.Paths.{below, folder_of, is_path}
-use Rattle.pb_place.specs.World.{World, from_nothing, listed, FilesHavePaths}
+use Rattle.pb_place.specs.World.{World, from_nothing, FilesHavePaths}
 use Rattle.pb_place.proofs.PathLemmas.{folder_is_path}
 use Rattle.pb_workspace.specs.ByFolder.{folders_of, values_of}
 use Rattle.pb_workspace.specs.Readings.{IsPut}
@@ -22,7 +21,7 @@ use Rattle.pb_draft.specs.Drafts.{draft_of}
 use Rattle.pb_workspace.specs.Frames.{frame_of, is_member}
 use Rattle.pb_workspace.specs.Globs.{is_glob}
 use Rattle.pb_workspace.specs.Loaded.{at_root, nothing_read, others_read, packages_read, root_parts, root_read, workspace_from, workspace_in, workspace_of}
-use Rattle.pb_workspace.specs.MemberFolders.{base_of, folders_meant, folders_taken, is_manifest, is_taken, member_folders}
+use Rattle.pb_workspace.specs.MemberFolders.{folders_meant, folders_taken, member_folders}
 use Rattle.pb_workspace.specs.Members.{parts_meant}
 use Rattle.pb_workspace.specs.PackageFolders.{frame_at, IsPackageFolder, IsRootOrMember, LeadsTo, package_in, root, member}
 use Rattle.pb_workspace.specs.Rounds.{all_read, draft_at, manifest_at, parts_at, parts_in, rounds, standing_in, with_draft}
@@ -33,13 +32,14 @@ use Rattle.pb_workspace.specs.declared.rounds.Parts.{Parts}
 use Rattle.pb_workspace.specs.declared.rounds.Reading.{Reading}
 use Rattle.pb_workspace.proofs.Accepted.{root_kept}
 use Rattle.pb_workspace.proofs.FoldersPut.{opened}
+use Rattle.pb_workspace.proofs.FoldersTaken.{taken_only}
 use Rattle.pb_workspace.proofs.Fuel.{all_grow, ends_or_grows}
 use Rattle.pb_workspace.proofs.Keeping.{workspace_settled}
 use Rattle.pb_workspace.proofs.WholeWorkspace.{all_found, begun, least, manifest_there, theirs}
 use Rattle.pb_small_builds.proofs.Drafting.{IsWhole, promised_at, whole_in_file}
 use Rattle.pb_small_builds.proofs.PathsSaid.{resolved_is}
 use Rattle.pb_small_builds.proofs.Rising.{all_rise, rounds_rise}
-use Rattle.pb_small_builds.proofs.SourcesFound.{At, IsSourced, listed_at}
+use Rattle.pb_small_builds.proofs.SourcesFound.{At, IsSourced}
 use Rattle.pb_small_builds.proofs.Wanting.{IsLed}
 
 same_parts : (x y : Parts) → ◌≡◌ {A = Result Parts LoadFault} (Ok x) (Ok y) → x ≡ y
@@ -82,11 +82,7 @@ module _ (sources : World) (files : FilesHavePaths sources) (manifest : List ℕ
 
   -- the folders that a text of `members` means
   taken_at : (text x : List ℕ) → Contains (folders_taken sources f (parts_meant f.root text)) x → At x
-  taken_at text x there =
-      let (among, taken) = filter_contains (is_taken f (parts_meant f.root text)) (map folder_of (filter is_manifest (listed (base_of (parts_meant f.root text)) sources))) x there in
-      let (file, listed_so, same) = map_contains folder_of (filter is_manifest (listed (base_of (parts_meant f.root text)) sources)) x among in
-      let (found, named) = filter_contains is_manifest (listed (base_of (parts_meant f.root text)) sources) file listed_so in
-      folder_is_path file x (all_in At (listed (base_of (parts_meant f.root text)) sources) file (listed_at sources (base_of (parts_meant f.root text)) files) found) (sym same)
+  taken_at text x there = (taken_only sources files f text x there).path
 
   meant_at : (text x : List ℕ) → IsPath text → Contains (folders_meant sources f text) x → At x
   meant_at text x clean there = by (is_glob text) there

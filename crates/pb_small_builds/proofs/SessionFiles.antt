@@ -1,5 +1,5 @@
--- Builds of a session file that begins without files: what the file says of their words, and that all files of their sources have paths.
-use Rattle.std.proofs.Common.{◌≡◌, ◌∙◌, ◌⊎◌, inl, inr, ℕ, Bool, true, false, not, cond, if◌then◌else◌, codes, List, [], ◌∷◌, Option, Some, None, Result, Ok, Err, refl, sym, ap, subst}
+-- Builds of a session file that begins without files: what the file says of their words, and that all files have paths.
+use Rattle.std.proofs.Common.{◌≡◌, ◌∙◌, ◌⊎◌, inl, inr, ℕ, Bool, true, false, not, cond, if◌then◌else◌, codes, Contains, List, [], ◌∷◌, Option, Some, None, Result, Ok, Err, refl, sym, ap, subst}
 use Rattle.std.specs.Cmp.Lexicographic.{nat_list_cmp_total, slice_cmp}
 use Rattle.std.specs.FinMap as finite
 use Rattle.std.specs.FinMap.{get, get-empty, get-insert}
@@ -13,9 +13,9 @@ use Rattle.pb_honesty.proofs.Named.{parsed_path_is}
 use Rattle.pb_honesty.specs.Honest.{RunsAlone, small_compiler}
 use Rattle.pb_package.specs.declared.options.Options.{Options}
 use Rattle.pb_place.specs.Paths.{below, is_at_or_below, parsed}
-use Rattle.pb_place.specs.World.{World, from_nothing, is_same_path, removed, written, FilesHavePaths}
+use Rattle.pb_place.specs.World.{World, is_same_path, removed, written, FilesHavePaths}
 use Rattle.pb_place.specs.declared.path.PathFault.{PathFault}
-use Rattle.pb_place.proofs.Within.{at_or_below_on, outside_within}
+use Rattle.pb_place.proofs.Within.{at_or_below_on, outside_within, share_no_path}
 use Rattle.pb_place.proofs.MapLemmas.{get-kept, same_bytes, symm}
 use Rattle.std.proofs.lemmas.Slice.Eq.{bytes_eq-Decides}
 use Rattle.pb_session.specs.Faults.{Read, of_path_fault}
@@ -33,11 +33,12 @@ use Rattle.std.proofs.lemmas.Bool.{false≢true}
 use Rattle.pb_soundness.specs.Records.{if_of_key, is_key, place_of, read_text, reading, record_at}
 use Rattle.pb_workspace.proofs.FoldersPut.{opened}
 use Rattle.pb_turns.specs.Crew.{Moment}
+use Rattle.pb_build.specs.Environment.{environment_of}
 use Rattle.pb_build.specs.Headline.{IsHonestBuild, records_of}
 use Rattle.pb_build.specs.Lasting.{NothingIsSound, RecordsStayTrue, ShareNoPath, Spares}
 use Rattle.pb_build.specs.Session.{Course, Point, Carries, ByPicked}
 use Rattle.pb_small_builds.specs.Laws.{SessionFilesGive}
-use Rattle.pb_small_builds.specs.Small.{AllGive, AllTold, IsSmallBuild, IsToldBuild, IsToldStep, StepGives}
+use Rattle.pb_small_builds.specs.Small.{AllGive, AllTold, IsSmallBuild, IsToldBuild, IsToldStep, StandApart, StepGives}
 use Rattle.pb_small_builds.proofs.Folders.{Named, lie_apart, lies_within, profile_named}
 use Rattle.pb_small_builds.proofs.Honest.{small_builds_are_honest, small_gives}
 use Rattle.pb_small_builds.proofs.Placing.{target_at}
@@ -146,90 +147,88 @@ session_has bytes steps is =
     let (ds, list, end) = opened (array_of d) steps_of steps rest in
     steps_have ds steps end
 
--- Files of the sources.
+-- Files and their paths.
 
-module _ (target : List ℕ) where
-  abbrev SourcesAt : World → Type 0
-  SourcesAt w = FilesHavePaths (from_nothing target w)
+written_at : (path text : List ℕ) (w : World) → At path → FilesHavePaths w → FilesHavePaths (written path text w)
+written_at path text w at files q found is = by (is_same_path path q) refl (sym (get-insert nat_list_cmp_total w.files path text q) ∙ is)
+  where
+    by : (here : Bool) → is_same_path path q ≡ here → cond here (Some text) (get w.files q) ≡ Some found → At q
+    by true own h = subst At ((bytes_eq-Decides path q).0 (same_bytes path q ∙ symm path q ∙ own)) at
+    by false own h = files q found h
 
-  -- a file of the sources, where nothing else is asked
-  kept_at : (v : World) → ((path text : List ℕ) → cond (not (is_at_or_below target path)) (get v.files path) None ≡ Some text → At path) → SourcesAt v
-  kept_at v each path text is = each path text (sym (get-kept v.files (λ q. not (is_at_or_below target q)) path) ∙ is)
+removed_at : (path : List ℕ) (w : World) → FilesHavePaths w → FilesHavePaths (removed path w)
+removed_at path w files q found is = by (not (is_at_or_below path q)) (sym (get-kept w.files (λ p. not (is_at_or_below path p)) q) ∙ is)
+  where
+    by : (left : Bool) → cond left (get w.files q) None ≡ Some found → At q
+    by true h = files q found h
+    by false h = cc
 
-  still_at : (w : World) → SourcesAt w → (path text : List ℕ) → cond (not (is_at_or_below target path)) (get w.files path) None ≡ Some text → At path
-  still_at w files path text is = files path text (get-kept w.files (λ q. not (is_at_or_below target q)) path ∙ is)
+abbrev PathsAt : Point → Type 0
+PathsAt p = FilesHavePaths p.moment.world
 
-  written_at : (path text : List ℕ) (w : World) → At path → SourcesAt w → SourcesAt (written path text w)
-  written_at path text w at files = kept_at (written path text w) (λ q found is.
-      by q found (not (is_at_or_below target q)) (is_same_path path q) refl (still_at w files q found) (sym (ap (λ o. cond (not (is_at_or_below target q)) o None) (get-insert nat_list_cmp_total w.files path text q)) ∙ is))
-    where
-      the_same : (q : List ℕ) → is_same_path path q ≡ true → path ≡ q
-      the_same q own = (bytes_eq-Decides path q).0 (same_bytes path q ∙ symm path q ∙ own)
+-- one step
+step_at : (step : SessionStep) (before after : Point) → HasWords step → Carries small_compiler step before after → PathsAt before → PathsAt after
+step_at (Write path text) before after at same files = subst PathsAt (sym same) (written_at path text before.moment.world at files)
+step_at (Remove path) before after words same files = subst PathsAt (sym same) (removed_at path before.moment.world files)
+step_at (Set name value) before after words same files = subst PathsAt (sym same) files
+step_at (Unset name) before after words same files = subst PathsAt (sym same) files
+step_at (Die key death) before after words same files = subst PathsAt (sym same) files
+step_at (Fuse number) before after words same files = subst PathsAt (sym same) files
+step_at (Build options pick) before after words built files = subst FilesHavePaths (sym (ap (λ (m : Moment). m.world) built.behind)) built.paths
 
-      by : (q found : List ℕ) (keep here : Bool) → is_same_path path q ≡ here → (cond keep (get w.files q) None ≡ Some found → At q) → cond keep (cond here (Some text) (get w.files q)) None ≡ Some found → At q
-      by q found true true own old h = subst At (the_same q own) at
-      by q found true false own old h = old h
-      by q found false here own old h = cc
+abbrev target_in : Options → World → List ℕ
+target_in options w = (environment_of options w.variables).target
 
-  removed_at : (path : List ℕ) (w : World) → SourcesAt w → SourcesAt (removed path w)
-  removed_at path w files = kept_at (removed path w) (λ q found is.
-      by q found (not (is_at_or_below target q)) (not (is_at_or_below path q)) (get w.files q) (still_at w files q found) (sym (ap (λ o. cond (not (is_at_or_below target q)) o None) (get-kept w.files (λ p. not (is_at_or_below path p)) q)) ∙ is))
-    where
-      by : (q found : List ℕ) (keep left : Bool) (o : Option (List ℕ)) → (cond keep o None ≡ Some found → At q) → cond keep (cond left o None) None ≡ Some found → At q
-      by q found true true o old h = old h
-      by q found true false o old h = cc
-      by q found false left o old h = cc
-
-  -- one step
-  step_at : (step : SessionStep) (before after : Point) → HasWords step → IsToldStep target step before.moment.world → Carries small_compiler step before after → SourcesAt before.moment.world → SourcesAt after.moment.world
-  step_at (Write path text) before after at told same files = subst (λ (p : Point). SourcesAt p.moment.world) (sym same) (written_at path text before.moment.world at files)
-  step_at (Remove path) before after words told same files = subst (λ (p : Point). SourcesAt p.moment.world) (sym same) (removed_at path before.moment.world files)
-  step_at (Set name value) before after words told same files = subst (λ (p : Point). SourcesAt p.moment.world) (sym same) files
-  step_at (Unset name) before after words told same files = subst (λ (p : Point). SourcesAt p.moment.world) (sym same) files
-  step_at (Die key death) before after words told same files = subst (λ (p : Point). SourcesAt p.moment.world) (sym same) files
-  step_at (Fuse number) before after words told same files = subst (λ (p : Point). SourcesAt p.moment.world) (sym same) files
-  step_at (Build options pick) before after words told built files =
-      subst SourcesAt (sym (ap (λ (m : Moment). m.world) built.behind)) (subst FilesHavePaths (sym (subst (λ t. from_nothing t built.ended.world ≡ from_nothing t before.moment.world) told.one_target built.kept)) files)
-
+module _ (targets : List (List ℕ)) where
   -- such a build has its words
-  small_of : (options : Options) (w : World) → At options.manifest → RunsAlone options.runner → SourcesAt w → IsToldBuild target options w → IsSmallBuild options w
+  small_of : (options : Options) (w : World) → At options.manifest → RunsAlone options.runner → FilesHavePaths w → IsToldBuild targets options w → IsSmallBuild options w
   small_of options w manifest runner files told = record {
     manifest = manifest;
-    files = subst (λ t. FilesHavePaths (from_nothing t w)) (sym told.one_target) files;
+    files = removed_at (target_in options w) w files;
     setup = λ toolchain. record { flags = told.flags; runner = runner };
     tells = told.tells;
   }
 
-  -- the folder of the records of such a build
-  folder_is : (options : Options) (w : World) → IsToldBuild target options w → records_of options w.variables ≡ below target (folder_of options.profile)
-  folder_is options w told = ap (λ t. below t (folder_of options.profile)) told.one_target
-
-  module _ (records_stay_true : RecordsStayTrue) where
-    -- the records of every profile are true
+  module _ (apart : StandApart targets) (records_stay_true : RecordsStayTrue) where
+    -- in each target folder the records of every profile are true
     abbrev AllSound : World → Type 0
-    AllSound w = (name : List ℕ) → Named name → Sound reading judge small_compiler (below target name) w.files
+    AllSound w = (t : List ℕ) → Contains targets t → At t → (name : List ℕ) → Named name → Sound reading judge small_compiler (below t name) w.files
 
-    spares_so : (name : List ℕ) (step : SessionStep) (w : World) → Named name → HasWords step → SourcesAt w → IsToldStep target step w → Spares small_compiler (below target name) step w
-    spares_so name (Write path text) w named words files told = outside_within target (below target name) path (lies_within target name named) told
-    spares_so name (Remove path) w named words files (inl above) = inl (at_or_below_on path target (below target name) above (lies_within target name named))
-    spares_so name (Remove path) w named words files (inr apart) = inr (λ q inside. apart q (at_or_below_on target (below target name) q (lies_within target name named) inside))
-    spares_so name (Set n value) w named words files told = tt
-    spares_so name (Unset n) w named words files told = tt
-    spares_so name (Die key death) w named words files told = tt
-    spares_so name (Fuse number) w named words files told = tt
-    spares_so name (Build options pick) w named words files told = λ units. by (bytes_eq (folder_of options.profile) name) refl
+    -- a build into another target folder keeps its records apart
+    kept_apart : (t u name profile : List ℕ) → At t → At u → Named name → Named profile → is_at_or_below t u ≡ false → is_at_or_below u t ≡ false → ShareNoPath (below t name) (below u profile)
+    kept_apart t u name profile at there named told first second q inside =
+        outside_within u (below u profile) q (lies_within u profile told) (share_no_path t u q at there first second (at_or_below_on t (below t name) q (lies_within t name named) inside))
+
+    -- one into this target folder keeps them there, or for another profile apart
+    kept_here : (t name : List ℕ) (options : Options) (w : World) → At t → Named name → IsSmallBuild options w → Named (folder_of options.profile) → t ≡ target_in options w
+        → ((records_of options w.variables ≡ below t name) × IsHonestBuild small_compiler options w) ⊎ ShareNoPath (below t name) (records_of options w.variables)
+    kept_here t name options w at named small profile same = by (bytes_eq (folder_of options.profile) name) refl
       where
-        by : (b : Bool) → bytes_eq (folder_of options.profile) name ≡ b → ((records_of options w.variables ≡ below target name) × IsHonestBuild small_compiler options w) ⊎ ShareNoPath (below target name) (records_of options w.variables)
-        by true same = inl (folder_is options w told ∙ ap (below target) ((bytes_eq-Decides (folder_of options.profile) name).0 same), small_builds_are_honest options w (small_of options w words.0 words.1 files told))
-        by false other = inr (subst (ShareNoPath (below target name)) (sym (folder_is options w told))
-            (lie_apart target name (folder_of options.profile) (subst At told.one_target (target_at options w.variables words.0)) named (profile_named options.profile told.profile)
-            (λ same. false≢true (sym other ∙ (bytes_eq-Decides (folder_of options.profile) name).1 (sym same)))))
+        by : (b : Bool) → bytes_eq (folder_of options.profile) name ≡ b → ((records_of options w.variables ≡ below t name) × IsHonestBuild small_compiler options w) ⊎ ShareNoPath (below t name) (records_of options w.variables)
+        by true own = inl (ap (λ u. below u (folder_of options.profile)) (sym same) ∙ ap (below t) ((bytes_eq-Decides (folder_of options.profile) name).0 own), small_builds_are_honest options w small)
+        by false other = inr (subst (λ u. ShareNoPath (below t name) (below u (folder_of options.profile))) same
+            (lie_apart t name (folder_of options.profile) at named profile (λ alike. false≢true (sym other ∙ (bytes_eq-Decides (folder_of options.profile) name).1 (sym alike)))))
 
-    all_sound : (step : SessionStep) (before after : Point) → HasWords step → SourcesAt before.moment.world → IsToldStep target step before.moment.world → Carries small_compiler step before after → AllSound before.moment.world → AllSound after.moment.world
-    all_sound step before after words files told takes sound name named =
-        records_stay_true small_compiler (below target name) (step ∷ []) before after (spares_so name step before.moment.world named words files told, (after, takes, refl)) (sound name named)
+    spares_so : (t name : List ℕ) (step : SessionStep) (w : World) → Contains targets t → At t → Named name → HasWords step → FilesHavePaths w → IsToldStep targets step w → Spares small_compiler (below t name) step w
+    spares_so t name (Write path text) w there at named words files told = outside_within t (below t name) path (lies_within t name named) (told t there)
+    spares_so t name (Remove path) w there at named words files told = elim (told t there) [
+      | inl above ↦ inl (at_or_below_on path t (below t name) above (lies_within t name named))
+      | inr outside ↦ inr (λ q inside. outside q (at_or_below_on t (below t name) q (lies_within t name named) inside))
+    ]
+    spares_so t name (Set n value) w there at named words files told = tt
+    spares_so t name (Unset n) w there at named words files told = tt
+    spares_so t name (Die key death) w there at named words files told = tt
+    spares_so t name (Fuse number) w there at named words files told = tt
+    spares_so t name (Build options pick) w there at named words files told = λ units. elim (apart t (target_in options w) there told.target) [
+      | inl same ↦ kept_here t name options w at named (small_of options w words.0 words.1 files told) (profile_named options.profile told.profile) same
+      | inr lie ↦ inr (kept_apart t (target_in options w) name (folder_of options.profile) at (target_at options w.variables words.0) named (profile_named options.profile told.profile) lie.0 lie.1)
+    ]
 
-    step_gives : (step : SessionStep) (before after : Point) → HasWords step → SourcesAt before.moment.world → IsToldStep target step before.moment.world → (taken : Carries small_compiler step before after) → AllSound before.moment.world → StepGives step before after taken
+    all_sound : (step : SessionStep) (before after : Point) → HasWords step → PathsAt before → IsToldStep targets step before.moment.world → Carries small_compiler step before after → AllSound before.moment.world → AllSound after.moment.world
+    all_sound step before after words files told takes sound t there at name named =
+        records_stay_true small_compiler (below t name) (step ∷ []) before after (spares_so t name step before.moment.world there at named words files told, (after, takes, refl)) (sound t there at name named)
+
+    step_gives : (step : SessionStep) (before after : Point) → HasWords step → PathsAt before → IsToldStep targets step before.moment.world → (taken : Carries small_compiler step before after) → AllSound before.moment.world → StepGives step before after taken
     step_gives (Write path text) before after words files told takes sound = tt
     step_gives (Remove path) before after words files told takes sound = tt
     step_gives (Set name value) before after words files told takes sound = tt
@@ -238,14 +237,14 @@ module _ (target : List ℕ) where
     step_gives (Fuse number) before after words files told takes sound = tt
     step_gives (Build options pick) before after words files told built sound =
         small_gives (ByPicked pick options) options built.answer.result before.moment built.ended built.headline (small_of options before.moment.world words.0 words.1 files told)
-        (subst (λ folder. Sound reading judge small_compiler folder before.moment.world.files) (sym (folder_is options before.moment.world told)) (sound (folder_of options.profile) (profile_named options.profile told.profile)))
+        (sound (target_in options before.moment.world) told.target (target_at options before.moment.world.variables words.0) (folder_of options.profile) (profile_named options.profile told.profile))
 
-    all_give : (steps : List SessionStep) (before after : Point) (course : Course small_compiler steps before after) → AllByRecursion HasWords steps → SourcesAt before.moment.world → AllSound before.moment.world
-        → AllTold target steps before after course → AllGive steps before after course
+    all_give : (steps : List SessionStep) (before after : Point) (course : Course small_compiler steps before after) → AllByRecursion HasWords steps → PathsAt before → AllSound before.moment.world → AllTold targets steps before after course
+        → AllGive steps before after course
     all_give [] before after course words files sound told = tt
     all_give (step ∷ steps) before after course words files sound told = (
       step_gives step before course.0 words.0 files told.0 course.1 sound,
-      all_give steps course.0 after course.2 words.1 (step_at step before course.0 words.0 told.0 course.1 files) (all_sound step before course.0 words.0 files told.0 course.1 sound) told.1,
+      all_give steps course.0 after course.2 words.1 (step_at step before course.0 words.0 course.1 files) (all_sound step before course.0 words.0 files told.0 course.1 sound) told.1,
     )
 
 -- where no file is, no text counts as a record, and all files have paths
@@ -257,17 +256,11 @@ none_at folder key = by (is_key key)
     by true = ap (λ o. if_of_key key (read_text reading o)) (get-empty (slice_cmp nat_cmp) (place_of folder key))
     by false = refl
 
-no_files : (target : List ℕ) (w : World) → w.files ≡ finite.empty → SourcesAt target w
-no_files target w empty path text is =
-    by (not (is_at_or_below target path)) (get w.files path) (ap (λ files. get files path) empty ∙ get-empty (slice_cmp nat_cmp) path) (sym (get-kept w.files (λ q. not (is_at_or_below target q)) path) ∙ is)
-  where
-    by : (keep : Bool) (o : Option (List ℕ)) → o ≡ None → cond keep o None ≡ Some text → At path
-    by true None at h = cc
-    by true (Some other) at h = cc
-    by false o at h = cc
+no_files : (w : World) → w.files ≡ finite.empty → FilesHavePaths w
+no_files w empty path text is = let none : None ≡ Some text = sym (get-empty (slice_cmp nat_cmp) path) ∙ ap (λ files. get files path) (sym empty) ∙ is in cc
 
 module _ (records_stay_true : RecordsStayTrue) (nothing_is_sound : NothingIsSound) where
   pub session_files_give : SessionFilesGive
-  session_files_give bytes target steps before after said empty course told =
-      all_give target records_stay_true steps before after course (session_has bytes steps said) (no_files target before.moment.world empty)
-      (λ name named. nothing_is_sound small_compiler (below target name) before.moment.world.files (λ key. ap (λ files. record_at reading (below target name) files key) empty ∙ none_at (below target name) key)) told
+  session_files_give bytes targets steps before after said empty apart course told =
+      all_give targets apart records_stay_true steps before after course (session_has bytes steps said) (no_files before.moment.world empty)
+      (λ t there at name named. nothing_is_sound small_compiler (below t name) before.moment.world.files (λ key. ap (λ files. record_at reading (below t name) files key) empty ∙ none_at (below t name) key)) told

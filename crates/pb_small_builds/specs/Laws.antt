@@ -17,7 +17,7 @@ use Rattle.pb_soundness.specs.Sound.{Sound}
 use Rattle.pb_turns.specs.Crew.{Moment}
 use Rattle.pb_build.specs.Headline.{records_of, IsHonestBuild, ByTurns, Gives, Headline}
 use Rattle.pb_build.specs.Session.{Point, CarriesBuild, Course, ByPicked}
-use Rattle.pb_small_builds.specs.Small.{AllGive, AllTold, IsSmallBuild, SmallCourse}
+use Rattle.pb_small_builds.specs.Small.{AllGive, AllTold, IsSmallBuild, SmallCourse, StandApart}
 
 -- The small compiler is an honest child of each build with these words.
 abbrev pub SmallBuildsAreHonest : Type 0
@@ -34,7 +34,7 @@ SmallSessionsGive = (options : Options) (pick : PickBy) (steps : List SessionSte
     → Sound reading judge small_compiler (records_of options mid.moment.world.variables) before.moment.world.files → SmallCourse (records_of options mid.moment.world.variables) steps before mid
     → IsSmallBuild options mid.moment.world → (built : CarriesBuild small_compiler options pick mid after) → Gives OnRecords small_compiler (ByPicked pick options) options built.answer.result mid.moment built.ended
 
--- So does each build of a session file that begins without files, of which no more is asked than the file leaves open.
+-- So does each build of a session file that begins without files, into any of these target folders; of the builds no more is asked than the file leaves open.
 abbrev pub SessionFilesGive : Type 0
-SessionFilesGive = (bytes target : List ℕ) (steps : List SessionStep) (before after : Point) → session_of bytes ≡ Ok steps → before.moment.world.files ≡ finite.empty
-    → (course : Course small_compiler steps before after) → AllTold target steps before after course → AllGive steps before after course
+SessionFilesGive = (bytes : List ℕ) (targets : List (List ℕ)) (steps : List SessionStep) (before after : Point) → session_of bytes ≡ Ok steps → before.moment.world.files ≡ finite.empty
+    → StandApart targets → (course : Course small_compiler steps before after) → AllTold targets steps before after course → AllGive steps before after course

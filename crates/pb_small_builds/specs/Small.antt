@@ -1,5 +1,5 @@
 -- Builds whose child is the small compiler: what has to hold of their words, and nothing of the child.
-use Rattle.std.specs.Prelude.{◌≡◌, ◌⊎◌, ◌∷◌, [], ⊤, ℕ, true, false, codes, List, take, Some}
+use Rattle.std.specs.Prelude.{◌≡◌, ◌⊎◌, ◌∷◌, [], ⊤, ℕ, true, false, codes, Contains, List, take, Some}
 use Rattle.pb_data.specs.Mentions.{is_mentioned}
 use Rattle.pb_honesty.specs.Honest.{small_compiler, CanTell, IsSmall}
 use Rattle.pb_manifest.specs.Letters.{is_name}
@@ -55,24 +55,28 @@ SmallCourse folder (step ∷ steps) before after = SparesBySmall folder step bef
 
 -- Sessions of a file.
 
--- what a session file leaves open of the words of a build: this is its target folder, and its profile has the letters of names; the user's flags give no libraries, and what is read can be told
-pub record IsToldBuild (target : List ℕ) (options : Options) (w : World) : Type 0 where
-  pub one_target : (environment_of options w.variables).target ≡ target
+-- of the target folders two are one, or neither lies at or below the other
+abbrev pub StandApart : List (List ℕ) → Type 0
+StandApart targets = (t u : List ℕ) → Contains targets t → Contains targets u → (t ≡ u) ⊎ ((is_at_or_below t u ≡ false) × (is_at_or_below u t ≡ false))
+
+-- what a session file leaves open of the words of a build: its target folder is one of these, and its profile has the letters of names; the user's flags give no libraries, and what is read can be told
+pub record IsToldBuild (targets : List (List ℕ)) (options : Options) (w : World) : Type 0 where
+  pub target : Contains targets (environment_of options w.variables).target
   pub profile : is_name options.profile ≡ true
   pub flags : is_mentioned (environment_of options w.variables).flags (codes "--extern") ≡ false
   pub tells : CanTellBuild options w
 
--- of a step: an edit is one outside of the target folder, or removes that folder whole
-abbrev pub IsToldStep : List ℕ → SessionStep → World → Type 0
-IsToldStep target (Write path text) w = is_at_or_below target path ≡ false
-IsToldStep target (Remove path) w = (is_at_or_below path target ≡ true) ⊎ ShareNoPath target path
-IsToldStep target (Build options pick) w = IsToldBuild target options w
-IsToldStep target step w = ⊤
+-- of a step: an edit is one outside of each target folder, or removes that folder whole
+abbrev pub IsToldStep : List (List ℕ) → SessionStep → World → Type 0
+IsToldStep targets (Write path text) w = (t : List ℕ) → Contains targets t → is_at_or_below t path ≡ false
+IsToldStep targets (Remove path) w = (t : List ℕ) → Contains targets t → (is_at_or_below path t ≡ true) ⊎ ShareNoPath t path
+IsToldStep targets (Build options pick) w = IsToldBuild targets options w
+IsToldStep targets step w = ⊤
 
 -- of each step that was taken
-abbrev pub AllTold : (target : List ℕ) (steps : List SessionStep) (before after : Point) → Course small_compiler steps before after → Type 0
-AllTold target [] before after course = ⊤
-AllTold target (step ∷ steps) before after course = IsToldStep target step before.moment.world × AllTold target steps course.0 after course.2
+abbrev pub AllTold : (targets : List (List ℕ)) (steps : List SessionStep) (before after : Point) → Course small_compiler steps before after → Type 0
+AllTold targets [] before after course = ⊤
+AllTold targets (step ∷ steps) before after course = IsToldStep targets step before.moment.world × AllTold targets steps course.0 after course.2
 
 -- a build among the steps gives what the workspace of that time gives from nothing, or a fault with the first of its lines
 abbrev pub StepGives : (step : SessionStep) (before after : Point) → Carries small_compiler step before after → Type 0

@@ -21,9 +21,10 @@ pub fn small_builds_give<T: Turn>()
 /// A law: after any edits outside of the folder of its records, and any builds of these words, a build of a session with
 /// the small compiler gives what the present workspace gives from nothing, or a fault with the first of its lines.
 ///
-/// Where the session is one of a file and begins without files, each of its builds does, and less is asked: edits stay
-/// out of the target folder, which all builds share, or remove it whole; a profile has the letters of names;
-/// `RUSTFLAGS` gives no `--extern`; and what is read can be told. The file itself says the rest.
+/// Where the session is one of a file and begins without files, each of its builds does, and less is asked. Its builds
+/// have any target folders of which two are one or neither lies inside the other. Edits stay out of these folders, or
+/// remove one whole. A profile has the letters of names; `RUSTFLAGS` gives no `--extern`; and what is read can be told.
+/// The file itself says the rest.
 pub fn small_sessions_give()
     ensures records { SmallSessionsGive }
     ensures files { SessionFilesGive }

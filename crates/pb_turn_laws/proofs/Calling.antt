@@ -10,9 +10,11 @@ use Rattle.pb_turn_laws.specs.Calls.{CallsAreTold, IsCall}
 
 told : (c : Call) → IsCall c (own_fault c) (name_given c)
 told (call.Read path) = calls.read path
+told (call.IsFile path) = calls.is_file path
 told (call.List folder) = calls.list folder
 told (call.ListOutside folder left_out) = calls.list_outside folder left_out
 told (call.ListDirectly folder) = calls.list_directly folder
+told (call.ListFolders folder left_out) = calls.list_folders folder left_out
 told (call.Write path) = calls.write path
 told (call.Remove path) = calls.remove path
 told (call.Variable name) = calls.variable name

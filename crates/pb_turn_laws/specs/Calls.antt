@@ -11,9 +11,11 @@ use Rattle.pb_place.specs.declared.place.PlaceFault.TheVariants as place
 -- a call, the fault that says that it failed, and what it was given: a path, a folder or a name
 pub data IsCall : Call → PlaceFault → List ℕ → Type 0 where
   read : (path : List ℕ) → IsCall (call.Read path) place.Read path
+  is_file : (path : List ℕ) → IsCall (call.IsFile path) place.Read path
   list : (folder : List ℕ) → IsCall (call.List folder) place.List folder
   list_outside : (folder left_out : List ℕ) → IsCall (call.ListOutside folder left_out) place.List folder
   list_directly : (folder : List ℕ) → IsCall (call.ListDirectly folder) place.List folder
+  list_folders : (folder left_out : List ℕ) → IsCall (call.ListFolders folder left_out) place.List folder
   write : (path : List ℕ) → IsCall (call.Write path) place.Write path
   remove : (path : List ℕ) → IsCall (call.Remove path) place.Remove path
   variable : (name : List ℕ) → IsCall (call.Variable name) place.Variable name

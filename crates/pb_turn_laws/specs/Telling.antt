@@ -66,7 +66,10 @@ abbrev pub told_well : Project → Planned → List ℕ → Option (List Directi
 told_well project u stderr None = map CompilerMessage (diagnostics_of stderr) ++ option_map_or (λ file. made_message project u file ∷ []) (made_file_of project u) []
 told_well project u stderr (Some directives) = filter_map note_in directives ++ executed u directives ∷ []
 
--- the messages of a bad unit, and what its child wrote that none of them holds, by its standard output and error. Of streams that are too long nothing is told; a script that told of an error gives its notes in printed order, where they read; another run nothing; a compile its diagnostics
+-- The messages of a bad unit, and what its child wrote that none of them holds, by its standard output and error:
+-- of streams that are too long nothing is told;
+-- a script that told of an error gives its notes in printed order, where they read, and another run nothing;
+-- a compile gives its diagnostics.
 abbrev pub told_badly : What → UnitFault → List ℕ → List ℕ → List Message × List ℕ
 told_badly what fault.OutputTooLong stdout stderr = ([], [])
 told_badly what fault.ScriptError stdout stderr = (filter_map note_in (result_unwrap_or (directives_of stdout) []), stderr)
