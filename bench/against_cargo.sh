@@ -3,7 +3,7 @@
 # compiles, with one job and with as many as there are processors, and prints tables for docs/SPEED.md.
 #
 # PARTS names what is measured (all where it is absent):
-#   side     both builders over six workspaces: from nothing; again with nothing changed; after an edit of a source of
+#   side     both builders over nine workspaces: from nothing; again with nothing changed; after an edit of a source of
 #            the lowest package (the one that the others need, or the first); after one of the topmost; after a variable
 #            has changed that the lowest package's script names. Seconds of the clock; seconds of the processor of the
 #            builder itself and of its children (in hundredths, as the system tells them of a process that has ended);
@@ -18,11 +18,11 @@
 #   wide     one slow package beside 120 quick ones: what waits, since the unit that was begun first is answered first;
 #            the least of ROUNDS builds from nothing, the builders by turns
 #
-# SHAPES=WORDS takes the workspaces alone that these words name: chain, side, shared, scripts, files, example. RESULTS=FILE keeps
-# the figures of `side` in a file, round by round, and begins with those that it has: so rounds of several runs make one
-# table, and ROUNDS=0 prints it. PROGRAM=FILE and
-# COMPILER=FILE take a `pb_tool` and a `pb_mini` that are made already. The status is 1 where a build fails that must not,
-# or where a builder starts a child though nothing has changed; it says nothing of times.
+# SHAPES=WORDS takes the workspaces alone that these words name: chain, side, shared, scripts, files, beside0, beside100,
+# beside1000, example. RESULTS=FILE keeps the figures of `side` in a file, round by round, and begins with those that it
+# has: so rounds of several runs make one table, and ROUNDS=0 prints it. PROGRAM=FILE and COMPILER=FILE take a `pb_tool`
+# and a `pb_mini` that are made already. The status is 1 where a build fails that must not, or where a builder starts a
+# child though nothing has changed; it says nothing of times.
 set -euo pipefail
 top="$(cd "$(dirname "$0")/.." && pwd)"
 folder="$(mktemp -d)"
@@ -30,7 +30,7 @@ trap 'rm -rf "$folder"' EXIT
 . "$top/bench/program.sh"
 program="${PROGRAM:-$(make_program "$top" "$folder")}"
 compiler="${COMPILER:-$(make_compiler "$top" "$folder")}"
-python3 - "$program" "$compiler" "$folder" "$top" "${PARTS:-side nothing calls growth dear wide}" "${SHAPES:-chain side shared scripts files example}" "${ROUNDS:-5}" "${LIMIT:-0}" "${RESULTS:-}" <<'PYTHON'
+python3 - "$program" "$compiler" "$folder" "$top" "${PARTS:-side nothing calls growth dear wide}" "${SHAPES:-chain side shared scripts files beside0 beside100 beside1000 example}" "${ROUNDS:-5}" "${LIMIT:-0}" "${RESULTS:-}" <<'PYTHON'
 import collections, json, math, os, re, shutil, subprocess, sys, threading, time
 
 program, compiler, folder, top, parts, wanted, rounds, limit, results = sys.argv[1:]
@@ -123,6 +123,22 @@ def write_files(there):
         put(f"{there}/src/part{n:03}.rs", library([], n))
 
 
+def write_beside(count):
+    """64 packages, each with so many files beside its manifest that no build needs, half of them in a folder."""
+
+    def write(there):
+        put(f"{there}/Cargo.toml", '[workspace]\nmembers = ["crates/*"]\nresolver = "2"\n')
+        for n in range(64):
+            package = f"{there}/crates/m{n:02}"
+            put(f"{package}/Cargo.toml", manifest(f"m{n:02}"))
+            put(f"{package}/src/lib.rs", library([], 1))
+            for k in range(count):
+                put(f"{package}/{'data/' if k % 2 else ''}{k:04}.txt", "what no build needs\n")
+        put(f"{there}/crates/m00/build.rs", SCRIPT)
+
+    return write
+
+
 def write_example(there):
     shutil.copytree(f"{top}/examples/workspace", there, dirs_exist_ok=True)
     path = f"{there}/packages/math-sys/build.rs"
@@ -137,6 +153,9 @@ SHAPES = [
     Shape("shared", "256 packages, of which all need one with a source of 1 MiB", write_shared, "m000/src/lib.rs", "m255/src/lib.rs"),
     Shape("scripts", "64 packages with scripts, needed on both sides", write_scripts, "m00/src/lib.rs", "top/src/lib.rs"),
     Shape("files", "one package with 500 source files", write_files, "src/part000.rs", "src/lib.rs"),
+    Shape("beside0", "64 packages by `crates/*`, no other files", write_beside(0), "crates/m00/src/lib.rs", "crates/m63/src/lib.rs"),
+    Shape("beside100", "the same, 100 other files in each package", write_beside(100), "crates/m00/src/lib.rs", "crates/m63/src/lib.rs"),
+    Shape("beside1000", "the same, 1,000 other files in each package", write_beside(1000), "crates/m00/src/lib.rs", "crates/m63/src/lib.rs"),
     Shape("example", "the examples' workspace", write_example, "packages/math-sys/src/lib.rs", "packages/almanac/src/main.rs"),
 ]
 edits = 0
