@@ -23,6 +23,13 @@ pub record At : Type 1 where
   -- of a ticket: nothing that its child sees, and no file of its folder, has changed since the spawn
   pub still : ℕ → Type 0
 
+-- Nothing has changed, and no call was counted.
+pub record IsUnchanged (old new : At) : Type 0 where
+  pub world : new.world ≡ old.world
+  pub counts : new.counts ≡ old.counts
+  pub most : new.most ≡ old.most
+  pub still : KeepsStill old.still new.still
+
 -- One call that looks: nothing changes but the counters.
 pub record LooksOnce {T : Type 0} (call : Call) (result : Result T PlaceFault) (old new : At) : Type 0 where
   pub world : new.world ≡ old.world

@@ -1,4 +1,4 @@
-//! Files and variables in sorted maps, which contracts see as finite maps.
+//! Files in a sorted map, which contracts see as a finite map.
 
 ghost use Rattle.std.specs.Prelude.{◌≡◌, ◌==◌, ◌+◌, ℕ, List, Bool, true, not, length, drop, map as each, Some, None, is_some, ◌++◌, ◌∷◌, if◌then◌else◌, IfOk, OnOk, OnErr, string_bytes};
 ghost use Rattle.std.specs.List.{list_all, list_any, filter};
@@ -459,89 +459,4 @@ fn remove_names(files: &mut BTreeMap<Text, Bytes>, names: &[Text])
     for name in names {
         files.remove(name);
     }
-}
-
-/// Texts by their names, in byte order, as variables are. A look-up takes time logarithmic in their
-/// number.
-#[derive(Drop)]
-pub struct TextMap {
-    inside: BTreeMap<Text, Text>,
-}
-
-impl Model for TextMap {
-    ghost use Rattle.std.specs.FinMap as map;
-    ghost use Rattle.pb_place.specs.World.{Map};
-    ghost use Rattle.pb_place.specs.Maps.{map_code};
-
-    ghost Value = { Map };
-
-    ghost coded = { map_code };
-
-    ghost view = { λ v. map.from_entries v.inside.entries };
-}
-
-impl TextMap {
-    /// No variables, which takes no memory.
-    pub fn new(alloc: Global) -> TextMap
-        ensures { result ≡ map.empty }
-    {
-        TextMap {
-            inside: BTreeMap::new(alloc),
-        }
-    }
-
-    /// The value of a variable, if it is set. The one fault is want of memory.
-    #[tactic(auto, using(crate::proofs::MapLemmas::map_laws))]
-    pub fn get(&self, alloc: Global, name: &str) -> Result<Option<Text>, AllocError>
-        ensures { IfOk result (λ found. found ≡ map.get self.now name.now) }
-    {
-        let key = Text::from_str(alloc, name)?;
-        match self.inside.get(&key) {
-            Some(value) => Ok(Some(value.copy(alloc)?)),
-            None => Ok(None),
-        }
-    }
-
-    /// Sets a variable. Where memory is refused, nothing changes.
-    #[tactic(auto, using(crate::proofs::MapLemmas::insert_laws))]
-    pub fn insert(&mut self, alloc: Global, name: &str, value: &str) -> Result<(), AllocError>
-        ensures ok { OnOk result (self.new ≡ map.insert self.old name.now value.now) }
-        ensures err { OnErr result (self.new ≡ self.old) }
-    {
-        let key = Text::from_str(alloc, name)?;
-        let text = Text::from_str(alloc, value)?;
-        let _old = self.inside.insert(key, text)?;
-        Ok(())
-    }
-
-    /// Takes a variable away. Where memory is refused, nothing changes.
-    #[tactic(auto, using(crate::proofs::MapLemmas::unset_laws))]
-    pub fn remove(&mut self, alloc: Global, name: &str) -> Result<(), AllocError>
-        ensures ok { OnOk result (self.new ≡ map.remove self.old name.now) }
-        ensures err { OnErr result (self.new ≡ self.old) }
-    {
-        let key = Text::from_str(alloc, name)?;
-        let _old = self.inside.remove(&key);
-        Ok(())
-    }
-
-    /// All names and values, in byte order of the names. The one fault is want of memory.
-    #[tactic(auto, using(crate::proofs::MapLemmas::ordered_laws))]
-    pub fn into_pairs(self, alloc: Global) -> Result<Items<(Text, Text)>, AllocError>
-        ensures { IfOk result (λ pairs. pairs ≡ map.entries self) }
-    {
-        pairs_of(alloc, self.inside)
-    }
-}
-
-/// The entries of a map, in order.
-fn pairs_of(alloc: Global, entries: BTreeMap<Text, Text>) -> Result<Items<(Text, Text)>, AllocError>
-    ensures entries { IfOk result (λ pairs. pairs ≡ entries.entries) }
-    ensures ordered { OnOk result (IsOrdered (slice_cmp nat_cmp) entries) }
-{
-    let mut pairs = Items::new(alloc);
-    for (name, value) in entries {
-        pairs.push((name, value))?;
-    }
-    Ok(pairs)
 }

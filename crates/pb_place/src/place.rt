@@ -1,17 +1,20 @@
 //! The outside world: files, variables and children, each call counted.
 
-ghost use Rattle.std.specs.Prelude.{◌≡◌, ◌≢◌, Bool, true, IfOk, IfErr, OnOk, OnErr, IsTrue, IfSome};
+ghost use Rattle.std.specs.Prelude.{◌≡◌, ◌≢◌, [], Bool, true, IfOk, IfErr, OnOk, OnErr, IsTrue, IfSome};
 ghost use Rattle.std.specs.FinMap as map;
-ghost use Rattle.pb_place.specs.At.{At, LooksOnce, ChangesOnce, Spawns, Finishes, Starts};
+ghost use Rattle.pb_data.specs.Gives.{Gives};
+ghost use Rattle.pb_place.specs.At.{At, IsUnchanged, LooksOnce, ChangesOnce, Spawns, Finishes, Starts};
 ghost use Rattle.pb_place.specs.Children.{child_at, is_flying, LandsAs};
-ghost use Rattle.pb_place.specs.Paths.{is_at_or_below};
+ghost use Rattle.pb_place.specs.Paths.{is_at_or_below, joined};
 ghost use Rattle.pb_place.specs.World.{Answers, FilesHavePaths, has_file, written, removed, listed, listed_directly, listed_folders, Torn, PartlyRemoved, Ends};
 ghost use Rattle.pb_place.specs.declared.call.Call.TheVariants as call;
+ghost use Rattle.pb_place.specs.declared.path.PathFault.TheVariants as path_fault;
 ghost use Rattle.pb_place.specs.declared.place.PlaceFault.TheVariants as place_fault;
 ghost use Rattle.pb_place.specs.declared.place.StartFault.TheVariants as start_fault;
 
 use crate::command::{Command, Ended};
-use crate::path::PathText;
+use crate::moved::Moved;
+use crate::path::{PathFault, PathText};
 use pb_data::{Bytes, Items, Text};
 use std::alloc::{AllocError, AllocFailed, Global};
 use thiserror::Error;
@@ -264,6 +267,49 @@ pub trait Place {
         self.finish(alloc, ticket)
     }
 
+    /// Returns the path that a text means from a folder: that of `PathText::join`. On a machine a `..` behind a link leads
+    /// to the folder in which the link's goal lies. It is not counted.
+    ///
+    /// Errors: those of `PathText::join`.
+    fn path_from(&self, alloc: Global, folder: &PathText, text: &str) -> Result<PathText, PathFault>
+        ensures { IsTrue tells →
+            Gives path_fault.OutOfMemory (λ path. path) result (joined folder.now text.now) }
+    {
+        folder.join(alloc, text)
+    }
+
+    /// Looks whether anything at or below a path, but not in the target folder, has moved: whether it has changed since
+    /// the child of this command was spawned, the last that has ended. `moved` has it from then on. Nothing else writes
+    /// in the maps, so nothing moves there. A machine that cannot tell takes it for moved. It is not counted.
+    ///
+    /// Errors: out of memory only.
+    fn watch(
+        &mut self,
+        _alloc: Global,
+        _command: &Command,
+        _path: &PathText,
+    ) -> Result<(), AllocError>
+        ensures { IsUnchanged (at self.old) (at self.new) }
+    {
+        Ok(())
+    }
+
+    /// Returns whether all that the child of this command read has stood still, as far as `watch` looked: nothing has
+    /// moved for this child, and nothing for a child in whose output folder it reads. It takes no memory, and is not
+    /// counted.
+    fn stood_still(&self, _command: &Command) -> bool
+        ensures { IsTrue tells → result ≡ true }
+    {
+        true
+    }
+
+    /// Returns what has moved, for each child at most once, in the order in which it was found. It takes no memory.
+    fn moved(&self) -> &[Moved]
+        ensures { IsTrue tells → result.now ≡ [] }
+    {
+        &[]
+    }
+
     /// Does nothing. It tells that each file in the maps has a normalised absolute path. It takes no memory, and is not
     /// counted.
     fn files_have_paths(&self)
@@ -277,8 +323,8 @@ pub trait Place {
     fn starts(&self) -> u64
         ensures { result ≡ (at self.now).counts.starts.count };
 
-    /// Returns how many calls but this one, `finish`, `failures`, `starts` and `most` came since the last that failed,
-    /// at most `u64::MAX`; 0 if none failed. It takes no memory.
+    /// Returns how many counted calls but `finish` came since the last that failed, at most `u64::MAX`; 0 if none failed.
+    /// Those of `&self`, and `watch`, are not counted. It takes no memory.
     fn late(&self) -> u64
         ensures { result ≡ (at self.now).counts.late };
 
