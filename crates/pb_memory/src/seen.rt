@@ -2,7 +2,7 @@
 
 ghost use Rattle.std.specs.Prelude.{◌≡◌, ◌≢◌, ℕ, Bool, true, false, IfOk, IfErr, OnOk, OnErr, IsTrue, IfSome};
 ghost use Rattle.std.specs.FinMap as map;
-ghost use Rattle.pb_place.specs.At.{LooksOnce, ChangesOnce, Spawns, Finishes, Starts};
+ghost use Rattle.pb_place.specs.At.{IsUnchanged, LooksOnce, ChangesOnce, Spawns, Finishes, Starts};
 ghost use Rattle.pb_place.specs.Paths.{is_at_or_below};
 ghost use Rattle.pb_place.specs.World.{has_file, written, removed, listed, listed_directly, listed_folders, Torn, PartlyRemoved, Ends};
 ghost use Rattle.pb_place.specs.declared.call.Call.TheVariants as call;
@@ -10,8 +10,8 @@ ghost use Rattle.pb_place.specs.Children.{is_flying, child_at, LandsAs};
 ghost use Rattle.pb_memory.specs.Seen.{call_failed, start_failed, seen, seen_end};
 
 use pb_data::{Bytes, Items, Text};
-use pb_place::{Command, Ended, PathText, Place, PlaceFault, StartFault};
-use std::alloc::Global;
+use pb_place::{Command, Ended, Moved, PathFault, PathText, Place, PlaceFault, StartFault};
+use std::alloc::{AllocError, Global};
 
 /// A place that passes every call on to another, and counts the calls that come after the first that failed. It does not
 /// count `finish`, since what is in flight when a call fails has to be waited for. Out of memory is no failure.
@@ -272,6 +272,31 @@ impl<P: Place> Place for Seen<P> {
     {
         let ticket = self.spawn(alloc, command)?;
         self.finish(alloc, ticket)
+    }
+
+    fn path_from(
+        &self,
+        alloc: Global,
+        folder: &PathText,
+        text: &str,
+    ) -> Result<PathText, PathFault> {
+        self.place.path_from(alloc, folder, text)
+    }
+
+    fn watch(&mut self, alloc: Global, command: &Command, path: &PathText) -> Result<(), AllocError>
+        ensures unchanged { IsUnchanged (P.at self.old.place) (P.at self.new.place) }
+        ensures faulted { self.new.faulted ≡ self.old.faulted }
+        ensures after { self.new.after ≡ self.old.after }
+    {
+        self.place.watch(alloc, command, path)
+    }
+
+    fn stood_still(&self, command: &Command) -> bool {
+        self.place.stood_still(command)
+    }
+
+    fn moved(&self) -> &[Moved] {
+        self.place.moved()
     }
 
     fn files_have_paths(&self) {
