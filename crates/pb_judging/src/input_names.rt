@@ -1,6 +1,6 @@
 //! The inputs of a unit: paths and variables, each once.
 
-ghost use Rattle.std.specs.Prelude.{◌≡◌, ◌++◌, ◌∷◌, [], not, IfOk, OnOk, map, filter, option_map, List, ℕ};
+ghost use Rattle.std.specs.Prelude.{◌≡◌, ◌++◌, ◌∷◌, [], not, IsTrue, IfOk, OnOk, map, filter, option_map, List, ℕ};
 ghost use Rattle.std.specs.List.{flat_map, find};
 ghost use Rattle.pb_data.specs.Gives.{Gives};
 ghost use Rattle.pb_data.specs.Mentions.{is_mentioned, mentioned, mentioned_all, once};
@@ -8,6 +8,7 @@ ghost use Rattle.pb_judging.specs.Answers.{path_said, paths_from, is_covered, is
 ghost use Rattle.pb_record.specs.declared.record.InputName.TheVariants.{Path, Variable};
 ghost use Rattle.pb_project.specs.declared.fault.UnitFault.TheVariants as unit_fault;
 
+use crate::meaning::Meaning;
 use pb_data::{Items, Mentions, Text, TryCopy};
 use pb_place::{Command, PathFault, PathText};
 use pb_project::UnitFault;
@@ -34,56 +35,83 @@ fn mention(
     Ok(())
 }
 
-/// Mentions the path that a text says from a folder.
-#[tactic(auto, unfolding(crate::specs::Answers::path_said))]
-fn mention_said(
+/// Mentions paths, one after another.
+fn mention_all(
     alloc: Global,
     paths: &mut Items<PathText>,
     seen: &mut Mentions,
+    said: Items<PathText>,
+) -> Result<(), AllocError>
+    requires { seen.old ≡ paths.old }
+    ensures { OnOk result (paths.new ≡ mentioned_all paths.old said) }
+{
+    for path in said.into_vec() {
+        mention(alloc, paths, seen, path)?;
+    }
+    Ok(())
+}
+
+/// Returns paths, each once, in order of mention.
+#[tactic(auto, using(crate::proofs::Naming::naming_laws))]
+fn paths_once(alloc: Global, said: Items<PathText>) -> Result<Items<PathText>, AllocError>
+    ensures { IfOk result (λ paths. paths ≡ once said) }
+{
+    let mut paths = Items::new(alloc);
+    let mut seen = Mentions::new(alloc);
+    mention_all(alloc, &mut paths, &mut seen, said)?;
+    Ok(paths)
+}
+
+/// Adds the path that a text means from a folder, if it means one.
+#[tactic(auto, unfolding(crate::specs::Answers::path_said))]
+fn push_said<M: Meaning>(
+    alloc: Global,
+    meaning: &M,
+    paths: &mut Items<PathText>,
     folder: &PathText,
     text: &Text,
 ) -> Result<(), AllocError>
-    requires { seen.old ≡ paths.old }
-    ensures paths { OnOk result (paths.new ≡ mentioned_all paths.old (path_said folder.now text.now)) }
-    ensures seen { OnOk result (seen.new ≡ paths.new) }
+    ensures { IsTrue M.joins →
+        OnOk result (paths.new ≡ paths.old ++ path_said folder.now text.now) }
 {
-    match folder.join(alloc, text.as_str()) {
-        Ok(path) => mention(alloc, paths, seen, path),
+    match meaning.path_from(alloc, folder, text.as_str()) {
+        Ok(path) => {
+            paths.push(path)?;
+            Ok(())
+        }
         Err(PathFault::OutOfMemory) => Err(AllocError),
         Err(_) => Ok(()),
     }
 }
 
-/// Mentions the paths that some texts say from a folder.
-fn mention_all_said(
+/// Returns the paths that some texts mean from a folder, one after another.
+fn paths_said<M: Meaning>(
     alloc: Global,
-    paths: &mut Items<PathText>,
-    seen: &mut Mentions,
-    folder: &PathText,
-    texts: &[Text],
-) -> Result<(), AllocError>
-    requires { seen.old ≡ paths.old }
-    ensures { OnOk result (paths.new ≡ mentioned_all paths.old (flat_map (path_said folder.now) texts.now)) }
-{
-    for text in texts {
-        mention_said(alloc, paths, seen, folder, text)?;
-    }
-    Ok(())
-}
-
-/// The paths that some texts say from a folder, each once, in order of mention.
-#[tactic(auto, using(crate::proofs::Naming::naming_laws))]
-pub(crate) fn paths_from(
-    alloc: Global,
+    meaning: &M,
     folder: &PathText,
     texts: &[Text],
 ) -> Result<Items<PathText>, AllocError>
-    ensures { IfOk result (λ paths. paths ≡ paths_from folder.now texts.now) }
+    ensures { IsTrue M.joins →
+        IfOk result (λ paths. paths ≡ flat_map (path_said folder.now) texts.now) }
 {
     let mut paths = Items::new(alloc);
-    let mut seen = Mentions::new(alloc);
-    mention_all_said(alloc, &mut paths, &mut seen, folder, texts)?;
+    for text in texts {
+        push_said(alloc, meaning, &mut paths, folder, text)?;
+    }
     Ok(paths)
+}
+
+/// Returns the paths that some texts mean from a folder, each once, in order of mention.
+pub(crate) fn paths_from<M: Meaning>(
+    alloc: Global,
+    meaning: &M,
+    folder: &PathText,
+    texts: &[Text],
+) -> Result<Items<PathText>, AllocError>
+    ensures { IsTrue M.joins → IfOk result (λ paths. paths ≡ paths_from folder.now texts.now) }
+{
+    let said = paths_said(alloc, meaning, folder, texts)?;
+    paths_once(alloc, said)
 }
 
 /// Names, mentioned one after another.

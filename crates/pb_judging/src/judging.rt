@@ -1,6 +1,6 @@
 //! The judgement of an answer.
 
-ghost use Rattle.std.specs.Prelude.{◌≡◌, ◌++◌, ◌∷◌, [], IfOk, OnOk, option_map};
+ghost use Rattle.std.specs.Prelude.{◌≡◌, ◌++◌, ◌∷◌, [], IsTrue, IfOk, OnOk, option_map};
 ghost use Rattle.std.specs.List.{flat_map, list_any};
 ghost use Rattle.pb_data.specs.Gives.{Gives, lifted};
 ghost use Rattle.pb_directive.specs.Directives.{directives_of};
@@ -9,9 +9,10 @@ ghost use Rattle.pb_judging.specs.Answers.{is_too_long, greatest_length, ended_f
 ghost use Rattle.pb_project.specs.declared.fault.UnitFault.TheVariants as unit_fault;
 
 use crate::input_names::{inherited, inputs_of, once, paths_from};
+use crate::meaning::{ByPlace, ByText, Meaning};
 use pb_data::{Bytes, Items, Text, TryCopy};
 use pb_directive::{DepInfo, Directive, LineFault, read_dep_info, read_directives};
-use pb_place::{Command, Ended, PathText};
+use pb_place::{Command, Ended, PathText, Place};
 use pb_project::{Answered, Project, UnitFault, folder_of};
 use pb_record::InputName;
 use pb_unit::{Planned, What};
@@ -68,28 +69,30 @@ fn read_info(alloc: Global, dep_info: Option<&Bytes>) -> Result<DepInfo, UnitFau
 }
 
 /// The inputs that dep-info names.
-fn info_inputs(
+fn info_inputs<M: Meaning>(
     alloc: Global,
+    meaning: &M,
     command: &Command,
     info: &DepInfo,
 ) -> Result<Items<InputName>, UnitFault>
-    ensures { Gives unit_fault.OutOfMemory (λ inputs. inputs) result (info_inputs command.now info.now) }
+    ensures { IsTrue M.joins → Gives unit_fault.OutOfMemory (λ inputs. inputs) result (info_inputs command.now info.now) }
 {
-    let paths = paths_from(alloc, &command.folder, info.words.as_slice())?;
+    let paths = paths_from(alloc, meaning, &command.folder, info.words.as_slice())?;
     let names = inherited(alloc, command, info.variables.as_slice())?;
     inputs_of(alloc, command, paths, names)
 }
 
 /// What the answer of a compile gives.
-fn compile_answered(
+fn compile_answered<M: Meaning>(
     alloc: Global,
+    meaning: &M,
     command: &Command,
     dep_info: Option<&Bytes>,
 ) -> Result<Answered, UnitFault>
-    ensures { Gives unit_fault.OutOfMemory (λ a. a) result (compile_answered command.now (option_map (λ bytes. bytes.now) dep_info.entry)) }
+    ensures { IsTrue M.joins → Gives unit_fault.OutOfMemory (λ a. a) result (compile_answered command.now (option_map (λ bytes. bytes.now) dep_info.entry)) }
 {
     let info = read_info(alloc, dep_info)?;
-    let inputs = info_inputs(alloc, command, &info);
+    let inputs = info_inputs(alloc, meaning, command, &info);
     drop(info);
     Ok(Answered {
         directives: None,
@@ -154,16 +157,17 @@ fn changed_variables(alloc: Global, said: &[Directive]) -> Result<Items<Text>, A
 }
 
 /// The inputs of paths and variables that lines name.
-fn marked_inputs(
+fn marked_inputs<M: Meaning>(
     alloc: Global,
+    meaning: &M,
     command: &Command,
     folder: &PathText,
     paths: &[Text],
     names: &[Text],
 ) -> Result<Items<InputName>, UnitFault>
-    ensures { Gives unit_fault.OutOfMemory (λ inputs. inputs) result (marked_inputs command.now folder.now paths.now names.now) }
+    ensures { IsTrue M.joins → Gives unit_fault.OutOfMemory (λ inputs. inputs) result (marked_inputs command.now folder.now paths.now names.now) }
 {
-    let paths = paths_from(alloc, folder, paths)?;
+    let paths = paths_from(alloc, meaning, folder, paths)?;
     let names = once(alloc, names)?;
     inputs_of(alloc, command, paths, names)
 }
@@ -182,36 +186,45 @@ fn folder_inputs(
 }
 
 /// The inputs of paths and variables that lines name, or of the whole folder where none names any.
-fn rerun_inputs(
+fn rerun_inputs<M: Meaning>(
     alloc: Global,
+    meaning: &M,
     command: &Command,
     folder: &PathText,
     paths: &[Text],
     names: &[Text],
 ) -> Result<Items<InputName>, UnitFault>
-    ensures { Gives unit_fault.OutOfMemory (λ inputs. inputs) result (rerun_inputs command.now folder.now paths.now names.now) }
+    ensures { IsTrue M.joins → Gives unit_fault.OutOfMemory (λ inputs. inputs) result (rerun_inputs command.now folder.now paths.now names.now) }
 {
     match paths {
         [] => match names {
             [] => folder_inputs(alloc, command, folder),
-            [_, ..] => marked_inputs(alloc, command, folder, paths, names),
+            [_, ..] => marked_inputs(alloc, meaning, command, folder, paths, names),
         },
-        [_, ..] => marked_inputs(alloc, command, folder, paths, names),
+        [_, ..] => marked_inputs(alloc, meaning, command, folder, paths, names),
     }
 }
 
 /// The inputs that the lines of a run name.
-fn said_inputs(
+fn said_inputs<M: Meaning>(
     alloc: Global,
+    meaning: &M,
     command: &Command,
     folder: &PathText,
     said: &[Directive],
 ) -> Result<Items<InputName>, UnitFault>
-    ensures { Gives unit_fault.OutOfMemory (λ inputs. inputs) result (said_inputs command.now folder.now said.now) }
+    ensures { IsTrue M.joins → Gives unit_fault.OutOfMemory (λ inputs. inputs) result (said_inputs command.now folder.now said.now) }
 {
     let paths = changed_paths(alloc, said)?;
     let names = changed_variables(alloc, said)?;
-    rerun_inputs(alloc, command, folder, paths.as_slice(), names.as_slice())
+    rerun_inputs(
+        alloc,
+        meaning,
+        command,
+        folder,
+        paths.as_slice(),
+        names.as_slice(),
+    )
 }
 
 /// Whether a line tells of an error.
@@ -258,16 +271,17 @@ fn said_in(alloc: Global, ended: &Ended) -> Result<Items<Directive>, UnitFault>
 }
 
 /// What the answer of a run gives.
-fn run_answered(
+fn run_answered<M: Meaning>(
     alloc: Global,
+    meaning: &M,
     command: &Command,
     folder: &PathText,
     ended: &Ended,
 ) -> Result<Answered, UnitFault>
-    ensures { Gives unit_fault.OutOfMemory (λ a. a) result (run_answered command.now folder.now ended.now) }
+    ensures { IsTrue M.joins → Gives unit_fault.OutOfMemory (λ a. a) result (run_answered command.now folder.now ended.now) }
 {
     let said = said_in(alloc, ended)?;
-    let inputs = said_inputs(alloc, command, folder, said.as_slice())?;
+    let inputs = said_inputs(alloc, meaning, command, folder, said.as_slice())?;
     Ok(Answered {
         directives: Some(said),
         inputs,
@@ -275,34 +289,63 @@ fn run_answered(
 }
 
 /// What an answer gives of which the end is no fault.
-fn answered_by(
+fn answered_by<M: Meaning>(
     alloc: Global,
+    meaning: &M,
     what: &What,
     command: &Command,
     folder: &PathText,
     ended: &Ended,
     dep_info: Option<&Bytes>,
 ) -> Result<Answered, UnitFault>
-    ensures { Gives unit_fault.OutOfMemory (λ a. a) result (answered_by what.now command.now folder.now ended.now (option_map (λ bytes. bytes.now) dep_info.entry)) }
+    ensures { IsTrue M.joins → Gives unit_fault.OutOfMemory (λ a. a) result (answered_by what.now command.now folder.now ended.now (option_map (λ bytes. bytes.now) dep_info.entry)) }
 {
     match what {
-        What::Run => run_answered(alloc, command, folder, ended),
-        _ => compile_answered(alloc, command, dep_info),
+        What::Run => run_answered(alloc, meaning, command, folder, ended),
+        _ => compile_answered(alloc, meaning, command, dep_info),
     }
 }
 
-/// What the answer of a unit's child gives, or the first fault of it. `dep_info` is what the file at `dep_info_path` of
-/// `pb_project` holds, or none where no file is there; for a run it is not looked at.
+/// What the answer of a unit's child gives, by a meaning of its paths.
+fn answered_with<M: Meaning>(
+    alloc: Global,
+    meaning: &M,
+    project: &Project,
+    unit: &Planned,
+    command: &Command,
+    ended: &Ended,
+    dep_info: Option<&Bytes>,
+) -> Result<Answered, UnitFault>
+    ensures { IsTrue M.joins →
+        Gives unit_fault.OutOfMemory (λ a. a) result (answered_of project.now unit.now command.now
+        ended.now (option_map (λ bytes. bytes.now) dep_info.entry)) }
+{
+    match ended_fault(ended) {
+        Some(fault) => Err(fault),
+        None => {
+            let what = &unit.unit.what;
+            let folder = folder_of(project, unit);
+            answered_by(alloc, meaning, what, command, folder, ended, dep_info)
+        }
+    }
+}
+
+/// Returns what the answer of a unit's child gives. `dep_info` is the content of the file at `dep_info_path` of
+/// `pb_project`, or none if no file is there; for a run it has no effect.
 ///
-/// In this order: OutputTooLong and Status, by `ended_fault`; for a run, Directive where a line of its output has a fault,
-/// and ScriptError where one is `cargo::error`; for a compile, NoDepInfo where its dep-info is not there, does not read or
-/// is over 4,194,304 bytes; ForeignInput where an input lies at or below the target folder and in no folder of a unit that
-/// was reached, the first such path. OutOfMemory where memory is refused.
+/// The inputs of a compile are the paths and variables of its dep-info (The Cargo Book, Build Cache), without the
+/// variables that the command sets. Those of a run are the paths and variables of its lines `rerun-if-changed` and
+/// `rerun-if-env-changed`, and without any such line the folder of its package (The Cargo Book, Build Scripts). What
+/// lies in the folder of a unit that was reached is left out: that unit covers it. Paths mean what their texts say
+/// (`PathText::join`).
 ///
-/// The inputs of a compile are the paths and variables of its dep-info (The Cargo Book, Build Cache), without
-/// the variables that the command sets. Those of a run are the paths and variables of its lines
-/// `rerun-if-changed` and `rerun-if-env-changed`, and without any such line the folder of its package (The Cargo
-/// Book, Build Scripts). What lies in the folder of a unit that was reached is left out: that unit covers it.
+/// Errors, the first of these:
+///
+/// - `OutputTooLong` and `Status`, by `ended_fault`.
+/// - Of a run: `Directive` if a line of its output has a fault; `ScriptError` if one is `cargo::error`.
+/// - Of a compile: `NoDepInfo` if its dep-info is not there, does not read or is over 4,194,304 bytes.
+/// - `ForeignInput`, of the first input at or below the target folder that is in no folder of a unit that was reached.
+/// - `OutOfMemory`.
 pub fn answered(
     alloc: Global,
     project: &Project,
@@ -313,13 +356,33 @@ pub fn answered(
 ) -> Result<Answered, UnitFault>
     ensures { Gives unit_fault.OutOfMemory (λ a. a) result (answered_of project.now unit.now command.now ended.now (option_map (λ bytes. bytes.now) dep_info.entry)) }
 {
-    match ended_fault(ended) {
-        Some(fault) => Err(fault),
-        None => {
-            let folder = folder_of(project, unit);
-            answered_by(alloc, &unit.unit.what, command, folder, ended, dep_info)
-        }
-    }
+    answered_with(alloc, &ByText {}, project, unit, command, ended, dep_info)
+}
+
+/// Returns what the answer of a unit's child gives, as `answered` does, and with its errors. Paths mean what the place
+/// says (`Place::path_from`): on a machine, a `..` behind a link leads to where the link leads.
+pub fn answered_at<P: Place>(
+    alloc: Global,
+    place: &P,
+    project: &Project,
+    unit: &Planned,
+    command: &Command,
+    ended: &Ended,
+    dep_info: Option<&Bytes>,
+) -> Result<Answered, UnitFault>
+    ensures { IsTrue P.tells →
+        Gives unit_fault.OutOfMemory (λ a. a) result (answered_of project.now unit.now command.now
+        ended.now (option_map (λ bytes. bytes.now) dep_info.entry)) }
+{
+    answered_with(
+        alloc,
+        &ByPlace { place },
+        project,
+        unit,
+        command,
+        ended,
+        dep_info,
+    )
 }
 
 /// The names of the inputs of a unit, as its child's answer tells them: those of `answered`, with its faults.

@@ -4,5 +4,6 @@
 
 mod input_names;
 mod judging;
+mod meaning;
 
-pub use judging::{answered, ended_fault, inputs};
+pub use judging::{answered, answered_at, ended_fault, inputs};

@@ -1,0 +1,62 @@
+//! Which path a text means from a folder.
+
+ghost use Rattle.std.specs.Prelude.{Bool, IsTrue};
+ghost use Rattle.pb_data.specs.Gives.{Gives};
+ghost use Rattle.pb_place.specs.Paths.{joined};
+ghost use Rattle.pb_place.specs.declared.path.PathFault.TheVariants as path_fault;
+
+use pb_place::{PathFault, PathText, Place};
+use std::alloc::Global;
+
+/// Says which path a text means from a folder.
+pub(crate) trait Meaning {
+    /// Whether it is the normalised path, that of `PathText::join`. On a machine with links it may be another one, of
+    /// which contracts say nothing.
+    ghost joins: { Bool };
+
+    /// Returns the path that a text means from a folder.
+    ///
+    /// Errors: those of `PathText::join`.
+    fn path_from(&self, alloc: Global, folder: &PathText, text: &str) -> Result<PathText, PathFault>
+        ensures { IsTrue joins →
+            Gives path_fault.OutOfMemory (λ path. path) result (joined folder.now text.now) };
+}
+
+/// The meaning by the text alone.
+#[derive(Drop)]
+pub(crate) struct ByText {}
+
+impl Meaning for ByText {
+    ghost use Rattle.std.specs.Prelude.{true};
+
+    ghost joins = { true };
+
+    fn path_from(
+        &self,
+        alloc: Global,
+        folder: &PathText,
+        text: &str,
+    ) -> Result<PathText, PathFault> {
+        folder.join(alloc, text)
+    }
+}
+
+/// The meaning at a place.
+#[derive(Drop)]
+pub(crate) struct ByPlace<'a, P> {
+    /// The place that is asked.
+    pub(crate) place: &'a P,
+}
+
+impl<'a, P: Place> Meaning for ByPlace<'a, P> {
+    ghost joins = { P.tells };
+
+    fn path_from(
+        &self,
+        alloc: Global,
+        folder: &PathText,
+        text: &str,
+    ) -> Result<PathText, PathFault> {
+        self.place.path_from(alloc, folder, text)
+    }
+}
