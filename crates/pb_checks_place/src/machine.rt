@@ -10,3 +10,5 @@ mod files;
 mod flying;
 mod folders;
 mod links;
+mod meaning;
+mod moving;

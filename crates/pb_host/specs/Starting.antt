@@ -10,9 +10,9 @@ abbrev pub value_over : List ℕ → Option (Option (List ℕ)) → List (List �
 value_over name before [] = before
 value_over name before (pair ∷ pairs) = value_over name (if bytes_eq pair.0 name then Some (Some pair.1) else before) pairs
 
--- the process has the command's program, its words in order, its folder, and its pairs over what it inherits; nothing else of the environment is changed
-pub record IsProcessOf {A : Type 0} (command : Command) (made : process.Command A) : Type 0 where
-  pub program : command_program made ≡ command.program
+-- the process has the program at this path, the command's words in order, its folder, and its pairs over what it inherits; nothing else of the environment is changed
+pub record IsProcessOf {A : Type 0} (path : List ℕ) (command : Command) (made : process.Command A) : Type 0 where
+  pub program : command_program made ≡ path
   pub words : command_args made ≡ command.words
   pub folder : command_dir made ≡ Some command.folder
   pub inherits : clears_env made ≡ false

@@ -10,6 +10,8 @@ ghost use Rattle.std.specs.Vec.{vec_len, vec_capacity};
 ghost use Rattle.pb_host.specs.Flying.{silent_child};
 
 use crate::listing::{files_below, files_directly, files_outside, folders_directly};
+use crate::meaning::path_from;
+use crate::moving::{Moment, first_moved};
 use crate::reading::{file_at, is_file, variable_of};
 use crate::starting::{finish, spawn};
 use crate::writing::{remove_tree, write_file};
@@ -17,8 +19,8 @@ use pb_data::{Bytes, Items, Text, TryCopy, with_next};
 use pb_memory::Tally;
 use pb_memory::in_flight::{Flying, flies, free_ticket, take_out};
 use pb_place::{
-    Call, ChildInFlight, Command, Ended, FileMap, PathText, Place, PlaceFault, StartFault,
-    ViewFault,
+    Call, ChildInFlight, Command, Ended, FileMap, Moved, PathFault, PathText, Place, PlaceFault,
+    StartFault, ViewFault,
 };
 use std::alloc::{AllocError, Global};
 use std::process::{Child, Processes};
@@ -34,18 +36,44 @@ use std::rt::{Env, Files};
 ///   over such a name.
 /// - `list_folders` returns also folders without files.
 /// - It is a failure to list a folder with folders more than 128 levels below it.
+/// - A folder below a listed one counts as absent if it has the tag that this builder writes in target folders.
+/// - A removal that is refused is tried once more, after the folders there were made writable.
 /// - A removal removes a link itself, and not what it leads to.
 ///
 /// A child inherits the variables of this process under those of its command. It starts in the folder of the command,
-/// with an empty standard input. No contract says what it changes on the disk. Children in flight run side by side; if
-/// one writes more than a pipe holds, it waits for its `finish`. They stay in the process group of this program. A
-/// child whose place is dropped before its `finish` is neither waited for nor ended.
+/// with an empty standard input. A program without a slash in its name is looked for by the `PATH` of this process. No
+/// contract says what a child changes on the disk. Children in flight run side by side; if one writes more than a pipe
+/// holds, it waits for its `finish`. They stay in the process group of this program. A child whose place is dropped
+/// before its `finish` is neither waited for nor ended.
+///
+/// What a child read has moved if it has changed since the child's output folder was made, just before the spawn: by
+/// the change times of files and folders (`ctime`), to which no program can set another.
 #[derive(Drop)]
 pub struct HostPlace<'a, R: Processes> {
     runtime: &'a R,
     tally: Tally,
-    flying: Vec<Flying<Child<R::Started>>>,
+    flying: Vec<Flying<Running<Child<R::Started>>>>,
     most: u64,
+    /// The child that ended last.
+    ended: Option<Spawned>,
+    moved: Vec<Moved>,
+}
+
+/// When a child was spawned, by the clock of the file system of its output folder.
+#[derive(Drop)]
+struct Spawned {
+    /// The output folder.
+    out: PathText,
+    /// None if that cannot be told.
+    since: Option<Moment>,
+}
+
+/// A child that runs.
+#[derive(Drop)]
+struct Running<K> {
+    process: K,
+    /// None if the child has no output folder.
+    spawned: Option<Spawned>,
 }
 
 impl<'a, R: Files + Env + Processes + AllocGlobal> HostPlace<'a, R> {
@@ -59,6 +87,8 @@ impl<'a, R: Files + Env + Processes + AllocGlobal> HostPlace<'a, R> {
             tally: Tally::new(),
             flying: Vec::new(alloc),
             most: 0,
+            ended: None,
+            moved: Vec::new(alloc),
         }
     }
 
@@ -89,8 +119,7 @@ impl<'a, R: Files + Env + Processes + AllocGlobal> HostPlace<'a, R> {
         // Room before the process: one that runs is always known.
         self.flying.reserve(1)?;
         let child = child_in_flight(alloc, command, ticket)?;
-        let process = spawn(self.runtime, alloc, command);
-        let (child, kept) = with_next(child, process)?;
+        let (child, kept) = with_next(child, begun(self.runtime, alloc, command))?;
         self.most = add_child(&mut self.flying, self.most, Flying { child, kept });
         Ok(ticket)
     }
@@ -108,8 +137,67 @@ impl<'a, R: Files + Env + Processes + AllocGlobal> HostPlace<'a, R> {
         let Some(flying) = take_out(&mut self.flying, ticket) else {
             unreachable!();
         };
-        finish(alloc, kept_of(flying))
+        let Running { process, spawned } = kept_of(flying);
+        self.ended = spawned;
+        finish(alloc, process)
     }
+
+    /// Returns when the child of this output folder was spawned, if it is the one that ended last and that can be told.
+    fn since(&self, out: &PathText) -> Option<Moment> {
+        match &self.ended {
+            Some(spawned) if &spawned.out == out => spawned.since,
+            _ => None,
+        }
+    }
+
+    /// Returns whether something has moved for the child of an output folder.
+    fn has_moved(&self, out: &PathText) -> bool {
+        self.moved.iter().any(|moved| &moved.out == out)
+    }
+
+    /// Remembers what has moved for the child of an output folder at or below a path, if something has. What cannot be
+    /// told has moved.
+    fn look_for(
+        &mut self,
+        alloc: Global,
+        target: &PathText,
+        out: &PathText,
+        path: &PathText,
+    ) -> Result<(), AllocError>
+        ensures flying { self.new.flying ≡ self.old.flying }
+        ensures tally { self.new.tally ≡ self.old.tally }
+        ensures most { self.new.most ≡ self.old.most }
+    {
+        if self.has_moved(out) {
+            return Ok(());
+        }
+        let found = match self.since(out) {
+            Some(since) => first_moved(self.runtime, alloc, since, target, path)?,
+            None => Some(path.copy(alloc)?),
+        };
+        if let Some(path) = found {
+            let (path, out) = with_next(path, out.copy(alloc))?;
+            self.moved.push(Moved { path, out })?;
+        }
+        Ok(())
+    }
+}
+
+/// Starts the child of a command, and returns it with when that was.
+fn begun<R: Files + Env + Processes + AllocGlobal>(
+    runtime: &R,
+    alloc: Global,
+    command: &Command,
+) -> Result<Running<Child<R::Started>>, StartFault>
+    ensures fault { IfErr result (λ e. e ≢ StartFault.OutOfMemory → e ≡ StartFault.CannotStart) }
+{
+    let out = command.out.copy(alloc)?;
+    let (out, (process, since)) = with_next(out, spawn(runtime, alloc, command))?;
+    let spawned = match out {
+        Some(out) => Some(Spawned { out, since }),
+        None => None,
+    };
+    Ok(Running { process, spawned })
 }
 
 /// Returns what a place keeps of a child in flight.
@@ -268,6 +356,37 @@ impl<'a, R: Files + Env + Processes + AllocGlobal> Place for HostPlace<'a, R> {
     fn finish(&mut self, alloc: Global, ticket: u64) -> Result<Ended, StartFault> {
         let answer = self.end(alloc, ticket);
         self.tally.count_finish(answer)
+    }
+
+    fn path_from(
+        &self,
+        alloc: Global,
+        folder: &PathText,
+        text: &str,
+    ) -> Result<PathText, PathFault> {
+        path_from(self.runtime, alloc, folder, text)
+    }
+
+    fn watch(
+        &mut self,
+        alloc: Global,
+        command: &Command,
+        path: &PathText,
+    ) -> Result<(), AllocError> {
+        match &command.out {
+            Some(out) => self.look_for(alloc, &command.target, out, path),
+            None => Ok(()),
+        }
+    }
+
+    fn stood_still(&self, command: &Command) -> bool {
+        let reads = command.reads.as_slice();
+        !self.moved.iter().any(|moved| command.out.as_ref() == Some(&moved.out)
+            || reads.contains(&moved.out))
+    }
+
+    fn moved(&self) -> &[Moved] {
+        self.moved.as_slice()
     }
 
     fn files_have_paths(&self) {}

@@ -4,9 +4,14 @@
 mod host_place;
 mod host_view;
 mod listing;
+mod meaning;
+mod moving;
+mod program;
 mod reading;
 mod starting;
+mod tag;
 mod writing;
 
 pub use host_place::HostPlace;
 pub use host_view::HostView;
+pub use tag::{TAG_LINE, TAG_NAME, TAG_TEXT, has_tag_line};

@@ -6,10 +6,11 @@ ghost use Rattle.std.specs.Option.{option_copied};
 ghost use Rattle.pb_host.specs.Listing.{AreBelow, AreOutside, AreOrdered, KeepsBelow, KeepsOutside, StaysBelow, is_left_out};
 
 use crate::reading::{Standing, says_absent, standing_of};
+use crate::tag::is_tagged;
 use crate::writing::fault_of;
 use pb_data::{Items, Text, TryCopy};
 use pb_place::{PathText, PlaceFault, RelativePath};
-use std::alloc::Global;
+use std::alloc::{AllocError, Global};
 use std::rt::Files;
 use std::{fs, io};
 
@@ -28,17 +29,20 @@ fn is_left_out(left_out: Option<&PathText>, path: &PathText) -> bool
 
 /// A folder that is not yet listed.
 #[derive(Drop)]
-struct Waiting {
-    folder: PathText,
+pub(crate) struct Waiting {
+    /// Its path.
+    pub(crate) folder: PathText,
     /// How many folders it lies below the one that is listed.
     depth: u8,
 }
 
 /// What was found so far.
 #[derive(Drop)]
-struct Found {
-    files: Vec<PathText>,
-    waiting: Vec<Waiting>,
+pub(crate) struct Found {
+    /// The files.
+    pub(crate) files: Vec<PathText>,
+    /// The folders that are not yet listed.
+    pub(crate) waiting: Vec<Waiting>,
 }
 
 /// The path of an entry of a folder. List where the entry's name is none.
@@ -114,8 +118,10 @@ fn add_folder(found: &mut Found, path: PathText, above: u8) -> Result<(), PlaceF
     Ok(())
 }
 
-/// Files an entry of a folder: a file is found, and a folder waits. List where its name is none, where it cannot be
-/// told what stands there, and where it is a folder that lies too deep.
+/// Files an entry of a folder: a file is found, and a folder waits.
+///
+/// Errors: `List` if its name is none, if it cannot be told what stands there, or if it is a folder that lies too deep;
+/// `OutOfMemory`.
 fn take_entry<R: Files + AllocGlobal>(
     runtime: &R,
     alloc: Global,
@@ -147,13 +153,30 @@ fn may_be_absent(here: &Waiting, error: &io::Error) -> bool {
     here.depth == 0 && says_absent(error)
 }
 
-/// The entries of a folder; none where it is the one that is listed, and is not there.
+/// Returns whether a folder is passed over: a target folder, by its tag, below the folder that is listed.
+fn is_passed_over<R: Files + AllocGlobal>(
+    runtime: &R,
+    alloc: Global,
+    here: &Waiting,
+) -> Result<bool, AllocError> {
+    if here.depth == 0 {
+        return Ok(false);
+    }
+    is_tagged(runtime, alloc, &here.folder)
+}
+
+/// Returns the entries of a folder. There are none if it is the one that is listed and is not there, or if it is passed
+/// over.
 fn entries_of<'a, R: Files + AllocGlobal>(
     runtime: &'a R,
+    alloc: Global,
     here: &Waiting,
 ) -> Result<Option<fs::ReadDir<&'a R>>, PlaceFault>
     ensures fault { IfErr result (λ e. e ≢ PlaceFault.OutOfMemory → e ≡ PlaceFault.List) }
 {
+    if is_passed_over(runtime, alloc, here)? {
+        return Ok(None);
+    }
     match fs::read_dir(&runtime, here.folder.as_str()) {
         Ok(entries) => Ok(Some(entries)),
         Err(error) if may_be_absent(here, &error) => Ok(None),
@@ -194,7 +217,7 @@ fn take_folder<R: Files + AllocGlobal>(
         (KeepsOutside (option_copied left_out.entry) found.old found.new) }
     ensures fault { IfErr result (λ e. e ≢ PlaceFault.OutOfMemory → e ≡ PlaceFault.List) }
 {
-    let Some(entries) = entries_of(runtime, here)? else {
+    let Some(entries) = entries_of(runtime, alloc, here)? else {
         return Ok(());
     };
     for entry in entries {
@@ -252,7 +275,7 @@ fn take_named<R: Files + AllocGlobal>(
     ensures below { OnOk result (KeepsBelow here.now.folder found.old found.new) }
     ensures fault { IfErr result (λ e. e ≢ PlaceFault.OutOfMemory → e ≡ PlaceFault.List) }
 {
-    let Some(entries) = entries_of(runtime, here)? else {
+    let Some(entries) = entries_of(runtime, alloc, here)? else {
         return Ok(());
     };
     for entry in entries {
@@ -264,7 +287,7 @@ fn take_named<R: Files + AllocGlobal>(
 }
 
 /// What is directly in a folder and is not left out, as it comes. What its folders hold is not looked at.
-fn found_here<R: Files + AllocGlobal>(
+pub(crate) fn found_here<R: Files + AllocGlobal>(
     runtime: &R,
     alloc: Global,
     left_out: Option<&PathText>,

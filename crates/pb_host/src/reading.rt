@@ -89,7 +89,11 @@ fn read_first<F: Read>(file: &mut F, bytes: &mut [u8]) -> io::Result<usize> {
 
 /// The bytes of a file that had so many a moment ago. One call asks for these and one more: if it gives just these, the
 /// file has ended there. Else the rest is read until a call gives nothing.
-fn bytes_at<R: Files + AllocGlobal>(runtime: &R, path: &str, length: u64) -> io::Result<Vec<u8>> {
+pub(crate) fn bytes_at<R: Files + AllocGlobal>(
+    runtime: &R,
+    path: &str,
+    length: u64,
+) -> io::Result<Vec<u8>> {
     let mut file = fs::open(runtime, path)?;
     let mut bytes = Vec::new(runtime.alloc());
     bytes.resize((length as usize).saturating_add(1), 0)?;

@@ -7,12 +7,14 @@ ghost use Rattle.std.specs.IoError.{error_kind};
 ghost use Rattle.pb_place.specs.declared.place.StartFault.TheVariants as start_fault;
 ghost use Rattle.pb_host.specs.Starting.{value_over, IsProcessOf};
 
+use crate::moving::{Moment, moment_of};
+use crate::program::program_of;
 use pb_data::{Bytes, Text, with_next};
 use pb_place::{Command, Ended, StartFault};
 use std::alloc::{AllocError, Global};
 use std::io::ErrorKind;
 use std::process::{Child, OpenProcess, Output, Processes, Stdio};
-use std::rt::Files;
+use std::rt::{Env, Files};
 use std::{fs, io, process};
 
 /// The fault of a start for an error: want of memory, or this one.
@@ -84,11 +86,16 @@ fn fill(made: &mut process::Command, command: &Command) -> Result<(), AllocError
     Ok(())
 }
 
-/// The process of a command: its program and words, in its folder, with its pairs over the inherited variables.
-fn process_of(alloc: Global, command: &Command) -> Result<process::Command, AllocError>
-    ensures { IfOk result (IsProcessOf command.now) }
+/// Returns the process of a command: this program with the command's words, in its folder, with its pairs over the
+/// inherited variables.
+fn process_of(
+    alloc: Global,
+    program: &str,
+    command: &Command,
+) -> Result<process::Command, AllocError>
+    ensures { IfOk result (IsProcessOf program.now command.now) }
 {
-    let mut made = process::Command::new(alloc, command.program.as_str())?;
+    let mut made = process::Command::new(alloc, program)?;
     let filled = fill(&mut made, command);
     let (made, ()) = with_next(made, filled)?;
     Ok(made)
@@ -112,24 +119,40 @@ fn begin<R: Processes>(
     }
 }
 
-/// Starts the child of a command, once its output folder is made.
+/// Makes the output folder of a command, and returns when that was, by the clock of its file system; none if the command
+/// has no output folder, or that cannot be told.
 ///
-/// CannotStart where the output folder cannot be made or the program cannot be started.
-pub(crate) fn spawn<R: Files + Processes>(
+/// Errors: `CannotStart` if the folder cannot be made; `OutOfMemory`.
+fn make_out<R: Files>(runtime: &R, command: &Command) -> Result<Option<Moment>, StartFault>
+    ensures fault { IfErr result (λ e. e ≢ StartFault.OutOfMemory → e ≡ StartFault.CannotStart) }
+{
+    let Some(out) = &command.out else {
+        return Ok(None);
+    };
+    match fs::create_dir_all(runtime, out.as_str()) {
+        Ok(()) => Ok(moment_of(runtime, out)),
+        Err(error) => Err(fault_of(error, StartFault::CannotStart)),
+    }
+}
+
+/// Starts the child of a command, once its output folder is made. Returns it with the moment at which that was: what
+/// changes later changes while the child is at work.
+///
+/// Errors: `CannotStart` if the output folder cannot be made, or the program is not found or cannot be started;
+/// `OutOfMemory`.
+pub(crate) fn spawn<R: Files + Env + Processes + AllocGlobal>(
     runtime: &R,
     alloc: Global,
     command: &Command,
-) -> Result<Child<R::Started>, StartFault>
+) -> Result<(Child<R::Started>, Option<Moment>), StartFault>
     ensures fault { IfErr result (λ e. e ≢ StartFault.OutOfMemory → e ≡ StartFault.CannotStart) }
 {
     // The folder before the child: a compiler does not make it.
-    if let Some(out) = &command.out {
-        if let Err(error) = fs::create_dir_all(runtime, out.as_str()) {
-            return Err(fault_of(error, StartFault::CannotStart));
-        }
-    }
-    let made = process_of(alloc, command)?;
-    begin(runtime, made)
+    let since = make_out(runtime, command)?;
+    let program = program_of(runtime, alloc, command.program.as_str())?;
+    let made = process_of(alloc, program.as_str(), command)?;
+    let child = begin(runtime, made)?;
+    Ok((child, since))
 }
 
 /// Waits for the end of a child and takes in what it writes until then.

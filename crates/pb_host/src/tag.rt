@@ -1,0 +1,55 @@
+//! The tag of a target folder.
+
+use crate::reading::bytes_at;
+use pb_place::PathText;
+use std::alloc::{AllocError, Global};
+use std::fs;
+use std::rt::Files;
+
+/// The name of the file that marks a folder as one that can be made again (Cache Directory Tagging Specification).
+pub const TAG_NAME: &str = "CACHEDIR.TAG";
+
+/// The line by which that file marks a target folder of this builder.
+pub const TAG_LINE: &str = "# This is a target folder of pb_tool.";
+
+/// The file that this builder writes. Its first line is that of the specification.
+pub const TAG_TEXT: &str = "Signature: 8a477f597d28d172789f06886806bc55
+# This is a target folder of pb_tool.
+# For information about cache directory tags see https://bford.info/cachedir/
+";
+
+/// The most bytes of such a file. A longer one is none.
+const MOST_BYTES: u64 = 4096;
+
+/// Returns whether one of the lines of a text is that of this builder.
+pub fn has_tag_line(text: &[u8]) -> bool {
+    text.split(|byte| *byte == b'\n')
+        .any(|line| line == TAG_LINE.as_bytes())
+}
+
+/// Returns whether the file at a path marks a target folder of this builder. A file that cannot be read does not.
+fn is_tag<R: Files + AllocGlobal>(runtime: &R, path: &str) -> bool {
+    let length = match fs::metadata(runtime, path) {
+        Ok(metadata) if metadata.is_file() => metadata.len(),
+        _ => return false,
+    };
+    if length > MOST_BYTES {
+        return false;
+    }
+    match bytes_at(runtime, path, length) {
+        Ok(bytes) => has_tag_line(bytes.as_slice()),
+        Err(_) => false,
+    }
+}
+
+/// Returns whether a folder is a target folder of this builder, by its tag.
+///
+/// Errors: out of memory only.
+pub(crate) fn is_tagged<R: Files + AllocGlobal>(
+    runtime: &R,
+    alloc: Global,
+    folder: &PathText,
+) -> Result<bool, AllocError> {
+    let path = format!(in alloc; "{}/{TAG_NAME}", folder.as_str())?;
+    Ok(is_tag(runtime, path.as_str()))
+}
