@@ -2,6 +2,7 @@
 
 ghost use Rattle.std.specs.Prelude.{◌≡◌, true, IsTrue, IfOk, OnOk, OnErr, Some, map};
 ghost use Rattle.pb_place.specs.declared.call.Call.TheVariants as call;
+ghost use Rattle.pb_place.specs.At.{IsUnchanged};
 ghost use Rattle.pb_place.specs.Paths.{is_at_or_below};
 ghost use Rattle.pb_place.specs.World.{Torn, written};
 ghost use Rattle.pb_soundness.specs.Grounded.{Standing};
@@ -197,12 +198,76 @@ fn kept_now<P: Place>(
     }
 }
 
+/// Looks whether an input has moved since the child of a command was spawned. Variables stand still.
+fn watch<P: Place>(
+    alloc: Global,
+    place: &mut P,
+    command: &Command,
+    name: &InputName,
+) -> Result<(), AllocError>
+    ensures { IsUnchanged (P.at place.old) (P.at place.new) }
+{
+    match name {
+        InputName::Path(path) => place.watch(alloc, command, path),
+        InputName::Variable(_) => Ok(()),
+    }
+}
+
+/// Returns whether all that the child of a command read has stood still since it was spawned: these inputs, and what the
+/// units wrote in whose folders it reads.
+fn stood_still<P: Place>(
+    alloc: Global,
+    place: &mut P,
+    command: &Command,
+    names: &[InputName],
+) -> Result<bool, AllocError>
+    ensures still { IsTrue P.tells → IfOk result (λ still. still ≡ true) }
+    ensures unchanged { IsUnchanged (P.at place.old) (P.at place.new) }
+{
+    for name in names {
+        watch(alloc, place, command, name)?;
+    }
+    Ok(place.stood_still(command))
+}
+
+/// Writes a record in its unit's place, if all that the child of its command read has stood still. It is asked for once
+/// the record is made: what changes later differs from the values that it has.
+fn put_still<P: Place>(
+    alloc: Global,
+    place: &mut P,
+    folder: &PathText,
+    key: &Key,
+    command: &Command,
+    names: &[InputName],
+    kept: &Record,
+) -> Result<(), StoreFault>
+    ensures record { IsTrue P.tells → kept.now.key ≡ key.now →
+        PutsRecord P.child folder.now key.now kept.now result (P.at place.old).world
+        (P.at place.new).world }
+    ensures only { ChangesOnlyAt (is_at_or_below (place_of folder.now key.now)) MayWrite result
+        (P.at place.old) (P.at place.new) }
+    ensures calls { IsTrue P.tells →
+        CallsOnce (call.Write (place_of folder.now key.now)) result (P.at place.old).counts
+        (P.at place.new).counts }
+    ensures written { FailsToWrite (place_of folder.now key.now) result
+        (P.at place.new).counts }
+{
+    match stood_still(alloc, place, command, names) {
+        Ok(true) => put_record(alloc, place, folder, key, kept),
+        Ok(false) => Ok(()),
+        Err(_) => Err(StoreFault::OutOfMemory),
+    }
+}
+
 impl Store {
     /// Keeps the record of a unit whose answer is good, with the number that `drop_record` returned. The command
     /// writes into the unit's folder, and its variables are sorted by name, each once. `needs` are the keys of the
     /// units that the unit needs, in plan order. `names` are the inputs found in its answer: their present values are
     /// read and kept. After an error the unit has no record, its old one, or the new one. The contract then promises
     /// nothing about the run numbers in the store.
+    ///
+    /// If something that the child read has moved since it was spawned (`Place::watch`), no record is written, since the
+    /// child may not have read the present values. That never happens at a place that tells its maps.
     ///
     /// Errors: `Place` if an input cannot be read or the record not written; `OutOfMemory`.
     pub fn keep<P: Place>(
@@ -262,7 +327,7 @@ impl Store {
                 return Err(fault);
             }
         }
-        match put_record(alloc, place, &self.folder, key, &kept) {
+        match put_still(alloc, place, &self.folder, key, command, names, &kept) {
             Ok(()) => {
                 drop(kept);
                 Ok(())
