@@ -2,7 +2,6 @@
 use Rattle.std.specs.Prelude.{◌≡◌, ◌⊎◌, ℕ, Bool, List, Option, Some, None, Result, Ok, MatchResult, ◌++◌, ◌∷◌, if◌then◌else◌, is_some, [], map, Err, IsOk, IfOk, IfErr, IfSome, ◌≢◌, ◌+◌, true, IsTrue, IsSome, MatchOption, OnOk, length, max, slice_set, false, slice_get}
 use Rattle.std.specs.FinMap as finite
 use Rattle.pb_answer.specs.declared.bad_unit.BadUnit.{BadUnit}
-use Rattle.pb_answer.specs.declared.fault.BuildFault.TheVariants as build
 use Rattle.pb_command.specs.Command.{command_of}
 use Rattle.pb_command.specs.Judge.{file_at}
 use Rattle.pb_directive.specs.declared.directive.Directive.{Directive}

@@ -90,9 +90,9 @@ fn judged_now<P: Place>(
         Ok(path) => path,
         Err(_) => return Err(OUT_OF_MEMORY),
     };
-    // Dep-info before judging: the judgement is of bytes, and makes no call.
+    // Dep-info before judging: the judgement makes no counted call.
     let dep_info = read_at(alloc, place, &path)?;
-    match judged(alloc, project.get(), unit, command, ended, &dep_info) {
+    match judged(alloc, place, project.get(), unit, command, ended, &dep_info) {
         Ok(judgement) => Ok(judgement),
         Err(_) => Err(OUT_OF_MEMORY),
     }
@@ -270,6 +270,10 @@ fn reuse<P: Place>(
     }
     // A record with a number stays as it is.
     if again.numbered {
+        return Ok(ran);
+    }
+    // What has moved is built again, and no record must name it.
+    if !place.stood_still(command) {
         return Ok(ran);
     }
     let needs = match needed_keys(alloc, project, unit) {

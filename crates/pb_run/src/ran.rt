@@ -1,6 +1,6 @@
 //! What came of a unit, by the answer of its child.
 
-ghost use Rattle.std.specs.Prelude.{◌≡◌, ◌≢◌, IfOk, Result, Ok, Err, true};
+ghost use Rattle.std.specs.Prelude.{◌≡◌, ◌≢◌, IfOk, IsTrue, Result, Ok, Err, true};
 ghost use Rattle.pb_judging.specs.Answers.{answered_of};
 ghost use Rattle.pb_project.specs.declared.answer.Answered.{Answered};
 ghost use Rattle.pb_project.specs.declared.fault.UnitFault.TheVariants as unit_fault;
@@ -8,11 +8,11 @@ ghost use Rattle.std.specs.FinMap as finite;
 ghost use Rattle.pb_run.specs.Outcome.{judgement_by, outcome_by, directives_in};
 
 use pb_answer::BadUnit;
-use pb_command::answered;
+use pb_command::answered_at;
 use pb_data::{Bytes, Items};
 use pb_directive::Directives;
 use pb_message::Message;
-use pb_place::{Command, Ended};
+use pb_place::{Command, Ended, Place};
 use pb_project::{Answered, Project, UnitFault};
 use pb_record::InputName;
 use pb_unit::Planned;
@@ -89,24 +89,35 @@ fn bad(
     })
 }
 
-/// Judges the answer of a unit's child. `dep_info` is the content of the unit's dep-info file, if it has one.
+/// Judges the answer of a unit's child. `dep_info` is the content of the unit's dep-info file, if it has one. The place
+/// says which paths the answer means.
 ///
 /// Errors: out of memory only.
-pub fn judged(
+pub fn judged<P: Place>(
     alloc: Global,
+    place: &P,
     project: &Project,
     unit: &Planned,
     command: &Command,
     ended: &Ended,
     dep_info: &Option<Bytes>,
 ) -> Result<Judgement, AllocError>
-    ensures judged { IfOk result (λ judgement. judgement ≡ judgement_by project.now unit.now
-        ended.now (answered_of project.now unit.now command.now ended.now dep_info.now)) }
+    ensures judged { IsTrue P.tells → IfOk result (λ judgement. judgement ≡ judgement_by
+        project.now unit.now ended.now (answered_of project.now unit.now command.now ended.now
+        dep_info.now)) }
     ensures started { IfOk result (λ judgement. judgement.ran.started ≡ true) }
     ensures directives { IfOk result (λ judgement.
         directives_in (outcome_by finite.empty judgement.ran) ≡ judgement.ran.directives) }
 {
-    match answered(alloc, project, unit, command, ended, dep_info.as_ref()) {
+    match answered_at(
+        alloc,
+        place,
+        project,
+        unit,
+        command,
+        ended,
+        dep_info.as_ref(),
+    ) {
         Ok(answered) => good(alloc, project, unit, ended, answered),
         Err(UnitFault::OutOfMemory) => Err(AllocError),
         Err(fault) => bad(alloc, project, unit, ended, fault),
