@@ -76,7 +76,7 @@ pub record IsOptions (called folder : Text) (rows : List Row) (options : Options
   pub bin : options.bin ≡ values_of (codes "bin") rows
   pub target_dir : options.target_dir ≡ first_of (codes "target-dir") rows
   pub runner : options.runner ≡ words_of (unwrap_or (first_of (codes "runner") rows) [])
-  pub tool : options.tool ≡ called
+  pub tool : options.tool ≡ unwrap_or (first_of (codes "tool") rows) called
   pub jobs : IsJobs (first_of (codes "jobs") rows) options.jobs
 
 -- what a subcommand with these values asks for

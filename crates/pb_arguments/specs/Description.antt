@@ -39,11 +39,15 @@ at_one_time = record (option (codes "jobs")) { short = Some 106 } ∷ []
 abbrev pub telling : List Rule
 telling = flag (codes "explain") ∷ []
 
--- where it is read from and written to, and in which of these forms
+-- where it is read from and written to, in which of these forms, and what is started for it and told to children
 abbrev pub places : ValueParser → List Rule
 places formats =
     option (codes "manifest-path") ∷ option (codes "target-dir")
-    ∷ record (option (codes "message-format")) { parser = Some formats } ∷ option (codes "runner") ∷ []
+    ∷ record (option (codes "message-format")) { parser = Some formats } ∷ option (codes "runner") ∷ option (codes "tool") ∷ []
+
+-- options of cargo that need no work here: nothing is downloaded, and there is no lock file
+abbrev pub without_effect : List Rule
+without_effect = flag (codes "locked") ∷ flag (codes "offline") ∷ flag (codes "frozen") ∷ []
 
 -- JSON alone
 abbrev pub IsJson : ValueParser → Type 0
@@ -57,7 +61,7 @@ with_rules (rule ∷ rules) app = with_rules rules (with_rule app rule)
 
 -- `pb_tool build`
 abbrev pub build : ValueParser → App
-build formats = with_rules (places formats) (with_rules telling (with_rules at_one_time (with_rules features (with_rules selection (new_app (codes "build"))))))
+build formats = with_rules without_effect (with_rules (places formats) (with_rules telling (with_rules at_one_time (with_rules features (with_rules selection (new_app (codes "build")))))))
 
 -- `pb_tool session FILE`
 abbrev pub session : App

@@ -116,7 +116,7 @@ fn session_command<'a>(alloc: Global) -> Result<Command<'a>, AllocError>
 }
 
 /// The options of a build, in the order of help.
-static OPTIONS: [Described; 16] = [
+static OPTIONS: [Described; 20] = [
     // What of the workspace is built.
     Described {
         name: "package",
@@ -249,6 +249,39 @@ static OPTIONS: [Described; 16] = [
         value: &["WORDS"],
         among: None,
         help: "A program and its words, put before the path of a build script",
+    },
+    Described {
+        name: "tool",
+        short: None,
+        action: None,
+        value: &["TEXT"],
+        among: None,
+        help: "What children are told as `CARGO` (default: this program, as it was called)",
+    },
+    // Options of cargo that need no work here.
+    Described {
+        name: "locked",
+        short: None,
+        action: Some(ArgAction::SetTrue),
+        value: &[],
+        among: None,
+        help: "No effect: there is no lock file",
+    },
+    Described {
+        name: "offline",
+        short: None,
+        action: Some(ArgAction::SetTrue),
+        value: &[],
+        among: None,
+        help: "No effect: nothing is downloaded",
+    },
+    Described {
+        name: "frozen",
+        short: None,
+        action: Some(ArgAction::SetTrue),
+        value: &[],
+        among: None,
+        help: "No effect: both",
     },
 ];
 

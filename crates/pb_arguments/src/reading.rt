@@ -156,7 +156,7 @@ struct Named {
     bin: Items<Text>,
 }
 
-/// Where all that is made goes, and whom a build starts: what runs the build scripts, and the builder itself.
+/// Where all that is made goes, what runs the build scripts, and what children are told that the builder is.
 #[derive(Drop)]
 struct Tools {
     target_dir: Option<Text>,
@@ -211,15 +211,25 @@ fn named_of(alloc: Global, matches: &ArgMatches<'_>) -> Result<Named, AllocError
     })
 }
 
+/// Returns what children are told that the builder is: what is given for that, else how it was called.
+fn told_tool(alloc: Global, tool: &str, matches: &ArgMatches<'_>) -> Result<Text, AllocError>
+    ensures { IfOk result (λ told. told ≡ unwrap_or (first_of (codes "tool") (rows_of (found_of matches.now))) tool.now) }
+{
+    match value_of(alloc, matches, "tool")? {
+        Some(told) => Ok(told),
+        None => Text::from_str(alloc, tool),
+    }
+}
+
 /// Where all that is made goes, and whom a build starts.
 fn tools_of(alloc: Global, tool: &str, matches: &ArgMatches<'_>) -> Result<Tools, AllocError>
     ensures target_dir { IfOk result (λ tools. tools.target_dir ≡ first_of (codes "target-dir") (rows_of (found_of matches.now))) }
     ensures runner { IfOk result (λ tools. tools.runner ≡ words_of (unwrap_or (first_of (codes "runner") (rows_of (found_of matches.now))) [])) }
-    ensures tool { IfOk result (λ tools. tools.tool ≡ tool.now) }
+    ensures tool { IfOk result (λ tools. tools.tool ≡ unwrap_or (first_of (codes "tool") (rows_of (found_of matches.now))) tool.now) }
 {
     let target_dir = value_of(alloc, matches, "target-dir")?;
     let runner = parted(alloc, first_or(matches, "runner", ""))?;
-    let tool = Text::from_str(alloc, tool)?;
+    let tool = told_tool(alloc, tool, matches)?;
     Ok(Tools {
         target_dir,
         runner,
