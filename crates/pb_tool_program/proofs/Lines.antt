@@ -12,7 +12,8 @@ use Rattle.pb_session.specs.declared.step.SessionStep.{SessionStep}
 use Rattle.pb_build.specs.Session.{Breaks, Course, Point, point}
 use Rattle.pb_build.specs.declared.sessions.Answer.{Answer}
 use Rattle.pb_tool_program.specs.Session.{SessionStopped, SessionWritten, small_compiler, lines_of}
-use Rattle.pb_tool_program.specs.Building.{notes_of}
+use Rattle.pb_place.specs.declared.moved.Moved.{Moved}
+use Rattle.pb_tool_program.specs.Building.{notes_of, moved_notes}
 use Rattle.pb_tool_program.specs.Writing.{Tells, TellsOr, Writes}
 
 pub session_written : (whole : Bool) (bytes : List ℕ) (read steps : List SessionStep) (first last : Held) (old mid new : Heard) (answers told : List Answer)
@@ -73,6 +74,10 @@ tells_some lost (byte ∷ bytes) old new some tells = tells
 pub notes_some : (names : List (List ℕ)) → length names == 0 ≡ false → notes_of names ≢ []
 notes_some [] none = absurd (false≢true (sym none))
 notes_some (name ∷ names) some = λ e. cc
+
+pub moved_some : (moved : List Moved) → length moved == 0 ≡ false → moved_notes moved ≢ []
+moved_some [] none = absurd (false≢true (sym none))
+moved_some (one ∷ others) some = λ e. cc
 
 pub said_some : (bad : Option (List ℕ × UnitFault)) (said : List ℕ) → is_some bad ≡ true → length said == 0 ≡ false → said_by_bad bad said ≢ []
 said_some None said is_bad some = absurd (false≢true is_bad)

@@ -1,7 +1,9 @@
 -- What `pb_tool build` does.
-use Rattle.std.specs.Prelude.{◌≡◌, ◌⊎◌, ℕ, zero, suc, Bool, true, false, codes, List, [], ◌∷◌, ◌++◌, Option, Some, None, Result, Ok, Err}
+use Rattle.std.specs.Prelude.{◌≡◌, ◌⊎◌, ℕ, zero, suc, Bool, true, false, IsTrue, codes, List, [], ◌∷◌, ◌++◌, Option, Some, None, Result, Ok, Err}
 use Rattle.pb_place.specs.Counts.{Counts}
+use Rattle.pb_place.specs.Paths.{last_part}
 use Rattle.pb_place.specs.World.{Answers}
+use Rattle.pb_place.specs.declared.moved.Moved.{Moved}
 use Rattle.pb_answer.specs.Explanation.{explanation, said_by_bad}
 use Rattle.pb_answer.specs.ResultLine.{result_line}
 use Rattle.pb_answer.specs.declared.fault.BuildFault.{BuildFault}
@@ -29,16 +31,24 @@ abbrev pub notes_of : List (List ℕ) → List ℕ
 notes_of [] = []
 notes_of (name ∷ names) = codes "note: " ++ name ++ codes " has no library\n" ++ notes_of names
 
+-- a line for each unit that is built again, since something that its child read was changed while the child was at work: its key is the name of its output folder
+abbrev pub moved_notes : List Moved → List ℕ
+moved_notes [] = []
+moved_notes (one ∷ others) = codes "note: " ++ one.path ++ codes " was changed while " ++ last_part one.out ++ codes " was built: it will be built again\n" ++ moved_notes others
+
 -- why a build failed
 abbrev pub error_of : Result Summary BuildFault → List ℕ
 error_of answer = codes "error: " ++ result_line answer ++ codes "\n"
 
--- what is told where memory is refused for why a build failed, for notes, for reasons, for what a child said, or for what a fault is about
+-- what is told if memory is refused for why a build failed, for notes of either kind, for reasons, for what a child said, or for what a fault is about
 abbrev pub why_lost : List ℕ
 why_lost = codes "error: out of memory for why the build failed\n"
 
 abbrev pub notes_lost : List ℕ
 notes_lost = codes "note: out of memory for notes of packages without a library\n"
+
+abbrev pub moved_lost : List ℕ
+moved_lost = codes "note: out of memory for what was changed during the build\n"
 
 abbrev pub reasons_lost : List ℕ
 reasons_lost = codes "note: out of memory for the reasons\n"
@@ -106,5 +116,10 @@ pub record BuildsTold (tells : Bool) (child : Answers) (Guards : Option (List �
   pub answer : Result Summary BuildFault
   pub on : BuildsOnFirst tells child options plan answer planned new
   pub builds : BuildsFirst tells child options answer old new
+  -- what the place says was changed during the build is told. In the maps nothing is.
+  pub moved : List Moved
+  pub stood : IsTrue tells → moved ≡ []
+  pub marked : Heard
+  pub marks : TellsOr moved_lost (moved_notes moved) held marked
   -- what is told behind it
-  pub concluded : Concludes explain answer status held said_after
+  pub concluded : Concludes explain answer status marked said_after

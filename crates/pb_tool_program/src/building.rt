@@ -1,15 +1,15 @@
 //! `pb_tool build` over any place.
 
-ghost use Rattle.std.specs.Prelude.{◌≡◌, [], ◌++◌, IfOk, OnOk, Result, Some, string_bytes, codes};
+ghost use Rattle.std.specs.Prelude.{◌≡◌, [], ◌∷◌, ◌++◌, IfOk, OnOk, Result, Some, string_bytes, codes};
 ghost use Rattle.std.specs.Io.KnownBytes.{Appends};
 ghost use Rattle.pb_build.specs.Ending.{BuildsFirst};
 ghost use Rattle.pb_turns.specs.Crew.{Moment, moment};
 ghost use Rattle.pb_answer.specs.ResultLine.{result_line};
 ghost use Rattle.pb_answer.specs.declared.fault.BuildFault.{BuildFault};
 ghost use Rattle.pb_answer.specs.declared.summary.Summary.{Summary};
-ghost use Rattle.pb_tool_program.specs.Building.{status_of, notes_of, error_of, folder_of, NotesOf, TellsDetail, TellsReasons, TellsSaid, TellsWhy, Concludes, BuildsTold};
+ghost use Rattle.pb_tool_program.specs.Building.{status_of, notes_of, moved_lost, moved_notes, error_of, folder_of, NotesOf, TellsDetail, TellsReasons, TellsSaid, TellsWhy, Concludes, BuildsTold};
 ghost use Rattle.pb_tool_program.specs.Guarding.{Guarded, waiting};
-ghost use Rattle.pb_tool_program.specs.Writing.{Tells};
+ghost use Rattle.pb_tool_program.specs.Writing.{Tells, TellsOr};
 
 use crate::details::detail;
 use crate::guard::Guard;
@@ -17,7 +17,7 @@ use pb_answer::{BuildFault, Summary, explanation, result_line, said};
 use pb_build::{BuildPlan, build_plan, plan_build};
 use pb_data::Text;
 use pb_package::Options;
-use pb_place::{Out, PathText, Place, write_all};
+use pb_place::{Moved, Out, PathText, Place, write_all};
 use std::alloc::{AllocError, Global};
 
 /// The status of a build: 0 where all its units are good, else 101.
@@ -49,6 +49,46 @@ fn notes_of(alloc: Global, names: &[Text]) -> Result<String, AllocError>
         push_note(&mut notes, name.as_str())?;
     }
     Ok(notes)
+}
+
+/// Adds the line of a unit that is built again.
+fn push_moved(notes: &mut String, moved: &Moved) -> Result<(), AllocError>
+    ensures { OnOk result (string_bytes notes.new ≡ string_bytes notes.old
+        ++ moved_notes (moved.now ∷ [])) }
+{
+    notes.push_str("note: ")?;
+    notes.push_str(moved.path.as_str())?;
+    notes.push_str(" was changed while ")?;
+    notes.push_str(moved.out.last_part())?;
+    notes.push_str(" was built: it will be built again\n")?;
+    Ok(())
+}
+
+/// Returns a line for each unit that is built again, since something that its child read was changed meanwhile.
+fn moved_notes(alloc: Global, moved: &[Moved]) -> Result<String, AllocError>
+    ensures { IfOk result (λ notes. string_bytes notes ≡ moved_notes moved.now) }
+{
+    let mut notes = String::new(alloc);
+    for one in moved {
+        push_moved(&mut notes, one)?;
+    }
+    Ok(notes)
+}
+
+/// Tells what was changed during a build. If memory is refused for that, a line says so, which takes none.
+fn mark<E: Out>(alloc: Global, err: &mut E, moved: &[Moved])
+    ensures { TellsOr moved_lost (moved_notes moved.now) (E.heard err.old) (E.heard err.new) }
+{
+    if moved.is_empty() {
+        return;
+    }
+    match moved_notes(alloc, moved) {
+        Ok(lines) => write_all(err, lines.as_bytes()),
+        Err(_) => write_all(
+            err,
+            b"note: out of memory for what was changed during the build\n",
+        ),
+    };
 }
 
 /// The line that tells why a build failed.
@@ -202,7 +242,8 @@ fn conclude<E: Out>(
 
 /// Builds, and gives the status: 0 for success, 101 for a build that failed or was refused, with `error: ` and its
 /// result line on `err`. Message lines go to `out` in plan order, as they are due. Before the build a line `note: NAME has no library`
-/// goes to `err` for each package to which an enabled dependency leads and that has no library; behind it, where that
+/// goes to `err` for each package to which an enabled dependency leads and that has no library; behind it what was
+/// changed while a unit was built that read it, which is then built again by the next build; where that
 /// is asked for, why each child was started; what the child of a bad unit wrote that no message line holds; and what
 /// the fault is about, as the path of a manifest, where it says more than its name. Between the plan and the compiler's query the guard is asked for the target folder; where another build has it, a line on
 /// `err` says so, and this one waits.
@@ -225,5 +266,6 @@ pub fn build_options<P: Place, G: Guard<P, E>, O: Out, E: Out>(
     // After the plan: a refused build makes no folder.
     hold(guard, place, err, &plan);
     let answer = build_plan(alloc, place, out, options, plan);
+    mark(alloc, err, place.moved());
     conclude(alloc, err, explain, &answer)
 }

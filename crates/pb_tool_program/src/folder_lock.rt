@@ -3,26 +3,102 @@
 ghost use Rattle.std.specs.Prelude.{⊤};
 
 use crate::guard::Guard;
+use pb_host::{TAG_LINE, TAG_NAME, TAG_TEXT, has_tag_line};
 use pb_place::{Out, PathText, Place};
-use std::fs;
 use std::fs::{File, TryLockError};
+use std::io::ErrorKind;
+use std::os::unix::fs::MetadataExt;
+use std::{fs, io};
 
 /// A lock of the system on a target folder itself, which leaves no file behind. It is held until this is dropped or the
 /// process ends, however that comes about; no child has it. A folder that is not there yet is made. One that cannot be
 /// made or locked is not guarded: the build goes on, and says itself what is wrong with the folder.
+///
+/// The folder that is locked is the one to which the path leads once the lock is held: if another took its place
+/// meanwhile, that one is locked.
+///
+/// A folder that is held gets the tag of a target folder, `CACHEDIR.TAG`, so that programs do not back it up, and builds
+/// do not take it for sources. A tag of another program gets one line more. A tag that cannot be written is none.
 #[derive(Drop)]
 pub(crate) struct FolderLock<'a> {
     runtime: &'a HostRuntime,
+    path: Option<String>,
     folder: Option<File>,
 }
 
 impl<'a> FolderLock<'a> {
-    /// A guard that holds no folder.
+    /// Returns a guard that holds no folder.
     pub(crate) fn new(runtime: &'a HostRuntime) -> FolderLock<'a> {
         FolderLock {
             runtime,
+            path: None,
             folder: None,
         }
+    }
+
+    /// Makes a folder, and opens it.
+    fn open(&self, path: &str) -> io::Result<File> {
+        fs::create_dir_all(self.runtime, path)?;
+        File::open(self.runtime, path)
+    }
+
+    /// Returns whether a path still leads to an open folder.
+    fn leads_to(&self, path: &str, folder: &File) -> bool {
+        match (fs::metadata(self.runtime, path), folder.metadata()) {
+            (Ok(there), Ok(held)) => there.dev() == held.dev() && there.ino() == held.ino(),
+            _ => false,
+        }
+    }
+
+    /// Opens a folder and tries to lock it. Returns whether another has it.
+    fn try_lock(&mut self, path: &str) -> io::Result<bool> {
+        for _ in 0..u64::MAX {
+            let folder = self.open(path)?;
+            match folder.try_lock() {
+                Ok(()) if self.leads_to(path, &folder) => {
+                    self.folder = Some(folder);
+                    return Ok(false);
+                }
+                // Another folder stands there now.
+                Ok(()) => {}
+                Err(TryLockError::WouldBlock) => return Ok(true),
+                Err(TryLockError::Error(error)) => return Err(error),
+            }
+        }
+        Ok(true)
+    }
+
+    /// Opens a folder and waits for its lock.
+    fn lock(&mut self, path: &str) -> io::Result<()> {
+        for _ in 0..u64::MAX {
+            let folder = self.open(path)?;
+            folder.lock()?;
+            if self.leads_to(path, &folder) {
+                self.folder = Some(folder);
+                return Ok(());
+            }
+        }
+        Ok(())
+    }
+
+    /// Puts the tag in a folder that is held, unless it is there.
+    fn mark(&self, folder: &str) -> io::Result<()> {
+        let path = format!(in self.runtime.alloc(); "{folder}/{TAG_NAME}")?;
+        let old = match fs::read(self.runtime, path.as_str()) {
+            Ok(old) => old,
+            Err(error) if error.kind() == ErrorKind::NotFound => {
+                return fs::write(self.runtime, path.as_str(), TAG_TEXT.as_bytes());
+            }
+            Err(error) => return Err(error),
+        };
+        if has_tag_line(old.as_slice()) {
+            return Ok(());
+        }
+        let mut new = old;
+        new.extend_from_slice(b"\n")?;
+        new.extend_from_slice(TAG_LINE.as_bytes())?;
+        new.extend_from_slice(b"\n")?;
+        fs::write(self.runtime, path.as_str(), new.as_slice())
     }
 }
 
@@ -32,24 +108,25 @@ impl<'a, P: Place, E: Out> Guard<P, E> for FolderLock<'a> {
     ghost waits = { λ old counts heard new. ⊤ };
 
     fn is_taken(&mut self, place: &P, err: &E, folder: &PathText) -> bool {
-        if fs::create_dir_all(self.runtime, folder.as_str()).is_err() {
-            return false;
+        match self.try_lock(folder.as_str()) {
+            Ok(false) => {
+                let _ = self.mark(folder.as_str());
+                false
+            }
+            Ok(true) => {
+                self.path = String::from_str(self.runtime.alloc(), folder.as_str()).ok();
+                true
+            }
+            Err(_) => false,
         }
-        let Ok(file) = File::open(self.runtime, folder.as_str()) else {
-            return false;
-        };
-        let taken = match file.try_lock() {
-            Ok(()) => false,
-            Err(TryLockError::WouldBlock) => true,
-            Err(TryLockError::Error(_)) => return false,
-        };
-        self.folder = Some(file);
-        taken
     }
 
     fn wait(&mut self, place: &P, err: &E) {
-        if let Some(file) = &self.folder {
-            let _ = file.lock();
+        let Some(path) = self.path.take() else {
+            return;
+        };
+        if self.lock(path.as_str()).is_ok() {
+            let _ = self.mark(path.as_str());
         }
     }
 }

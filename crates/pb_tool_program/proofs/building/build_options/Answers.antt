@@ -28,5 +28,9 @@ returns g c =
       answer = c.build_plan-answer.result;
       on = c.build_plan-answer.ensures.on;
       builds = c.build_plan-answer.ensures.builds before plans;
+      moved = c.moved.result.now;
+      stood = c.moved.ensures;
+      marked = (g.E.Out.heard c.mark.new.err);
+      marks = c.mark.ensures;
       concluded = c.conclude.ensures;
     }
