@@ -3,13 +3,13 @@
 # behind a script of the shell.
 #
 #   a second build    two builds in one target folder: the second one says that it waits, and does
-#   an edit           the source changes after the compiler has read it and before it ends; no promise is about that
+#   an edit           the source changes after the compiler has read it and before it ends: the next build makes it again
 #
 # After each scene it builds twice more, and says whether the library is told as fresh, whether it is there, and whether
 # it is made of the source that stands. Then pairs of builds begin at one moment, PAIRS times (20), with an edit before
 # each; one of both and a build after them have to say what a build from nothing says. PROGRAM=FILE and COMPILER=FILE
-# take a `pb_tool` and a `pb_mini` that are made already. The status is 1 where a library is told that is not there or is
-# made of another source, but for the second scene.
+# take a `pb_tool` and a `pb_mini` that are made already. The status is 1 if a library is told that is not there or is
+# made of another source.
 set -euo pipefail
 top="$(cd "$(dirname "$0")/.." && pwd)"
 folder="$(mktemp -d)"
@@ -55,7 +55,6 @@ until [ -e begun ]; do sleep 0.02; done
 wait $! || true
 echo "a second build: it says '$(cat two)', and the lines of the two end with '$(tail -n 1 one)' and '$(tail -n 1 other)'"
 again "a second build"
-told=$wrong
 
 scene edit <<'SH'
 "$COMPILER" "$@" || exit $?
@@ -63,7 +62,6 @@ scene edit <<'SH'
 SH
 "$PROGRAM" build > one 2>&1
 again "an edit"
-wrong=$told
 
 mkdir -p "$folder/pairs/src"
 cd "$folder/pairs"

@@ -1,0 +1,230 @@
+#!/usr/bin/env bash
+# Scenes in which a real machine is no map of paths: links, folders of two names, rights, locks, programs of one name.
+# Each scene says what came and what has to come. With `cargo` and `rustc` (CARGO=no leaves them out) the scenes of
+# links are built by cargo too, with an edit between two builds, and both have to make the same program.
+#
+# PROGRAM=FILE and COMPILER=FILE take a `pb_tool` and a `pb_mini` that are made already. The scene of rights needs a
+# user `nobody` if it is run by root. The status is 1 if a scene is wrong.
+set -euo pipefail
+top="$(cd "$(dirname "$0")/.." && pwd)"
+folder="$(mktemp -d)"
+chmod 755 "$folder"
+trap 'chmod -R u+rwx "$folder"; rm -rf "$folder"' EXIT
+. "$top/bench/program.sh"
+export PROGRAM="${PROGRAM:-$(make_program "$top" "$folder")}"
+export COMPILER="${COMPILER:-$(make_compiler "$top" "$folder")}"
+unset RUSTFLAGS CARGO_TARGET_DIR
+wrong=0
+
+# say NAME WANTED CAME
+say() {
+    if [ "$2" = "$3" ]; then
+        echo "right  $1: $3"
+    else
+        echo "WRONG  $1: $3, and not $2"
+        wrong=1
+    fi
+}
+
+package() {
+    mkdir -p "$1/src"
+    printf '[package]\nname = "%s"\nversion = "0.1.0"\nedition = "2021"\n' "$2" > "$1/Cargo.toml"
+}
+
+started() { sed -n 's/^\([0-9]* started\), .*/\1/p' "$1"; }
+
+# A link, and `..` behind it. Each scene leaves a workspace at `ws`, whose binary `a` prints what is in the file `edited`.
+
+linked_source() {
+    mkdir -p real/src
+    package ws a
+    rmdir ws/src
+    ln -s ../real/src ws/src
+    edited=real/greeting.txt
+    echo 'fn main() { print!("{}", include_str!("../greeting.txt")); }' > real/src/main.rs
+}
+
+linked_module() {
+    package ws a
+    mkdir -p real/m
+    ln -s ../../real/m ws/src/m
+    edited=real/greeting.txt
+    echo 'mod m; fn main() { print!("{}", m::text()); }' > ws/src/main.rs
+    echo 'pub fn text() -> &'"'"'static str { include_str!("../greeting.txt") }' > real/m/mod.rs
+}
+
+linked_member() {
+    mkdir -p real/inner
+    package real/inner/a a
+    mkdir ws
+    printf '[workspace]\nmembers = ["a"]\nresolver = "2"\n' > ws/Cargo.toml
+    ln -s ../real/inner/a ws/a
+    edited=real/inner/shared.txt
+    echo 'fn main() { println!("cargo:rerun-if-changed=../shared.txt"); println!("cargo:rustc-env=TEXT={}", std::fs::read_to_string("../shared.txt").unwrap().trim()); }' > ws/a/build.rs
+    echo 'fn main() { println!("{}", env!("TEXT")); }' > ws/a/src/main.rs
+}
+
+linked_root() {
+    mkdir -p real
+    package real/inner a
+    ln -s real/inner ws
+    edited=real/greeting.txt
+    echo 'fn main() { print!("{}", include_str!("../../greeting.txt")); }' > ws/src/main.rs
+}
+
+linked_folder_of_a_script() {
+    package ws a
+    mkdir -p real/proto
+    ln -s ../real/proto ws/proto
+    edited=real/common.proto
+    echo 'fn main() { println!("cargo:rerun-if-changed=proto/../common.proto"); println!("cargo:rustc-env=TEXT={}", std::fs::read_to_string("proto/../common.proto").unwrap().trim()); }' > ws/build.rs
+    echo 'fn main() { println!("{}", env!("TEXT")); }' > ws/src/main.rs
+}
+
+linked_dependency() {
+    mkdir -p real/inner
+    package ws a
+    package real/inner/b b
+    package ws/x x
+    ln -s ../real/inner/b ws/b
+    printf '[dependencies]\nb = { path = "b" }\n' >> ws/Cargo.toml
+    printf '[dependencies]\nx = { path = "../x" }\n' >> real/inner/b/Cargo.toml
+    edited=ws/x/src/text
+    echo 'pub fn text() -> &'"'"'static str { include_str!("text") }' > ws/x/src/lib.rs
+    echo 'pub fn text() -> &'"'"'static str { x::text() }' > real/inner/b/src/lib.rs
+    echo 'fn main() { print!("{}", b::text()); }' > ws/src/main.rs
+}
+
+if [ "${CARGO:-yes}" != no ]; then
+    for scene in linked_source linked_module linked_member linked_root linked_folder_of_a_script linked_dependency; do
+        mkdir "$folder/$scene"
+        cd "$folder/$scene"
+        "$scene"
+        echo old > "$edited"
+        "$PROGRAM" build --manifest-path ws/Cargo.toml --target-dir ours > one 2>&1 || cat one
+        cargo build --quiet --manifest-path ws/Cargo.toml --target-dir theirs
+        first="$(ours/debug/a.target.bin-a/a) $(theirs/debug/a)"
+        sleep 0.1
+        echo new > "$edited"
+        "$PROGRAM" build --manifest-path ws/Cargo.toml --target-dir ours > two 2>&1 || cat two
+        cargo build --quiet --manifest-path ws/Cargo.toml --target-dir theirs
+        second="$(ours/debug/a.target.bin-a/a) $(theirs/debug/a)"
+        "$PROGRAM" build --manifest-path ws/Cargo.toml --target-dir ours --explain > three 2> said || cat said
+        say "$scene, by us and by cargo" 'old old, new new, 0 started' "$first, $second, $(started said)"
+    done
+fi
+
+# From here on with the small compiler.
+export RUSTC="$COMPILER"
+build() { "$PROGRAM" build --runner "$COMPILER --run" "$@"; }
+
+script_in() {
+    package "$1" a
+    : > "$1/src/lib.rs"
+    echo 'put f text' > "$1/build.rs"
+}
+
+# Several target folders in a package with a script that names no input: no record grows, and none is an input.
+mkdir "$folder/targets"
+cd "$folder/targets"
+script_in .
+for round in 1 2 3 4; do
+    for target in target other; do
+        for profile in dev release; do build --target-dir $target --profile $profile > lines 2>&1; done
+    done
+    [ $round != 1 ] || first="$(stat -c %s target/debug/a.target.run.record)"
+done
+build --explain > lines 2> said
+say 'records beside another target folder' "$first bytes, 0 started" "$(stat -c %s target/debug/a.target.run.record) bytes, $(started said)"
+
+# The target folder under a second name: a link to it in the package, and a path through a link.
+mkdir "$folder/names"
+cd "$folder/names"
+script_in ws
+ln -s target/debug ws/out
+ln -s target ws/again
+(cd ws && build > lines 2>&1 && build --explain > lines 2> ../said)
+say 'a link to the target folder among the sources' '0 started' "$(started said)"
+ln -s ws through
+(cd ws && rm out again && export CARGO_TARGET_DIR="$folder/names/through/target" && build > lines 2>&1 && build --explain > lines 2> ../said)
+say 'a target folder named through a link' '0 started' "$(started said)"
+
+# The tag: not by a refused build; beside the line of another program; and taken for sources no more.
+mkdir "$folder/tag"
+cd "$folder/tag"
+script_in .
+build --profile none > lines 2>&1 || true
+say 'a refused build' 'no target folder' "$([ -e target ] && echo 'a target folder' || echo 'no target folder')"
+mkdir target
+printf 'Signature: 8a477f597d28d172789f06886806bc55\n# of another program\n' > target/CACHEDIR.TAG
+build > lines 2>&1
+build > lines 2>&1
+say 'the tag of another program' '1 line of theirs, 1 of ours' "$(grep -c '^# of another program$' target/CACHEDIR.TAG) line of theirs, $(grep -c '^# This is a target folder of pb_tool\.$' target/CACHEDIR.TAG) of ours"
+
+# The program that is asked for its version is the one that compiles.
+mkdir -p "$folder/path/ours" "$folder/path/theirs"
+cd "$folder/path"
+script_in .
+printf 'print cargo::rustc-env=PATH=%s\n' "$folder/path/theirs" > build.rs
+printf '#!/bin/sh\n[ "$1" = -vV ] || echo "$*" >> %s\nexec %s "$@"\n' "$folder/path/ours/log" "$COMPILER" > ours/compiler
+printf '#!/bin/sh\necho "$*" >> %s\nexec %s "$@"\n' "$folder/path/theirs/log" "$COMPILER" > theirs/compiler
+chmod +x ours/compiler theirs/compiler
+RUSTC=compiler PATH="$folder/path/ours:$PATH" "$PROGRAM" build --runner "$COMPILER --run" > lines 2> said || cat said
+say 'a script that sets PATH' 'ours compiled 2, theirs 0' "ours compiled $(wc -l < ours/log), theirs $(cat theirs/log 2> /dev/null | wc -l)"
+
+# A folder that a script left, and that its owner may not write in.
+mkdir "$folder/rights"
+cd "$folder/rights"
+script_in .
+printf '#!/bin/sh\n%s "$@" || exit 1\nmkdir -p "$OUT_DIR/tree/deep"; : > "$OUT_DIR/tree/deep/file"; chmod 555 "$OUT_DIR/tree/deep" "$OUT_DIR/tree"\n' "$COMPILER" > run.sh
+chmod +x run.sh
+cp "$PROGRAM" "$COMPILER" .
+if [ "$(id -u)" = 0 ]; then
+    chown -R nobody .
+    as() { setpriv --reuid nobody --clear-groups env HOME=/ "$@"; }
+else
+    as() { "$@"; }
+fi
+mine=("./$(basename "$PROGRAM")" build --manifest-path "$PWD/Cargo.toml" --runner "$PWD/run.sh --run" --explain)
+export RUSTC="$PWD/$(basename "$COMPILER")"
+as "${mine[@]}" > lines 2> said || cat said
+echo 'put f more' > build.rs
+status=0
+as "${mine[@]}" > lines 2> said || status=$?
+say 'a read-only folder in an output folder' 'status 0, 3 started' "status $status, $(started said)"
+export RUSTC="$COMPILER"
+
+# The lock of a folder that is gone: the second build waits, the folder is removed, and a third begins.
+mkdir "$folder/lock"
+cd "$folder/lock"
+package . a
+: > src/lib.rs
+cat > slow.sh <<SH
+#!/bin/sh
+[ "\$1" = -vV ] && exec $COMPILER -vV
+echo begins >> $folder/lock/log
+sleep 0.5
+echo ends >> $folder/lock/log
+exec $COMPILER "\$@"
+SH
+chmod +x slow.sh
+export RUSTC="$folder/lock/slow.sh"
+flock_on() { python3 -c 'import fcntl, os, sys, time
+folder = os.open("target", os.O_RDONLY)
+fcntl.flock(folder, fcntl.LOCK_EX)
+open("held", "w").close()
+while not os.path.exists("free"): time.sleep(0.01)'; }
+mkdir target
+flock_on &
+until [ -e held ]; do sleep 0.01; done
+"$PROGRAM" build > one 2> two &
+until [ -s two ]; do sleep 0.01; done
+mv target gone
+"$PROGRAM" build > three 2> four &
+until [ -e log ]; do sleep 0.01; done
+: > free
+wait
+say 'a lock of a folder that is gone' 'begins ends' "$(sort log | uniq | tr '\n' ' ' | sed 's/ $//')"
+overlaps="$(uniq -c log | awk '$1 > 1' | wc -l)"
+say 'builds at one time' '0' "$overlaps"
+exit $wrong
