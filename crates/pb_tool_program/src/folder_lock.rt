@@ -17,8 +17,9 @@ use std::{fs, io};
 /// The folder that is locked is the one to which the path leads once the lock is held: if another took its place
 /// meanwhile, that one is locked.
 ///
-/// A folder that is held gets the tag of a target folder, `CACHEDIR.TAG`, so that programs do not back it up, and builds
-/// do not take it for sources. A tag of another program gets one line more. A tag that cannot be written is none.
+/// A folder that is held and empty gets the tag of a target folder, `CACHEDIR.TAG`, so that programs do not back it up,
+/// and builds do not take it for sources. The tag of another program gets one line more. A folder with other files and
+/// without a tag gets none: it may be somebody's own. A tag that cannot be written is none.
 #[derive(Drop)]
 pub(crate) struct FolderLock<'a> {
     runtime: &'a HostRuntime,
@@ -81,14 +82,21 @@ impl<'a> FolderLock<'a> {
         Ok(())
     }
 
-    /// Puts the tag in a folder that is held, unless it is there.
+    /// Returns whether nothing is in a folder.
+    fn is_empty(&self, folder: &str) -> io::Result<bool> {
+        let mut entries = fs::read_dir(&self.runtime, folder)?;
+        Ok(entries.next().is_none())
+    }
+
+    /// Puts the tag in a folder that is held, if that is empty, or has the tag of another program.
     fn mark(&self, folder: &str) -> io::Result<()> {
         let path = format!(in self.runtime.alloc(); "{folder}/{TAG_NAME}")?;
+        if self.is_empty(folder)? {
+            return fs::write(self.runtime, path.as_str(), TAG_TEXT.as_bytes());
+        }
         let old = match fs::read(self.runtime, path.as_str()) {
             Ok(old) => old,
-            Err(error) if error.kind() == ErrorKind::NotFound => {
-                return fs::write(self.runtime, path.as_str(), TAG_TEXT.as_bytes());
-            }
+            Err(error) if error.kind() == ErrorKind::NotFound => return Ok(()),
             Err(error) => return Err(error),
         };
         if has_tag_line(old.as_slice()) {
