@@ -161,6 +161,11 @@ build > lines 2>&1
 build > lines 2>&1
 say 'the tag of another program' '1 line of theirs, 1 of ours' "$(grep -c '^# of another program$' target/CACHEDIR.TAG) line of theirs, $(grep -c '^# This is a target folder of pb_tool\.$' target/CACHEDIR.TAG) of ours"
 
+mkdir own
+: > own/notes
+build --target-dir own > lines 2>&1
+say 'a folder with files of its own' 'no tag' "$([ -e own/CACHEDIR.TAG ] && echo 'a tag' || echo 'no tag')"
+
 # The program that is asked for its version is the one that compiles.
 mkdir -p "$folder/path/ours" "$folder/path/theirs"
 cd "$folder/path"
