@@ -31,10 +31,14 @@ abbrev pub notes_of : List (List ℕ) → List ℕ
 notes_of [] = []
 notes_of (name ∷ names) = codes "note: " ++ name ++ codes " has no library\n" ++ notes_of names
 
--- a line for each unit that is built again, since something that its child read was changed while the child was at work: its key is the name of its output folder
+-- the line of a unit of this key that is built again, since this path, which its child read, was changed while the child was at work
+abbrev pub moved_note : List ℕ → List ℕ → List ℕ
+moved_note path key = codes "note: " ++ path ++ codes " was changed while " ++ key ++ codes " was built: it will be built again\n"
+
+-- a unit's key is the name of its output folder
 abbrev pub moved_notes : List Moved → List ℕ
 moved_notes [] = []
-moved_notes (one ∷ others) = codes "note: " ++ one.path ++ codes " was changed while " ++ last_part one.out ++ codes " was built: it will be built again\n" ++ moved_notes others
+moved_notes (one ∷ others) = moved_note one.path (last_part one.out) ++ moved_notes others
 
 -- why a build failed
 abbrev pub error_of : Result Summary BuildFault → List ℕ

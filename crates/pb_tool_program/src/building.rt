@@ -1,13 +1,14 @@
 //! `pb_tool build` over any place.
 
-ghost use Rattle.std.specs.Prelude.{◌≡◌, [], ◌∷◌, ◌++◌, IfOk, OnOk, Result, Some, string_bytes, codes};
+ghost use Rattle.std.specs.Prelude.{◌≡◌, [], ◌++◌, IfOk, OnOk, Result, Some, string_bytes, codes};
 ghost use Rattle.std.specs.Io.KnownBytes.{Appends};
 ghost use Rattle.pb_build.specs.Ending.{BuildsFirst};
+ghost use Rattle.pb_place.specs.Paths.{last_part};
 ghost use Rattle.pb_turns.specs.Crew.{Moment, moment};
 ghost use Rattle.pb_answer.specs.ResultLine.{result_line};
 ghost use Rattle.pb_answer.specs.declared.fault.BuildFault.{BuildFault};
 ghost use Rattle.pb_answer.specs.declared.summary.Summary.{Summary};
-ghost use Rattle.pb_tool_program.specs.Building.{status_of, notes_of, moved_lost, moved_notes, error_of, folder_of, NotesOf, TellsDetail, TellsReasons, TellsSaid, TellsWhy, Concludes, BuildsTold};
+ghost use Rattle.pb_tool_program.specs.Building.{status_of, notes_of, moved_lost, moved_note, moved_notes, error_of, folder_of, NotesOf, TellsDetail, TellsReasons, TellsSaid, TellsWhy, Concludes, BuildsTold};
 ghost use Rattle.pb_tool_program.specs.Guarding.{Guarded, waiting};
 ghost use Rattle.pb_tool_program.specs.Writing.{Tells, TellsOr};
 
@@ -51,16 +52,24 @@ fn notes_of(alloc: Global, names: &[Text]) -> Result<String, AllocError>
     Ok(notes)
 }
 
-/// Adds the line of a unit that is built again.
-fn push_moved(notes: &mut String, moved: &Moved) -> Result<(), AllocError>
-    ensures { OnOk result (string_bytes notes.new ≡ string_bytes notes.old
-        ++ moved_notes (moved.now ∷ [])) }
+/// Returns the line of a unit that is built again.
+fn moved_note(alloc: Global, path: &str, key: &str) -> Result<String, AllocError>
+    ensures { IfOk result (λ text. string_bytes text ≡ moved_note path.now key.now) }
 {
-    notes.push_str("note: ")?;
-    notes.push_str(moved.path.as_str())?;
-    notes.push_str(" was changed while ")?;
-    notes.push_str(moved.out.last_part())?;
-    notes.push_str(" was built: it will be built again\n")?;
+    let mut text = format!(in alloc; "note: {path}")?;
+    text.push_str(" was changed while ")?;
+    text.push_str(key)?;
+    text.push_str(" was built: it will be built again\n")?;
+    Ok(text)
+}
+
+/// Adds the line of a unit that is built again.
+fn push_moved(alloc: Global, notes: &mut String, moved: &Moved) -> Result<(), AllocError>
+    ensures { OnOk result (string_bytes notes.new
+        ≡ string_bytes notes.old ++ moved_note moved.now.path (last_part moved.now.out)) }
+{
+    let note = moved_note(alloc, moved.path.as_str(), moved.out.last_part())?;
+    notes.push_str(note.as_str())?;
     Ok(())
 }
 
@@ -70,7 +79,7 @@ fn moved_notes(alloc: Global, moved: &[Moved]) -> Result<String, AllocError>
 {
     let mut notes = String::new(alloc);
     for one in moved {
-        push_moved(&mut notes, one)?;
+        push_moved(alloc, &mut notes, one)?;
     }
     Ok(notes)
 }
