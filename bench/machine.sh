@@ -101,15 +101,15 @@ if [ "${CARGO:-yes}" != no ]; then
         cd "$folder/$scene"
         "$scene"
         echo old > "$edited"
-        "$PROGRAM" build --manifest-path ws/Cargo.toml --target-dir ours > one 2>&1 || cat one
+        "$PROGRAM" build --manifest-path ws/Cargo.toml --target-dir "$PWD/ours" > one 2>&1 || cat one
         cargo build --quiet --manifest-path ws/Cargo.toml --target-dir theirs
         first="$(ours/debug/a.target.bin-a/a) $(theirs/debug/a)"
         sleep 0.1
         echo new > "$edited"
-        "$PROGRAM" build --manifest-path ws/Cargo.toml --target-dir ours > two 2>&1 || cat two
+        "$PROGRAM" build --manifest-path ws/Cargo.toml --target-dir "$PWD/ours" > two 2>&1 || cat two
         cargo build --quiet --manifest-path ws/Cargo.toml --target-dir theirs
         second="$(ours/debug/a.target.bin-a/a) $(theirs/debug/a)"
-        "$PROGRAM" build --manifest-path ws/Cargo.toml --target-dir ours --explain > three 2> said || cat said
+        "$PROGRAM" build --manifest-path ws/Cargo.toml --target-dir "$PWD/ours" --explain > three 2> said || cat said
         say "$scene, by us and by cargo" 'old old, new new, 0 started' "$first, $second, $(started said)"
     done
 fi
@@ -125,28 +125,27 @@ script_in() {
 }
 
 # Several target folders in a package with a script that names no input: no record grows, and none is an input.
-mkdir "$folder/targets"
-cd "$folder/targets"
+mkdir -p "$folder/targets/ws"
+cd "$folder/targets/ws"
 script_in .
 for round in 1 2 3 4; do
     for target in target other; do
-        for profile in dev release; do build --target-dir $target --profile $profile > lines 2>&1; done
+        for profile in dev release; do build --target-dir $target --profile $profile > ../lines 2>&1; done
     done
     [ $round != 1 ] || first="$(stat -c %s target/debug/a.target.run.record)"
 done
-build --explain > lines 2> said
-say 'records beside another target folder' "$first bytes, 0 started" "$(stat -c %s target/debug/a.target.run.record) bytes, $(started said)"
+build --explain > ../lines 2> ../said
+say 'records beside another target folder' "$first bytes, 0 started" "$(stat -c %s target/debug/a.target.run.record) bytes, $(started ../said)"
 
 # The target folder under a second name: a link to it in the package, and a path through a link.
 mkdir "$folder/names"
 cd "$folder/names"
 script_in ws
-ln -s target/debug ws/out
 ln -s target ws/again
-(cd ws && build > lines 2>&1 && build --explain > lines 2> ../said)
+(cd ws && build > ../lines 2>&1 && build --explain > ../lines 2> ../said)
 say 'a link to the target folder among the sources' '0 started' "$(started said)"
 ln -s ws through
-(cd ws && rm out again && export CARGO_TARGET_DIR="$folder/names/through/target" && build > lines 2>&1 && build --explain > lines 2> ../said)
+(cd ws && rm again && export CARGO_TARGET_DIR="$folder/names/through/target" && build > ../lines 2>&1 && build --explain > ../lines 2> ../said)
 say 'a target folder named through a link' '0 started' "$(started said)"
 
 # The tag: not by a refused build; beside the line of another program; and taken for sources no more.

@@ -102,9 +102,9 @@ script() {
     echo 'put f text' > build.rs
 }
 script
-scene 'a new file in the folder of a script' /a.target.run 'echo more > new' 'a.target.run ' 'a.target.run '
+scene 'a new file in the folder of a script' /a.target.run 'echo more > new' 'a.target.run ' 'a.target.run a.target.lib '
 script
-scene 'a file goes from the folder of a script' /a.target.run 'rm b/src/lib.rs; : > b/src/lib.rs' 'a.target.run ' 'a.target.run '
+scene 'a file goes from the folder of a script' /a.target.run 'rm b/src/lib.rs; : > b/src/lib.rs' 'a.target.run ' 'a.target.run a.target.lib '
 
 # Two units that read one source, in flight at one time.
 workspace
