@@ -21,14 +21,21 @@ abbrev pub kept_in : (Planned × Option (Option Difference)) → Option (List �
 kept_in (u, Some None) = Some u.key
 kept_in (u, reason) = None
 
--- what a summary says: success, where no unit is bad; the key and the fault of the first bad one, and what its child said; the keys of the units for which a child was started, in order of starting, and what differed first of each; in plan order the keys of those that began and of which nothing differed; and by key the directives of the runs
+-- what a summary says of a build
 pub record IsSummary (project : Project) (es : List (Event BadUnit)) (reasons : Reasons) (rows : List Row) (summary : Summary) : Type 0 where
+  -- no unit is bad
   pub success : summary.success ≡ is_none (first_bad_unit rows)
+  -- the key and the fault of the first bad unit
   pub bad : summary.bad ≡ option_map (λ bad. (bad.0, bad.1.fault)) (first_bad_unit rows)
+  -- what its child said
   pub said : summary.said ≡ option_map_or (λ bad. bad.1.said) (first_bad_unit rows) []
+  -- the keys of the units for which a child was started, in order of starting
   pub started : summary.started ≡ map (λ (u : Planned). u.key) (filter_map (unit_at project) (started_by es))
+  -- what differed first of each of them
   pub differences : summary.differences ≡ filter_map (λ place. option_flatten (option_flatten (slice_get reasons place))) (started_by es)
+  -- in plan order, the keys of the units that began and of which nothing differed
   pub kept : summary.kept ≡ filter_map kept_in (zip project.plan.planned reasons)
+  -- by key, the directives of the runs
   pub directives : summary.directives ≡ filter_map (λ (row : Row). option_map (λ directives. (row.unit.key, directives)) (directives_in row.outcome)) rows
 
 -- The summary of rows of units is this, and nothing else is.
