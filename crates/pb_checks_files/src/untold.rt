@@ -2,7 +2,7 @@
 
 use pb_data::{Bytes, Items, Text};
 use pb_memory::Memory;
-use pb_place::{Child, Command, Ended, PathText, Place, PlaceFault, StartFault};
+use pb_place::{Child, Command, Ended, Moved, PathText, Place, PlaceFault, StartFault};
 use std::alloc::Global;
 
 /// A place in memory that does not tell its maps: what contracts say of files and answers is not said of it. A test can
@@ -81,6 +81,10 @@ impl<C: Child> Place for Untold<C> {
 
     fn finish(&mut self, alloc: Global, ticket: u64) -> Result<Ended, StartFault> {
         self.inside.finish(alloc, ticket)
+    }
+
+    fn moved(&self) -> &[Moved] {
+        self.inside.moved()
     }
 
     fn files_have_paths(&self) {}

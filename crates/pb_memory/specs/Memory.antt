@@ -37,7 +37,7 @@ counts_in h = with_children (children_in h.flying) h.tally
 
 -- what clauses see of it as a place
 abbrev pub at_in : Held → At
-at_in h = record { world = h.world; counts = counts_in h; most = h.most; still = λ _. Unit {0} }
+at_in h = record { world = h.world; counts = counts_in h; most = h.most; still = λ _. Unit {0}; moved = [] }
 
 -- a place in memory that holds nothing, of which no call was made
 abbrev pub no_held : Held

@@ -1,7 +1,8 @@
 //! A place that counts what comes after the first call that failed.
 
-ghost use Rattle.std.specs.Prelude.{◌≡◌, ◌≢◌, ℕ, Bool, true, false, IfOk, IfErr, OnOk, OnErr, IsTrue, IfSome};
+ghost use Rattle.std.specs.Prelude.{◌≡◌, ◌≢◌, ℕ, Bool, true, false, IfOk, IfErr, OnOk, OnErr, IsTrue, IfSome, take};
 ghost use Rattle.std.specs.FinMap as map;
+ghost use Rattle.std.specs.Option.{option_map};
 ghost use Rattle.pb_place.specs.At.{IsUnchanged, LooksOnce, ChangesOnce, Spawns, Finishes, Starts};
 ghost use Rattle.pb_place.specs.Paths.{is_at_or_below};
 ghost use Rattle.pb_place.specs.World.{has_file, written, removed, listed, listed_directly, listed_folders, Torn, PartlyRemoved, Ends};
@@ -98,6 +99,25 @@ impl<P: Place> Place for Seen<P> {
             ≡ seen (call_failed result) (self.old.faulted, self.old.after) }
     {
         let answer = self.place.read(alloc, path);
+        self.note(call_failed(&answer));
+        answer
+    }
+
+    fn read_first(
+        &mut self,
+        alloc: Global,
+        path: &PathText,
+        most: usize,
+    ) -> Result<Option<Bytes>, PlaceFault>
+        ensures ok { IsTrue P.tells → IfOk result (λ found. found
+            ≡ option_map (take most) (map.get (P.at self.old.place).world.files path.now)) }
+        ensures looks { LooksOnce (call.Read path.now) result
+            (P.at self.old.place) (P.at self.new.place) }
+        ensures fails { IfErr result (λ e. e ≢ PlaceFault.OutOfMemory → P.fails self.old.place) }
+        ensures seen { (self.new.faulted, self.new.after)
+            ≡ seen (call_failed result) (self.old.faulted, self.old.after) }
+    {
+        let answer = self.place.read_first(alloc, path, most);
         self.note(call_failed(&answer));
         answer
     }

@@ -2,7 +2,7 @@
 
 use crate::memory::Memory;
 use pb_data::{Bytes, Items, Text};
-use pb_place::{Child, Command, Ended, PathText, Place, PlaceFault, StartFault};
+use pb_place::{Child, Command, Ended, Moved, PathText, Place, PlaceFault, StartFault};
 use std::alloc::Global;
 use std::marker::Model;
 
@@ -119,6 +119,10 @@ impl<C: Child> Place for Unfailing<C> {
 
     fn finish(&mut self, alloc: Global, ticket: u64) -> Result<Ended, StartFault> {
         self.inside.finish(alloc, ticket)
+    }
+
+    fn moved(&self) -> &[Moved] {
+        &[]
     }
 
     fn files_have_paths(&self) {

@@ -7,6 +7,7 @@ use Rattle.pb_place.specs.World.{World, Answers, ChangesOnly, ChangesOnlyInSome}
 use Rattle.pb_place.specs.declared.call.Call.{Call}
 use Rattle.pb_place.specs.declared.command.Command.{Command}
 use Rattle.pb_place.specs.declared.command.Ended.{Ended}
+use Rattle.pb_place.specs.declared.moved.Moved.{Moved}
 use Rattle.pb_place.specs.declared.place.PlaceFault.{PlaceFault}
 use Rattle.pb_place.specs.declared.place.PlaceFault.TheVariants as place
 use Rattle.pb_place.specs.declared.place.StartFault.{StartFault}
@@ -22,8 +23,10 @@ pub record At : Type 1 where
   pub most : ℕ
   -- of a ticket: nothing that its child sees, and no file of its folder, has changed since the spawn
   pub still : ℕ → Type 0
+  -- what changed under a child at work, as far as `watch` has looked
+  pub moved : List Moved
 
--- Nothing has changed, and no call was counted.
+-- Nothing has changed, and no call was counted. `moved` may be longer.
 pub record IsUnchanged (old new : At) : Type 0 where
   pub world : new.world ≡ old.world
   pub counts : new.counts ≡ old.counts

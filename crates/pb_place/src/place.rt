@@ -1,7 +1,8 @@
 //! The outside world: files, variables and children, each call counted.
 
-ghost use Rattle.std.specs.Prelude.{◌≡◌, ◌≢◌, [], Bool, true, IfOk, IfErr, OnOk, OnErr, IsTrue, IfSome};
+ghost use Rattle.std.specs.Prelude.{◌≡◌, ◌≢◌, [], Bool, true, IfOk, IfErr, OnOk, OnErr, IsTrue, IfSome, take};
 ghost use Rattle.std.specs.FinMap as map;
+ghost use Rattle.std.specs.Option.{option_map};
 ghost use Rattle.pb_data.specs.Gives.{Gives};
 ghost use Rattle.pb_place.specs.At.{At, IsUnchanged, LooksOnce, ChangesOnce, Spawns, Finishes, Starts};
 ghost use Rattle.pb_place.specs.Children.{child_at, is_flying, LandsAs};
@@ -100,6 +101,15 @@ impl<T: Drop> From<AllocFailed<T>> for StartFault {
     }
 }
 
+/// Returns the first of these bytes, at most `most`.
+fn cut(bytes: Bytes, most: usize) -> Bytes
+    ensures { result ≡ take most bytes }
+{
+    let mut inside = bytes.into_vec();
+    inside.truncate(most);
+    Bytes::new(inside)
+}
+
 /// The files, the variables and the child processes of the outside world.
 ///
 /// Clauses about answers and about file contents hold of a place that tells its maps. All others hold of every place.
@@ -127,6 +137,27 @@ pub trait Place {
             (λ found. found ≡ map.get (at self.old).world.files path.now) }
         ensures looks { LooksOnce (call.Read path.now) result (at self.old) (at self.new) }
         ensures fails { IfErr result (λ e. e ≢ PlaceFault.OutOfMemory → fails self.old) };
+
+    /// Returns the first bytes of a file, at most `most`, or none if no file is there. It is counted as `read` is.
+    ///
+    /// Errors: `Read`; `OutOfMemory`.
+    fn read_first(
+        &mut self,
+        alloc: Global,
+        path: &PathText,
+        most: usize,
+    ) -> Result<Option<Bytes>, PlaceFault>
+        ensures ok { IsTrue tells → IfOk result (λ found. found
+            ≡ option_map (take most) (map.get (at self.old).world.files path.now)) }
+        ensures looks { LooksOnce (call.Read path.now) result (at self.old) (at self.new) }
+        ensures fails { IfErr result (λ e. e ≢ PlaceFault.OutOfMemory → fails self.old) }
+    {
+        match self.read(alloc, path) {
+            Ok(Some(bytes)) => Ok(Some(cut(bytes, most))),
+            Ok(None) => Ok(None),
+            Err(fault) => Err(fault),
+        }
+    }
 
     /// Returns whether a file is at a path.
     ///
@@ -305,10 +336,8 @@ pub trait Place {
 
     /// Returns what has moved, for each child at most once, in the order in which it was found. It takes no memory.
     fn moved(&self) -> &[Moved]
-        ensures { IsTrue tells → result.now ≡ [] }
-    {
-        &[]
-    }
+        ensures all { result.now ≡ (at self.now).moved }
+        ensures none { IsTrue tells → result.now ≡ [] };
 
     /// Does nothing. It tells that each file in the maps has a normalised absolute path. It takes no memory, and is not
     /// counted.

@@ -17,7 +17,7 @@ ghost use Rattle.pb_memory.specs.Starts.{SpawnFails, SpawnsIn, EndFails, EndsIn,
 use crate::memory::Memory;
 use crate::sight::file_in;
 use pb_data::{Bytes, Items, Text};
-use pb_place::{Call, Child, Command, Ended, PathText, Place, PlaceFault, StartFault};
+use pb_place::{Call, Child, Command, Ended, Moved, PathText, Place, PlaceFault, StartFault};
 use std::alloc::{AllocError, Global};
 
 impl<C> Memory<C> {
@@ -281,6 +281,10 @@ impl<C: Child> Place for Memory<C> {
     {
         let ticket = self.spawn(alloc, command)?;
         self.finish(alloc, ticket)
+    }
+
+    fn moved(&self) -> &[Moved] {
+        &[]
     }
 
     fn files_have_paths(&self) {
