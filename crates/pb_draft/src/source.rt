@@ -1,7 +1,8 @@
 //! Files of the sources: what lies at or below the target folder is left out.
 
-ghost use Rattle.std.specs.Prelude.{◌≡◌, IfOk, IfErr, IsTrue, true};
+ghost use Rattle.std.specs.Prelude.{◌≡◌, IfOk, IfErr, IsTrue, true, take};
 ghost use Rattle.std.specs.FinMap as finite;
+ghost use Rattle.std.specs.Option.{option_map};
 ghost use Rattle.pb_place.specs.declared.call.Call.TheVariants as call;
 ghost use Rattle.pb_place.specs.Paths.{below, is_relative};
 ghost use Rattle.pb_place.specs.World.{from_nothing, has_file, listed, listed_folders};
@@ -25,7 +26,8 @@ pub fn failed(path: PathText, fault: PlaceFault) -> LoadFault
     }
 }
 
-/// Returns the file at a path, if it is one of the sources. It does not read a path at or below the target folder.
+/// Returns the first bytes of the file at a path, at most `most`, if it is one of the sources. It does not read a path at
+/// or below the target folder.
 ///
 /// Errors: `Place`, if the read failed, with its path; `OutOfMemory`.
 #[tactic(auto, using(crate::proofs::SourceLemmas::source_laws))]
@@ -34,9 +36,10 @@ pub fn source<P: Place>(
     place: &mut P,
     target: &PathText,
     path: &PathText,
+    most: usize,
 ) -> Result<Option<Bytes>, LoadFault>
-    ensures ok { IsTrue P.tells → IfOk result (λ found. found
-        ≡ finite.get (from_nothing target.now (P.at place.old).world).files path.now) }
+    ensures ok { IsTrue P.tells → IfOk result (λ found. found ≡ option_map (take most)
+        (finite.get (from_nothing target.now (P.at place.old).world).files path.now)) }
     ensures outside { IfErr result (λ e. is_outside e ≡ true) }
     ensures quiet { OnlyLooks result (P.at place.old) (P.at place.new) }
     ensures looks { Looks result (looked target.now (call.Read path.now))
@@ -46,7 +49,7 @@ pub fn source<P: Place>(
         return Ok(None);
     }
     let named = path.copy(alloc)?;
-    match place.read(alloc, path) {
+    match place.read_first(alloc, path, most) {
         Ok(found) => Ok(found),
         Err(fault) => Err(failed(named, fault)),
     }

@@ -21,7 +21,7 @@ use pb_data::{Bytes, Items, TryCopy};
 use pb_draft::source::{own_path, source};
 use pb_draft::{Draft, Given, Standing, Tables, Wanted, draft_of};
 use pb_manifest::{Key, Manifest, ManifestFault, Package, Profile, WorkspaceTable};
-use pb_manifest_reader::read_manifest;
+use pb_manifest_reader::{GREATEST_LENGTH, read_manifest};
 use pb_package::LoadFault;
 use pb_place::{PathText, Place};
 use std::alloc::{AllocError, Global};
@@ -81,10 +81,11 @@ fn read_found(alloc: Global, path: &PathText, found: Option<Bytes>) -> Result<Ma
     }
 }
 
-/// Returns what the manifest at a path says.
+/// Returns what the manifest at a path says. It reads one byte more than a manifest may have, and no further.
 ///
 /// Errors: `NoManifest`, if no file of the sources is there; `Manifest`, if the reader refuses it; `Place`, if the
 /// read failed; `OutOfMemory`.
+#[tactic(auto, using(crate::proofs::Cut::cut_laws))]
 fn manifest_at<P: Place>(
     alloc: Global,
     place: &mut P,
@@ -98,7 +99,7 @@ fn manifest_at<P: Place>(
     ensures looks { Looks result (looked target.now (call.Read path.now))
         (P.at place.old).counts (P.at place.new).counts }
 {
-    let found = source(alloc, place, target, path)?;
+    let found = source(alloc, place, target, path, GREATEST_LENGTH + 1)?;
     let manifest = read_found(alloc, path, found)?;
     Ok(manifest)
 }

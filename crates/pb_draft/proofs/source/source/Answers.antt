@@ -14,11 +14,11 @@ returns-in-Err-clause-quiet g c = record {
   world = c.in-Err.ensures.looks.world;
   most = c.in-Err.ensures.looks.most;
   still = c.in-Err.ensures.looks.still;
-  reads = subst (λ e. Reads {T = ℕ} (Err e) (g.P.Place.at c.args.place.now).counts (g.P.Place.at c.read.new.self).counts) (sym (c.failed.ensures ∙ ap (λ p. fault_at p c.in-Err.fault) c.in_ok-named.ensures))
+  reads = subst (λ e. Reads {T = ℕ} (Err e) (g.P.Place.at c.args.place.now).counts (g.P.Place.at c.read_first.new.self).counts) (sym (c.failed.ensures ∙ ap (λ p. fault_at p c.in-Err.fault) c.in_ok-named.ensures))
       (call_reads (call.Read c.args.path.now) _ _ c.in-Err.fault (of_read c.args.path.now c.in-Err.fault c.in-Err.ensures.looks.fault) c.in-Err.ensures.looks.counts);
 }
 
 pub returns-in-Err-clause-looks : goal.returns-in-Err-clause-looks
 returns-in-Err-clause-looks g c =
-    subst (λ e. Ends e (looked c.args.target.now (call.Read c.args.path.now)) (g.P.Place.at c.args.place.now).counts (g.P.Place.at c.read.new.self).counts) (sym (c.failed.ensures ∙ ap (λ p. fault_at p c.in-Err.fault) c.in_ok-named.ensures))
+    subst (λ e. Ends e (looked c.args.target.now (call.Read c.args.path.now)) (g.P.Place.at c.args.place.now).counts (g.P.Place.at c.read_first.new.self).counts) (sym (c.failed.ensures ∙ ap (λ p. fault_at p c.in-Err.fault) c.in_ok-named.ensures))
     (call_looks (call.Read c.args.path.now) _ _ c.args.target.now c.in-Err.fault (sym c.starts_with.ensures ∙ c.if-starts_with.false) c.in-Err.ensures.looks.fault c.in-Err.ensures.looks.counts)
