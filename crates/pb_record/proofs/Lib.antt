@@ -6,4 +6,5 @@ pub mod InputLemmas
 pub mod WholeLemmas
 pub mod ReadingLemmas
 pub mod LawLemmas
+pub mod SkipLemmas
 pub mod CommandLemmas

@@ -1,4 +1,5 @@
 pub mod Grammar
+pub mod Numbers
 pub mod Parts
 pub mod Reading
 pub mod Laws

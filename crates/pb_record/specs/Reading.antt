@@ -8,6 +8,11 @@ pub record Stands {A : Type 0} (Is : A → Type 0) (spelled : A → List ℕ) (t
   pub is : Is x
   pub here : text ≡ spelled x ++ rest
 
+-- the text begins with the bytes of some such part, and the rest follows
+pub record StandsSome {A : Type 0} (Is : A → Type 0) (spelled : A → List ℕ) (text : List ℕ) (rest : List ℕ) : Type 0 where
+  pub part : A
+  pub stands : Stands Is spelled text part rest
+
 -- the text begins with the bytes of no such part
 pub record StandsNone {A : Type 0} (Is : A → Type 0) (spelled : A → List ℕ) (text : List ℕ) : Type 0 where
   pub never : (x : A) (rest : List ℕ) → Stands Is spelled text x rest → ⊥

@@ -1,5 +1,9 @@
 -- What serves private functions alone: a record and what was asked, of their parts in the order in which they stand.
-use Rattle.std.specs.Prelude.{ℕ, List}
+use Rattle.std.specs.Prelude.{◌≡◌, ◌++◌, ℕ, List, codes}
+use Rattle.std.specs.List.{AllByRecursion}
+use Rattle.std.specs.Str.{IsUtf8}
+use Rattle.pb_record.specs.Grammar.{asked_bytes, block, both, input_bytes, line, listed, number}
+use Rattle.pb_record.specs.Parts.{AreBoth, IsAny, IsAsked, IsInput, IsNumber}
 use Rattle.pb_record.specs.declared.asked.Asked.{Asked}
 use Rattle.pb_record.specs.declared.record.Input.{Input}
 use Rattle.pb_record.specs.declared.record.Needed.TheVariants.{Copies, Numbers}
@@ -50,3 +54,28 @@ copied_of (key, (asked, (inputs, (copies, (stdout, stderr))))) = record {
   stdout = stdout;
   stderr = stderr;
 }
+
+-- what is behind the key of a record of format 2: what was asked and the inputs; the needed units with their numbers, and the streams
+abbrev pub RestParts : Type 0
+RestParts = (Asked × List Input) × (List (List ℕ × ℕ) × (List ℕ × List ℕ))
+
+abbrev pub rest_spelled : RestParts → List ℕ
+rest_spelled = both (both asked_bytes (listed input_bytes)) (both (listed (both block number)) (both block block))
+
+abbrev pub AreRest : RestParts → Type 0
+AreRest = AreBoth (AreBoth IsAsked (AllByRecursion IsInput)) (AreBoth (AllByRecursion (AreBoth IsUtf8 IsNumber)) (AreBoth IsAny IsAny))
+
+-- a text is these parts, before the last line
+abbrev pub IsRest : List ℕ → RestParts → Type 0
+IsRest text p = AreRest p × (text ≡ rest_spelled p ++ line (codes "end"))
+
+-- such parts with these needed units
+pub record HasNeeds (text : List ℕ) (needs : List (List ℕ × ℕ)) : Type 0 where
+  pub parts : RestParts
+  pub is : IsRest text parts
+  pub same : needs ≡ parts.1.0
+
+-- a text is two streams before the last line
+pub record IsEnd (text : List ℕ) : Type 0 where
+  pub streams : List ℕ × List ℕ
+  pub is : text ≡ both block block streams ++ line (codes "end")

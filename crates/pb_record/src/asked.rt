@@ -103,6 +103,14 @@ impl Part for Asked {
         }
     }
 
+    fn skip(alloc: Global, text: &[u8]) -> Result<Option<&[u8]>, AllocError> {
+        match <AskedParts as Part>::skip(alloc, text) {
+            Ok(Some(rest)) => Ok(Some(rest)),
+            Ok(None) => Ok(None),
+            Err(fault) => Err(fault),
+        }
+    }
+
     fn write(&self, out: &mut Vec<u8>) -> Result<(), AllocError> {
         write_command(self, out)?;
         write_places(self, out)?;

@@ -3,7 +3,7 @@
 ghost use Rattle.std.specs.Prelude.{◌≡◌, ◌++◌, codes, IfOk, OnOk, MatchOption};
 ghost use Rattle.pb_record.specs.Grammar.{line, input_bytes};
 ghost use Rattle.pb_record.specs.Parts.{IsInput};
-ghost use Rattle.pb_record.specs.Reading.{Stands, StandsNone};
+ghost use Rattle.pb_record.specs.Reading.{Stands, StandsNone, StandsSome};
 
 use crate::front::after;
 use crate::pairs::Pairs;
@@ -112,6 +112,45 @@ fn value_at(alloc: Global, text: &[u8]) -> Result<Option<(Input, &[u8])>, AllocE
     }
 }
 
+/// Returns what follows a file behind its letter.
+fn skip_file(alloc: Global, text: &[u8]) -> Result<Option<&[u8]>, AllocError>
+    ensures { IfOk result (λ found. MatchOption found
+        (StandsNone IsInput input_bytes (line (codes "f") ++ text.now))
+        (λ rest. StandsSome IsInput input_bytes (line (codes "f") ++ text.now) rest.now)) }
+{
+    match <(PathText, Bytes) as Part>::skip(alloc, text) {
+        Ok(Some(rest)) => Ok(Some(rest)),
+        Ok(None) => Ok(None),
+        Err(fault) => Err(fault),
+    }
+}
+
+/// Returns what follows a folder behind its letter.
+fn skip_tree(alloc: Global, text: &[u8]) -> Result<Option<&[u8]>, AllocError>
+    ensures { IfOk result (λ found. MatchOption found
+        (StandsNone IsInput input_bytes (line (codes "t") ++ text.now))
+        (λ rest. StandsSome IsInput input_bytes (line (codes "t") ++ text.now) rest.now)) }
+{
+    match <(PathText, Items<(RelativePath, Bytes)>) as Part>::skip(alloc, text) {
+        Ok(Some(rest)) => Ok(Some(rest)),
+        Ok(None) => Ok(None),
+        Err(fault) => Err(fault),
+    }
+}
+
+/// Returns what follows a variable behind its letter.
+fn skip_value(alloc: Global, text: &[u8]) -> Result<Option<&[u8]>, AllocError>
+    ensures { IfOk result (λ found. MatchOption found
+        (StandsNone IsInput input_bytes (line (codes "v") ++ text.now))
+        (λ rest. StandsSome IsInput input_bytes (line (codes "v") ++ text.now) rest.now)) }
+{
+    match <(Text, Option<Text>) as Part>::skip(alloc, text) {
+        Ok(Some(rest)) => Ok(Some(rest)),
+        Ok(None) => Ok(None),
+        Err(fault) => Err(fault),
+    }
+}
+
 /// Adds a line and the two parts behind it.
 fn write_behind<A: Part, B: Part>(
     line: &[u8],
@@ -145,6 +184,19 @@ impl Part for Input {
         }
         if let Some(rest) = after(b"v\n", text) {
             return value_at(alloc, rest);
+        }
+        Ok(None)
+    }
+
+    fn skip(alloc: Global, text: &[u8]) -> Result<Option<&[u8]>, AllocError> {
+        if let Some(rest) = after(b"f\n", text) {
+            return skip_file(alloc, rest);
+        }
+        if let Some(rest) = after(b"t\n", text) {
+            return skip_tree(alloc, rest);
+        }
+        if let Some(rest) = after(b"v\n", text) {
+            return skip_value(alloc, rest);
         }
         Ok(None)
     }

@@ -47,6 +47,13 @@ impl Part for Bytes {
         }
     }
 
+    fn skip(_alloc: Global, text: &[u8]) -> Result<Option<&[u8]>, AllocError> {
+        match block_at(text) {
+            Some((_, rest)) => Ok(Some(rest)),
+            None => Ok(None),
+        }
+    }
+
     fn write(&self, out: &mut Vec<u8>) -> Result<(), AllocError> {
         push_block(out, self.as_slice())
     }
@@ -69,6 +76,13 @@ impl Part for Text {
                 let made = Text::from_str(alloc, inside)?;
                 Ok(Some((made, rest)))
             }
+            None => Ok(None),
+        }
+    }
+
+    fn skip(_alloc: Global, text: &[u8]) -> Result<Option<&[u8]>, AllocError> {
+        match text_at(text) {
+            Some((_, behind)) => Ok(Some(behind)),
             None => Ok(None),
         }
     }

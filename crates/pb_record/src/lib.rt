@@ -10,6 +10,7 @@ mod laws;
 mod leaves;
 mod lists;
 mod number;
+mod numbers;
 mod pairs;
 mod part;
 mod read;
@@ -22,6 +23,7 @@ pub use laws::{
     commands_are_asked, numbers_have_one_spelling, only_records_are_read, records_lie_apart,
     texts_have_a_reading, texts_have_one_reading,
 };
+pub use numbers::{Numbers, read_numbers};
 pub use pairs::Pairs;
 pub use read::read_record;
 pub use record::{Input, InputName, Needed, Record};

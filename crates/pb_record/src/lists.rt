@@ -2,7 +2,7 @@
 
 ghost use Rattle.std.specs.Prelude.{◌≡◌, ◌++◌, IfOk, OnOk, MatchOption};
 ghost use Rattle.std.specs.List.{flat_map, AllByRecursion};
-ghost use Rattle.pb_record.specs.Reading.{Stands, StandsNone, HasCount};
+ghost use Rattle.pb_record.specs.Reading.{Stands, StandsNone, StandsSome, HasCount};
 
 use crate::number::{number_at, push_number};
 use crate::part::Part;
@@ -25,6 +25,15 @@ impl<A: Part, B: Part> Part for (A, B) {
                 Ok(None) => Ok(None),
                 Err(fault) => Err(fault),
             },
+            Ok(None) => Ok(None),
+            Err(fault) => Err(fault),
+        }
+    }
+
+    fn skip(alloc: Global, text: &[u8]) -> Result<Option<&[u8]>, AllocError> {
+        A::spells();
+        match A::skip(alloc, text) {
+            Ok(Some(after)) => B::skip(alloc, after),
             Ok(None) => Ok(None),
             Err(fault) => Err(fault),
         }
@@ -66,6 +75,23 @@ fn read_items<T: Part>(
     Ok(Some((items, rest)))
 }
 
+/// Returns what follows so many parts with which a text begins.
+fn skip_items<T: Part>(alloc: Global, text: &[u8], number: u64) -> Result<Option<&[u8]>, AllocError>
+    ensures { IfOk result (λ found. MatchOption found
+        (StandsNone (HasCount T.is_part number) (flat_map T.spelled) text.now)
+        (λ rest. StandsSome (HasCount T.is_part number) (flat_map T.spelled) text.now rest.now)) }
+{
+    T::spells();
+    let mut rest = text;
+    for _ in 0..number {
+        match T::skip(alloc, rest)? {
+            Some(after) => rest = after,
+            None => return Ok(None),
+        }
+    }
+    Ok(Some(rest))
+}
+
 /// Adds parts at the end of a text, one after another.
 fn write_items<T: Part>(items: &[T], out: &mut Vec<u8>) -> Result<(), AllocError>
     ensures written { OnOk result (out.new.items ≡ out.old.items ++ flat_map T.spelled items.now) }
@@ -89,6 +115,14 @@ impl<T: Part> Part for Items<T> {
         T::spells();
         match number_at(text) {
             Some((count, after)) => read_items(alloc, after, count),
+            None => Ok(None),
+        }
+    }
+
+    fn skip(alloc: Global, text: &[u8]) -> Result<Option<&[u8]>, AllocError> {
+        T::spells();
+        match number_at(text) {
+            Some((count, after)) => skip_items::<T>(alloc, after, count),
             None => Ok(None),
         }
     }

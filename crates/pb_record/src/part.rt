@@ -1,7 +1,7 @@
 //! A part of a record, read from the front of a text and written at the end of one.
 
 ghost use Rattle.std.specs.Prelude.{◌≡◌, ◌++◌, List, ℕ, IfOk, OnOk, MatchOption};
-ghost use Rattle.pb_record.specs.Reading.{Stands, StandsNone, IsSpelling};
+ghost use Rattle.pb_record.specs.Reading.{Stands, StandsNone, StandsSome, IsSpelling};
 
 use std::alloc::{AllocError, Global};
 
@@ -17,6 +17,24 @@ pub trait Part: Drop {
     /// fault is want of memory.
     fn read(alloc: Global, text: &[u8]) -> Result<Option<(Self, &[u8])>, AllocError>
         ensures { IfOk result (λ found. MatchOption found (StandsNone is_part spelled text.now) (λ p. Stands is_part spelled text.now p.0 p.1.now)) };
+
+    /// Returns what follows the part with which a text begins, or none if the text begins with no such part. It returns
+    /// as `read` does, but need not make the part.
+    ///
+    /// Errors: out of memory only.
+    fn skip(alloc: Global, text: &[u8]) -> Result<Option<&[u8]>, AllocError>
+        ensures { IfOk result (λ found. MatchOption found (StandsNone is_part spelled text.now)
+            (λ rest. StandsSome is_part spelled text.now rest.now)) }
+    {
+        match Self::read(alloc, text) {
+            Ok(Some((part, rest))) => {
+                drop(part);
+                Ok(Some(rest))
+            }
+            Ok(None) => Ok(None),
+            Err(fault) => Err(fault),
+        }
+    }
 
     /// Adds the bytes at the end of a text. The one fault is want of memory; the text then ends with a first part of
     /// them.

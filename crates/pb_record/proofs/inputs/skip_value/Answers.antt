@@ -1,0 +1,12 @@
+use Rattle.pb_record.specs.Grammar.{input_bytes}
+use Rattle.pb_record.specs.Parts.{IsInput}
+use Rattle.pb_record.specs.declared.record.Input.TheVariants.{Value}
+use Rattle.pb_record.proofs.SkipLemmas.{some_as}
+use Rattle.pb_record.proofs.InputLemmas.{value_stands, no_value}
+use Rattle.pb_record.proofs.inputs.skip_value.Goals as goal
+
+pub returns-in-Ok-Some : goal.returns-in-Ok-Some
+returns-in-Ok-Some c = some_as IsInput input_bytes (λ p. Value p.0 p.1) (λ p there. value_stands there) (rw c.in-Ok-Some.field-0-is at c.in-Ok-Some.ensures)
+
+pub returns-in-Ok-None : goal.returns-in-Ok-None
+returns-in-Ok-None c = no_value (rw c.in-Ok-None.field-0-is at c.in-Ok-None.ensures)

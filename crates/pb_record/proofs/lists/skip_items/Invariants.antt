@@ -1,0 +1,6 @@
+use Rattle.std.specs.List.{flat_map}
+use Rattle.pb_record.specs.Reading.{StandsSome, HasCount}
+use Rattle.pb_record.proofs.lists.skip_items.Given as goal
+
+abbrev pub invariant-loop : goal.invariant-loop
+invariant-loop g l = StandsSome (HasCount g.T.Part.is_part l.counter) (flat_map g.T.Part.spelled) l.text l.rest

@@ -1,0 +1,138 @@
+//! The run numbers of a record, read from its text. Of the rest of the text no values are made.
+
+ghost use Rattle.std.specs.Prelude.{◌++◌, codes, Decides, IfOk, MatchOption};
+ghost use Rattle.pb_record.specs.Grammar.{line};
+ghost use Rattle.pb_record.specs.Numbers.{AreNumbersOf, SaysNumbers};
+ghost use Rattle.pb_record.specs.Parts.{Says};
+ghost use Rattle.pb_record.specs.Whole.{HasNeeds, IsEnd, IsRest, RestParts};
+ghost use Rattle.pb_record.specs.declared.record.Record.{Record};
+
+use crate::asked::Asked;
+use crate::front::after;
+use crate::part::Part;
+use crate::record::Input;
+use pb_data::{Bytes, Items, Text};
+use pb_place::RelativePath;
+use std::alloc::{AllocError, Global};
+
+/// What a record says of run numbers.
+#[derive(Drop)]
+pub struct Numbers {
+    /// The key of its unit.
+    pub key: Text,
+    /// Its own run number, and those with which it names the units that it needs. None if it is of format 1.
+    pub numbered: Option<(u64, Items<(Text, u64)>)>,
+}
+
+/// The parts of a record of format 1 behind its key.
+type CopiedRest = (
+    Asked,
+    (
+        Items<Input>,
+        (Items<(Text, Items<(RelativePath, Bytes)>)>, (Bytes, Bytes)),
+    ),
+);
+
+/// Returns whether a text is two streams before the line `end`, and nothing after it.
+fn is_end(alloc: Global, text: &[u8]) -> Result<bool, AllocError>
+    ensures { IfOk result (λ is. Decides is (IsEnd text.now)) }
+{
+    match <(Bytes, Bytes) as Part>::skip(alloc, text) {
+        Ok(Some(rest)) => Ok(rest == b"end\n".as_slice()),
+        Ok(None) => Ok(false),
+        Err(fault) => Err(fault),
+    }
+}
+
+/// Returns the needed units of a record of format 2, from its text behind the key, or none if the text is no such one.
+fn needs_at(alloc: Global, text: &[u8]) -> Result<Option<Items<(Text, u64)>>, AllocError>
+    ensures { IfOk result (λ found. MatchOption found
+        ((p : RestParts) → IsRest text.now p → ⊥) (λ needs. HasNeeds text.now needs)) }
+{
+    let Some(behind) = <(Asked, Items<Input>) as Part>::skip(alloc, text)? else {
+        return Ok(None);
+    };
+    let found: Option<(Items<(Text, u64)>, &[u8])> = Part::read(alloc, behind)?;
+    match found {
+        Some((needs, rest)) => {
+            if is_end(alloc, rest)? {
+                Ok(Some(needs))
+            } else {
+                Ok(None)
+            }
+        }
+        None => Ok(None),
+    }
+}
+
+/// Returns the numbers of a record of format 2, from its text behind the first line.
+fn numbers_numbered(alloc: Global, text: &[u8]) -> Result<Option<Numbers>, AllocError>
+    ensures { IfOk result (λ found. MatchOption found
+        ((r : Record) → Says (line (codes "record 2") ++ text.now) r → ⊥)
+        (λ numbers. SaysNumbers (line (codes "record 2") ++ text.now) numbers)) }
+{
+    let found: Option<((u64, Text), &[u8])> = Part::read(alloc, text)?;
+    let Some((head, rest)) = found else {
+        return Ok(None);
+    };
+    match needs_at(alloc, rest)? {
+        Some(needs) => {
+            let (own, key) = head;
+            Ok(Some(Numbers {
+                key,
+                numbered: Some((own, needs)),
+            }))
+        }
+        None => Ok(None),
+    }
+}
+
+/// Returns what a record of format 1 says, from its text behind the first line: its key alone.
+fn numbers_copied(alloc: Global, text: &[u8]) -> Result<Option<Numbers>, AllocError>
+    ensures { IfOk result (λ found. MatchOption found
+        ((r : Record) → Says (line (codes "record 1") ++ text.now) r → ⊥)
+        (λ numbers. SaysNumbers (line (codes "record 1") ++ text.now) numbers)) }
+{
+    let found: Option<(Text, &[u8])> = Part::read(alloc, text)?;
+    let Some((key, behind)) = found else {
+        return Ok(None);
+    };
+    match CopiedRest::skip(alloc, behind)? {
+        Some(rest) => {
+            if rest == b"end\n".as_slice() {
+                Ok(Some(Numbers {
+                    key,
+                    numbered: None,
+                }))
+            } else {
+                Ok(None)
+            }
+        }
+        None => Ok(None),
+    }
+}
+
+/// Returns the numbers of the record that a text is, by the format that its first line names.
+fn numbers_by_format(alloc: Global, text: &[u8]) -> Result<Option<Numbers>, AllocError>
+    ensures { IfOk result (λ found. MatchOption found ((r : Record) → Says text.now r → ⊥)
+        (λ numbers. SaysNumbers text.now numbers)) }
+{
+    if let Some(rest) = after(b"record 2\n", text) {
+        return numbers_numbered(alloc, rest);
+    }
+    if let Some(rest) = after(b"record 1\n", text) {
+        return numbers_copied(alloc, rest);
+    }
+    Ok(None)
+}
+
+/// Returns what the record that a text is says of run numbers, or none if the text is no record. It returns some exactly
+/// if `read_record` does.
+///
+/// Errors: out of memory only.
+pub fn read_numbers(alloc: Global, text: &[u8]) -> Result<Option<Numbers>, AllocError>
+    ensures { IfOk result (AreNumbersOf text.now) }
+{
+    let found = numbers_by_format(alloc, text)?;
+    Ok(found)
+}
