@@ -14,3 +14,4 @@ pub mod LookingOver
 pub mod LookingBy
 pub mod Held
 pub mod Put
+pub mod Numbered

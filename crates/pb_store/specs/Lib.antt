@@ -4,3 +4,4 @@ pub mod Differences
 pub mod Folder
 pub mod Looking
 pub mod Presence
+pub mod Matching

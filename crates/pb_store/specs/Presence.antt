@@ -1,12 +1,14 @@
 -- What serves private functions alone: the files below a folder, read one by one; and how the numbers of records are gathered and looked up.
-use Rattle.std.specs.Prelude.{◌≡◌, ◌&&◌, ℕ, if◌then◌else◌, true, map, List, [], ◌∷◌, Option, Some, None}
+use Rattle.std.specs.Prelude.{◌≡◌, ◌&&◌, ℕ, if◌then◌else◌, true, map, max, List, [], ◌∷◌, Option, Some, None}
 use Rattle.std.specs.FinMap as finite
+use Rattle.std.specs.List.{fold}
 use Rattle.std.specs.Str.{bytes_eq}
 use Rattle.pb_data.specs.Table.{with_entry}
 use Rattle.pb_place.specs.declared.call.Call.{Call}
 use Rattle.pb_place.specs.declared.call.Call.TheVariants as call
 use Rattle.pb_place.specs.Paths.{inside}
 use Rattle.pb_place.specs.World.{Map}
+use Rattle.pb_record.specs.declared.numbers.Numbers.{Numbers}
 use Rattle.pb_record.specs.declared.record.Record.{Record}
 use Rattle.pb_soundness.specs.Records.{ends_as_record, is_key, number_of, place_of, read_text, reading}
 use Rattle.pb_store.specs.Folder.{number_in, or_zero}
@@ -38,6 +40,25 @@ IsHeld numbers need = number_in numbers need.0 ≡ Some need.1
 -- the needed units with the numbers that a table has of them
 abbrev pub numbered_by : List (List ℕ × Option ℕ) → List (List ℕ) → List (List ℕ × ℕ)
 numbered_by numbers needs = map (λ (need : List ℕ). (need, or_zero (number_in numbers need))) needs
+
+-- the greatest run number that a record has or names, by what it says of numbers; 0 if there is no record, or if it has none
+abbrev pub greatest_said : Option (ℕ × List (List ℕ × ℕ)) → ℕ
+greatest_said None = 0
+greatest_said (Some (own, needs)) = max own (fold (λ g (pair : List ℕ × ℕ). max g pair.1) 0 needs)
+
+abbrev pub greatest_told : Option Numbers → ℕ
+greatest_told None = 0
+greatest_told (Some numbers) = greatest_said numbers.numbered
+
+-- a record's own run number
+abbrev pub own_said : Option (ℕ × List (List ℕ × ℕ)) → Option ℕ
+own_said None = None
+own_said (Some (own, needs)) = Some own
+
+-- with the number of a record that was read at a path, by what it says of numbers
+abbrev pub noted_told : List ℕ → List ℕ → Option Numbers → List (List ℕ × Option ℕ) → List (List ℕ × Option ℕ)
+noted_told folder path None numbers = numbers
+noted_told folder path (Some said) numbers = if is_key said.key && bytes_eq (place_of folder said.key) path then with_entry numbers said.key (own_said said.numbered) else numbers
 
 -- with the number of a record that was read at a path, where that is the place of its key
 abbrev pub noted : List ℕ → List ℕ → Option Record → List (List ℕ × Option ℕ) → List (List ℕ × Option ℕ)

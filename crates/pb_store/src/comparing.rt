@@ -1,12 +1,26 @@
-//! Inputs and files compared with others.
+//! The present value of an input compared with the recorded one, without holding both.
 
-ghost use Rattle.std.specs.Prelude.{◌≡◌, ◌&&◌, Decides};
+ghost use Rattle.std.specs.Prelude.{◌≡◌, ◌∷◌, ◌&&◌, [], map, IsTrue, IfOk, Decides};
+ghost use Rattle.std.specs.FinMap as finite;
+ghost use Rattle.std.specs.List.{filter_map};
 ghost use Rattle.std.specs.Str.{bytes_eq};
-ghost use Rattle.pb_store.specs.Differences.{same_files};
+ghost use Rattle.pb_place.specs.declared.call.Call.TheVariants as call;
+ghost use Rattle.pb_place.specs.World.{from_nothing, listed, removed};
+ghost use Rattle.pb_record.specs.declared.record.Input.TheVariants.{File, Tree, Value};
+ghost use Rattle.pb_record.specs.declared.record.InputName.TheVariants.{Path, Variable};
+ghost use Rattle.pb_soundness.specs.Inputs.{contents, input_in, name_of, path_input};
+ghost use Rattle.pb_store.specs.Calls.{OnlyLooks, MayLook, MayRead};
+ghost use Rattle.pb_store.specs.Differences.{IsPresent, same_files};
+ghost use Rattle.pb_store.specs.Looking.{Looks, name_looked};
+ghost use Rattle.pb_store.specs.Matching.{Files, matched};
+ghost use Rattle.pb_store.specs.Presence.{file_in, files_looked};
 
-use pb_data::Bytes;
-use pb_place::RelativePath;
+use crate::fault::StoreFault;
+use crate::inputs::{file_at, paths_below, paths_outside, source_at, text_in};
+use pb_data::{Bytes, Items, Text};
+use pb_place::{PathText, Place, RelativePath};
 use pb_record::Input;
+use std::alloc::Global;
 
 /// Returns whether two files are the same.
 fn is_same_file(file: &(RelativePath, Bytes), other: &(RelativePath, Bytes)) -> bool
@@ -16,49 +30,211 @@ fn is_same_file(file: &(RelativePath, Bytes), other: &(RelativePath, Bytes)) -> 
         && file.1.as_slice() == other.1.as_slice()
 }
 
-/// Returns whether two lists of files are the same. It takes no memory.
-fn same_files(files: &[(RelativePath, Bytes)], others: &[(RelativePath, Bytes)]) -> bool
-    ensures { result ≡ same_files files.now others.now }
+/// The comparison of some files with the recorded ones, as far as it has come.
+#[derive(Drop)]
+struct Matching<'a> {
+    /// Whether all files so far were the recorded ones.
+    same: bool,
+    /// The recorded ones that are left.
+    left: &'a [(RelativePath, Bytes)],
+}
+
+/// Returns how a comparison goes on with one file more.
+fn with_file<'a>(matching: Matching<'a>, file: &(RelativePath, Bytes)) -> Matching<'a>
+    ensures { (more : Files) → matched result more ≡ matched matching.entry (file.now ∷ more) }
 {
-    let mut left = files;
-    let mut right = others;
-    while let [file, after @ ..] = left {
-        match right {
-            [other, others_after @ ..] => {
-                if !is_same_file(file, other) {
-                    return false;
-                }
-                left = after;
-                right = others_after;
-            }
-            [] => return false,
+    match matching.left {
+        [other, after @ ..] => Matching {
+            same: matching.same && is_same_file(file, other),
+            left: after,
+        },
+        [] => Matching {
+            same: false,
+            left: &[],
+        },
+    }
+}
+
+/// Returns the outcome of a comparison that has no file left.
+fn outcome(matching: &Matching<'_>) -> bool
+    ensures { result ≡ matched matching.now [] }
+{
+    matching.same && matching.left.is_empty()
+}
+
+/// Returns whether the files at these paths, by their paths in a folder, are the recorded ones. It holds one of them at a
+/// time. It also reads those behind the first that differs.
+fn are_files_at<P: Place>(
+    alloc: Global,
+    place: &mut P,
+    folder: &PathText,
+    paths: &[PathText],
+    recorded: &[(RelativePath, Bytes)],
+) -> Result<bool, StoreFault>
+    ensures ok { IsTrue P.tells →
+        IfOk result (λ same. same ≡ same_files
+        (filter_map (file_in folder.now (P.at place.old).world.files) paths.now) recorded.now) }
+    ensures quiet { OnlyLooks MayRead result (P.at place.old) (P.at place.new) }
+    ensures looks { Looks result (files_looked folder.now paths.now) (P.at place.old).counts
+        (P.at place.new).counts }
+{
+    let mut matching = Matching {
+        same: true,
+        left: recorded,
+    };
+    for path in paths {
+        let found = file_at(alloc, place, folder, path)?;
+        if let Some(file) = found {
+            matching = with_file(matching, &file);
         }
     }
-    right.is_empty()
+    Ok(outcome(&matching))
 }
 
-/// Returns whether two lists of files are the same.
-#[tactic(auto, using(crate::proofs::Firsts::files_same))]
-pub(crate) fn are_same_files(
-    files: &[(RelativePath, Bytes)],
-    others: &[(RelativePath, Bytes)],
-) -> bool
-    ensures { Decides result (files.now ≡ others.now) }
+/// Returns whether the sources below a folder, by their paths in it and in byte order, are the recorded ones.
+#[tactic(auto, using(crate::proofs::Present::sources_in, crate::proofs::Firsts::files_same))]
+fn are_sources<P: Place>(
+    alloc: Global,
+    place: &mut P,
+    target: &PathText,
+    folder: &PathText,
+    recorded: &[(RelativePath, Bytes)],
+) -> Result<bool, StoreFault>
+    ensures ok { IsTrue P.tells →
+        IfOk result (λ same. Decides same (contents folder.now
+        (from_nothing target.now (P.at place.old).world).files ≡ recorded.now)) }
+    ensures quiet { OnlyLooks MayLook result (P.at place.old) (P.at place.new) }
+    ensures looks { IsTrue P.tells →
+        Looks result (call.ListOutside folder.now target.now ∷ map call.Read
+        (listed folder.now (removed target.now (P.at place.old).world))) (P.at place.old).counts
+        (P.at place.new).counts }
 {
-    same_files(files, others)
+    let paths = paths_outside(alloc, place, target, folder)?;
+    match are_files_at(alloc, place, folder, paths.as_slice(), recorded) {
+        Ok(same) => Ok(same),
+        Err(fault) => Err(fault),
+    }
 }
 
-/// Returns whether two inputs are the same: their kind, their name and their value.
-pub(crate) fn is_same_input(input: &Input, other: &Input) -> bool
-    ensures { Decides result (input.now ≡ other.now) }
+/// Returns whether the files below a folder, by their paths in it and in byte order, are the recorded ones.
+#[tactic(auto, using(crate::proofs::Present::files_in_it, crate::proofs::Firsts::files_same))]
+pub(crate) fn are_files<P: Place>(
+    alloc: Global,
+    place: &mut P,
+    folder: &PathText,
+    recorded: &[(RelativePath, Bytes)],
+) -> Result<bool, StoreFault>
+    ensures ok { IsTrue P.tells →
+        IfOk result (λ same. Decides same
+        (contents folder.now (P.at place.old).world.files ≡ recorded.now)) }
+    ensures quiet { OnlyLooks MayLook result (P.at place.old) (P.at place.new) }
+    ensures looks { IsTrue P.tells →
+        Looks result
+        (call.List folder.now ∷ map call.Read (listed folder.now (P.at place.old).world))
+        (P.at place.old).counts (P.at place.new).counts }
 {
-    match (input, other) {
-        (Input::File(path, bytes), Input::File(second, others)) => path == second
-            && bytes == others,
-        (Input::Tree(path, files), Input::Tree(second, others)) => {
-            path == second && are_same_files(files.as_slice(), others.as_slice())
-        }
-        (Input::Value(name, text), Input::Value(second, other)) => name == second && text == other,
-        _ => false,
+    let paths = paths_below(alloc, place, folder)?;
+    match are_files_at(alloc, place, folder, paths.as_slice(), recorded) {
+        Ok(same) => Ok(same),
+        Err(fault) => Err(fault),
+    }
+}
+
+/// Returns whether a path is a file with these bytes. If no file is there, it looks at the folder, as the reading of the
+/// present value does.
+fn is_file_present<P: Place>(
+    alloc: Global,
+    place: &mut P,
+    target: &PathText,
+    path: &PathText,
+    bytes: &Bytes,
+) -> Result<bool, StoreFault>
+    ensures ok { IsTrue P.tells →
+        IfOk result (λ same. Decides same
+        (input_in target.now (P.at place.old).world (Path path.now) ≡ File path.now bytes.now)) }
+    ensures quiet { OnlyLooks MayLook result (P.at place.old) (P.at place.new) }
+    ensures looks { IsTrue P.tells →
+        Looks result (name_looked target.now (P.at place.old).world (Path path.now))
+        (P.at place.old).counts (P.at place.new).counts }
+{
+    match source_at(alloc, place, target, path) {
+        Ok(Some(found)) => return Ok(found == *bytes),
+        Ok(None) => {}
+        Err(fault) => return Err(fault),
+    }
+    match are_sources(alloc, place, target, path, &[]) {
+        Ok(_) => Ok(false),
+        Err(fault) => Err(fault),
+    }
+}
+
+/// Returns whether a path is a folder with these files.
+fn is_tree_present<P: Place>(
+    alloc: Global,
+    place: &mut P,
+    target: &PathText,
+    path: &PathText,
+    files: &Items<(RelativePath, Bytes)>,
+) -> Result<bool, StoreFault>
+    ensures ok { IsTrue P.tells →
+        IfOk result (λ same. Decides same
+        (input_in target.now (P.at place.old).world (Path path.now) ≡ Tree path.now files.now)) }
+    ensures quiet { OnlyLooks MayLook result (P.at place.old) (P.at place.new) }
+    ensures looks { IsTrue P.tells →
+        Looks result (name_looked target.now (P.at place.old).world (Path path.now))
+        (P.at place.old).counts (P.at place.new).counts }
+{
+    match source_at(alloc, place, target, path) {
+        Ok(Some(_)) => return Ok(false),
+        Ok(None) => {}
+        Err(fault) => return Err(fault),
+    }
+    match are_sources(alloc, place, target, path, files.as_slice()) {
+        Ok(same) => Ok(same),
+        Err(fault) => Err(fault),
+    }
+}
+
+/// Returns whether a variable has this value.
+fn is_value_present<P: Place>(
+    alloc: Global,
+    place: &mut P,
+    target: &PathText,
+    name: &Text,
+    value: &Option<Text>,
+) -> Result<bool, StoreFault>
+    ensures ok { IsTrue P.tells →
+        IfOk result (λ same. Decides same
+        (input_in target.now (P.at place.old).world (Variable name.now)
+        ≡ Value name.now value.now)) }
+    ensures quiet { OnlyLooks MayLook result (P.at place.old) (P.at place.new) }
+    ensures looks { Looks result (call.Variable name.now ∷ []) (P.at place.old).counts
+        (P.at place.new).counts }
+{
+    let _ = target.as_str();
+    match text_in(alloc, place, name) {
+        Ok(found) => Ok(found == *value),
+        Err(fault) => Err(fault),
+    }
+}
+
+/// Returns whether an input has its present value. Nothing at or below the target folder is looked at.
+pub(crate) fn is_present<P: Place>(
+    alloc: Global,
+    place: &mut P,
+    target: &PathText,
+    input: &Input,
+) -> Result<bool, StoreFault>
+    ensures ok { IsTrue P.tells →
+        IfOk result (λ same. Decides same (IsPresent target.now (P.at place.old).world input.now)) }
+    ensures quiet { OnlyLooks MayLook result (P.at place.old) (P.at place.new) }
+    ensures looks { IsTrue P.tells →
+        Looks result (name_looked target.now (P.at place.old).world (name_of input.now))
+        (P.at place.old).counts (P.at place.new).counts }
+{
+    match input {
+        Input::File(path, bytes) => is_file_present(alloc, place, target, path, bytes),
+        Input::Tree(path, files) => is_tree_present(alloc, place, target, path, files),
+        Input::Value(name, value) => is_value_present(alloc, place, target, name, value),
     }
 }

@@ -14,10 +14,9 @@ ghost use Rattle.pb_store.specs.Differences.{FirstOrAll, FirstInput, IsPresent, 
 ghost use Rattle.pb_store.specs.Looking.{Looks, name_looked, inputs_looked, out_looked, copies_looked, needed_looked, around_looked, from_looked, unit_looked};
 
 use crate::asking::{first_part, first_variable};
-use crate::comparing::{are_same_files, is_same_input};
+use crate::comparing::{are_files, is_present};
 use crate::difference::Difference;
 use crate::fault::StoreFault;
-use crate::inputs::{files_in, input_now};
 use crate::keys::Key;
 use crate::numbers::first_number;
 use crate::replaying::{Compared, Replayed, again};
@@ -35,30 +34,6 @@ fn name_of(alloc: Global, input: &Input) -> Result<InputName, AllocError>
         Input::File(path, _) => Ok(InputName::Path(path.copy(alloc)?)),
         Input::Tree(path, _) => Ok(InputName::Path(path.copy(alloc)?)),
         Input::Value(name, _) => Ok(InputName::Variable(name.copy(alloc)?)),
-    }
-}
-
-/// Returns whether an input has its present value.
-fn is_present<P: Place>(
-    alloc: Global,
-    place: &mut P,
-    target: &PathText,
-    input: &Input,
-) -> Result<bool, StoreFault>
-    ensures ok { IsTrue P.tells →
-        IfOk result (λ same. Decides same (IsPresent target.now (P.at place.old).world input.now)) }
-    ensures quiet { OnlyLooks MayLook result (P.at place.old) (P.at place.new) }
-    ensures looks { IsTrue P.tells →
-        Looks result (name_looked target.now (P.at place.old).world (name_of input.now))
-        (P.at place.old).counts (P.at place.new).counts }
-{
-    let name = match name_of(alloc, input) {
-        Ok(name) => name,
-        Err(_) => return Err(StoreFault::OutOfMemory),
-    };
-    match input_now(alloc, place, target, &name) {
-        Ok(now) => Ok(is_same_input(&now, input)),
-        Err(fault) => Err(fault),
     }
 }
 
@@ -122,10 +97,7 @@ fn has_files<P: Place>(
         Ok(None) => return Ok(false),
         Err(_) => return Err(StoreFault::OutOfMemory),
     };
-    match files_in(alloc, place, &out) {
-        Ok(files) => Ok(are_same_files(files.as_slice(), need.1.as_slice())),
-        Err(fault) => Err(fault),
-    }
+    are_files(alloc, place, &out, need.1.as_slice())
 }
 
 /// Returns the key of the first needed unit whose folder has not the files that are named.

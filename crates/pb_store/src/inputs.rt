@@ -22,7 +22,7 @@ use std::alloc::Global;
 /// Returns the bytes of a file of the sources, or none if no file is there. If the path is at or below the target
 /// folder, it returns none and does not ask the place.
 #[tactic(auto, using(crate::proofs::Present::source_laws))]
-fn source_at<P: Place>(
+pub(crate) fn source_at<P: Place>(
     alloc: Global,
     place: &mut P,
     target: &PathText,
@@ -46,7 +46,7 @@ fn source_at<P: Place>(
 }
 
 /// Returns the file at a path, by its path in a folder, or none if the path is not below the folder or no file is there.
-fn file_at<P: Place>(
+pub(crate) fn file_at<P: Place>(
     alloc: Global,
     place: &mut P,
     folder: &PathText,
@@ -99,7 +99,7 @@ fn files_at<P: Place>(
 
 /// Returns the paths of the files below a folder that are not at or below the target folder.
 #[tactic(auto, using(crate::proofs::Looking::stops_once))]
-fn paths_outside<P: Place>(
+pub(crate) fn paths_outside<P: Place>(
     alloc: Global,
     place: &mut P,
     target: &PathText,
@@ -120,7 +120,7 @@ fn paths_outside<P: Place>(
 
 /// Returns the paths of the files below a folder.
 #[tactic(auto, using(crate::proofs::Looking::stops_once))]
-fn paths_below<P: Place>(
+pub(crate) fn paths_below<P: Place>(
     alloc: Global,
     place: &mut P,
     folder: &PathText,
@@ -162,31 +162,13 @@ fn sources_in<P: Place>(
     }
 }
 
-/// Returns the files below a folder, by their paths in it, in byte order.
-#[tactic(auto, using(crate::proofs::Present::files_in_it))]
-pub(crate) fn files_in<P: Place>(
-    alloc: Global,
-    place: &mut P,
-    folder: &PathText,
-) -> Result<Items<(RelativePath, Bytes)>, StoreFault>
-    ensures ok { IsTrue P.tells →
-        IfOk result (λ files. files ≡ contents folder.now (P.at place.old).world.files) }
-    ensures quiet { OnlyLooks MayLook result (P.at place.old) (P.at place.new) }
-    ensures looks { IsTrue P.tells →
-        Looks result
-        (call.List folder.now ∷ map call.Read (listed folder.now (P.at place.old).world))
-        (P.at place.old).counts (P.at place.new).counts }
-{
-    let paths = paths_below(alloc, place, folder)?;
-    match files_at(alloc, place, folder, paths.as_slice()) {
-        Ok(files) => Ok(files),
-        Err(fault) => Err(fault),
-    }
-}
-
 /// Returns the text of a variable, or none if it is not set.
 #[tactic(auto, using(crate::proofs::Looking::stops_once))]
-fn text_in<P: Place>(alloc: Global, place: &mut P, name: &Text) -> Result<Option<Text>, StoreFault>
+pub(crate) fn text_in<P: Place>(
+    alloc: Global,
+    place: &mut P,
+    name: &Text,
+) -> Result<Option<Text>, StoreFault>
     ensures ok { IsTrue P.tells →
         IfOk result (λ found. found ≡ finite.get (P.at place.old).world.variables name.now) }
     ensures quiet { OnlyLooks MayLook result (P.at place.old) (P.at place.new) }
@@ -255,7 +237,7 @@ fn value_now<P: Place>(
 }
 
 /// Returns the input of this name with its present value: nothing at or below the target folder is looked at.
-pub(crate) fn input_now<P: Place>(
+fn input_now<P: Place>(
     alloc: Global,
     place: &mut P,
     target: &PathText,

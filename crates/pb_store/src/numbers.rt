@@ -6,16 +6,15 @@ ghost use Rattle.pb_data.specs.Table.{with_entry};
 ghost use Rattle.pb_store.specs.Differences.{FirstOrAll};
 ghost use Rattle.pb_store.specs.Folder.{number_in, or_zero};
 ghost use Rattle.pb_soundness.specs.Records.{is_key, place_of};
-ghost use Rattle.pb_store.specs.Presence.{IsHeld, noted, numbered_by};
+ghost use Rattle.pb_store.specs.Presence.{IsHeld, noted_told, numbered_by, own_said};
 ghost use Rattle.pb_store.specs.declared.fault.StoreFault.TheVariants as store_fault;
 
 use crate::fault::StoreFault;
-use crate::keeping::number_of;
 use crate::keys::Key;
 use crate::store::place_path;
 use pb_data::{Items, Table, Text, TryCopy};
 use pb_place::PathText;
-use pb_record::Record;
+use pb_record::Numbers;
 use std::alloc::{AllocError, Global};
 
 /// Returns the run number that a table has of a unit, or none.
@@ -140,6 +139,16 @@ fn is_place(
     Ok(place.as_str().as_bytes() == path.as_str().as_bytes())
 }
 
+/// Returns a record's own run number, or none.
+fn own_number(said: &Numbers) -> Option<u64>
+    ensures { result ≡ own_said said.now.numbered }
+{
+    match &said.numbered {
+        Some((own, _)) => Some(*own),
+        None => None,
+    }
+}
+
 /// Notes the number of a record that was read at a path, if that is the place of its key. It fails only with
 /// `OutOfMemory`.
 pub(crate) fn note_read(
@@ -147,17 +156,18 @@ pub(crate) fn note_read(
     numbers: &mut Table<Option<u64>>,
     folder: &PathText,
     path: &PathText,
-    found: &Option<Record>,
+    found: &Option<Numbers>,
 ) -> Result<(), StoreFault>
-    ensures ok { OnOk result (numbers.new ≡ noted folder.now path.now found.now numbers.old) }
+    ensures ok { OnOk result
+        (numbers.new ≡ noted_told folder.now path.now found.now numbers.old) }
     ensures fault { IfErr result (λ e. e ≡ store_fault.OutOfMemory) }
 {
-    let kept = match found {
+    let said = match found {
         None => return Ok(()),
-        Some(kept) => kept,
+        Some(said) => said,
     };
-    match is_place(alloc, folder, &kept.key, path) {
-        Ok(true) => note(alloc, numbers, &kept.key, number_of(kept)),
+    match is_place(alloc, folder, &said.key, path) {
+        Ok(true) => note(alloc, numbers, &said.key, own_number(said)),
         Ok(false) => Ok(()),
         Err(_) => Err(StoreFault::OutOfMemory),
     }

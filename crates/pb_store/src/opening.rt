@@ -1,24 +1,25 @@
 //! A store is opened: the records of a folder are read for their run numbers.
 
-ghost use Rattle.std.specs.Prelude.{◌≡◌, ◌∷◌, [], if◌then◌else◌, max, true, IsTrue, IfErr, IfOk, OnOk};
+ghost use Rattle.std.specs.Prelude.{◌≡◌, ◌∷◌, [], if◌then◌else◌, max, true, IsTrue, IfErr, IfOk, OnOk, option_map};
 ghost use Rattle.std.specs.List.{fold};
 ghost use Rattle.std.specs.FinMap as map;
 ghost use Rattle.pb_place.specs.declared.call.Call.TheVariants as call;
+ghost use Rattle.pb_record.specs.Numbers.{numbers_of};
 ghost use Rattle.pb_soundness.specs.Records.{ends_as_record, read_text, reading};
 ghost use Rattle.pb_store.specs.Calls.{OpensBy, ReadsOneOf, OnlyOpens};
 ghost use Rattle.pb_store.specs.Looking.{OpensLooking, opened_looked, records_looked};
-ghost use Rattle.pb_store.specs.Folder.{OpensStore, greatest_named, greatest_if, greatest_at, greatest_of};
-ghost use Rattle.pb_store.specs.Presence.{noted, noted_at};
+ghost use Rattle.pb_store.specs.Folder.{OpensStore, greatest_if, greatest_at, greatest_of};
+ghost use Rattle.pb_store.specs.Presence.{greatest_said, greatest_told, noted, noted_at};
 
 use crate::dropping::number_after;
 use crate::fault::{OpenFault, opened};
 use crate::keys::ends_as_record;
 use crate::numbers::note_read;
-use crate::store::{Store, read_text};
-use pb_data::{Items, Table, Text};
+use crate::store::Store;
+use pb_data::{Bytes, Items, Table, Text};
 use pb_place::{PathText, Place};
-use pb_record::{Needed, Record};
-use std::alloc::Global;
+use pb_record::{Numbers, read_numbers};
+use std::alloc::{AllocError, Global};
 
 /// Returns the greater of two numbers.
 fn greater(number: u64, other: u64) -> u64
@@ -39,30 +40,44 @@ fn greatest_among(needs: &[(Text, u64)]) -> u64
     greatest
 }
 
-/// Returns the greatest number that a record has or names, or 0 if it has none.
-fn greatest_named(kept: &Record) -> u64
-    ensures { result ≡ greatest_named kept.now.needed }
+/// Returns the greatest of a record's own number and those with which it names units, or 0 if it has none.
+fn greatest_said(numbered: &Option<(u64, Items<(Text, u64)>)>) -> u64
+    ensures { result ≡ greatest_said numbered.now }
 {
-    match &kept.needed {
-        Needed::Copies(_) => 0,
-        Needed::Numbers(number, needs) => {
+    match numbered {
+        None => 0,
+        Some((own, needs)) => {
             let named = greatest_among(needs.as_slice());
-            greater(*number, named)
+            greater(*own, named)
         }
     }
 }
 
-/// Returns the greatest number that a record has or names, or 0 if there is no record.
-fn greatest_if(found: &Option<Record>) -> u64
-    ensures { result ≡ greatest_if found.now }
+/// Returns the greatest number that a record has or names, or 0 if there is no record, or if it has none.
+fn greatest_told(found: &Option<Numbers>) -> u64
+    ensures { result ≡ greatest_told found.now }
 {
     match found {
         None => 0,
-        Some(kept) => greatest_named(kept),
+        Some(numbers) => greatest_said(&numbers.numbered),
+    }
+}
+
+/// Returns what the record that a text is says of numbers, or none if the text is not that of a record.
+fn numbers_in(alloc: Global, text: &Option<Bytes>) -> Result<Option<Numbers>, AllocError>
+    ensures { IfOk result (λ found. found ≡ option_map numbers_of (read_text reading text.now)) }
+{
+    match text {
+        None => Ok(None),
+        Some(text) => {
+            let found = read_numbers(alloc, text.as_slice())?;
+            Ok(found)
+        }
     }
 }
 
 /// Returns the greatest number that the record at a path has or names. If the record counts there, its number is noted.
+#[tactic(auto, using(crate::proofs::Numbered::number_laws))]
 fn read_greatest<P: Place>(
     alloc: Global,
     place: &mut P,
@@ -86,11 +101,11 @@ fn read_greatest<P: Place>(
         Ok(text) => text,
         Err(fault) => return Err(opened(path, fault)),
     };
-    let found = match read_text(alloc, &text) {
+    let found = match numbers_in(alloc, &text) {
         Ok(found) => found,
         Err(_) => return Err(OpenFault::OutOfMemory),
     };
-    let greatest = greatest_if(&found);
+    let greatest = greatest_told(&found);
     match note_read(alloc, numbers, folder, &path, &found) {
         Ok(()) => {
             drop(found);

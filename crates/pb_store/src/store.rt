@@ -84,7 +84,7 @@ fn text_at<P: Place>(
 }
 
 /// Returns the record that a text is, or none if the text is not that of a record.
-pub(crate) fn read_text(alloc: Global, text: &Option<Bytes>) -> Result<Option<Record>, AllocError>
+fn read_text(alloc: Global, text: &Option<Bytes>) -> Result<Option<Record>, AllocError>
     ensures { IfOk result (λ found. found ≡ read_text reading text.now) }
 {
     match text {

@@ -2,7 +2,7 @@ use Rattle.std.proofs.Common.{rules}
 use Rattle.pb_store.proofs.Looking.{looks_told}
 use Rattle.pb_place.specs.declared.call.Call.TheVariants as call
 use Rattle.pb_store.proofs.LookingAt.{folder_made, folder_stops, folder_unlisted}
-use Rattle.pb_store.proofs.inputs.files_in.Goals as goal
+use Rattle.pb_store.proofs.comparing.are_files.Goals as goal
 
 pub returns-in_err-paths-clause-looks : goal.returns-in_err-paths-clause-looks
 returns-in_err-paths-clause-looks g c tells = looks_told c.from_residual.result c.in_err-paths.field-0.0 _ _ _ (search rules) (folder_unlisted (call.List c.args.folder.now) c.args.folder.now (g.P.Place.at c.args.place.now).world _ _ _ c.in_err-paths.ensures.looks)
