@@ -144,8 +144,10 @@ script_in ws
 ln -s target ws/again
 (cd ws && build > ../lines 2>&1 && build --explain > ../lines 2> ../said)
 say 'a link to the target folder among the sources' '0 started' "$(started said)"
+(cd ws && rm again && ln -s target/debug out && ln -s target/debug/a.target.run.record one && build > ../lines 2>&1 && build --explain > ../lines 2> ../said)
+say 'links into the target folder among the sources' '0 started' "$(started said)"
 ln -s ws through
-(cd ws && rm again && export CARGO_TARGET_DIR="$folder/names/through/target" && build > ../lines 2>&1 && build --explain > ../lines 2> ../said)
+(cd ws && rm out one && export CARGO_TARGET_DIR="$folder/names/through/target" && build > ../lines 2>&1 && build --explain > ../lines 2> ../said)
 say 'a target folder named through a link' '0 started' "$(started said)"
 
 # The tag: not by a refused build; beside the line of another program; and taken for sources no more.

@@ -114,6 +114,19 @@ pub fn numbers(alloc: Global, first: u64, second: u64) -> Result<String, AllocEr
     format!(in alloc; "{first} {second}")
 }
 
+/// The first bytes of a file, as many as the text of the step says.
+fn first_text<P: Place>(
+    alloc: Global,
+    place: &mut P,
+    path: &PathText,
+    step: &Step,
+) -> Result<String, AllocError> {
+    match step.text.parse::<usize>() {
+        Ok(most) => file_text(alloc, place.read_first(alloc, path, most)),
+        Err(_) => String::from_str(alloc, "no number"),
+    }
+}
+
 /// What a step answers, of which these are the two paths. `counts` tells how many calls failed, and how many came since
 /// the last of them; `starts` how many children were started, and how many flew at most at one moment.
 pub fn answer<P: Place>(
@@ -126,6 +139,7 @@ pub fn answer<P: Place>(
     let (path, other) = paths;
     let said = match step.call {
         "read" => file_text(alloc, place.read(alloc, path)),
+        "first" => first_text(alloc, place, path, step),
         "list" => listed(alloc, root, place.list(alloc, path)),
         "outside" => listed(alloc, root, place.list_outside(alloc, path, other)),
         "directly" => listed(alloc, root, place.list_directly(alloc, path)),

@@ -1,26 +1,25 @@
 //! A place of real files, variables and children.
 
-ghost use Rattle.std.specs.Prelude.{◌≡◌, ◌≢◌, ◌⊎◌, ℕ, ◌+◌, ◌<◌, ◌++◌, ◌∷◌, [], true, false, length, max, Err, IfOk, IfErr, OnOk, OnErr, IfSome};
+ghost use Rattle.std.specs.Prelude.{◌≡◌, ◌≢◌, ◌⊎◌, ℕ, ◌+◌, true, false, length, Err, IfOk, IfErr, OnOk, OnErr, IfSome};
 ghost use Rattle.std.specs.FinMap as map;
 ghost use Rattle.pb_place.specs.Counts.{no_calls, without};
 ghost use Rattle.pb_place.specs.Children.{is_flying, most_after};
 ghost use Rattle.pb_memory.specs.InFlight.{children_in};
 ghost use Rattle.pb_memory.specs.Tallies.{flown};
-ghost use Rattle.std.specs.Vec.{vec_len, vec_capacity};
 ghost use Rattle.pb_host.specs.Flying.{silent_child};
 
+use crate::children::{Running, Spawned, add_child, begun, child_in_flight, kept_of};
 use crate::listing::{files_below, files_directly, files_outside, folders_directly};
 use crate::meaning::path_from;
 use crate::moving::{Moment, first_moved};
-use crate::reading::{file_at, is_file, variable_of};
-use crate::starting::{finish, spawn};
+use crate::reading::{file_at, first_of, is_file, variable_of};
+use crate::starting::finish;
 use crate::writing::{remove_tree, write_file};
 use pb_data::{Bytes, Items, Text, TryCopy, with_next};
 use pb_memory::Tally;
 use pb_memory::in_flight::{Flying, flies, free_ticket, take_out};
 use pb_place::{
-    Call, ChildInFlight, Command, Ended, FileMap, Moved, PathFault, PathText, Place, PlaceFault,
-    StartFault, ViewFault,
+    Call, Command, Ended, Moved, PathFault, PathText, Place, PlaceFault, StartFault, ViewFault,
 };
 use std::alloc::{AllocError, Global};
 use std::process::{Child, Processes};
@@ -57,23 +56,6 @@ pub struct HostPlace<'a, R: Processes> {
     /// The child that ended last.
     ended: Option<Spawned>,
     moved: Vec<Moved>,
-}
-
-/// When a child was spawned, by the clock of the file system of its output folder.
-#[derive(Drop)]
-struct Spawned {
-    /// The output folder.
-    out: PathText,
-    /// None if that cannot be told.
-    since: Option<Moment>,
-}
-
-/// A child that runs.
-#[derive(Drop)]
-struct Running<K> {
-    process: K,
-    /// None if the child has no output folder.
-    spawned: Option<Spawned>,
 }
 
 impl<'a, R: Files + Env + Processes + AllocGlobal> HostPlace<'a, R> {
@@ -183,67 +165,6 @@ impl<'a, R: Files + Env + Processes + AllocGlobal> HostPlace<'a, R> {
     }
 }
 
-/// Starts the child of a command, and returns it with when that was.
-fn begun<R: Files + Env + Processes + AllocGlobal>(
-    runtime: &R,
-    alloc: Global,
-    command: &Command,
-) -> Result<Running<Child<R::Started>>, StartFault>
-    ensures fault { IfErr result (λ e. e ≢ StartFault.OutOfMemory → e ≡ StartFault.CannotStart) }
-{
-    let out = command.out.copy(alloc)?;
-    let (out, (process, since)) = with_next(out, spawn(runtime, alloc, command))?;
-    let spawned = match out {
-        Some(out) => Some(Spawned { out, since }),
-        None => None,
-    };
-    Ok(Running { process, spawned })
-}
-
-/// Returns what a place keeps of a child in flight.
-fn kept_of<K: Drop>(flying: Flying<K>) -> K
-    ensures { result ≡ flying.kept }
-{
-    let Flying { child, kept } = flying;
-    drop(child);
-    kept
-}
-
-/// Returns what the place tells of a child in flight: its ticket and its command.
-#[tactic(auto, using(crate::proofs::Silence::silence_laws))]
-fn child_in_flight(
-    alloc: Global,
-    command: &Command,
-    ticket: u64,
-) -> Result<ChildInFlight, AllocError>
-    ensures { IfOk result (λ child. child ≡ silent_child command.now ticket) }
-{
-    let command = command.copy(alloc)?;
-    Ok(ChildInFlight {
-        ticket,
-        command,
-        ended: Ended {
-            status: 0,
-            stdout: Bytes::new(Vec::new(alloc)),
-            stderr: Bytes::new(Vec::new(alloc)),
-        },
-        files: Items::new(alloc),
-        before: FileMap::new(alloc),
-    })
-}
-
-/// Adds a child in flight for which there is room, and returns the most that ever were in flight.
-#[tactic(auto, using(pb_memory::proofs::InFlight::fly_laws))]
-fn add_child<K: Drop>(flying: &mut Vec<Flying<K>>, most: u64, one: Flying<K>) -> u64
-    requires room { vec_len flying.old < vec_capacity flying.old }
-    ensures children { children_in flying.new.items
-        ≡ children_in flying.old.items ++ one.child ∷ [] }
-    ensures most { result ≡ max most (length (children_in flying.old.items) + 1) }
-{
-    flying.push_reserved(one);
-    most.max(flying.len() as u64)
-}
-
 /// Returns what a view answered. Its failure becomes the call's own fault; out of memory stays.
 fn told<T>(answer: Result<T, ViewFault>, own: PlaceFault) -> Result<T, PlaceFault>
     ensures own { IfErr result (λ e. e ≢ PlaceFault.OutOfMemory → e ≡ own) }
@@ -270,6 +191,7 @@ impl<'a, R: Files + Env + Processes + AllocGlobal> Place for HostPlace<'a, R> {
       counts = with_children (children_in p.flying.items) p.tally;
       most = p.most;
       still = λ _. Unit {0};
+      moved = p.moved;
     } };
 
     ghost child = { silent };
@@ -279,6 +201,20 @@ impl<'a, R: Files + Env + Processes + AllocGlobal> Place for HostPlace<'a, R> {
     fn read(&mut self, alloc: Global, path: &PathText) -> Result<Option<Bytes>, PlaceFault> {
         let call = self.tally.kept(Call::read(alloc, path))?;
         let answer = told(file_at(self.runtime, path.as_str()), PlaceFault::Read);
+        self.tally.count(call, answer)
+    }
+
+    fn read_first(
+        &mut self,
+        alloc: Global,
+        path: &PathText,
+        most: usize,
+    ) -> Result<Option<Bytes>, PlaceFault> {
+        let call = self.tally.kept(Call::read(alloc, path))?;
+        let answer = told(
+            first_of(self.runtime, path.as_str(), most),
+            PlaceFault::Read,
+        );
         self.tally.count(call, answer)
     }
 

@@ -1,6 +1,8 @@
 //! The machine that the programs run on: real files, variables and children, behind the traits of the outside world.
 #![tactic(auto)]
 
+mod children;
+mod entry;
 mod host_place;
 mod host_view;
 mod listing;

@@ -5,7 +5,8 @@ ghost use Rattle.pb_place.specs.Paths.{is_below, is_at_or_below};
 ghost use Rattle.std.specs.Option.{option_copied};
 ghost use Rattle.pb_host.specs.Listing.{AreBelow, AreOutside, AreOrdered, KeepsBelow, KeepsOutside, StaysBelow, is_left_out};
 
-use crate::reading::{Standing, says_absent, standing_of};
+use crate::entry::standing_in;
+use crate::reading::{Standing, says_absent};
 use crate::tag::is_tagged;
 use crate::writing::fault_of;
 use pb_data::{Items, Text, TryCopy};
@@ -53,41 +54,6 @@ fn path_of(alloc: Global, folder: &PathText, name: &str) -> Result<PathText, Pla
     match RelativePath::of(Text::from_str(alloc, name)?) {
         Some(relative) => Ok(folder.below(alloc, &relative)?),
         None => Err(PlaceFault::List),
-    }
-}
-
-/// What stands at an entry whose links lead further than the system follows them: nothing, if the entry's own link
-/// leads in a circle. Else it is too deep: a link to a folder above it, gone through again and again.
-fn standing_in_circle<R: Files + AllocGlobal>(
-    runtime: &R,
-    alloc: Global,
-    folder: &PathText,
-    name: &str,
-) -> io::Result<Standing> {
-    let whole = fs::canonicalize(runtime, folder.as_str())?;
-    let path = format!(in alloc; "{}/{name}", whole.as_str())?;
-    match fs::metadata(runtime, path.as_str()) {
-        Err(error) if error.kind() == io::ErrorKind::FilesystemLoop => Ok(Standing::Nothing),
-        Err(error) => Err(error),
-        Ok(_) => Err(io::Error::from(io::ErrorKind::FilesystemLoop)),
-    }
-}
-
-/// What stands at an entry of a folder, links followed. A link that leads nowhere, or in a circle, is nothing.
-fn standing_in<R: Files + AllocGlobal>(
-    runtime: &R,
-    alloc: Global,
-    folder: &PathText,
-    path: &PathText,
-    name: &str,
-) -> io::Result<Standing> {
-    match fs::metadata(runtime, path.as_str()) {
-        Ok(metadata) => Ok(standing_of(&metadata)),
-        Err(error) if error.kind() == io::ErrorKind::FilesystemLoop => {
-            standing_in_circle(runtime, alloc, folder, name)
-        }
-        Err(error) if says_absent(&error) => Ok(Standing::Nothing),
-        Err(error) => Err(error),
     }
 }
 

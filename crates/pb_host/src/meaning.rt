@@ -14,7 +14,7 @@ fn is_link<R: Files>(runtime: &R, path: &PathText) -> bool {
 }
 
 /// Returns the path to which the system leads, or none if it leads nowhere, or to no path of ours.
-fn led_to<R: Files + AllocGlobal>(
+pub(crate) fn led_to<R: Files + AllocGlobal>(
     runtime: &R,
     alloc: Global,
     path: &PathText,

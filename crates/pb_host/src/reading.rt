@@ -121,6 +121,35 @@ pub(crate) fn file_at<R: Files + AllocGlobal>(
     }
 }
 
+/// Reads the first bytes of a file, at most `most`.
+fn first_bytes_at<R: Files + AllocGlobal>(
+    runtime: &R,
+    path: &str,
+    most: usize,
+) -> io::Result<Vec<u8>> {
+    let file = fs::open(runtime, path)?;
+    let mut bytes = Vec::new(runtime.alloc());
+    file.take(most as u64).read_to_end(&mut bytes)?;
+    Ok(bytes)
+}
+
+/// Returns the first bytes of a file, at most `most`, or none if no file is at the path. Fails with `Failed` if it
+/// cannot be read.
+pub(crate) fn first_of<R: Files + AllocGlobal>(
+    runtime: &R,
+    path: &str,
+    most: usize,
+) -> Result<Option<Bytes>, ViewFault> {
+    match standing_at(runtime, path)? {
+        Standing::File(length) if length < most as u64 => file_at(runtime, path),
+        Standing::File(_) => match first_bytes_at(runtime, path, most) {
+            Ok(bytes) => Ok(Some(Bytes::new(bytes))),
+            Err(error) => Err(fault_of(error)),
+        },
+        _ => Ok(None),
+    }
+}
+
 /// What is told of a variable that has no value to give: none where it is not set, and else the fault.
 fn unread(error: VarError) -> Result<Option<Text>, ViewFault>
     ensures absent { error ≡ VarError.NotPresent → result ≡ Ok None }

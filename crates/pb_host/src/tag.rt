@@ -1,5 +1,6 @@
 //! The tag of a target folder.
 
+use crate::meaning::led_to;
 use crate::reading::bytes_at;
 use pb_place::PathText;
 use std::alloc::{AllocError, Global};
@@ -52,4 +53,33 @@ pub(crate) fn is_tagged<R: Files + AllocGlobal>(
 ) -> Result<bool, AllocError> {
     let path = format!(in alloc; "{}/{TAG_NAME}", folder.as_str())?;
     Ok(is_tag(runtime, path.as_str()))
+}
+
+/// Returns whether a link leads into a target folder of this builder that the link itself is not in: whether the link's
+/// goal, or a folder above the goal, is such a folder, and `folder`, which holds the link, is not at or below it.
+///
+/// Errors: out of memory only.
+pub(crate) fn leads_into_target<R: Files + AllocGlobal>(
+    runtime: &R,
+    alloc: Global,
+    folder: &PathText,
+    link: &PathText,
+) -> Result<bool, AllocError> {
+    let Some(own) = led_to(runtime, alloc, folder)? else {
+        return Ok(false);
+    };
+    let Some(mut here) = led_to(runtime, alloc, link)? else {
+        return Ok(false);
+    };
+    for _ in 0..u64::MAX {
+        // What is above the link as well ends the walk, and `/` is above all.
+        if own.starts_with(&here) {
+            return Ok(false);
+        }
+        if is_tagged(runtime, alloc, &here)? {
+            return Ok(true);
+        }
+        here = here.folder(alloc)?;
+    }
+    Ok(false)
 }

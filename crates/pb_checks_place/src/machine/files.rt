@@ -1,7 +1,9 @@
 //! Files that are written, read, listed and removed.
 
 use crate::machine::calls::try_steps;
-use crate::machine::links::{CIRCLE, DIRECTLY, LEFT_OUT, NOWHERE, SOMEWHERE, THE_LINK_ALONE};
+use crate::machine::links::{
+    CIRCLE, DIRECTLY, INTO_A_TARGET, LEFT_OUT, NOWHERE, SOMEWHERE, THE_LINK_ALONE,
+};
 use std::test::Fail;
 
 const WRITTEN: &str = "read a/b/c -> none\n\
@@ -43,6 +45,16 @@ const IN_THE_WAY: &str = "write f x -> done\n\
      counts -> 3 0\n\
      read f -> x\n\
      counts -> 3 1";
+
+/// The first bytes of a file.
+const FIRST: &str = "write f words -> done\n\
+     first f 3 -> wor\n\
+     first f 5 -> words\n\
+     first f 6 -> words\n\
+     first f 0 -> \n\
+     first none 3 -> none\n\
+     first f/g 3 -> none\n\
+     counts -> 0 0";
 
 /// Folders directly in a folder, and questions.
 const ASKED: &str = "write a/b/c one -> done\n\
@@ -103,6 +115,7 @@ const NESTED: &str = "write \
 /// The names of folders, and the steps that are carried out in each.
 static FOLDERS: &[(&str, &str)] = &[
     ("written", WRITTEN),
+    ("first", FIRST),
     ("listed", LISTED),
     ("removed", REMOVED),
     ("way", IN_THE_WAY),
@@ -111,6 +124,7 @@ static FOLDERS: &[(&str, &str)] = &[
     ("nowhere", NOWHERE),
     ("circle", CIRCLE),
     ("left-out", LEFT_OUT),
+    ("into-a-target", INTO_A_TARGET),
     ("directly", DIRECTLY),
     ("asked", ASKED),
     ("nested", NESTED),

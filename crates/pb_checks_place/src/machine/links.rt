@@ -62,3 +62,19 @@ pub(crate) const DIRECTLY: &str = "write b x -> done\n\
      directly a -> \n\
      directly none -> \n\
      counts -> 1 4";
+
+/// Links into a target folder: from elsewhere they are passed over, from inside they are followed.
+pub(crate) const INTO_A_TARGET: &str =
+    "write t/CACHEDIR.TAG # This is a target folder of pb_tool. -> done\n\
+     write t/d/f x -> done\n\
+     write s/a x -> done\n\
+     link s/folder ../t/d\n\
+     link s/file ../t/d/f\n\
+     link s/all ../t\n\
+     link t/again d\n\
+     list s -> /s/a \n\
+     directly s -> /s/a \n\
+     folders s none -> \n\
+     list t -> /t/CACHEDIR.TAG /t/again/f /t/d/f \n\
+     read s/file -> x\n\
+     counts -> 0 0";
