@@ -17,3 +17,4 @@ pub mod FoldersListed
 pub mod FoldersTaken
 pub mod Chosen
 pub mod Accepted
+pub mod Cut
