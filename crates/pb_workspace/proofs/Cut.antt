@@ -1,6 +1,6 @@
 -- A manifest is read as its first bytes are, one more than a manifest may have.
-use Rattle.std.proofs.Common.{◌≡◌, ◌∙◌, ℕ, zero, suc, Bool, true, false, cond, List, [], ◌∷◌, length, take, nat_lt, Option, Some, None, Err, ap, refl}
-use Rattle.std.proofs.lemmas.Bool.{true≢false}
+use Rattle.std.proofs.Common.{◌≡◌, ◌∙◌, ◌<◌, ◌≤◌, ℕ, zero, suc, Bool, true, false, cond, List, [], ◌∷◌, length, take, nat_lt, Option, Some, None, Err, ap, refl, arith}
+use Rattle.std.proofs.lemmas.Bool.Decides.{nat_tests}
 use Rattle.std.specs.Option.{option_map}
 use Rattle.pb_data.specs.Gives.{◌>>=◌, lifted}
 use Rattle.pb_manifest.specs.declared.fault.ManifestFault.TheVariants.{TooLarge}
@@ -8,25 +8,36 @@ use Rattle.pb_package.specs.declared.fault.LoadFault.TheVariants.{Manifest}
 use Rattle.pb_manifest_reader.specs.Document.{document_in, document_of, greatest_length, manifest_of}
 use Rattle.pb_workspace.specs.Rounds.{read_found}
 
--- the first n + 1 of some bytes are more than n if and only if all are
-cut_length : (n : ℕ) (bytes : List ℕ) → nat_lt n (length (take (suc n) bytes)) ≡ nat_lt n (length bytes)
-cut_length n [] = refl
-cut_length zero (b ∷ bytes) = refl
-cut_length (suc n) (b ∷ bytes) = cut_length n bytes
+less : (m n : ℕ) → nat_lt m n ≡ true → m < n
+less m n h = grind (arith, nat_tests)
+
+not_less : (m n : ℕ) → nat_lt m n ≡ false → n ≤ m
+not_less m n h = grind (arith, nat_tests)
+
+is_less : (m n : ℕ) → m < n → nat_lt m n ≡ true
+is_less m n h = grind (arith, nat_tests)
 
 -- at most n bytes are their own first n + 1
-cut_whole : (n : ℕ) (bytes : List ℕ) → nat_lt n (length bytes) ≡ false → take (suc n) bytes ≡ bytes
-cut_whole n [] short = refl
-cut_whole zero (b ∷ bytes) short = absurd (true≢false short)
-cut_whole (suc n) (b ∷ bytes) short = ap (λ rest. b ∷ rest) (cut_whole n bytes short)
+whole : (n : ℕ) (bytes : List ℕ) → length bytes ≤ n → take (suc n) bytes ≡ bytes
+whole n [] few = refl
+whole zero (b ∷ bytes) few = absurd (omega (arith, few))
+whole (suc n) (b ∷ bytes) few = ap (λ rest. b ∷ rest) (whole n bytes (omega (arith, few)))
+
+-- more than n bytes have first n + 1 that are more than n
+longer : (n : ℕ) (bytes : List ℕ) → n < length bytes → n < length (take (suc n) bytes)
+longer n [] many = many
+longer zero (b ∷ bytes) many = omega arith
+longer (suc n) (b ∷ bytes) many = let rest = longer n bytes (omega (arith, many)) in omega (arith, rest)
 
 module _ {A : Type 0} (n : ℕ) (large : A) (read : List ℕ → A) where
   read_cut : (bytes : List ℕ) → cond (nat_lt n (length (take (suc n) bytes))) large (read (take (suc n) bytes)) ≡ cond (nat_lt n (length bytes)) large (read bytes)
-  read_cut bytes = ap (λ b. cond b large (read (take (suc n) bytes))) (cut_length n bytes) ∙ by (nat_lt n (length bytes)) refl
+  read_cut bytes = by (nat_lt n (length bytes)) refl
     where
-      by : (b : Bool) → nat_lt n (length bytes) ≡ b → cond b large (read (take (suc n) bytes)) ≡ cond b large (read bytes)
-      by true over = refl
-      by false over = ap read (cut_whole n bytes over)
+      by : (b : Bool) → nat_lt n (length bytes) ≡ b → cond (nat_lt n (length (take (suc n) bytes))) large (read (take (suc n) bytes)) ≡ cond b large (read bytes)
+      by true over = ap (λ b. cond b large (read (take (suc n) bytes))) (is_less n (length (take (suc n) bytes)) (longer n bytes (less n (length bytes) over)))
+      by false fits =
+          let same = whole n bytes (not_less n (length bytes) fits) in
+          ap (λ text. cond (nat_lt n (length text)) large (read text)) same ∙ ap (λ b. cond b large (read bytes)) fits
 
 manifest_cut : (bytes : List ℕ) → manifest_of (take (suc greatest_length) bytes) ≡ manifest_of bytes
 manifest_cut bytes = read_cut greatest_length (Err TooLarge) (λ text. document_in text >>= document_of) bytes

@@ -1,0 +1,20 @@
+use Rattle.std.proofs.Common.{◌∙◌, ap, rules, subst, sym}
+use Rattle.std.specs.FinMap as finite
+use Rattle.pb_draft.specs.Causes.{Told}
+use Rattle.pb_manifest.specs.declared.manifest.Manifest.{Manifest}
+use Rattle.pb_place.specs.World.{from_nothing}
+use Rattle.pb_workspace.specs.Rounds.{read_found}
+use Rattle.pb_workspace.proofs.Cut.{found_cut}
+use Rattle.pb_workspace.proofs.rounds.manifest_at.Goals as goal
+
+pub returns-in_err-manifest-clause-ok : goal.returns-in_err-manifest-clause-ok
+returns-in_err-manifest-clause-ok g c tells =
+    subst (λ answer. Told {A = Manifest} c.from_residual-in_err-manifest.result answer)
+    (ap (read_found c.args.path.now) (c.in_ok-found.ensures.ok tells) ∙ found_cut c.args.path.now (finite.get (from_nothing c.args.target.now (g.P.Place.at c.args.place.now).world).files c.args.path.now))
+    (search rules)
+
+pub returns-clause-ok : goal.returns-clause-ok
+returns-clause-ok g c tells =
+    sym (found_cut c.args.path.now (finite.get (from_nothing c.args.target.now (g.P.Place.at c.args.place.now).world).files c.args.path.now))
+    ∙ ap (read_found c.args.path.now) (sym (c.in_ok-found.ensures.ok tells))
+    ∙ c.in_ok-manifest.ensures.told
