@@ -191,7 +191,7 @@ impl<'a, R: Files + Env + Processes + AllocGlobal> Place for HostPlace<'a, R> {
       counts = with_children (children_in p.flying.items) p.tally;
       most = p.most;
       still = λ _. Unit {0};
-      moved = p.moved;
+      moved = p.moved.items;
     } };
 
     ghost child = { silent };
