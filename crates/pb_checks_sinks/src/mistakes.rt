@@ -160,15 +160,26 @@ fn long_name(alloc: Global, count: usize) -> Result<String, AllocError> {
 }
 
 #[test]
-fn hostile_manifests(rt: HostRuntime) -> Result<(), Fail> {
+fn ten_thousand_bad_keys(rt: HostRuntime) -> Result<(), Fail> {
     let alloc = rt.alloc();
     let (count, longest) = lines_said(alloc, many_keys(alloc, 10_000)?.as_bytes())?;
     assert_eq!(rt; count, 12);
     assert!(rt; longest < 500);
+    Ok(())
+}
+
+#[test]
+fn a_line_of_a_mebibyte(rt: HostRuntime) -> Result<(), Fail> {
+    let alloc = rt.alloc();
     let (count, longest) = lines_said(alloc, long_name(alloc, 524_000)?.as_bytes())?;
     assert_eq!(rt; count, 3);
     assert!(rt; longest < 500);
-    let (count, longest) = lines_said(alloc, b"[package]\nname = \"\xff\xfe\"\n")?;
+    Ok(())
+}
+
+#[test]
+fn a_manifest_that_is_no_text(rt: HostRuntime) -> Result<(), Fail> {
+    let (count, longest) = lines_said(rt.alloc(), b"[package]\nname = \"\xff\xfe\"\n")?;
     assert_eq!(rt; count, 3);
     assert!(rt; longest < 500);
     Ok(())
