@@ -330,5 +330,7 @@ pub fn build_options<P: Place, G: Guard<P, E>, O: Out, E: Out>(
     let answer = build_plan(alloc, place, out, options, plan);
     mark(alloc, err, place.moved());
     let notes = look(alloc, place, options, &answer);
+    // For the proof: they are at most ten lines.
+    notes.texts();
     conclude(alloc, err, explain, &answer, &notes)
 }

@@ -34,7 +34,7 @@ returns g c =
       marked = (g.E.Out.heard c.mark.new.err);
       marks = c.mark.ensures;
       notes_again = c.look-notes.result;
-      are_notes = c.type_inv.notes;
+      are_notes = c.texts.ensures.notes;
       looked = c.look-notes.ensures (g.O.Out.heard c.build_plan-answer.new.out);
       concluded = c.conclude.ensures;
     }
