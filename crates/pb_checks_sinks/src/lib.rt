@@ -1,6 +1,9 @@
-//! Tests of the whole program: sessions over sinks that fail, and builds on real folders.
+//! Tests of the whole program: sessions over sinks that fail, builds on real folders, and what is written
+//! after mistakes.
 #![tactic(auto)]
 
+#[cfg(test)]
+mod mistakes;
 #[cfg(test)]
 mod saved;
 #[cfg(test)]

@@ -13,6 +13,7 @@ use Rattle.pb_build.specs.Session.{Breaks, Course, Point, point}
 use Rattle.pb_build.specs.declared.sessions.Answer.{Answer}
 use Rattle.pb_tool_program.specs.Session.{SessionStopped, SessionWritten, small_compiler, lines_of}
 use Rattle.pb_place.specs.declared.moved.Moved.{Moved}
+use Rattle.pb_tool_notes.specs.Notes.{lines_of as note_lines}
 use Rattle.pb_tool_program.specs.Building.{notes_of, moved_notes}
 use Rattle.pb_tool_program.specs.Writing.{Tells, TellsOr, Writes}
 
@@ -78,6 +79,14 @@ notes_some (name ∷ names) some = λ e. cc
 pub moved_some : (moved : List Moved) → length moved == 0 ≡ false → moved_notes moved ≢ []
 moved_some [] none = absurd (false≢true (sym none))
 moved_some (one ∷ others) some = λ e. cc
+
+pub lines_some : (notes : List (List ℕ)) → length notes == 0 ≡ false → note_lines notes ≢ []
+lines_some [] none = absurd (false≢true (sym none))
+lines_some (one ∷ others) some = λ e. cc
+
+pub lines_none : (notes : List (List ℕ)) → length notes == 0 ≡ true → note_lines notes ≡ []
+lines_none [] none = refl
+lines_none (one ∷ others) none = absurd (false≢true none)
 
 pub said_some : (bad : Option (List ℕ × UnitFault)) (said : List ℕ) → is_some bad ≡ true → length said == 0 ≡ false → said_by_bad bad said ≢ []
 said_some None said is_bad some = absurd (false≢true is_bad)

@@ -7,6 +7,7 @@ use Rattle.pb_place.specs.declared.moved.Moved.{Moved}
 use Rattle.pb_answer.specs.Explanation.{explanation, said_by_bad}
 use Rattle.pb_answer.specs.ResultLine.{result_line}
 use Rattle.pb_answer.specs.declared.fault.BuildFault.{BuildFault}
+use Rattle.pb_answer.specs.declared.fault.BuildFault.TheVariants as build
 use Rattle.pb_answer.specs.declared.summary.Summary.{Summary}
 use Rattle.pb_package.specs.declared.options.Options.{Options}
 use Rattle.pb_build.specs.AnyPlan.{BuildsOnFirst}
@@ -14,6 +15,7 @@ use Rattle.pb_build.specs.Ending.{BuildsFirst, PlansFrom}
 use Rattle.pb_build.specs.declared.builder.BuildPlan.{BuildPlan}
 use Rattle.pb_place.specs.Sinks.{Heard}
 use Rattle.pb_turns.specs.Crew.{Moment}
+use Rattle.pb_tool_notes.specs.Notes.{AreNotes, lines_of}
 use Rattle.pb_tool_program.specs.Details.{detail}
 use Rattle.pb_tool_program.specs.Writing.{Tells, TellsOr}
 
@@ -84,7 +86,7 @@ abbrev pub TellsDetail : Result Summary BuildFault → Heard → Heard → Type 
 TellsDetail answer old new = TellsOr detail_lost (detail answer) old new
 
 -- what a build that gave this ends with: its status; and beside the output why children were started, where that is asked for, what a failing child said, what the fault is about, and why the build failed
-pub record Concludes (explain : Bool) (answer : Result Summary BuildFault) (status : ℕ) (old new : Heard) : Type 0 where
+pub record Concludes (explain : Bool) (answer : Result Summary BuildFault) (notes : List (List ℕ)) (status : ℕ) (old new : Heard) : Type 0 where
   pub told : status ≡ status_of answer
   pub explained : Heard
   pub reasons : TellsReasons explain answer old explained
@@ -92,7 +94,22 @@ pub record Concludes (explain : Bool) (answer : Result Summary BuildFault) (stat
   pub said : TellsSaid answer explained repeated
   pub detailed : Heard
   pub detail : TellsDetail answer repeated detailed
-  pub reason : TellsWhy status answer detailed new
+  pub told_again : Heard
+  pub again : TellsOr detail_lost (lines_of notes) detailed told_again
+  pub reason : TellsWhy status answer told_again new
+
+-- a look at the place: nothing has changed but the counters of calls and of failures, so no child was started
+pub record Looked (old new : Moment) : Type 0 where
+  pub world : new.world ≡ old.world
+  pub starts : new.counts.starts ≡ old.counts.starts
+  pub most : new.most ≡ old.most
+  pub heard : new.heard ≡ old.heard
+
+-- A second look, for notes on a build that was refused or came to its end. After a fault there is none.
+abbrev pub LooksOver : Result Summary BuildFault → List (List ℕ) → Moment → Moment → Type 0
+LooksOver (Ok summary) notes old new = Looked old new
+LooksOver (Err (build.Plan refusal)) notes old new = Looked old new
+LooksOver (Err fault) notes old new = (new ≡ old) × (notes ≡ [])
 
 -- what is written before a build: notes of the packages that its plan names, or that memory was refused for them; nothing where it names none, or there is no plan
 abbrev pub NotesOf : Result BuildPlan BuildFault → Heard → Heard → Type 0
@@ -118,12 +135,17 @@ pub record BuildsTold (tells : Bool) (child : Answers) (Guards : Option (List �
   pub guards : Guards (folder_of plan) planned.counts noted held
   -- the plan was carried out
   pub answer : Result Summary BuildFault
-  pub on : BuildsOnFirst tells child options plan answer planned new
-  pub builds : BuildsFirst tells child options answer old new
+  pub built : Moment
+  pub on : BuildsOnFirst tells child options plan answer planned built
+  pub builds : BuildsFirst tells child options answer old built
   -- what the place says was changed during the build is told. In the maps nothing is.
   pub moved : List Moved
   pub stood : IsTrue tells → moved ≡ []
   pub marked : Heard
   pub marks : TellsOr moved_lost (moved_notes moved) held marked
+  -- a second look at it, for at most ten notes
+  pub notes_again : List (List ℕ)
+  pub are_notes : AreNotes notes_again
+  pub looked : LooksOver answer notes_again built new
   -- what is told behind it
-  pub concluded : Concludes explain answer status marked said_after
+  pub concluded : Concludes explain answer notes_again status marked said_after

@@ -4,21 +4,25 @@ ghost use Rattle.std.specs.Prelude.{◌≡◌, [], ◌++◌, IfOk, OnOk, Result,
 ghost use Rattle.std.specs.Io.KnownBytes.{Appends};
 ghost use Rattle.pb_build.specs.Ending.{BuildsFirst};
 ghost use Rattle.pb_place.specs.Paths.{last_part};
+ghost use Rattle.pb_place.specs.Sinks.{Heard};
 ghost use Rattle.pb_turns.specs.Crew.{Moment, moment};
 ghost use Rattle.pb_answer.specs.ResultLine.{result_line};
 ghost use Rattle.pb_answer.specs.declared.fault.BuildFault.{BuildFault};
 ghost use Rattle.pb_answer.specs.declared.summary.Summary.{Summary};
-ghost use Rattle.pb_tool_program.specs.Building.{status_of, notes_of, moved_lost, moved_note, moved_notes, error_of, folder_of, NotesOf, TellsDetail, TellsReasons, TellsSaid, TellsWhy, Concludes, BuildsTold};
+ghost use Rattle.pb_tool_notes.specs.Looks.{LooksAgain};
+ghost use Rattle.pb_tool_notes.specs.Notes.{lines_of};
+ghost use Rattle.pb_tool_program.specs.Building.{status_of, notes_of, moved_lost, moved_note, moved_notes, detail_lost, error_of, folder_of, LooksOver, NotesOf, TellsDetail, TellsReasons, TellsSaid, TellsWhy, Concludes, BuildsTold};
 ghost use Rattle.pb_tool_program.specs.Guarding.{Guarded, waiting};
 ghost use Rattle.pb_tool_program.specs.Writing.{Tells, TellsOr};
 
 use crate::details::detail;
 use crate::guard::Guard;
-use pb_answer::{BuildFault, Summary, explanation, result_line, said};
+use pb_answer::{BuildFault, Refusal, Summary, explanation, result_line, said};
 use pb_build::{BuildPlan, build_plan, plan_build};
 use pb_data::Text;
 use pb_package::Options;
 use pb_place::{Moved, Out, PathText, Place, write_all};
+use pb_tool_notes::{Notes, notes_on_build, notes_on_features, notes_on_load, notes_on_plan};
 use std::alloc::{AllocError, Global};
 
 /// The status of a build: 0 where all its units are good, else 101.
@@ -232,18 +236,67 @@ fn tell_detail<E: Out>(alloc: Global, err: &mut E, answer: &Result<Summary, Buil
     };
 }
 
+/// Looks again at a workspace that was refused, for notes on why.
+fn look_at_refusal<P: Place>(
+    alloc: Global,
+    place: &mut P,
+    options: &Options,
+    refusal: &Refusal,
+) -> Notes
+    ensures { LooksAgain (P.at place.old) (P.at place.new) }
+{
+    match refusal {
+        Refusal::Load(fault) => notes_on_load(alloc, place, options, fault),
+        Refusal::Feature(fault) => notes_on_features(alloc, place, options, *fault),
+        Refusal::Plan(fault) => notes_on_plan(alloc, place, options, fault),
+    }
+}
+
+/// Looks again at the workspace of a build that was refused or came to its end, for notes on it. After a fault the place
+/// is asked for nothing.
+fn look<P: Place>(
+    alloc: Global,
+    place: &mut P,
+    options: &Options,
+    answer: &Result<Summary, BuildFault>,
+) -> Notes
+    ensures { (heard : Heard) → LooksOver answer.now result
+        (moment (P.at place.old) heard) (moment (P.at place.new) heard) }
+{
+    match answer {
+        Ok(_) => notes_on_build(alloc, place, options),
+        Err(BuildFault::Plan(refusal)) => look_at_refusal(alloc, place, options, refusal),
+        Err(_) => Notes::new(alloc),
+    }
+}
+
+/// Tells the notes of a second look, if there are some. If memory is refused for them, a line says so, which takes none.
+fn tell_notes<E: Out>(alloc: Global, err: &mut E, notes: &Notes)
+    ensures { TellsOr detail_lost (lines_of notes.now) (E.heard err.old) (E.heard err.new) }
+{
+    if notes.texts().is_empty() {
+        return;
+    }
+    match notes.lines(alloc) {
+        Ok(lines) => write_all(err, lines.as_bytes()),
+        Err(_) => write_all(err, b"note: out of memory for what the fault is about\n"),
+    };
+}
+
 /// Tells what there is to tell behind a build, and gives its status.
 fn conclude<E: Out>(
     alloc: Global,
     err: &mut E,
     explain: bool,
     answer: &Result<Summary, BuildFault>,
+    notes: &Notes,
 ) -> u8
-    ensures { Concludes explain answer.now result (E.heard err.old) (E.heard err.new) }
+    ensures { Concludes explain answer.now notes.now result (E.heard err.old) (E.heard err.new) }
 {
     explain_to(alloc, err, explain, answer);
     repeat_to(alloc, err, answer);
     tell_detail(alloc, err, answer);
+    tell_notes(alloc, err, notes);
     let status = status_of(answer);
     tell(alloc, err, status, answer);
     status
@@ -254,7 +307,7 @@ fn conclude<E: Out>(
 /// goes to `err` for each package to which an enabled dependency leads and that has no library; behind it what was
 /// changed while a unit was built that read it, which is then built again by the next build; where that
 /// is asked for, why each child was started; what the child of a bad unit wrote that no message line holds; and what
-/// the fault is about, as the path of a manifest, where it says more than its name. Between the plan and the compiler's query the guard is asked for the target folder; where another build has it, a line on
+/// the fault is about, as the path of a manifest, where it says more than its name, with notes of a second look. Between the plan and the compiler's query the guard is asked for the target folder; where another build has it, a line on
 /// `err` says so, and this one waits.
 pub fn build_options<P: Place, G: Guard<P, E>, O: Out, E: Out>(
     alloc: Global,
@@ -276,5 +329,8 @@ pub fn build_options<P: Place, G: Guard<P, E>, O: Out, E: Out>(
     hold(guard, place, err, &plan);
     let answer = build_plan(alloc, place, out, options, plan);
     mark(alloc, err, place.moved());
-    conclude(alloc, err, explain, &answer)
+    let notes = look(alloc, place, options, &answer);
+    // For the proof: they are at most ten lines.
+    notes.texts();
+    conclude(alloc, err, explain, &answer, &notes)
 }

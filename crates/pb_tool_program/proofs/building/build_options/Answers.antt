@@ -26,11 +26,15 @@ returns g c =
       held = (g.E.Out.heard c.hold.new.err);
       guards = c.hold.ensures;
       answer = c.build_plan-answer.result;
+      built = moment (g.P.Place.at c.build_plan-answer.new.place) (g.O.Out.heard c.build_plan-answer.new.out);
       on = c.build_plan-answer.ensures.on;
       builds = c.build_plan-answer.ensures.builds before plans;
       moved = c.moved.result.now;
       stood = c.moved.ensures;
       marked = (g.E.Out.heard c.mark.new.err);
       marks = c.mark.ensures;
+      notes_again = c.look-notes.result;
+      are_notes = c.texts.ensures.notes;
+      looked = c.look-notes.ensures (g.O.Out.heard c.build_plan-answer.new.out);
       concluded = c.conclude.ensures;
     }

@@ -9,5 +9,7 @@ returns g c = record {
   said = c.repeat_to.ensures;
   detailed = (g.E.Out.heard c.tell_detail.new.err);
   detail = c.tell_detail.ensures;
+  told_again = (g.E.Out.heard c.tell_notes.new.err);
+  again = c.tell_notes.ensures;
   reason = c.tell.ensures;
 }

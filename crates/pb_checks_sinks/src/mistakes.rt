@@ -1,0 +1,186 @@
+//! What `pb_tool build` writes on standard error after mistakes, by tables of files.
+
+mod manifests;
+mod plans;
+mod unused;
+mod workspaces;
+
+ghost use Rattle.std.specs.Prelude.{◌≡◌, []};
+
+use crate::told::Unguarded;
+use pb_checks_files::put_files;
+use pb_memory::Memory;
+use pb_mini::Mini;
+use pb_place::{Over, PathText};
+use pb_tool_program::run;
+use std::alloc::{AllocError, Global};
+use std::process::Abort;
+use std::test::Fail;
+
+/// The words of a command line.
+fn words_of(alloc: Global, words: &str) -> Result<Vec<&str>, AllocError> {
+    let mut all = Vec::new(alloc);
+    all.push("pb_tool")?;
+    all.push("build")?;
+    for word in words.split(' ') {
+        if !word.is_empty() {
+            all.push(word)?;
+        }
+    }
+    Ok(all)
+}
+
+/// What a build in the folder `/w` writes on standard error.
+fn said_at(alloc: Global, memory: &mut Memory<Mini>, words: &str) -> Result<Vec<u8>, Fail>
+    requires { memory.old.flying ≡ [] }
+{
+    let words = words_of(alloc, words)?;
+    let folder = PathText::parse(alloc, "/w")?;
+    let mut out = Vec::new(alloc);
+    let mut said = Vec::new(alloc);
+    run(
+        alloc,
+        words.as_slice(),
+        &folder,
+        memory,
+        &mut Unguarded {},
+        &mut Over::new(&mut out),
+        &mut Over::new(&mut said),
+    );
+    Ok(said)
+}
+
+/// What a build of files writes on standard error.
+fn said_of(
+    alloc: Global,
+    memory: &mut Memory<Mini>,
+    words: &str,
+    files: &str,
+) -> Result<Vec<u8>, Fail>
+    requires { memory.old.flying ≡ [] }
+{
+    put_files(alloc, memory, files)?;
+    said_at(alloc, memory, words)
+}
+
+/// The same at a place of its own.
+fn said_alone(alloc: Global, words: &str, files: &str) -> Result<Vec<u8>, Fail> {
+    let mut memory = Memory::new(alloc, Mini);
+    let said = said_of(alloc, &mut memory, words, files);
+    drop(memory);
+    said
+}
+
+/// Tries one case: a name and words, files, and after a line `---` standard error. Whether it is one.
+fn try_case(rt: &impl Abort, alloc: Global, case: &str) -> Result<bool, Fail> {
+    let Some((head, rest)) = case.split_once('\n') else {
+        return Ok(false);
+    };
+    let Some((files, want)) = rest.split_once("---\n") else {
+        return Ok(false);
+    };
+    let (name, words) = head.split_once(": ").unwrap_or((head, ""));
+    let said = said_alone(alloc, words, files)?;
+    let said = str::from_utf8(said.as_slice()).unwrap_or("");
+    assert!(rt; said == want, "{name}: {said}");
+    Ok(true)
+}
+
+/// Tries each case of a table. How many there are.
+fn try_all(rt: &impl Abort, alloc: Global, cases: &str) -> Result<usize, Fail> {
+    let mut count = 0usize;
+    for case in cases.split("=== ") {
+        let is_case = try_case(rt, alloc, case)?;
+        count = count.saturating_add(usize::from(is_case));
+    }
+    Ok(count)
+}
+
+#[test]
+fn mistakes_in_a_manifest(rt: HostRuntime) -> Result<(), Fail> {
+    assert_eq!(rt; try_all(&rt, rt.alloc(), manifests::CASES)?, 18);
+    Ok(())
+}
+
+#[test]
+fn mistakes_in_a_workspace(rt: HostRuntime) -> Result<(), Fail> {
+    assert_eq!(rt; try_all(&rt, rt.alloc(), workspaces::CASES)?, 14);
+    Ok(())
+}
+
+#[test]
+fn mistakes_in_a_plan(rt: HostRuntime) -> Result<(), Fail> {
+    assert_eq!(rt; try_all(&rt, rt.alloc(), plans::CASES)?, 15);
+    Ok(())
+}
+
+#[test]
+fn keys_that_nothing_reads(rt: HostRuntime) -> Result<(), Fail> {
+    assert_eq!(rt; try_all(&rt, rt.alloc(), unused::CASES)?, 5);
+    Ok(())
+}
+
+/// What a build of one manifest of these bytes writes on standard error.
+fn said_of_bytes(alloc: Global, memory: &mut Memory<Mini>, manifest: &[u8]) -> Result<Vec<u8>, Fail>
+    requires { memory.old.flying ≡ [] }
+{
+    let path = PathText::parse(alloc, "/w/Cargo.toml")?;
+    memory.put(alloc, &path, manifest)?;
+    said_at(alloc, memory, "")
+}
+
+/// How many lines a build of one manifest of these bytes writes on standard error, and the bytes of the longest.
+fn lines_said(alloc: Global, manifest: &[u8]) -> Result<(usize, usize), Fail> {
+    let mut memory = Memory::new(alloc, Mini);
+    let said = said_of_bytes(alloc, &mut memory, manifest);
+    drop(memory);
+    let said = said?;
+    let text = str::from_utf8(said.as_slice()).unwrap_or("");
+    let longest = text.lines().map(|line| line.len()).max().unwrap_or(0);
+    Ok((text.lines().count(), longest))
+}
+
+/// A manifest with so many keys that nothing reads, and a name that may not be.
+fn many_keys(alloc: Global, count: usize) -> Result<String, AllocError> {
+    let mut text = String::from_str(alloc, "[package]\nname = \"a b\"\n")?;
+    for number in 0..count {
+        text.push_str(format!(in alloc; "key{number} = 1\n")?.as_str())?;
+    }
+    Ok(text)
+}
+
+/// A manifest whose name is so many words long.
+fn long_name(alloc: Global, count: usize) -> Result<String, AllocError> {
+    let mut text = String::from_str(alloc, "[package]\nname = \"")?;
+    for _word in 0..count {
+        text.push_str("a ")?;
+    }
+    text.push_str("\"\n")?;
+    Ok(text)
+}
+
+#[test]
+fn ten_thousand_bad_keys(rt: HostRuntime) -> Result<(), Fail> {
+    let alloc = rt.alloc();
+    let (count, longest) = lines_said(alloc, many_keys(alloc, 10_000)?.as_bytes())?;
+    assert_eq!(rt; count, 12);
+    assert!(rt; longest < 500);
+    Ok(())
+}
+
+#[test]
+fn a_line_of_a_mebibyte(rt: HostRuntime) -> Result<(), Fail> {
+    let alloc = rt.alloc();
+    let (count, longest) = lines_said(alloc, long_name(alloc, 524_000)?.as_bytes())?;
+    assert_eq!(rt; count, 3);
+    assert!(rt; longest < 500);
+    Ok(())
+}
+
+#[test]
+fn a_manifest_that_is_no_text(rt: HostRuntime) -> Result<(), Fail> {
+    let (count, longest) = lines_said(rt.alloc(), b"[package]\nname = \"\xff\xfe\"\n")?;
+    assert_eq!(rt; count, 3);
+    assert!(rt; longest < 500);
+    Ok(())
+}

@@ -1,0 +1,113 @@
+//! In which line of a manifest a key is written.
+
+use std::alloc::{AllocError, Global};
+
+/// How far a text has been read, line by line.
+#[derive(Drop)]
+struct Reading {
+    /// The way of the last header, as `bin[2]`.
+    header: String,
+    /// How many headers `[[bin]]` have been read.
+    binaries: usize,
+    /// The quotation marks that end the text of several lines in which the next line begins; the empty text if it
+    /// begins in none.
+    quotes: &'static str,
+}
+
+/// Adds the parts of a written key, without blanks and quotation marks, with dots between them.
+fn push_key(way: &mut String, key: &str) -> Result<(), AllocError> {
+    for part in key.split('.') {
+        if !way.is_empty() {
+            way.push_str(".")?;
+        }
+        let part = part.trim();
+        let part = part.trim_matches('"');
+        way.push_str(part.trim_matches('\''))?;
+    }
+    Ok(())
+}
+
+/// Takes in a header.
+fn read_header(alloc: Global, reading: &mut Reading, line: &str) -> Result<(), AllocError> {
+    let mut way = String::new(alloc);
+    if let Some(rest) = line.strip_prefix("[[") {
+        push_key(&mut way, rest.split(']').next().unwrap_or(""))?;
+        if way.as_str() == "bin" {
+            reading.binaries = reading.binaries.saturating_add(1);
+            let number = reading.binaries;
+            way.push_str(format!(in alloc; "[{number}]")?.as_str())?;
+        }
+    } else if let Some(rest) = line.strip_prefix('[') {
+        push_key(&mut way, rest.split(']').next().unwrap_or(""))?;
+    }
+    reading.header = way;
+    Ok(())
+}
+
+/// The quotation marks of a text of several lines that a line leaves open.
+fn left_open(line: &str) -> &'static str {
+    for quotes in ["\"\"\"", "'''"] {
+        if line.matches(quotes).count() % 2 == 1 {
+            return quotes;
+        }
+    }
+    ""
+}
+
+/// The way of what a line says: of a header that of its table, of a key that of its value; else the empty text.
+fn way_of_line(alloc: Global, reading: &mut Reading, line: &str) -> Result<String, AllocError> {
+    if !reading.quotes.is_empty() {
+        if line.contains(reading.quotes) {
+            reading.quotes = "";
+        }
+        return Ok(String::new(alloc));
+    }
+    let line = line.trim();
+    if line.starts_with('[') {
+        read_header(alloc, reading, line)?;
+        return reading.header.clone();
+    }
+    let mut way = String::new(alloc);
+    if line.starts_with('#') {
+        return Ok(way);
+    }
+    if let Some((key, value)) = line.split_once('=') {
+        reading.quotes = left_open(value);
+        way.push_str(reading.header.as_str())?;
+        push_key(&mut way, key)?;
+    }
+    Ok(way)
+}
+
+/// Whether a way is one that begins another.
+fn begins(short: &str, long: &str) -> bool {
+    match long.strip_prefix(short) {
+        Some(rest) => rest.starts_with('.') || rest.starts_with('['),
+        None => false,
+    }
+}
+
+/// The line, from 1, in which the value at a way or a part of it is written, or else what it lies in; 0 if there is
+/// none.
+pub(crate) fn line_of(alloc: Global, text: &str, way: &str) -> Result<usize, AllocError> {
+    let mut reading = Reading {
+        header: String::new(alloc),
+        binaries: 0,
+        quotes: "",
+    };
+    let mut number = 0usize;
+    let mut found = 0usize;
+    let mut length = 0usize;
+    for line in text.split('\n') {
+        number = number.saturating_add(1);
+        let here = way_of_line(alloc, &mut reading, line)?;
+        if here.as_str() == way || begins(way, here.as_str()) {
+            return Ok(number);
+        }
+        if here.len() > length && begins(here.as_str(), way) {
+            found = number;
+            length = here.len();
+        }
+    }
+    Ok(found)
+}

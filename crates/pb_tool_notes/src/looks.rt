@@ -1,0 +1,52 @@
+//! The calls of a place that a second look makes.
+
+ghost use Rattle.pb_tool_notes.specs.Looks.{LooksAgain};
+
+use pb_data::{Bytes, Items};
+use pb_place::{PathText, Place, PlaceFault};
+use std::alloc::Global;
+
+/// Returns the bytes of a file, or none if no file is there.
+pub(crate) fn read<P: Place>(
+    alloc: Global,
+    place: &mut P,
+    path: &PathText,
+) -> Result<Option<Bytes>, PlaceFault>
+    ensures { LooksAgain (P.at place.old) (P.at place.new) }
+{
+    place.read(alloc, path)
+}
+
+/// Returns whether a file is at a path.
+pub(crate) fn is_file<P: Place>(
+    alloc: Global,
+    place: &mut P,
+    path: &PathText,
+) -> Result<bool, PlaceFault>
+    ensures { LooksAgain (P.at place.old) (P.at place.new) }
+{
+    place.is_file(alloc, path)
+}
+
+/// Returns the paths of the files directly in a folder.
+pub(crate) fn files_in<P: Place>(
+    alloc: Global,
+    place: &mut P,
+    folder: &PathText,
+) -> Result<Items<PathText>, PlaceFault>
+    ensures { LooksAgain (P.at place.old) (P.at place.new) }
+{
+    place.list_directly(alloc, folder)
+}
+
+/// Returns the paths of the folders directly in a folder, but for one.
+pub(crate) fn folders_in<P: Place>(
+    alloc: Global,
+    place: &mut P,
+    folder: &PathText,
+    left_out: &PathText,
+) -> Result<Items<PathText>, PlaceFault>
+    ensures { LooksAgain (P.at place.old) (P.at place.new) }
+{
+    place.list_folders(alloc, folder, left_out)
+}
