@@ -40,7 +40,8 @@ fn told(alloc: Global, level: &str, text: &str) -> Result<String, AllocError>
 
 /// Returns a line of the level and the text at these paths of a line.
 fn told_at(alloc: Global, value: &Value, level: &str, text: &str) -> Result<String, AllocError>
-    ensures { IfOk result (λ line. string_bytes line ≡ told_at level.now text.now (view value.now)) }
+    ensures { IfOk result
+        (λ line. string_bytes line ≡ told_at level.now text.now (view value.now)) }
 {
     told(alloc, text_or_none(value, level), text_or_none(value, text))
 }
