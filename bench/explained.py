@@ -1,10 +1,12 @@
 #!/usr/bin/env python3
-"""explained.py [--check]: writes the tables of `crates/pb_explained` from `docs/ERRORS.md`, or says whether they are as
-it would write them. Run it after each change of an entry of that page."""
+"""explained.py [--check]: writes the tables of `crates/pb_explained` from `docs/ERRORS.md`, and the copy of that page with
+which the example `names_of_errors` compares them; or says whether they are as it would write them. Run it after each change
+of that page."""
 import os, re, sys
 
 TOP = os.path.dirname(os.path.dirname(os.path.abspath(__file__)))
 PAGE = f"{TOP}/docs/ERRORS.md"
+COPY = "crates/pb_examples/data/ERRORS.md"
 TABLES = {"refused": "What the names of refusals mean.", "others": "What the names of bad units and of faults mean."}
 
 
@@ -38,16 +40,18 @@ def written(table, entries):
 
 
 def main():
-    wrong = []
+    files = {COPY: open(PAGE, encoding="utf-8").read()}
     for table in TABLES:
-        path = f"{TOP}/crates/pb_explained/src/{table}.rt"
-        text = written(table, [it[1:] for it in entries() if it[0] == table])
-        if "--check" in sys.argv:
-            wrong += [table] if not os.path.exists(path) or open(path, encoding="utf-8").read() != text else []
-        else:
+        files[f"crates/pb_explained/src/{table}.rt"] = written(table, [it[1:] for it in entries() if it[0] == table])
+    wrong = []
+    for name, text in files.items():
+        path = f"{TOP}/{name}"
+        if "--check" not in sys.argv:
             open(path, "w", encoding="utf-8").write(text)
-    for table in wrong:
-        print(f"crates/pb_explained/src/{table}.rt is not what docs/ERRORS.md says: run bench/explained.py")
+        elif not os.path.exists(path) or open(path, encoding="utf-8").read() != text:
+            wrong.append(name)
+    for name in wrong:
+        print(f"{name} is not what docs/ERRORS.md says: run bench/explained.py")
     sys.exit(1 if wrong else 0)
 
 

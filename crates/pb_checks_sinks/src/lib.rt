@@ -4,6 +4,8 @@
 #[cfg(test)]
 mod saved;
 #[cfg(test)]
+mod shown;
+#[cfg(test)]
 mod sinks;
 #[cfg(test)]
 mod told;
