@@ -1,5 +1,5 @@
 -- Why words ask for nothing.
-use Rattle.std.proofs.Common.{◌≡◌, ◌∙◌, List, true, codes, IfErr, Option, Some, Result, Ok, Err, refl, sym, subst, inl, inr}
+use Rattle.std.proofs.Common.{◌≡◌, ◌∙◌, ap, List, true, false, codes, IfErr, Option, Some, Result, Ok, Err, refl, sym, subst, inl, inr}
 use Rattle.clap.specs.Faults.{fault_of, is_simple_and_free}
 use Rattle.clap.specs.Kinds.{HasKind, IsAmong}
 use Rattle.clap.specs.Simple.{App, subcommand_of}
@@ -7,11 +7,10 @@ use Rattle.clap.specs.Values.{kind_of}
 use Rattle.clap.specs.Walk.{Row, Text}
 use Rattle.clap.specs.declared.builder.value_parser.ValueParser.{ValueParser}
 use Rattle.clap.specs.declared.error.Error.{Error}
-use Rattle.clap.specs.declared.error.kind.ErrorKind.TheVariants as kind
 use Rattle.clap.proofs.OnLiterals.{clap_on_literals}
 use Rattle.pb_place.specs.Paths.{joined}
 use Rattle.pb_place.specs.declared.path.PathFault.{PathFault}
-use Rattle.pb_arguments.specs.Asking.{AsksWrongly, BuildsWrongly, HasBadJobs, HasTwoProfiles, IsProfile, IsTaken, Unasks, bad_build, bad_file, bad_jobs, bad_manifest, file_of, jobs_told, manifest_of, path_told, profiles_told, two_profiles}
+use Rattle.pb_arguments.specs.Asking.{AsksWrongly, BuildsWrongly, HasBadJobs, HasTwoProfiles, IsProfile, IsTaken, Unasks, bad_build, bad_file, bad_jobs, bad_manifest, file_of, is_help, jobs_told, manifest_of, path_told, profiles_told, two_profiles}
 use Rattle.pb_arguments.specs.Description.{IsJson, program}
 use Rattle.pb_arguments.specs.Private.{ToldWrong, TellsKind, RefusedBy}
 use Rattle.pb_arguments.specs.declared.asked.Unasked.{Unasked}
@@ -24,9 +23,8 @@ program_is_free formats = refl
 
 -- an error of one of these kinds
 pub refused_by : (words : List Text) (formats : ValueParser) (app : App) (e : Error) (unasked : Unasked) → IsJson formats → app ≡ program formats → HasKind (fault_of app words) e → TellsKind (kind_of e) unasked → RefusedBy words unasked
-refused_by words formats app e (Help text) json is (inl none) tells = let no : kind.OutOfMemory ≡ kind.DisplayHelp = sym none ∙ tells in cc
-refused_by words formats app e (Help text) json is (inr among) tells =
-    (formats, json, subst (λ k. IsAmong k (fault_of (program formats) words)) tells (subst (λ a. IsAmong (kind_of e) (fault_of a words)) is among))
+refused_by words formats app e (Help text) json is (inl none) tells = let no : false ≡ true = sym (ap is_help none) ∙ tells in cc
+refused_by words formats app e (Help text) json is (inr among) tells = (formats, json, (kind_of e, tells, subst (λ a. IsAmong (kind_of e) (fault_of a words)) is among))
 refused_by words formats app e (Wrong text) json is (inl none) tells = absurd (tells.1 none)
 refused_by words formats app e (Wrong text) json is (inr among) tells = (formats, json, (kind_of e, tells.0, subst (λ a. IsAmong (kind_of e) (fault_of a words)) is among))
 refused_by words formats app e OutOfMemory json is has tells = tt

@@ -7,14 +7,16 @@ use Rattle.clap.specs.Walk.{Row, Text, first_of, one_of, all_of}
 use Rattle.clap.specs.Simple.{subcommand_of}
 use Rattle.clap.specs.declared.builder.value_parser.ValueParser.{ValueParser}
 use Rattle.clap.specs.declared.error.kind.ErrorKind.{ErrorKind}
-use Rattle.clap.specs.declared.error.kind.ErrorKind.TheVariants.{DisplayHelp}
+use Rattle.clap.specs.declared.error.kind.ErrorKind.TheVariants as kind
 use Rattle.pb_directive.specs.Directives.{words_of}
 use Rattle.pb_place.specs.Paths.{joined}
 use Rattle.pb_place.specs.declared.path.PathFault.{PathFault}
 use Rattle.pb_package.specs.declared.options.Options.{Options}
 use Rattle.pb_arguments.specs.Description.{IsJson, program}
 use Rattle.pb_arguments.specs.declared.asked.Asked.{Asked}
-use Rattle.pb_arguments.specs.declared.asked.Asked.TheVariants.{Session, Build}
+use Rattle.pb_arguments.specs.declared.asked.Asked.TheVariants.{Session, Build, Explain}
+use Rattle.pb_arguments.specs.declared.asked.Shown.{Shown}
+use Rattle.pb_arguments.specs.declared.here.Here.{Here}
 use Rattle.pb_arguments.specs.declared.asked.Unasked.{Unasked}
 use Rattle.pb_arguments.specs.declared.asked.Unasked.TheVariants.{Help, Wrong, OutOfMemory}
 
@@ -45,14 +47,14 @@ IsProfile rows profile =
 abbrev pub IsNumber : Text → ℕ → Type 0
 IsNumber text n = IsNumeral 10 text × (digits_value 10 text < 2 ^ 64) × (n ≡ digits_value 10 text)
 
--- how many units may be in flight at one time: the number that was given, or 1
-abbrev pub IsJobs : Option Text → ℕ → Type 0
-IsJobs None n = n ≡ 1
-IsJobs (Some text) n = IsNumber text n
+-- how many units may be in flight at one time, of so many processors: the number that was given; as many as processors where `default` was; or 1
+abbrev pub IsJobs : ℕ → Option Text → ℕ → Type 0
+IsJobs processors None n = n ≡ 1
+IsJobs processors (Some text) n = (text ≡ codes "default") × (n ≡ processors) ⊎ IsNumber text n
 
--- `--jobs` was given, and no number to it
+-- `--jobs` was given, and neither a number to it nor `default`
 abbrev pub HasBadJobs : List Row → Type 0
-HasBadJobs rows = (text : Text) × (first_of (codes "jobs") rows ≡ Some text) × ((n : ℕ) → ¬ IsNumber text n)
+HasBadJobs rows = (text : Text) × (first_of (codes "jobs") rows ≡ Some text) × (text ≢ codes "default") × ((n : ℕ) → ¬ IsNumber text n)
 
 -- the path of a build's manifest: `Cargo.toml` where none was given
 abbrev pub manifest_of : List Row → Text
@@ -62,9 +64,13 @@ manifest_of rows = unwrap_or (first_of (codes "manifest-path") rows) (codes "Car
 abbrev pub file_of : List Row → Text
 file_of rows = unwrap_or (first_of (codes "FILE") rows) []
 
+-- the name that is to be explained
+abbrev pub name_of : List Row → Text
+name_of rows = unwrap_or (first_of (codes "NAME") rows) []
+
 -- what a build is asked for by what was given
-pub record IsOptions (called folder : Text) (rows : List Row) (options : Options) : Type 0 where
-  pub manifest : joined folder (manifest_of rows) ≡ Ok options.manifest
+pub record IsOptions (called : Text) (here : Here) (rows : List Row) (options : Options) : Type 0 where
+  pub manifest : joined here.folder (manifest_of rows) ≡ Ok options.manifest
   pub packages : options.packages ≡ values_of (codes "package") rows
   pub workspace : IsFlag (codes "workspace") rows options.workspace
   pub features : options.features ≡ values_of (codes "features") rows
@@ -77,12 +83,19 @@ pub record IsOptions (called folder : Text) (rows : List Row) (options : Options
   pub target_dir : options.target_dir ≡ first_of (codes "target-dir") rows
   pub runner : options.runner ≡ words_of (unwrap_or (first_of (codes "runner") rows) [])
   pub tool : options.tool ≡ unwrap_or (first_of (codes "tool") rows) called
-  pub jobs : IsJobs (first_of (codes "jobs") rows) options.jobs
+  pub jobs : IsJobs here.processors (first_of (codes "jobs") rows) options.jobs
+
+-- what is shown of a build beside its lines
+pub record IsShown (rows : List Row) (shown : Shown) : Type 0 where
+  pub explain : IsFlag (codes "explain") rows shown.explain
+  pub render : IsFlag (codes "render") rows shown.render
+  pub verbose : IsFlag (codes "verbose") rows shown.verbose
 
 -- what a subcommand with these values asks for
-abbrev pub AsksBy : Text → Text → Option (Text × List Row) → Asked → Type 0
-AsksBy tool folder given (Build options explain) = (rows : List Row) × (given ≡ Some (codes "build", rows)) × IsOptions tool folder rows options × IsFlag (codes "explain") rows explain
-AsksBy tool folder given (Session path) = (rows : List Row) × (given ≡ Some (codes "session", rows)) × (joined folder (file_of rows) ≡ Ok path)
+abbrev pub AsksBy : Text → Here → Option (Text × List Row) → Asked → Type 0
+AsksBy tool here given (Build options shown) = (rows : List Row) × (given ≡ Some (codes "build", rows)) × IsOptions tool here rows options × IsShown rows shown
+AsksBy tool here given (Session path) = (rows : List Row) × (given ≡ Some (codes "session", rows)) × (joined here.folder (file_of rows) ≡ Ok path)
+AsksBy tool here given (Explain name) = (rows : List Row) × (given ≡ Some (codes "explain", rows)) × (name ≡ name_of rows)
 
 -- the first word
 abbrev pub tool_of : List Text → Text
@@ -94,12 +107,12 @@ abbrev pub IsTaken : ValueParser → List Text → Type 0
 IsTaken formats words = fault_of (program formats) words ≡ []
 
 -- what the words ask for, by the description of the command line
-abbrev pub Asks : List Text → Text → Asked → Type 0
-Asks words folder asked = (formats : ValueParser) × IsJson formats × IsTaken formats words × AsksBy (tool_of words) folder (subcommand_of (program formats) words) asked
+abbrev pub Asks : List Text → Here → Asked → Type 0
+Asks words here asked = (formats : ValueParser) × IsJson formats × IsTaken formats words × AsksBy (tool_of words) here (subcommand_of (program formats) words) asked
 
 -- Why the words ask for nothing.
 
--- what is told of a path with byte 0, of two profiles, of jobs that are no number, and where it is neither a build nor a session
+-- what is told of a path with byte 0, of two profiles, of jobs that are no number, and where it is neither a build, a session nor an explanation
 abbrev pub path_told : Text
 path_told = codes "error: a path has byte 0\n"
 
@@ -107,10 +120,10 @@ abbrev pub profiles_told : Text
 profiles_told = codes "error: the argument '--release' cannot be used with '--profile <NAME>'\n"
 
 abbrev pub jobs_told : Text
-jobs_told = codes "error: the value of '--jobs <N>' is digits alone, up to 18446744073709551615\n"
+jobs_told = codes "error: the value of '--jobs <N>' is `default`, or digits alone, up to 18446744073709551615\n"
 
 abbrev pub command_told : Text
-command_told = codes "error: neither `build` nor `session`\n"
+command_told = codes "error: neither `build`, `session` nor `explain`\n"
 
 -- why a build with these values asks for nothing, and what is told of it: the path of its manifest has byte 0; where it has not, two profiles are given; where one alone is, the jobs are no number
 pub data BuildsWrongly (folder : Text) (rows : List Row) (text : Text) : Type 0 where
@@ -118,19 +131,26 @@ pub data BuildsWrongly (folder : Text) (rows : List Row) (text : Text) : Type 0 
   two_profiles : (path : Text) (good : joined folder (manifest_of rows) ≡ Ok path) (both : HasTwoProfiles rows) (told : text ≡ profiles_told) → BuildsWrongly folder rows text
   bad_jobs : (path profile : Text) (good : joined folder (manifest_of rows) ≡ Ok path) (one : IsProfile rows profile) (bad : HasBadJobs rows) (told : text ≡ jobs_told) → BuildsWrongly folder rows text
 
--- a subcommand with these values asks for nothing, and this is told of it: a build does so, the path of a session's file has byte 0, or it is neither of the two
+-- a subcommand with these values asks for nothing, and this is told of it: a build does so, the path of a session's file has byte 0, or it is none of the three
 pub data AsksWrongly (folder : Text) (given : Option (Text × List Row)) (text : Text) : Type 0 where
   bad_build : (rows : List Row) (build : given ≡ Some (codes "build", rows)) (wrong : BuildsWrongly folder rows text) → AsksWrongly folder given text
   bad_file : (rows : List Row) (fault : PathFault) (session : given ≡ Some (codes "session", rows)) (bad : joined folder (file_of rows) ≡ Err fault) (told : text ≡ path_told) → AsksWrongly folder given text
-  no_command : (no_build : option_map (λ p. p.0) given ≢ Some (codes "build")) (no_session : option_map (λ p. p.0) given ≢ Some (codes "session")) (told : text ≡ command_told) → AsksWrongly folder given text
+  no_command : (no_build : option_map (λ p. p.0) given ≢ Some (codes "build")) (no_session : option_map (λ p. p.0) given ≢ Some (codes "session")) (no_explain : option_map (λ p. p.0) given ≢ Some (codes "explain")) (told : text ≡ command_told) → AsksWrongly folder given text
 
--- help is asked for
+-- what `clap` finds is no fault: help or the version is asked for, or there are no words
+abbrev pub is_help : ErrorKind → Bool
+is_help kind.DisplayHelp = true
+is_help kind.DisplayVersion = true
+is_help kind.DisplayHelpOnMissingArgumentOrSubcommand = true
+is_help _ = false
+
+-- help is asked for, or the version, or there are no words
 abbrev pub AsksForHelp : ValueParser → List Text → Type 0
-AsksForHelp formats words = IsAmong DisplayHelp (fault_of (program formats) words)
+AsksForHelp formats words = (found : ErrorKind) × (is_help found ≡ true) × IsAmong found (fault_of (program formats) words)
 
 -- `clap` finds a fault with the words
 abbrev pub IsRefused : ValueParser → List Text → Type 0
-IsRefused formats words = (kind : ErrorKind) × (kind ≢ DisplayHelp) × IsAmong kind (fault_of (program formats) words)
+IsRefused formats words = (found : ErrorKind) × (is_help found ≡ false) × IsAmong found (fault_of (program formats) words)
 
 -- why the words ask for nothing, and what is told of it; wrong values are told only of words that `clap` takes, so never where help is asked for; of the texts of `clap` this says nothing
 abbrev pub Unasks : List Text → Text → Unasked → Type 0

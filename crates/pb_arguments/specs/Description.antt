@@ -37,7 +37,7 @@ at_one_time = record (option (codes "jobs")) { short = Some 106 } ∷ []
 
 -- what is told beside the messages
 abbrev pub telling : List Rule
-telling = flag (codes "explain") ∷ []
+telling = flag (codes "explain") ∷ flag (codes "render") ∷ record (flag (codes "verbose")) { short = Some 118 } ∷ record (flag (codes "quiet")) { short = Some 113 } ∷ []
 
 -- where it is read from and written to, in which of these forms, and what is started for it and told to children
 abbrev pub places : ValueParser → List Rule
@@ -67,8 +67,14 @@ build formats = with_rules without_effect (with_rules (places formats) (with_rul
 abbrev pub session : App
 session = with_rule (new_app (codes "session")) record (new_rule (codes "FILE")) { required = true }
 
--- the program, which wants one of the two
+-- `pb_tool explain NAME`
+abbrev pub explain : App
+explain = with_rule (new_app (codes "explain")) record (new_rule (codes "NAME")) { required = true }
+
+-- a command that has a version, and wants a subcommand; without any word it tells help
+abbrev pub wanting : App → App
+wanting app = record app { top = record app.top { has_version = true; arg_required_else_help = true; subcommand_required = true } }
+
+-- the program, which wants one of the three
 abbrev pub program : ValueParser → App
-program formats =
-    let start = new_app (codes "pb_tool") in
-    with_subcommand (with_subcommand record start { top = record start.top { subcommand_required = true } } (build formats).top) session.top
+program formats = with_subcommand (with_subcommand (with_subcommand (wanting (new_app (codes "pb_tool"))) (build formats).top) session.top) explain.top

@@ -1,3 +1,4 @@
 pub mod Description
 pub mod Asking
+pub mod Unknown
 pub mod Private

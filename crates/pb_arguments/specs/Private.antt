@@ -1,10 +1,10 @@
 -- What private functions of the command line promise to one another. Nothing here is needed to read what words ask for.
-use Rattle.std.specs.Prelude.{◌≡◌, ◌≢◌, List}
+use Rattle.std.specs.Prelude.{◌≡◌, ◌≢◌, true, false, List}
 use Rattle.clap.specs.Walk.{Text}
 use Rattle.clap.specs.declared.builder.value_parser.ValueParser.{ValueParser}
 use Rattle.clap.specs.declared.error.kind.ErrorKind.{ErrorKind}
 use Rattle.clap.specs.declared.error.kind.ErrorKind.TheVariants as kind
-use Rattle.pb_arguments.specs.Asking.{AsksForHelp, IsRefused}
+use Rattle.pb_arguments.specs.Asking.{AsksForHelp, IsRefused, is_help}
 use Rattle.pb_arguments.specs.Description.{IsJson}
 use Rattle.pb_arguments.specs.declared.asked.Unasked.{Unasked}
 use Rattle.pb_arguments.specs.declared.asked.Unasked.TheVariants.{Help, Wrong, OutOfMemory}
@@ -17,8 +17,8 @@ ToldWrong why OutOfMemory = Unit {0}
 
 -- an error of this kind is told so
 abbrev pub TellsKind : ErrorKind → Unasked → Type 0
-TellsKind k (Help text) = k ≡ kind.DisplayHelp
-TellsKind k (Wrong text) = (k ≢ kind.DisplayHelp) × (k ≢ kind.OutOfMemory)
+TellsKind k (Help text) = is_help k ≡ true
+TellsKind k (Wrong text) = (is_help k ≡ false) × (k ≢ kind.OutOfMemory)
 TellsKind k OutOfMemory = Unit {0}
 
 -- the description does not take the words

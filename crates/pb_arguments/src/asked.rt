@@ -2,11 +2,12 @@
 
 ghost use Rattle.std.specs.Prelude.{◌≡◌, ◌≢◌};
 ghost use Rattle.clap.specs.Values.{kind_of};
-ghost use Rattle.pb_arguments.specs.Asking.{path_told, profiles_told, jobs_told, command_told};
+ghost use Rattle.pb_arguments.specs.Asking.{is_help, path_told, profiles_told, jobs_told, command_told};
 ghost use Rattle.pb_arguments.specs.Private.{ToldWrong, TellsKind};
 ghost use Rattle.pb_arguments.specs.declared.asked.Unasked.TheVariants as unasked;
 ghost use Rattle.pb_place.specs.declared.path.PathFault.TheVariants as path_fault;
 
+use crate::unknown::reworded;
 use clap::Error;
 use clap::error::ErrorKind;
 use pb_data::Text;
@@ -19,14 +20,27 @@ use std::alloc::{AllocError, Global};
 pub enum Asked {
     /// The session of the file at this path.
     Session(PathText),
-    /// A build, and whether it is to be told why each child was started.
-    Build { options: Options, explain: bool },
+    /// A build, and what is shown of it beside its lines.
+    Build { options: Options, shown: Shown },
+    /// What the name of a result line means.
+    Explain(Text),
+}
+
+/// What is shown of a build beside its message lines.
+#[derive(Clone, Copy)]
+pub struct Shown {
+    /// Why each child was started.
+    pub explain: bool,
+    /// Diagnostics, and what scripts warn of, as text.
+    pub render: bool,
+    /// The program and the words of each child, before it is started.
+    pub verbose: bool,
 }
 
 /// Why a command line asks for nothing that is done.
 #[derive(Drop)]
 pub enum Unasked {
-    /// Help was asked for: its text.
+    /// Help or the version was asked for, or there were no words: its text.
     Help(Text),
     /// The words are wrong: the text that says what is wrong with them.
     Wrong(Text),
@@ -42,6 +56,15 @@ impl From<AllocError> for Unasked {
     }
 }
 
+/// Returns whether what the reader of the words says is help or the version, which is no mistake.
+fn is_help(kind: ErrorKind) -> bool
+    ensures { result ≡ is_help kind }
+{
+    kind == ErrorKind::DisplayHelp
+        || kind == ErrorKind::DisplayVersion
+        || kind == ErrorKind::DisplayHelpOnMissingArgumentOrSubcommand
+}
+
 /// What the reader of the words says: its text, which goes to the output where help was asked for, and else to
 /// standard error.
 pub(crate) fn unasked_of(alloc: Global, error: &Error) -> Unasked
@@ -54,10 +77,13 @@ pub(crate) fn unasked_of(alloc: Global, error: &Error) -> Unasked
     let Ok(text) = format!(in alloc; "{error}") else {
         return Unasked::OutOfMemory;
     };
-    if kind == ErrorKind::DisplayHelp {
+    if is_help(kind) {
         return Unasked::Help(Text::new(text));
     }
-    Unasked::Wrong(Text::new(text))
+    match reworded(alloc, text) {
+        Ok(text) => Unasked::Wrong(Text::new(text)),
+        Err(_) => Unasked::OutOfMemory,
+    }
 }
 
 /// The words are wrong: this text says why.
@@ -80,11 +106,11 @@ pub(crate) fn bad_path(alloc: Global, fault: PathFault) -> Unasked
     wrong(alloc, "error: a path has byte 0\n")
 }
 
-/// Neither a build nor a session is asked for.
+/// Neither a build, a session nor an explanation is asked for.
 pub(crate) fn no_command(alloc: Global) -> Unasked
     ensures { ToldWrong (λ told. told ≡ command_told) result }
 {
-    wrong(alloc, "error: neither `build` nor `session`\n")
+    wrong(alloc, "error: neither `build`, `session` nor `explain`\n")
 }
 
 /// Two profiles are asked for.
@@ -103,6 +129,6 @@ pub(crate) fn bad_jobs(alloc: Global) -> Unasked
 {
     wrong(
         alloc,
-        "error: the value of '--jobs <N>' is digits alone, up to 18446744073709551615\n",
+        "error: the value of '--jobs <N>' is `default`, or digits alone, up to 18446744073709551615\n",
     )
 }

@@ -5,7 +5,7 @@ ghost use Rattle.clap.specs.Walk.{Rule, rule_of};
 ghost use Rattle.clap.specs.Simple.{app_of, new_rule, shape_of, with_subcommand};
 ghost use Rattle.clap.specs.declared.builder.value_parser.ValueParser.{ValueParser};
 ghost use Rattle.clap.specs.declared.builder.value_parser.ValueParser.TheVariants.{Names};
-ghost use Rattle.pb_arguments.specs.Description.{with_rules, IsJson, build, session, program};
+ghost use Rattle.pb_arguments.specs.Description.{with_rules, IsJson, build, session, explain, program};
 ghost use Rattle.pb_arguments.specs.declared.description.Described.{Described};
 
 use clap::{Arg, ArgAction, Command};
@@ -115,8 +115,21 @@ fn session_command<'a>(alloc: Global) -> Result<Command<'a>, AllocError>
     command.arg(file)
 }
 
+/// `pb_tool explain NAME`.
+fn explain_command<'a>(alloc: Global) -> Result<Command<'a>, AllocError>
+    ensures { IfOk result (λ command. app_of command ≡ explain) }
+{
+    let name = Arg::new(alloc, "NAME")
+        .required(true)
+        .help("A name at the end of a line `error: ..`, as `BadKind`");
+    let command = Command::new(alloc, "explain").about(
+        "Prints what the name of an error means, and what to do",
+    );
+    command.arg(name)
+}
+
 /// The options of a build, in the order of help.
-static OPTIONS: [Described; 20] = [
+static OPTIONS: [Described; 23] = [
     // What of the workspace is built.
     Described {
         name: "package",
@@ -206,7 +219,7 @@ static OPTIONS: [Described; 20] = [
         action: None,
         value: &["N"],
         among: None,
-        help: "How many units may be in flight at one time (default 1)",
+        help: "How many units may be in flight at one time: a number (default 1), or `default`, as many as processors",
     },
     // What is told beside the messages.
     Described {
@@ -216,6 +229,30 @@ static OPTIONS: [Described; 20] = [
         value: &[],
         among: None,
         help: "Say on standard error why each child was started",
+    },
+    Described {
+        name: "render",
+        short: None,
+        action: Some(ArgAction::SetTrue),
+        value: &[],
+        among: None,
+        help: "Show diagnostics and the warnings of build scripts on standard error, as text",
+    },
+    Described {
+        name: "verbose",
+        short: Some('v'),
+        action: Some(ArgAction::SetTrue),
+        value: &[],
+        among: None,
+        help: "Say on standard error which children are started: the program and its words",
+    },
+    Described {
+        name: "quiet",
+        short: Some('q'),
+        action: Some(ArgAction::SetTrue),
+        value: &[],
+        among: None,
+        help: "No effect: nothing is told but what went wrong, and what is asked for",
     },
     // Where it is read from and written to.
     Described {
@@ -321,13 +358,19 @@ fn with_subcommand<'a>(
     command.subcommand(below)
 }
 
+/// The version of the program.
+const VERSION: &str = "0.1.0";
+
 /// The whole command line.
 pub(crate) fn program<'a>(alloc: Global) -> Result<Command<'a>, AllocError>
     ensures { IfOk result (λ command. (formats : ValueParser) × IsJson formats × (app_of command ≡ program formats)) }
 {
     let command = Command::new(alloc, "pb_tool")
         .about("Builds workspaces of path packages")
+        .version(VERSION)
+        .arg_required_else_help(true)
         .subcommand_required(true);
     let command = with_subcommand(command, build_command(alloc))?;
-    with_subcommand(command, session_command(alloc))
+    let command = with_subcommand(command, session_command(alloc))?;
+    with_subcommand(command, explain_command(alloc))
 }

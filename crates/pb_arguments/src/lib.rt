@@ -4,7 +4,10 @@
 
 pub mod asked;
 mod description;
+mod here;
 mod reading;
+mod unknown;
 
-pub use asked::{Asked, Unasked};
+pub use asked::{Asked, Shown, Unasked};
+pub use here::Here;
 pub use reading::read_command_line;

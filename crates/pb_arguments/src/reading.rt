@@ -9,11 +9,14 @@ ghost use Rattle.pb_directive.specs.Directives.{words_of};
 ghost use Rattle.pb_place.specs.Paths.{joined};
 ghost use Rattle.pb_place.specs.declared.path.PathFault.{PathFault};
 ghost use Rattle.pb_arguments.specs.Description.{IsJson, program};
-ghost use Rattle.pb_arguments.specs.Asking.{IsFlag, HasTwoProfiles, IsProfile, IsNumber, IsJobs, HasBadJobs, IsOptions, IsTaken, BuildsWrongly, AsksBy, Asks, AsksWrongly, Unasks, manifest_of, values_of, tool_of, path_told, profiles_told, jobs_told};
+ghost use Rattle.pb_arguments.specs.Asking.{IsFlag, HasTwoProfiles, IsProfile, IsNumber, IsJobs, HasBadJobs, IsOptions, IsShown, IsTaken, BuildsWrongly, AsksBy, Asks, AsksWrongly, Unasks, manifest_of, values_of, tool_of, path_told, profiles_told, jobs_told};
 ghost use Rattle.pb_arguments.specs.Private.{ToldWrong, RefusedBy};
 
-use crate::asked::{Asked, Unasked, bad_jobs, bad_path, no_command, two_profiles, unasked_of};
+use crate::asked::{
+    Asked, Shown, Unasked, bad_jobs, bad_path, no_command, two_profiles, unasked_of,
+};
 use crate::description::program;
+use crate::here::Here;
 use clap::ArgMatches;
 use pb_data::{Items, Text, with_next};
 use pb_directive::words::words_of;
@@ -104,13 +107,15 @@ fn number_in(text: &str) -> Option<u64>
     text.parse::<u64>().ok()
 }
 
-/// How many units may be in flight at one time: what `--jobs` says, else 1. Wrong where it says no number.
-fn jobs_of(alloc: Global, matches: &ArgMatches<'_>) -> Result<u64, Unasked>
-    ensures jobs { IfOk result (IsJobs (first_of (codes "jobs") (rows_of (found_of matches.now)))) }
+/// How many units may be in flight at one time: what `--jobs` says, else 1. Wrong where it says neither a number nor
+/// `default`, which is as many as processors.
+fn jobs_of(alloc: Global, processors: u64, matches: &ArgMatches<'_>) -> Result<u64, Unasked>
+    ensures jobs { IfOk result (IsJobs processors (first_of (codes "jobs") (rows_of (found_of matches.now)))) }
     ensures wrong { IfErr result (ToldWrong (λ told. HasBadJobs (rows_of (found_of matches.now)) × (told ≡ jobs_told))) }
 {
     match first(matches, "jobs") {
         None => Ok(1),
+        Some("default") => Ok(processors),
         Some(text) => match number_in(text) {
             Some(jobs) => Ok(jobs),
             None => Err(bad_jobs(alloc)),
@@ -175,19 +180,19 @@ struct Flags {
 }
 
 /// What of a build's options may be wrong. A relative path of the manifest starts at the folder.
-fn judged_of(alloc: Global, folder: &PathText, matches: &ArgMatches<'_>) -> Result<Judged, Unasked>
-    ensures manifest { IfOk result (λ judged. joined folder.now (manifest_of (rows_of (found_of matches.now))) ≡ Ok judged.manifest) }
+fn judged_of(alloc: Global, here: &Here, matches: &ArgMatches<'_>) -> Result<Judged, Unasked>
+    ensures manifest { IfOk result (λ judged. joined here.now.folder (manifest_of (rows_of (found_of matches.now))) ≡ Ok judged.manifest) }
     ensures profile { IfOk result (λ judged. IsProfile (rows_of (found_of matches.now)) judged.profile) }
-    ensures jobs { IfOk result (λ judged. IsJobs (first_of (codes "jobs") (rows_of (found_of matches.now))) judged.jobs) }
-    ensures wrong { IfErr result (ToldWrong (BuildsWrongly folder.now (rows_of (found_of matches.now)))) }
+    ensures jobs { IfOk result (λ judged. IsJobs here.now.processors (first_of (codes "jobs") (rows_of (found_of matches.now))) judged.jobs) }
+    ensures wrong { IfErr result (ToldWrong (BuildsWrongly here.now.folder (rows_of (found_of matches.now)))) }
 {
     let manifest = path_of(
         alloc,
-        folder,
+        &here.folder,
         first_or(matches, "manifest-path", "Cargo.toml"),
     )?;
     let profile = profile_of(alloc, matches)?;
-    let jobs = jobs_of(alloc, matches)?;
+    let jobs = jobs_of(alloc, here.processors, matches)?;
     Ok(Judged {
         manifest,
         profile,
@@ -295,13 +300,13 @@ fn joined_of(judged: Judged, named: Named, tools: Tools, flags: Flags) -> Option
 fn options_of(
     alloc: Global,
     tool: &str,
-    folder: &PathText,
+    here: &Here,
     matches: &ArgMatches<'_>,
 ) -> Result<Options, Unasked>
-    ensures options { IfOk result (IsOptions tool.now folder.now (rows_of (found_of matches.now))) }
-    ensures wrong { IfErr result (ToldWrong (BuildsWrongly folder.now (rows_of (found_of matches.now)))) }
+    ensures options { IfOk result (IsOptions tool.now here.now (rows_of (found_of matches.now))) }
+    ensures wrong { IfErr result (ToldWrong (BuildsWrongly here.now.folder (rows_of (found_of matches.now)))) }
 {
-    let judged = judged_of(alloc, folder, matches)?;
+    let judged = judged_of(alloc, here, matches)?;
     let named = named_of(alloc, matches);
     let (judged, named) = with_next(judged, named)?;
     let tools = tools_of(alloc, tool, matches);
@@ -309,27 +314,44 @@ fn options_of(
     Ok(joined_of(judged, named, tools, flags_of(matches)))
 }
 
+/// What is shown of a build beside its lines.
+fn shown_of(matches: &ArgMatches<'_>) -> Shown
+    ensures { IsShown (rows_of (found_of matches.now)) result }
+{
+    Shown {
+        explain: is_given(matches, "explain"),
+        render: is_given(matches, "render"),
+        verbose: is_given(matches, "verbose"),
+    }
+}
+
 /// What the subcommand asks for. A relative path of a session's file starts at the current folder.
 fn asked_by(
     alloc: Global,
     tool: &str,
-    folder: &PathText,
+    here: &Here,
     matches: &ArgMatches<'_>,
 ) -> Result<Asked, Unasked>
-    ensures asked { IfOk result (AsksBy tool.now folder.now (subcommand_rows_of matches.now)) }
-    ensures wrong { IfErr result (ToldWrong (AsksWrongly folder.now (subcommand_rows_of matches.now))) }
+    ensures asked { IfOk result (AsksBy tool.now here.now (subcommand_rows_of matches.now)) }
+    ensures wrong { IfErr result (ToldWrong (AsksWrongly here.now.folder (subcommand_rows_of matches.now))) }
 {
     if let Some(build) = matches.subcommand_matches("build") {
-        return match options_of(alloc, tool, folder, build) {
+        return match options_of(alloc, tool, here, build) {
             Ok(options) => Ok(Asked::Build {
                 options,
-                explain: is_given(build, "explain"),
+                shown: shown_of(build),
             }),
             Err(unasked) => Err(unasked),
         };
     }
+    if let Some(explain) = matches.subcommand_matches("explain") {
+        return match Text::from_str(alloc, first_or(explain, "NAME", "")) {
+            Ok(name) => Ok(Asked::Explain(name)),
+            Err(_) => Err(Unasked::OutOfMemory),
+        };
+    }
     match matches.subcommand_matches("session") {
-        Some(session) => match path_of(alloc, folder, first_or(session, "FILE", "")) {
+        Some(session) => match path_of(alloc, &here.folder, first_or(session, "FILE", "")) {
             Ok(path) => Ok(Asked::Session(path)),
             Err(unasked) => Err(unasked),
         },
@@ -360,21 +382,22 @@ fn tool_of<S: AsStr>(words: &[S]) -> &str
     }
 }
 
-/// What a command line asks for. The words are those of the whole command line, the program's own name first; relative
-/// paths start at `folder`.
+/// What a command line asks for. The words are those of the whole command line, the program's own name first.
 ///
-/// Help where help was asked for; Wrong where the words are none of a command line, where two profiles are asked for,
-/// where the value of `--jobs` is not digits alone or above 18446744073709551615, or where a path has byte 0; each with the text that is to be printed. OutOfMemory where memory is refused.
+/// Errors: Help where help or the version is asked for, or there are no words; Wrong where the words are none of a
+/// command line, where two profiles are asked for, where the value of `--jobs` is neither `default` nor digits alone, or
+/// is above 18446744073709551615, or where a path has byte 0; each with the text that is to be printed. OutOfMemory where
+/// memory is refused.
 pub fn read_command_line<S: AsStr>(
     alloc: Global,
     words: &[S],
-    folder: &PathText,
+    here: &Here,
 ) -> Result<Asked, Unasked>
-    ensures asked { IfOk result (Asks (map S.text words.now) folder.now) }
-    ensures unasked { IfErr result (Unasks (map S.text words.now) folder.now) }
+    ensures asked { IfOk result (Asks (map S.text words.now) here.now) }
+    ensures unasked { IfErr result (Unasks (map S.text words.now) here.now.folder) }
 {
     match matches_of(alloc, words) {
-        Ok(matches) => asked_by(alloc, tool_of(words), folder, &matches),
+        Ok(matches) => asked_by(alloc, tool_of(words), here, &matches),
         Err(unasked) => Err(unasked),
     }
 }

@@ -3,7 +3,7 @@
 use crate::told::{Told, Unguarded};
 use pb_data::Text;
 use pb_place::{Over, PathText};
-use pb_tool_program::{HostPlace, run};
+use pb_tool_program::{Here, HostPlace, Rendered, Spoken, page_of_errors, run};
 use std::fs::Permissions;
 use std::os::unix::fs::PermissionsExt;
 use std::test::Fail;
@@ -103,21 +103,30 @@ fn make(rt: &HostRuntime, root: &str) -> Result<(), Fail> {
 /// Builds, and returns what stands on standard error, without the folder's path.
 fn built(rt: &HostRuntime, root: &str) -> Result<String, Fail> {
     let alloc = rt.alloc();
-    let folder = PathText::parse(alloc, root)?;
-    let rustc = Text::new(format!(in alloc; "{root}/compiler")?);
-    let mut place = Told {
-        inside: HostPlace::new(alloc, rt),
-        rustc,
+    let here = Here {
+        folder: PathText::parse(alloc, root)?,
+        processors: 1,
     };
+    let rustc = Text::new(format!(in alloc; "{root}/compiler")?);
+    let mut named = Vec::new(alloc);
+    let mut place = Spoken::new(
+        Told {
+            inside: HostPlace::new(alloc, rt),
+            rustc,
+        },
+        Over::new(&mut named),
+    );
     let mut lines = Vec::new(alloc);
+    let mut shown = Vec::new(alloc);
     let mut said = Vec::new(alloc);
     let status = run(
         alloc,
         &["pb_tool", "build", "--explain"],
-        &folder,
+        &here,
+        &page_of_errors(),
         &mut place,
         &mut Unguarded {},
-        &mut Over::new(&mut lines),
+        &mut Rendered::new(alloc, Over::new(&mut lines), Over::new(&mut shown)),
         &mut Over::new(&mut said),
     );
     drop(place);

@@ -1,4 +1,4 @@
-# Help goes to the output; a command line without a command is bad.
+# Help goes to the output, also where there are no words, and so does the version.
 pb_tool build --help > help
 echo "status $?"
 grep -c -e '--manifest-path' help
@@ -9,6 +9,9 @@ grep -c Usage help
 pb_tool session -h > help
 echo "status $?"
 grep -c Usage help
-pb_tool 2> said
+pb_tool > help
 echo "status $?"
-grep -c Usage said
+grep -c Usage help
+pb_tool --version
+echo "status $?"
+pb_tool -V

@@ -1,5 +1,5 @@
 -- What the whole program does: what its words ask for is done, and nothing else.
-use Rattle.std.specs.Prelude.{◌≡◌, ◌⊎◌, ℕ, Bool, true, false, if◌then◌else◌, List, Option, Some, None, IsTrue, IfOk, Result, Ok, Err}
+use Rattle.std.specs.Prelude.{◌≡◌, ◌⊎◌, ℕ, Bool, true, false, List, Option, Some, None, IsTrue, IfOk, Result, Ok, Err}
 use Rattle.std.specs.FinMap as map
 use Rattle.pb_place.specs.Counts.{Counts, counted}
 use Rattle.pb_place.specs.declared.call.Call.TheVariants as call
@@ -8,16 +8,20 @@ use Rattle.pb_place.specs.declared.place.PlaceFault.{PlaceFault}
 use Rattle.pb_answer.specs.declared.fault.BuildFault.TheVariants as build_fault
 use Rattle.pb_arguments.specs.Asking.{Asks, Unasks}
 use Rattle.pb_arguments.specs.declared.asked.Asked.{Asked}
-use Rattle.pb_arguments.specs.declared.asked.Asked.TheVariants.{Build, Session}
+use Rattle.pb_arguments.specs.declared.asked.Asked.TheVariants.{Build, Session, Explain}
+use Rattle.pb_arguments.specs.declared.asked.Shown.{Shown}
 use Rattle.pb_arguments.specs.declared.asked.Unasked.{Unasked}
 use Rattle.pb_arguments.specs.declared.asked.Unasked.TheVariants.{Help, Wrong, OutOfMemory}
+use Rattle.pb_arguments.specs.declared.here.Here.{Here}
+use Rattle.pb_explained.specs.declared.entry.Page.{Page}
 use Rattle.pb_session.specs.Sessions.{session_of}
 use Rattle.pb_session.specs.declared.fault.BadSession.TheVariants.{BadForm}
 use Rattle.pb_place.specs.Sinks.{Heard}
 use Rattle.pb_turns.specs.Crew.{Moment}
 use Rattle.pb_tool_program.specs.Building.{BuildsTold, error_of}
+use Rattle.pb_tool_program.specs.Names.{Means, Prints}
 use Rattle.pb_tool_program.specs.Session.{Refused, SessionStopped, SessionWritten}
-use Rattle.pb_tool_program.specs.Writing.{Writes, Tells}
+use Rattle.pb_tool_program.specs.Writing.{Tells}
 
 -- Sessions.
 
@@ -51,25 +55,31 @@ pub record RunsFile (tells : Bool) (path : List ℕ) (status : ℕ) (old new : M
 
 -- Words that ask for nothing.
 
--- what is told to words that ask for nothing: help, as output; what is wrong with them, or that memory was refused, beside it
+-- what is told to words that ask for nothing: help or the version, as output; what is wrong with them, or that memory was refused, beside it
 abbrev pub Explains : Unasked → ℕ → Heard → Heard → Heard → Heard → Type 0
-Explains (Help text) status old new said_before said_after = (said_after ≡ said_before) × ((whole : Bool) × Writes whole text old new × (status ≡ (if whole then 0 else 1)))
+Explains (Help text) status old new said_before said_after = (said_after ≡ said_before) × Prints text status old new
 Explains (Wrong text) status old new said_before said_after = (status ≡ 1) × (new ≡ old) × Tells text said_before said_after
 Explains OutOfMemory status old new said_before said_after = (status ≡ 101) × (new ≡ old) × Tells (error_of (Err build_fault.OutOfMemory)) said_before said_after
 
 -- The program.
 
--- what words mean: what they ask for, or why they ask for nothing
-abbrev pub Means : List (List ℕ) → List ℕ → Result Asked Unasked → Type 0
-Means words folder (Ok asked) = Asks words folder asked
-Means words folder (Err unasked) = Unasks words folder unasked
+-- what is shown of a build beside its lines was told before it: to the place whether to name its children, and to the sink of the lines whether to show them as text
+abbrev pub IsTold : {P O : Type 0} → (P → Bool → P → Type 0) → (O → Bool → O → Type 0) → P → O → Shown → Type 0
+IsTold {P} {O} Speaks Shows place out shown = ((told : P) × Speaks place shown.verbose told) × ((told : O) × Shows out shown.render told)
 
--- what comes of that: the build that is asked for, or the session; else the place is not touched. A build alone asks the guard for a folder.
-abbrev pub Does : Bool → Answers → (Option (List ℕ) → Counts → Heard → Heard → Type 0) → Result Asked Unasked → ℕ → Moment → Moment → Heard → Heard → Type 0
-Does tells child Guards (Ok (Build options explain)) status old new said_before said_after = BuildsTold tells child Guards options explain status old new said_before said_after
-Does tells child Guards (Ok (Session path)) status old new said_before said_after = RunsFile tells path status old new said_before said_after × Guards None old.counts said_before said_before
-Does tells child Guards (Err unasked) status old new said_before said_after = (new ≡ record old { heard = new.heard }) × Explains unasked status old.heard new.heard said_before said_after × Guards None old.counts said_before said_before
+-- what words ask for, or why they ask for nothing
+abbrev pub AsksOrNot : List (List ℕ) → Here → Result Asked Unasked → Type 0
+AsksOrNot words here (Ok asked) = Asks words here asked
+AsksOrNot words here (Err unasked) = Unasks words here.folder unasked
 
--- the program did what these words mean, where relative paths start at this folder
-abbrev pub Runs : Bool → Answers → (Option (List ℕ) → Counts → Heard → Heard → Type 0) → List (List ℕ) → List ℕ → ℕ → Moment → Moment → Heard → Heard → Type 0
-Runs tells child Guards words folder status old new said_before said_after = (meant : Result Asked Unasked) × Means words folder meant × Does tells child Guards meant status old new said_before said_after
+-- what comes of that: the build that is asked for, or the session; else the place is not touched. A build alone asks the guard for a folder. What is shown of it beside its lines changes nothing else: `BuildsTold` looks at `explain` alone.
+abbrev pub Does : Bool → Answers → (Option (List ℕ) → Counts → Heard → Heard → Type 0) → (Shown → Type 0) → Page → Result Asked Unasked → ℕ → Moment → Moment → Heard → Heard → Type 0
+Does tells child Guards Told page (Ok (Build options shown)) status old new said_before said_after = Told shown × BuildsTold tells child Guards options shown.explain status old new said_before said_after
+Does tells child Guards Told page (Ok (Session path)) status old new said_before said_after = RunsFile tells path status old new said_before said_after × Guards None old.counts said_before said_before
+Does tells child Guards Told page (Ok (Explain name)) status old new said_before said_after = (new ≡ record old { heard = new.heard }) × Means page name status old.heard new.heard said_before said_after × Guards None old.counts said_before said_before
+Does tells child Guards Told page (Err unasked) status old new said_before said_after = (new ≡ record old { heard = new.heard }) × Explains unasked status old.heard new.heard said_before said_after × Guards None old.counts said_before said_before
+
+-- the program did what these words ask for, where it runs
+abbrev pub Runs : Bool → Answers → (Option (List ℕ) → Counts → Heard → Heard → Type 0) → (Shown → Type 0) → Page → List (List ℕ) → Here → ℕ → Moment → Moment → Heard → Heard → Type 0
+Runs tells child Guards Told page words here status old new said_before said_after =
+    (meant : Result Asked Unasked) × AsksOrNot words here meant × Does tells child Guards Told page meant status old new said_before said_after

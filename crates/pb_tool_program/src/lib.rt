@@ -1,5 +1,5 @@
-//! What the program `pb_tool` does, over any place: it builds a workspace, or runs a session in memory. `tool` does so
-//! over the machine.
+//! What the program `pb_tool` does, over any place: it builds a workspace, runs a session in memory, or
+//! explains the name of an error. `tool` does so over the machine.
 #![tactic(auto)]
 
 mod building;
@@ -7,12 +7,17 @@ mod details;
 mod folder_lock;
 mod guard;
 mod machine;
+mod names;
+mod processors;
 mod running;
 mod session;
 
 pub use building::build_options;
 pub use guard::Guard;
 pub use machine::tool;
+pub use pb_arguments::Here;
+pub use pb_explained::page_of_errors;
 pub use pb_host::HostPlace;
+pub use pb_screen::{Rendered, Spoken};
 pub use running::run;
 pub use session::{run_session, write_results};

@@ -1,9 +1,13 @@
 //! The program over the machine.
 
 use crate::folder_lock::FolderLock;
+use crate::processors::processors;
 use crate::running::{BAD_COMMAND_LINE, FAILED, run};
+use pb_arguments::Here;
+use pb_explained::page_of_errors;
 use pb_host::HostPlace;
 use pb_place::{Over, PathFault, PathText, write_all};
+use pb_screen::{Rendered, Spoken};
 use std::io::ErrorKind;
 use std::{env, io};
 
@@ -54,13 +58,22 @@ pub fn tool(rt: &HostRuntime) -> u8 {
             return FAILED;
         }
     };
+    let here = Here {
+        folder,
+        processors: processors(rt),
+    };
     run(
         rt.alloc(),
         words.as_slice(),
-        &folder,
-        &mut HostPlace::new(rt.alloc(), rt),
+        &here,
+        &page_of_errors(),
+        &mut Spoken::new(HostPlace::new(rt.alloc(), rt), Over::new(rt.stderr())),
         &mut FolderLock::new(rt),
-        &mut Over::new(io::writer(rt)),
+        &mut Rendered::new(
+            rt.alloc(),
+            Over::new(io::writer(rt)),
+            Over::new(rt.stderr()),
+        ),
         &mut Over::new(rt.stderr()),
     )
 }

@@ -3,13 +3,18 @@
 ghost use Rattle.std.specs.Prelude.{◌≡◌, [], map};
 ghost use Rattle.pb_turns.specs.Crew.{moment};
 ghost use Rattle.pb_tool_program.specs.Guarding.{Guarded};
-ghost use Rattle.pb_tool_program.specs.Running.{RunsFile, Explains, Runs};
+ghost use Rattle.pb_tool_program.specs.Building.{BuildsTold};
+ghost use Rattle.pb_tool_program.specs.Running.{RunsFile, Explains, IsTold, Runs};
 
 use crate::building::build_options;
 use crate::guard::Guard;
+use crate::names::mean;
 use crate::session::{refuse, run_session};
-use pb_arguments::{Asked, Unasked, read_command_line};
+use pb_arguments::{Asked, Here, Shown, Unasked, read_command_line};
+use pb_explained::Page;
+use pb_package::Options;
 use pb_place::{Out, PathText, Place, write_all};
+use pb_screen::{Screen, Speaking};
 use std::alloc::Global;
 use std::convert::AsStr;
 
@@ -62,30 +67,58 @@ fn explain<O: Out, E: Out>(unasked: &Unasked, out: &mut O, err: &mut E) -> u8
     }
 }
 
-/// The whole program: does what the words of the command line ask for, the program's own name first. Relative paths
-/// start at `folder`, the current one. A build asks the guard for its target folder, once it is planned.
+/// Tells the place and the sink of the lines what is shown of a build, and builds.
+fn build<P: Speaking, G: Guard<P, E>, O: Screen, E: Out>(
+    alloc: Global,
+    place: &mut P,
+    guard: &mut G,
+    out: &mut O,
+    err: &mut E,
+    options: &Options,
+    shown: Shown,
+) -> u8
+    requires none { (P.at place.old).counts.starts.flying ≡ [] }
+    ensures told { IsTold P.speaks O.shows place.old out.old shown }
+    ensures builds { BuildsTold P.tells P.child (Guarded G.asks G.waits guard.old guard.new)
+        options.now shown.explain result
+        (moment (P.at place.old) (O.heard out.old)) (moment (P.at place.new) (O.heard out.new))
+        (E.heard err.old) (E.heard err.new) }
+{
+    place.speak(shown.verbose);
+    out.show(shown.render);
+    build_options(alloc, place, guard, out, err, options, shown.explain)
+}
+
+/// The whole program: does what the words of the command line ask for, the program's own name first. A build asks the
+/// guard for its target folder, once it is planned, what is shown of it
+/// beside its lines is told to the place (its children) and to `out` (its lines, as text). What a name of a result line
+/// means is what the page says.
 ///
-/// The status is that of `build_options` or `run_session`; 1 for a bad command line; 0 where help was asked for, 1 where
-/// it cannot be written; 101 where memory is refused before.
-pub fn run<S: AsStr, P: Place, G: Guard<P, E>, O: Out, E: Out>(
+/// The status is that of `build_options` or `run_session`; 1 for a bad command line, and for a name that the page does
+/// not have; 0 where help or a name's meaning was asked for, 1 where it cannot be written; 101 where memory is refused
+/// before.
+pub fn run<S: AsStr, P: Speaking, G: Guard<P, E>, O: Screen, E: Out>(
     alloc: Global,
     words: &[S],
-    folder: &PathText,
+    here: &Here,
+    page: &Page,
     place: &mut P,
     guard: &mut G,
     out: &mut O,
     err: &mut E,
 ) -> u8
     requires none { (P.at place.old).counts.starts.flying ≡ [] }
-    ensures { Runs P.tells P.child (Guarded G.asks G.waits guard.old guard.new) (map S.text words.now) folder.now result
+    ensures { Runs P.tells P.child (Guarded G.asks G.waits guard.old guard.new)
+        (IsTold P.speaks O.shows place.old out.old) page.now (map S.text words.now) here.now result
         (moment (P.at place.old) (O.heard out.old)) (moment (P.at place.new) (O.heard out.new))
         (E.heard err.old) (E.heard err.new) }
 {
-    match read_command_line(alloc, words, folder) {
-        Ok(Asked::Build { options, explain }) => {
-            build_options(alloc, place, guard, out, err, &options, explain)
+    match read_command_line(alloc, words, here) {
+        Ok(Asked::Build { options, shown }) => {
+            build(alloc, place, guard, out, err, &options, shown)
         }
         Ok(Asked::Session(path)) => run_file(alloc, place, &path, out, err),
+        Ok(Asked::Explain(name)) => mean(alloc, page, name.as_str(), out, err),
         Err(unasked) => explain(&unasked, out, err),
     }
 }

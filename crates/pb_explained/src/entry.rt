@@ -1,0 +1,29 @@
+//! The page of errors.
+
+use crate::others::OTHERS;
+use crate::refused::REFUSED;
+
+/// What a name of a result line means.
+pub struct Entry {
+    /// The name, without what stands in brackets behind it.
+    pub name: &'static str,
+    /// What the page says below it.
+    pub text: &'static str,
+}
+
+/// The entries of a page, in two parts.
+#[derive(Clone, Copy)]
+pub struct Page {
+    /// The names of refusals.
+    pub refused: &'static [Entry],
+    /// The names of bad units and of faults.
+    pub others: &'static [Entry],
+}
+
+/// Returns the page of errors.
+pub fn page_of_errors() -> Page {
+    Page {
+        refused: &REFUSED,
+        others: &OTHERS,
+    }
+}

@@ -1,0 +1,184 @@
+//! What the names of bad units and of faults mean. Written by `bench/explained.py`: change `docs/ERRORS.md`.
+
+use crate::entry::Entry;
+
+/// What the names of bad units and of faults mean.
+pub static OTHERS: [Entry; 14] = [
+    Entry {
+        name: "Directive",
+        text: r#"A line of the script's output is refused. NAME is one of:
+
+- `UnknownKey`: no such key after `cargo::`
+- `BadValue`: a value that its key may not have, or no `=` after `cargo::`
+- `BadFlag`: `rustc-flags` has a word that is neither `-l X` nor `-L X`
+
+```
+b.target.run said:
+cargo::warning=w
+cargo::unknown=x
+note: line 2 of its output
+error: bad b.target.run Directive(UnknownKey) started=b.target.script,b.target.run
+```
+
+- Look at that line of the output: it begins with `cargo::` or `cargo:`.
+"#,
+    },
+    Entry {
+        name: "ForeignInput",
+        text: r#"An input is in the target folder, and in the folder of no unit that this unit reaches.
+
+```
+note: /w/target/x lies in the target folder
+error: bad a.target.lib ForeignInput started=a.target.lib
+```
+
+- Look at `include!` and the like in the sources, and at `rerun-if-changed` of the script.
+- Move the file out of the target folder.
+"#,
+    },
+    Entry {
+        name: "NoDepInfo",
+        text: r#"The compiler left no dep-info (the list of what it read) that can be read.
+
+```
+error: bad a.target.lib NoDepInfo started=a.target.lib
+```
+
+- If `started=` does not name the unit, its files were removed by hand: remove its record too (`UNIT.record`).
+- Look whether `RUSTC` is a compiler that writes dep-info.
+- Look whether dep-info is over 4 MiB (4,194,304 bytes) or has byte 0.
+"#,
+    },
+    Entry {
+        name: "OutputTooLong",
+        text: r#"A stream of the child process is too long: more than 4,194,304 bytes.
+
+```
+error: bad a.target.lib OutputTooLong started=a.target.lib
+```
+
+- Let the compiler or the script print less.
+"#,
+    },
+    Entry {
+        name: "ScriptError",
+        text: r#"The build script reported an error (`cargo::error=TEXT`).
+
+```
+a.target.run said:
+to nobody
+error: bad a.target.run ScriptError started=a.target.script,a.target.run
+```
+
+- Read the lines `build-script-note` of level `error` on standard output.
+"#,
+    },
+    Entry {
+        name: "Status",
+        text: r#"The child process ended with status N, which is not 0.
+
+```
+a.target.run said:
+hello
+error: bad a.target.run Status(3) started=a.target.script,a.target.run
+```
+
+- Of a compile, read the [diagnostics](MESSAGES.md#recipes) on standard output.
+- Read what comes after `UNIT said:`.
+"#,
+    },
+    Entry {
+        name: "CannotStart",
+        text: r#"The program cannot be started, or the unit's output folder cannot be made.
+
+```
+error: fault -vV CannotStart
+```
+
+- Look at `RUSTC`; for the run of a script (`.run`) at `--runner`.
+- Look whether the target folder can be made and written.
+- Look for a word or a variable that the system does not take: over 128 KiB, or with byte 0.
+"#,
+    },
+    Entry {
+        name: "Capture",
+        text: r#"The output of the child process could not be taken in.
+
+```
+error: fault a.target.lib Capture
+```
+
+- Build again.
+"#,
+    },
+    Entry {
+        name: "Device",
+        text: r#"A call on files or variables failed. AT is that path or variable, or the unit in whose folder, record or inputs it was.
+
+```
+note: a file could not be read
+error: fault /w/Cargo.toml Device
+```
+
+- Look at rights, and whether the disk is full.
+- In a folder that is read whole, look for links to folders above, folders over 128 deep and names that are not UTF-8.
+- Look whether the variable is UTF-8, and whether a name is over 255 bytes.
+"#,
+    },
+    Entry {
+        name: "Died",
+        text: r#"The child process ended without a status.
+
+```
+error: fault a.target.lib Died
+```
+
+- Look for signals and limits of the system, as of memory.
+"#,
+    },
+    Entry {
+        name: "NumbersSpent",
+        text: r#"No run number is left for the unit's record. Nothing was removed.
+
+```
+error: fault a.target.lib NumbersSpent
+```
+
+- Look at the records in the profile's folder: one of them names 18446744073709551615.
+- Remove that record.
+"#,
+    },
+    Entry {
+        name: "OutOfMemory",
+        text: r#"Memory was refused.
+
+```
+error: fault memory OutOfMemory
+```
+
+- Free some memory, and build again.
+"#,
+    },
+    Entry {
+        name: "Sink",
+        text: r#"The message lines cannot be written.
+
+```
+error: fault sink Sink
+```
+
+- Look at standard output: a closed pipe, a full disk.
+"#,
+    },
+    Entry {
+        name: "Toolchain",
+        text: r#"The compiler does not say its host. Its answer to `-vV` has another status than 0, is too long, is not UTF-8, or has no line `host: TRIPLE`.
+
+```
+error: fault -vV Toolchain
+```
+
+- Look at what `$RUSTC -vV` prints.
+"#,
+    },
+];

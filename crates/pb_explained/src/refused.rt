@@ -1,0 +1,365 @@
+//! What the names of refusals mean. Written by `bench/explained.py`: change `docs/ERRORS.md`.
+
+use crate::entry::Entry;
+
+/// What the names of refusals mean.
+pub static REFUSED: [Entry; 30] = [
+    Entry {
+        name: "BadFeature",
+        text: r#"A name or an item in `[features]` cannot be read. An item has one of the forms `F`, `dep:N`, `N/F`, `N?/F`.
+
+```
+note: in /w/Cargo.toml
+error: refused BadFeature
+```
+
+- Look at the names and the items in `[features]`.
+"#,
+    },
+    Entry {
+        name: "BadKind",
+        text: r#"A key has a value that it may not have: another type, another spelling, or a path with byte 0. With `key package` the manifest may have no `[package]` where a package is needed.
+
+```
+note: in /w/b/Cargo.toml, key path
+error: refused BadKind
+```
+
+- Look at each key of that name in that manifest.
+- If a whole entry of dependencies or features is wrong, the key is that of the table.
+"#,
+    },
+    Entry {
+        name: "BadName",
+        text: r#"A name is missing or has other letters than it may have.
+
+```
+note: in /w/Cargo.toml
+error: refused BadName
+```
+
+- Look at `name` of the package, of `[lib]` and of each `[[bin]]`.
+- Look at the keys of dependencies.
+"#,
+    },
+    Entry {
+        name: "BadProfile",
+        text: r#"Something in `[profile]` cannot be read.
+
+```
+note: in /w/Cargo.toml
+error: refused BadProfile
+```
+
+- Look at the values in `[profile]`.
+- Give a custom profile `inherits`, and a name of ASCII letters, digits, `-` and `_`.
+- Call no profile `debug`.
+"#,
+    },
+    Entry {
+        name: "BadVersion",
+        text: r#"A version, or a requirement of a version, cannot be read.
+
+```
+note: in /w/Cargo.toml
+error: refused BadVersion
+```
+
+- Write `version` of the package with three numbers: `0.1.0`.
+- Look at `version` of each dependency.
+"#,
+    },
+    Entry {
+        name: "Cycle",
+        text: r#"Packages depend on one another. Path dependencies of the selected packages count, and of all packages that they reach; those of build scripts too.
+
+```
+note: the packages are a b
+error: refused Cycle
+```
+
+- Remove one dependency between the packages that the note names.
+"#,
+    },
+    Entry {
+        name: "InheritsCycle",
+        text: r#"Profiles inherit from one another.
+
+```
+error: refused InheritsCycle
+```
+
+- Look at `inherits` of each profile.
+"#,
+    },
+    Entry {
+        name: "LinksTwice",
+        text: r#"Two packages link one native library. All packages that are read count.
+
+```
+error: refused LinksTwice
+```
+
+- Look for packages with the same `links`.
+"#,
+    },
+    Entry {
+        name: "LinksWithoutScript",
+        text: r#"A package links a native library and has no build script.
+
+```
+error: refused LinksWithoutScript
+```
+
+- Look at `links` and `build` of the packages.
+- Add `build.rs`, or remove `links`.
+"#,
+    },
+    Entry {
+        name: "NameMismatch",
+        text: r#"A dependency leads to a package of another name.
+
+```
+error: refused NameMismatch
+```
+
+- Compare the entry's key, or its `package`, with `name` in the folder of its `path`.
+"#,
+    },
+    Entry {
+        name: "NoInherited",
+        text: r#"A key is not there to inherit: a manifest says `workspace = true`, and the root has no such key or entry. A package that is no member has nothing to inherit either.
+
+```
+error: refused NoInherited
+```
+
+- Look at `[workspace.package]` and `[workspace.dependencies]` of the root manifest.
+- Name the root manifest with `--manifest-path`: no folder above is searched.
+"#,
+    },
+    Entry {
+        name: "NoManifest",
+        text: r#"No manifest may be read at that path. It is not there, it is not named `Cargo.toml`, or it is in the target folder.
+
+```
+note: no manifest at /w/beside/Cargo.toml
+error: refused NoManifest
+```
+
+- Look at `--manifest-path`, which ends in `Cargo.toml`; without it, at the current folder.
+- Look at `members` and at the paths of dependencies.
+- Choose a target folder that does not contain the workspace.
+"#,
+    },
+    Entry {
+        name: "NoSuchDependency",
+        text: r#"A feature names a dependency that its package does not have (`dep:N`, `N/F`, `N?/F`).
+
+```
+error: refused NoSuchDependency
+```
+
+- Look at the items in `[features]`.
+"#,
+    },
+    Entry {
+        name: "NoSuchFeature",
+        text: r#"A feature is requested that is not there.
+
+```
+error: refused NoSuchFeature
+```
+
+- Look at `--features`: a selected package has to have each of them.
+- Look at the items in `[features]`, and at `features` of dependencies.
+"#,
+    },
+    Entry {
+        name: "NoSuchPackage",
+        text: r#"A package is requested that is no member of the workspace.
+
+```
+error: refused NoSuchPackage
+```
+
+- Look at `-p`, which names members alone.
+- Without `-p` and `--workspace`, look at `default-members`.
+"#,
+    },
+    Entry {
+        name: "NoSuchProfile",
+        text: r#"There is no such profile.
+
+```
+error: refused NoSuchProfile
+```
+
+- Look at `--profile`, and at `inherits` in the root manifest.
+"#,
+    },
+    Entry {
+        name: "NotInOverride",
+        text: r#"An override sets a key that it may not set: `panic`, `lto` or `rpath` under `package` or `build-override` of a profile.
+
+```
+error: refused NotInOverride
+```
+
+- Move the key to the profile itself.
+"#,
+    },
+    Entry {
+        name: "NotOptional",
+        text: r#"A feature names a dependency that is not optional (`dep:N`, `N?/F`).
+
+```
+error: refused NotOptional
+```
+
+- Give the dependency `optional = true`, or remove the item.
+"#,
+    },
+    Entry {
+        name: "NotToml",
+        text: r#"The manifest is not TOML, or not UTF-8.
+
+```
+note: in /w/b/Cargo.toml
+error: refused NotToml
+```
+
+- Look for a key that is written twice, an open bracket, an open quotation mark.
+- Nest no value deeper than 80.
+"#,
+    },
+    Entry {
+        name: "NothingToBuild",
+        text: r#"There is no unit.
+
+```
+error: refused NothingToBuild
+```
+
+- Look at `--lib` and `--bin`: a name that no binary has selects nothing.
+- Turn on the `required-features` of the binary.
+- Look whether `src/lib.rs` or `src/main.rs` is there, and outside the target folder.
+"#,
+    },
+    Entry {
+        name: "OldResolver",
+        text: r#"Resolver 1 is not supported.
+
+```
+note: in /w/Cargo.toml
+error: refused OldResolver
+```
+
+- Remove `resolver = "1"`, or write `"2"`.
+"#,
+    },
+    Entry {
+        name: "SameBinary",
+        text: r#"A package has two binaries of one name.
+
+```
+error: refused SameBinary
+```
+
+- Look at `name` of each `[[bin]]`.
+"#,
+    },
+    Entry {
+        name: "SameName",
+        text: r#"Two packages have one name. All members count, and all packages to which path dependencies lead.
+
+```
+error: refused SameName
+```
+
+- Rename one of them.
+"#,
+    },
+    Entry {
+        name: "TooLarge",
+        text: r#"The manifest is too large: more than 1,048,576 bytes.
+
+```
+note: in /w/Cargo.toml
+error: refused TooLarge
+```
+
+- Shorten it.
+"#,
+    },
+    Entry {
+        name: "TooMany",
+        text: r#"There are more than 256 packages.
+
+```
+error: refused TooMany
+```
+
+- Look at `members` and at path dependencies.
+"#,
+    },
+    Entry {
+        name: "TooManyUnits",
+        text: r#"There are more than 4,096 units.
+
+```
+error: refused TooManyUnits
+```
+
+- Select fewer with `-p`, `--lib`, `--bin`.
+"#,
+    },
+    Entry {
+        name: "UnsupportedCrateType",
+        text: r#"A library has a crate type that is not supported: `lib`, `rlib` and `bin` are.
+
+```
+note: in /w/Cargo.toml
+error: refused UnsupportedCrateType
+```
+
+- Look at `crate-type` and `proc-macro` in `[lib]`.
+"#,
+    },
+    Entry {
+        name: "UnsupportedSource",
+        text: r#"A dependency has a source that is not supported: `git`, `registry`, or no `path`.
+
+```
+note: in /w/Cargo.toml
+error: refused UnsupportedSource
+```
+
+- Put the package into a folder and give its `path`.
+- If the entry says `workspace = true`, look at the root's `[workspace.dependencies]`.
+"#,
+    },
+    Entry {
+        name: "UnsupportedTable",
+        text: r#"A table is not supported: `target`, `patch` or `replace`.
+
+```
+note: in /w/Cargo.toml
+error: refused UnsupportedTable
+```
+
+- Remove the table.
+"#,
+    },
+    Entry {
+        name: "VersionMismatch",
+        text: r#"A dependency leads to a package of another version.
+
+```
+error: refused VersionMismatch
+```
+
+- Compare the entry's `version` with `version` in the folder of its `path`.
+"#,
+    },
+];

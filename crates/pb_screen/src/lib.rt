@@ -1,0 +1,10 @@
+//! Message lines as text, and the words of children, for those who sit at a terminal.
+#![tactic(auto)]
+
+pub mod rendering;
+pub mod screen;
+pub mod spoken;
+
+pub use rendering::line_shown;
+pub use screen::{Rendered, Screen};
+pub use spoken::{Speaking, Spoken};

@@ -1,0 +1,79 @@
+//! What the names of result lines mean.
+
+ghost use Rattle.std.specs.Prelude.{◌≡◌, IfOk, option_map, string_bytes};
+ghost use Rattle.pb_explained.specs.Entries.{near_in};
+ghost use Rattle.pb_tool_program.specs.Names.{Means, Unmeant, near_told, no_such_name};
+
+use crate::running::{BAD_COMMAND_LINE, FAILED};
+use pb_explained::{Page, meaning, near};
+use pb_place::{Out, write_all};
+use std::alloc::{AllocError, Global};
+
+/// Says what names a word is near.
+fn near_told(alloc: Global, near: Option<&str>) -> Result<String, AllocError>
+    ensures { IfOk result
+        (λ text. string_bytes text ≡ near_told (option_map (λ name. name.now) near.entry)) }
+{
+    let mut text = String::new(alloc);
+    if let Some(name) = near {
+        text.push_str(" (near: ")?;
+        text.push_str(name)?;
+        text.push_str(")")?;
+    }
+    Ok(text)
+}
+
+/// Says that a page has no such name, and which it has that is near.
+fn no_such_name(alloc: Global, page: &Page, name: &str) -> Result<String, AllocError>
+    ensures { IfOk result
+        (λ text. string_bytes text ≡ no_such_name (near_in page.now name.now) name.now) }
+{
+    let near = near(alloc, page, name)?;
+    let told = near_told(alloc, near)?;
+    let mut text = String::from_str(alloc, "error: no error has the name ")?;
+    text.push_str(name)?;
+    text.push_str(told.as_str())?;
+    text.push_str("\n")?;
+    Ok(text)
+}
+
+/// Tells that a page has no such name, or that memory was refused for that, and gives the status.
+fn miss<E: Out>(alloc: Global, page: &Page, name: &str, err: &mut E) -> u8
+    ensures { Unmeant (near_in page.now name.now) name.now result
+        (E.heard err.old) (E.heard err.new) }
+{
+    match no_such_name(alloc, page, name) {
+        Ok(text) => {
+            let _ = write_all(err, text.as_bytes());
+            BAD_COMMAND_LINE
+        }
+        Err(_) => {
+            let _ = write_all(err, b"error: fault memory OutOfMemory\n");
+            FAILED
+        }
+    }
+}
+
+/// Prints what a name of a result line means, as a page says it.
+pub(crate) fn mean<O: Out, E: Out>(
+    alloc: Global,
+    page: &Page,
+    name: &str,
+    out: &mut O,
+    err: &mut E,
+) -> u8
+    ensures { Means page.now name.now result
+        (O.heard out.old) (O.heard out.new)
+        (E.heard err.old) (E.heard err.new) }
+{
+    match meaning(page, name) {
+        Some(text) => {
+            if write_all(out, text.as_bytes()) {
+                0
+            } else {
+                BAD_COMMAND_LINE
+            }
+        }
+        None => miss(alloc, page, name, err),
+    }
+}
