@@ -10,6 +10,7 @@ pub static REFUSED: [Entry; 30] = [
 
 ```
 note: in /w/Cargo.toml
+note: in /w/Cargo.toml, line 4, key features.default: "a b" has none of the forms "F", "dep:N", "N/F", "N?/F"
 error: refused BadFeature
 ```
 
@@ -21,7 +22,8 @@ error: refused BadFeature
         text: r#"A key has a value that it may not have: another type, another spelling, or a path with byte 0. With `key package` the manifest may have no `[package]` where a package is needed.
 
 ```
-note: in /w/b/Cargo.toml, key path
+note: in /w/Cargo.toml, key edition
+note: in /w/Cargo.toml, line 3, key package.edition: "2022" is a text; it may be "2015", "2018", "2021" or "2024"
 error: refused BadKind
 ```
 
@@ -35,6 +37,7 @@ error: refused BadKind
 
 ```
 note: in /w/Cargo.toml
+note: in /w/Cargo.toml, line 2, key package.name: "my app" may have ASCII letters, digits, - and _, and at least one
 error: refused BadName
 ```
 
@@ -48,6 +51,7 @@ error: refused BadName
 
 ```
 note: in /w/Cargo.toml
+note: in /w/Cargo.toml, line 4, key profile.dev.opt-level: 5 is a number; it may be 0, 1, 2, 3, "s" or "z"
 error: refused BadProfile
 ```
 
@@ -62,6 +66,7 @@ error: refused BadProfile
 
 ```
 note: in /w/Cargo.toml
+note: in /w/Cargo.toml, line 3, key package.version: "0.1" has no third number
 error: refused BadVersion
 ```
 
@@ -74,7 +79,8 @@ error: refused BadVersion
         text: r#"Packages depend on one another. Path dependencies of the selected packages count, and of all packages that they reach; those of build scripts too.
 
 ```
-note: the packages are a b
+note: the packages are core-lib util
+note: core-lib -> util -> core-lib
 error: refused Cycle
 ```
 
@@ -86,6 +92,7 @@ error: refused Cycle
         text: r#"Profiles inherit from one another.
 
 ```
+note: in /w/Cargo.toml: profiles inherit so: one -> two -> one
 error: refused InheritsCycle
 ```
 
@@ -97,6 +104,7 @@ error: refused InheritsCycle
         text: r#"Two packages link one native library. All packages that are read count.
 
 ```
+note: in /w/m1/Cargo.toml, line 3, key package.links: z is in /w/m2/Cargo.toml too
 error: refused LinksTwice
 ```
 
@@ -108,6 +116,7 @@ error: refused LinksTwice
         text: r#"A package links a native library and has no build script.
 
 ```
+note: in /w/Cargo.toml, line 3, key package.links: z is linked, and there is no build script
 error: refused LinksWithoutScript
 ```
 
@@ -120,6 +129,7 @@ error: refused LinksWithoutScript
         text: r#"A dependency leads to a package of another name.
 
 ```
+note: in /w/Cargo.toml, line 4, key dependencies.utils: it leads to /w/util/Cargo.toml, whose name is util (package = "util" says so)
 error: refused NameMismatch
 ```
 
@@ -131,6 +141,7 @@ error: refused NameMismatch
         text: r#"A key is not there to inherit: a manifest says `workspace = true`, and the root has no such key or entry. A package that is no member has nothing to inherit either.
 
 ```
+note: in /w/m/Cargo.toml, line 3, key package.version: /w/Cargo.toml has no workspace.package.version
 error: refused NoInherited
 ```
 
@@ -143,7 +154,8 @@ error: refused NoInherited
         text: r#"No manifest may be read at that path. It is not there, it is not named `Cargo.toml`, or it is in the target folder.
 
 ```
-note: no manifest at /w/beside/Cargo.toml
+note: no manifest at /w/utli/Cargo.toml
+note: in /w/app/Cargo.toml, line 5, key dependencies.util: it leads to /w/utli/Cargo.toml
 error: refused NoManifest
 ```
 
@@ -157,6 +169,7 @@ error: refused NoManifest
         text: r#"A feature names a dependency that its package does not have (`dep:N`, `N/F`, `N?/F`).
 
 ```
+note: in /w/Cargo.toml, line 4, key features.default: dep:serd: there is no dependency serd (near: serde)
 error: refused NoSuchDependency
 ```
 
@@ -168,6 +181,7 @@ error: refused NoSuchDependency
         text: r#"A feature is requested that is not there.
 
 ```
+note: --features a/fastt: a has no feature fastt (near: fast)
 error: refused NoSuchFeature
 ```
 
@@ -180,6 +194,7 @@ error: refused NoSuchFeature
         text: r#"A package is requested that is no member of the workspace.
 
 ```
+note: -p utl: there is no such member (near: util)
 error: refused NoSuchPackage
 ```
 
@@ -192,6 +207,7 @@ error: refused NoSuchPackage
         text: r#"There is no such profile.
 
 ```
+note: --profile relase: there is no such profile (near: release)
 error: refused NoSuchProfile
 ```
 
@@ -203,6 +219,7 @@ error: refused NoSuchProfile
         text: r#"An override sets a key that it may not set: `panic`, `lto` or `rpath` under `package` or `build-override` of a profile.
 
 ```
+note: in /w/Cargo.toml, line 5, key profile.dev.package.util.panic: an override may not set it
 error: refused NotInOverride
 ```
 
@@ -214,6 +231,7 @@ error: refused NotInOverride
         text: r#"A feature names a dependency that is not optional (`dep:N`, `N?/F`).
 
 ```
+note: in /w/Cargo.toml, line 4, key features.default: dep:serde: the dependency serde is not optional
 error: refused NotOptional
 ```
 
@@ -225,7 +243,8 @@ error: refused NotOptional
         text: r#"The manifest is not TOML, or not UTF-8.
 
 ```
-note: in /w/b/Cargo.toml
+note: in /w/Cargo.toml
+note: in /w/Cargo.toml, line 5, column 1: duplicate key
 error: refused NotToml
 ```
 
@@ -238,6 +257,7 @@ error: refused NotToml
         text: r#"There is no unit.
 
 ```
+note: --bin ap: there is no such binary (near: app)
 error: refused NothingToBuild
 ```
 
@@ -252,6 +272,7 @@ error: refused NothingToBuild
 
 ```
 note: in /w/Cargo.toml
+note: in /w/Cargo.toml, line 3, key workspace.resolver: "1" is not supported; it may be "2" or "3"
 error: refused OldResolver
 ```
 
@@ -263,6 +284,7 @@ error: refused OldResolver
         text: r#"A package has two binaries of one name.
 
 ```
+note: in /w/Cargo.toml, line 7, key bin[2].name: x is the name of bin[1] too
 error: refused SameBinary
 ```
 
@@ -274,6 +296,7 @@ error: refused SameBinary
         text: r#"Two packages have one name. All members count, and all packages to which path dependencies lead.
 
 ```
+note: in /w/m1/Cargo.toml, line 2, key package.name: util is in /w/m2/Cargo.toml too
 error: refused SameName
 ```
 
@@ -286,6 +309,7 @@ error: refused SameName
 
 ```
 note: in /w/Cargo.toml
+note: in /w/Cargo.toml: it has 1048577 bytes, and may have 1048576
 error: refused TooLarge
 ```
 
@@ -320,6 +344,7 @@ error: refused TooManyUnits
 
 ```
 note: in /w/Cargo.toml
+note: in /w/Cargo.toml, line 4, key lib.crate-type: "cdylib" is not supported; it may be "lib", "rlib" or "bin"
 error: refused UnsupportedCrateType
 ```
 
@@ -332,6 +357,7 @@ error: refused UnsupportedCrateType
 
 ```
 note: in /w/Cargo.toml
+note: in /w/Cargo.toml, line 5, key dependencies.serde: it has no path
 error: refused UnsupportedSource
 ```
 
@@ -345,6 +371,7 @@ error: refused UnsupportedSource
 
 ```
 note: in /w/Cargo.toml
+note: in /w/Cargo.toml, line 3, key target: this table is not supported
 error: refused UnsupportedTable
 ```
 
@@ -356,6 +383,7 @@ error: refused UnsupportedTable
         text: r#"A dependency leads to a package of another version.
 
 ```
+note: in /w/Cargo.toml, line 4, key dependencies.util: it asks for util 0.2, and /w/util/Cargo.toml has 0.1.0
 error: refused VersionMismatch
 ```
 

@@ -121,8 +121,8 @@ abbrev pub folder_of : Result BuildPlan BuildFault → Option (List ℕ)
 folder_of (Ok plan) = Some plan.environment.target
 folder_of (Err fault) = None
 
--- A build was planned, and that plan carried out, and the place was asked for nothing else.
-pub record BuildsTold (tells : Bool) (child : Answers) (Guards : Option (List ℕ) → Counts → Heard → Heard → Type 0) (options : Options) (explain : Bool) (status : ℕ) (old new : Moment) (said_before said_after : Heard) : Type 0 where
+-- A build was planned, and that plan carried out, and the place was asked for nothing else but a second look. `moved` is the list of the place behind it.
+pub record BuildsTold (tells : Bool) (child : Answers) (Guards : Option (List ℕ) → Counts → Heard → Heard → Type 0) (moved : List Moved) (options : Options) (explain : Bool) (status : ℕ) (old new : Moment) (said_before said_after : Heard) : Type 0 where
   -- its plan
   pub plan : Result BuildPlan BuildFault
   pub planned : Moment
@@ -138,14 +138,13 @@ pub record BuildsTold (tells : Bool) (child : Answers) (Guards : Option (List �
   pub built : Moment
   pub on : BuildsOnFirst tells child options plan answer planned built
   pub builds : BuildsFirst tells child options answer old built
-  -- what the place says was changed during the build is told. In the maps nothing is.
-  pub moved : List Moved
-  pub stood : IsTrue tells → moved ≡ []
-  pub marked : Heard
-  pub marks : TellsOr moved_lost (moved_notes moved) held marked
   -- a second look at it, for at most ten notes
   pub notes_again : List (List ℕ)
   pub are_notes : AreNotes notes_again
   pub looked : LooksOver answer notes_again built new
+  -- all that has changed under a child at work is told. In the maps nothing has.
+  pub stood : IsTrue tells → moved ≡ []
+  pub marked : Heard
+  pub marks : TellsOr moved_lost (moved_notes moved) held marked
   -- what is told behind it
   pub concluded : Concludes explain answer notes_again status marked said_after

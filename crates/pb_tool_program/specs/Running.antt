@@ -4,6 +4,7 @@ use Rattle.std.specs.FinMap as map
 use Rattle.pb_place.specs.Counts.{Counts, counted}
 use Rattle.pb_place.specs.declared.call.Call.TheVariants as call
 use Rattle.pb_place.specs.World.{Answers}
+use Rattle.pb_place.specs.declared.moved.Moved.{Moved}
 use Rattle.pb_place.specs.declared.place.PlaceFault.{PlaceFault}
 use Rattle.pb_answer.specs.declared.fault.BuildFault.TheVariants as build_fault
 use Rattle.pb_arguments.specs.Asking.{Asks, Unasks}
@@ -73,13 +74,13 @@ AsksOrNot words here (Ok asked) = Asks words here asked
 AsksOrNot words here (Err unasked) = Unasks words here.folder unasked
 
 -- what comes of that: the build that is asked for, or the session; else the place is not touched. A build alone asks the guard for a folder. What is shown of it beside its lines changes nothing else: `BuildsTold` looks at `explain` alone.
-abbrev pub Does : Bool → Answers → (Option (List ℕ) → Counts → Heard → Heard → Type 0) → (Shown → Type 0) → Page → Result Asked Unasked → ℕ → Moment → Moment → Heard → Heard → Type 0
-Does tells child Guards Told page (Ok (Build options shown)) status old new said_before said_after = Told shown × BuildsTold tells child Guards options shown.explain status old new said_before said_after
-Does tells child Guards Told page (Ok (Session path)) status old new said_before said_after = RunsFile tells path status old new said_before said_after × Guards None old.counts said_before said_before
-Does tells child Guards Told page (Ok (Explain name)) status old new said_before said_after = (new ≡ record old { heard = new.heard }) × Means page name status old.heard new.heard said_before said_after × Guards None old.counts said_before said_before
-Does tells child Guards Told page (Err unasked) status old new said_before said_after = (new ≡ record old { heard = new.heard }) × Explains unasked status old.heard new.heard said_before said_after × Guards None old.counts said_before said_before
+abbrev pub Does : Bool → Answers → (Option (List ℕ) → Counts → Heard → Heard → Type 0) → (Shown → Type 0) → Page → List Moved → Result Asked Unasked → ℕ → Moment → Moment → Heard → Heard → Type 0
+Does tells child Guards Told page moved (Ok (Build options shown)) status old new said_before said_after = Told shown × BuildsTold tells child Guards moved options shown.explain status old new said_before said_after
+Does tells child Guards Told page moved (Ok (Session path)) status old new said_before said_after = RunsFile tells path status old new said_before said_after × Guards None old.counts said_before said_before
+Does tells child Guards Told page moved (Ok (Explain name)) status old new said_before said_after = (new ≡ record old { heard = new.heard }) × Means page name status old.heard new.heard said_before said_after × Guards None old.counts said_before said_before
+Does tells child Guards Told page moved (Err unasked) status old new said_before said_after = (new ≡ record old { heard = new.heard }) × Explains unasked status old.heard new.heard said_before said_after × Guards None old.counts said_before said_before
 
--- the program did what these words ask for, where it runs
-abbrev pub Runs : Bool → Answers → (Option (List ℕ) → Counts → Heard → Heard → Type 0) → (Shown → Type 0) → Page → List (List ℕ) → Here → ℕ → Moment → Moment → Heard → Heard → Type 0
-Runs tells child Guards Told page words here status old new said_before said_after =
-    (meant : Result Asked Unasked) × AsksOrNot words here meant × Does tells child Guards Told page meant status old new said_before said_after
+-- the program did what these words ask for, where it runs; `moved` is what its place lists behind it
+abbrev pub Runs : Bool → Answers → (Option (List ℕ) → Counts → Heard → Heard → Type 0) → (Shown → Type 0) → Page → List Moved → List (List ℕ) → Here → ℕ → Moment → Moment → Heard → Heard → Type 0
+Runs tells child Guards Told page moved words here status old new said_before said_after =
+    (meant : Result Asked Unasked) × AsksOrNot words here meant × Does tells child Guards Told page moved meant status old new said_before said_after

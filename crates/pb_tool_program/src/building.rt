@@ -319,7 +319,8 @@ pub fn build_options<P: Place, G: Guard<P, E>, O: Out, E: Out>(
     explain: bool,
 ) -> u8
     requires none { (P.at place.old).counts.starts.flying ≡ [] }
-    ensures { BuildsTold P.tells P.child (Guarded G.asks G.waits guard.old guard.new) options.now explain result
+    ensures { BuildsTold P.tells P.child (Guarded G.asks G.waits guard.old guard.new)
+        (P.at place.new).moved options.now explain result
         (moment (P.at place.old) (O.heard out.old)) (moment (P.at place.new) (O.heard out.new))
         (E.heard err.old) (E.heard err.new) }
 {
@@ -328,9 +329,9 @@ pub fn build_options<P: Place, G: Guard<P, E>, O: Out, E: Out>(
     // After the plan: a refused build makes no folder.
     hold(guard, place, err, &plan);
     let answer = build_plan(alloc, place, out, options, plan);
-    mark(alloc, err, place.moved());
     let notes = look(alloc, place, options, &answer);
     // For the proof: they are at most ten lines.
     notes.texts();
+    mark(alloc, err, place.moved());
     conclude(alloc, err, explain, &answer, &notes)
 }

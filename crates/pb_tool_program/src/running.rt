@@ -80,7 +80,7 @@ fn build<P: Speaking, G: Guard<P, E>, O: Screen, E: Out>(
     requires none { (P.at place.old).counts.starts.flying ≡ [] }
     ensures told { IsTold P.speaks O.shows place.old out.old shown }
     ensures builds { BuildsTold P.tells P.child (Guarded G.asks G.waits guard.old guard.new)
-        options.now shown.explain result
+        (P.at place.new).moved options.now shown.explain result
         (moment (P.at place.old) (O.heard out.old)) (moment (P.at place.new) (O.heard out.new))
         (E.heard err.old) (E.heard err.new) }
 {
@@ -109,7 +109,8 @@ pub fn run<S: AsStr, P: Speaking, G: Guard<P, E>, O: Screen, E: Out>(
 ) -> u8
     requires none { (P.at place.old).counts.starts.flying ≡ [] }
     ensures { Runs P.tells P.child (Guarded G.asks G.waits guard.old guard.new)
-        (IsTold P.speaks O.shows place.old out.old) page.now (map S.text words.now) here.now result
+        (IsTold P.speaks O.shows place.old out.old) page.now (P.at place.new).moved
+        (map S.text words.now) here.now result
         (moment (P.at place.old) (O.heard out.old)) (moment (P.at place.new) (O.heard out.new))
         (E.heard err.old) (E.heard err.new) }
 {

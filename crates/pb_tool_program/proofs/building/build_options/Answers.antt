@@ -1,6 +1,8 @@
 use Rattle.pb_turns.specs.Crew.{moment}
-use Rattle.std.proofs.Common.{refl}
+use Rattle.std.proofs.Common.{◌∙◌, refl, subst, sym}
 use Rattle.pb_build.specs.Ending.{PlansFrom}
+use Rattle.pb_tool_program.specs.Building.{moved_lost, moved_notes}
+use Rattle.pb_tool_program.specs.Writing.{TellsOr}
 use Rattle.pb_tool_program.proofs.building.build_options.Goals as goal
 
 pub returns : goal.returns
@@ -29,10 +31,9 @@ returns g c =
       built = moment (g.P.Place.at c.build_plan-answer.new.place) (g.O.Out.heard c.build_plan-answer.new.out);
       on = c.build_plan-answer.ensures.on;
       builds = c.build_plan-answer.ensures.builds before plans;
-      moved = c.moved.result.now;
-      stood = c.moved.ensures;
+      stood = λ told. sym c.moved.ensures.all ∙ c.moved.ensures.none told;
       marked = (g.E.Out.heard c.mark.new.err);
-      marks = c.mark.ensures;
+      marks = subst (λ list. TellsOr moved_lost (moved_notes list) (g.E.Out.heard c.hold.new.err) (g.E.Out.heard c.mark.new.err)) c.moved.ensures.all c.mark.ensures;
       notes_again = c.look-notes.result;
       are_notes = c.texts.ensures.notes;
       looked = c.look-notes.ensures (g.O.Out.heard c.build_plan-answer.new.out);
