@@ -65,6 +65,9 @@ said_lost = codes "note: out of memory for what a child said\n"
 abbrev pub detail_lost : List ℕ
 detail_lost = codes "note: out of memory for what the fault is about\n"
 
+abbrev pub look_lost : List ℕ
+look_lost = codes "note: out of memory for the notes\n"
+
 -- what is told behind a build: nothing where all its units are good; else why it failed, or that memory was refused for that
 abbrev pub TellsWhy : ℕ → Result Summary BuildFault → Heard → Heard → Type 0
 TellsWhy zero answer old new = new ≡ old
@@ -95,7 +98,7 @@ pub record Concludes (explain : Bool) (answer : Result Summary BuildFault) (note
   pub detailed : Heard
   pub detail : TellsDetail answer repeated detailed
   pub told_again : Heard
-  pub again : TellsOr detail_lost (lines_of notes) detailed told_again
+  pub again : TellsOr look_lost (lines_of notes) detailed told_again
   pub reason : TellsWhy status answer told_again new
 
 -- a look at the place: nothing has changed but the counters of calls and of failures, so no child was started

@@ -11,7 +11,7 @@ ghost use Rattle.pb_answer.specs.declared.fault.BuildFault.{BuildFault};
 ghost use Rattle.pb_answer.specs.declared.summary.Summary.{Summary};
 ghost use Rattle.pb_tool_notes.specs.Looks.{LooksAgain};
 ghost use Rattle.pb_tool_notes.specs.Notes.{lines_of};
-ghost use Rattle.pb_tool_program.specs.Building.{status_of, notes_of, moved_lost, moved_note, moved_notes, detail_lost, error_of, folder_of, LooksOver, NotesOf, TellsDetail, TellsReasons, TellsSaid, TellsWhy, Concludes, BuildsTold};
+ghost use Rattle.pb_tool_program.specs.Building.{status_of, notes_of, moved_lost, moved_note, moved_notes, look_lost, error_of, folder_of, LooksOver, NotesOf, TellsDetail, TellsReasons, TellsSaid, TellsWhy, Concludes, BuildsTold};
 ghost use Rattle.pb_tool_program.specs.Guarding.{Guarded, waiting};
 ghost use Rattle.pb_tool_program.specs.Writing.{Tells, TellsOr};
 
@@ -272,14 +272,14 @@ fn look<P: Place>(
 
 /// Tells the notes of a second look, if there are some. If memory is refused for them, a line says so, which takes none.
 fn tell_notes<E: Out>(alloc: Global, err: &mut E, notes: &Notes)
-    ensures { TellsOr detail_lost (lines_of notes.now) (E.heard err.old) (E.heard err.new) }
+    ensures { TellsOr look_lost (lines_of notes.now) (E.heard err.old) (E.heard err.new) }
 {
     if notes.texts().is_empty() {
         return;
     }
     match notes.lines(alloc) {
         Ok(lines) => write_all(err, lines.as_bytes()),
-        Err(_) => write_all(err, b"note: out of memory for what the fault is about\n"),
+        Err(_) => write_all(err, b"note: out of memory for the notes\n"),
     };
 }
 
