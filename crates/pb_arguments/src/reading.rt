@@ -107,8 +107,7 @@ fn number_in(text: &str) -> Option<u64>
     text.parse::<u64>().ok()
 }
 
-/// How many units may be in flight at one time: what `--jobs` says, else 1. Wrong where it says neither a number nor
-/// `default`, which is as many as processors.
+/// The value of `--jobs`, as many as processors for `default`, else 1. Wrong where it is neither a number nor that.
 fn jobs_of(alloc: Global, processors: u64, matches: &ArgMatches<'_>) -> Result<u64, Unasked>
     ensures jobs { IfOk result (IsJobs processors (first_of (codes "jobs") (rows_of (found_of matches.now)))) }
     ensures wrong { IfErr result (ToldWrong (λ told. HasBadJobs (rows_of (found_of matches.now)) × (told ≡ jobs_told))) }
@@ -385,9 +384,7 @@ fn tool_of<S: AsStr>(words: &[S]) -> &str
 /// What a command line asks for. The words are those of the whole command line, the program's own name first.
 ///
 /// Errors: Help where help or the version is asked for, or there are no words; Wrong where the words are none of a
-/// command line, where two profiles are asked for, where the value of `--jobs` is neither `default` nor digits alone, or
-/// is above 18446744073709551615, or where a path has byte 0; each with the text that is to be printed. OutOfMemory where
-/// memory is refused.
+/// command line, two profiles are given, `--jobs` is wrong, or a path has byte 0, with the text for it; OutOfMemory.
 pub fn read_command_line<S: AsStr>(
     alloc: Global,
     words: &[S],
