@@ -5,14 +5,14 @@ mod plans;
 mod unused;
 mod workspaces;
 
-ghost use Rattle.std.specs.Prelude.{◌≡◌, []};
+ghost use Rattle.std.specs.Prelude.{◌≡◌, [], IfOk};
 
 use crate::told::Unguarded;
 use pb_checks_files::put_files;
 use pb_memory::Memory;
 use pb_mini::Mini;
 use pb_place::{Over, PathText};
-use pb_tool_program::run;
+use pb_tool_program::{Here, Rendered, Spoken, page_of_errors, run};
 use std::alloc::{AllocError, Global};
 use std::process::Abort;
 use std::test::Fail;
@@ -30,45 +30,52 @@ fn words_of(alloc: Global, words: &str) -> Result<Vec<&str>, AllocError> {
     Ok(all)
 }
 
-/// What a build in the folder `/w` writes on standard error.
-fn said_at(alloc: Global, memory: &mut Memory<Mini>, words: &str) -> Result<Vec<u8>, Fail>
-    requires { memory.old.flying ≡ [] }
+/// Returns what a build in the folder `/w` writes on standard error.
+fn said_at(alloc: Global, memory: Memory<Mini>, words: &str) -> Result<Vec<u8>, Fail>
+    requires { memory.flying ≡ [] }
 {
     let words = words_of(alloc, words)?;
-    let folder = PathText::parse(alloc, "/w")?;
+    let here = Here {
+        folder: PathText::parse(alloc, "/w")?,
+        processors: 1,
+    };
     let mut out = Vec::new(alloc);
+    let mut shown = Vec::new(alloc);
+    let mut named = Vec::new(alloc);
     let mut said = Vec::new(alloc);
+    let mut place = Spoken::new(memory, Over::new(&mut named));
     run(
         alloc,
         words.as_slice(),
-        &folder,
-        memory,
+        &here,
+        &page_of_errors(),
+        &mut place,
         &mut Unguarded {},
-        &mut Over::new(&mut out),
+        &mut Rendered::new(alloc, Over::new(&mut out), Over::new(&mut shown)),
         &mut Over::new(&mut said),
     );
+    drop(place);
     Ok(said)
 }
 
-/// What a build of files writes on standard error.
-fn said_of(
-    alloc: Global,
-    memory: &mut Memory<Mini>,
-    words: &str,
-    files: &str,
-) -> Result<Vec<u8>, Fail>
-    requires { memory.old.flying ≡ [] }
+/// Returns a place in memory with these files.
+fn memory_of(alloc: Global, files: &str) -> Result<Memory<Mini>, Fail>
+    ensures { IfOk result (λ memory. memory.flying ≡ []) }
 {
-    put_files(alloc, memory, files)?;
-    said_at(alloc, memory, words)
+    let mut memory = Memory::new(alloc, Mini);
+    match put_files(alloc, &mut memory, files) {
+        Ok(()) => Ok(memory),
+        Err(fault) => {
+            drop(memory);
+            Err(fault.into())
+        }
+    }
 }
 
-/// The same at a place of its own.
+/// Returns what a build of files writes on standard error.
 fn said_alone(alloc: Global, words: &str, files: &str) -> Result<Vec<u8>, Fail> {
-    let mut memory = Memory::new(alloc, Mini);
-    let said = said_of(alloc, &mut memory, words, files);
-    drop(memory);
-    said
+    let memory = memory_of(alloc, files)?;
+    said_at(alloc, memory, words)
 }
 
 /// Tries one case: a name and words, files, and after a line `---` standard error. Whether it is one.
@@ -120,21 +127,25 @@ fn keys_that_nothing_reads(rt: HostRuntime) -> Result<(), Fail> {
     Ok(())
 }
 
-/// What a build of one manifest of these bytes writes on standard error.
-fn said_of_bytes(alloc: Global, memory: &mut Memory<Mini>, manifest: &[u8]) -> Result<Vec<u8>, Fail>
-    requires { memory.old.flying ≡ [] }
+/// Returns a place in memory with one manifest of these bytes.
+fn memory_with(alloc: Global, manifest: &[u8]) -> Result<Memory<Mini>, Fail>
+    ensures { IfOk result (λ memory. memory.flying ≡ []) }
 {
     let path = PathText::parse(alloc, "/w/Cargo.toml")?;
-    memory.put(alloc, &path, manifest)?;
-    said_at(alloc, memory, "")
+    let mut memory = Memory::new(alloc, Mini);
+    match memory.put(alloc, &path, manifest) {
+        Ok(()) => Ok(memory),
+        Err(fault) => {
+            drop(memory);
+            Err(fault.into())
+        }
+    }
 }
 
-/// How many lines a build of one manifest of these bytes writes on standard error, and the bytes of the longest.
+/// Returns how many lines a build of one manifest of these bytes writes on standard error, and the bytes of the longest.
 fn lines_said(alloc: Global, manifest: &[u8]) -> Result<(usize, usize), Fail> {
-    let mut memory = Memory::new(alloc, Mini);
-    let said = said_of_bytes(alloc, &mut memory, manifest);
-    drop(memory);
-    let said = said?;
+    let memory = memory_with(alloc, manifest)?;
+    let said = said_at(alloc, memory, "")?;
     let text = str::from_utf8(said.as_slice()).unwrap_or("");
     let longest = text.lines().map(|line| line.len()).max().unwrap_or(0);
     Ok((text.lines().count(), longest))

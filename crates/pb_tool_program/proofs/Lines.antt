@@ -1,6 +1,7 @@
 -- The lines of a session that were written, and where it was stopped.
-use Rattle.std.proofs.Common.{◌≡◌, ◌≢◌, ◌⊎◌, ◌==◌, inl, inr, ℕ, Bool, true, false, List, [], ◌∷◌, ◌++◌, codes, length, Option, Some, None, is_some, IsTrue, Ok, refl, sym, subst}
+use Rattle.std.proofs.Common.{◌≡◌, ◌≢◌, ◌⊎◌, ◌==◌, inl, inr, ℕ, Bool, true, false, List, [], ◌∷◌, ◌++◌, codes, length, Option, Some, None, is_some, IsTrue, Ok, refl, sym, subst, arith}
 use Rattle.std.proofs.lemmas.Bool.{false≢true}
+use Rattle.std.proofs.lemmas.Bool.Decides.{Decides-eqb}
 use Rattle.std.specs.Io.KnownBytes.{Appends}
 use Rattle.pb_answer.specs.Explanation.{ended, said_by_bad}
 use Rattle.pb_place.specs.Counts.{up}
@@ -86,7 +87,7 @@ lines_some (one ∷ others) some = λ e. cc
 
 pub lines_none : (notes : List (List ℕ)) → length notes == 0 ≡ true → note_lines notes ≡ []
 lines_none [] none = refl
-lines_none (one ∷ others) none = absurd (false≢true none)
+lines_none (one ∷ others) none = let same : length (one ∷ others) ≡ 0 = (Decides-eqb (length (one ∷ others)) 0).0 none in absurd (omega (arith, same))
 
 pub said_some : (bad : Option (List ℕ × UnitFault)) (said : List ℕ) → is_some bad ≡ true → length said == 0 ≡ false → said_by_bad bad said ≢ []
 said_some None said is_bad some = absurd (false≢true is_bad)
