@@ -309,7 +309,7 @@ error: refused SameName
 
 ```
 note: in /w/Cargo.toml
-note: in /w/Cargo.toml: it has 1048577 bytes, and may have 1048576
+note: in /w/Cargo.toml: it has more than 1048576 bytes
 error: refused TooLarge
 ```
 

@@ -2,11 +2,12 @@
 
 ghost use Rattle.pb_tool_notes.specs.Looks.{LooksAgain};
 
+use crate::page::GREATEST_LENGTH;
 use pb_data::{Bytes, Items};
 use pb_place::{PathText, Place, PlaceFault};
 use std::alloc::Global;
 
-/// Returns the bytes of a file, or none if no file is there.
+/// Returns the first bytes of a file, one more than a manifest may have, or none if no file is there.
 pub(crate) fn read<P: Place>(
     alloc: Global,
     place: &mut P,
@@ -14,7 +15,7 @@ pub(crate) fn read<P: Place>(
 ) -> Result<Option<Bytes>, PlaceFault>
     ensures { LooksAgain (P.at place.old) (P.at place.new) }
 {
-    place.read(alloc, path)
+    place.read_first(alloc, path, GREATEST_LENGTH + 1)
 }
 
 /// Returns whether a file is at a path.

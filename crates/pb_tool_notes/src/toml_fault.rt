@@ -83,7 +83,6 @@ pub(crate) fn tell_too_large(
     notes: &mut Notes,
     page: &Page,
 ) -> Result<(), AllocError> {
-    let length = page.bytes.as_slice().len();
-    let text = format!(in alloc; "it has {length} bytes, and may have {GREATEST_LENGTH}")?;
+    let text = format!(in alloc; "it has more than {GREATEST_LENGTH} bytes")?;
     tell_page(alloc, notes, page, text.as_str())
 }

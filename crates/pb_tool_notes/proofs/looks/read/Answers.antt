@@ -2,4 +2,4 @@ use Rattle.pb_tool_notes.proofs.OneCall.{looks_once}
 use Rattle.pb_tool_notes.proofs.looks.read.Goals as goal
 
 pub returns : goal.returns
-returns g c = looks_once _ _ _ _ c.read.ensures.looks
+returns g c = looks_once _ _ _ _ c.read_first.ensures.looks
