@@ -7,8 +7,6 @@ mod mistakes;
 #[cfg(test)]
 mod saved;
 #[cfg(test)]
-mod shown;
-#[cfg(test)]
 mod sinks;
 #[cfg(test)]
 mod told;

@@ -39,11 +39,8 @@ fn said_at(alloc: Global, memory: Memory<Mini>, words: &str) -> Result<Vec<u8>, 
         folder: PathText::parse(alloc, "/w")?,
         processors: 1,
     };
-    let mut out = Vec::new(alloc);
-    let mut shown = Vec::new(alloc);
-    let mut named = Vec::new(alloc);
     let mut said = Vec::new(alloc);
-    let mut place = Spoken::new(memory, Over::new(&mut named));
+    let mut place = Spoken::new(memory, Over::new(Vec::new(alloc)));
     run(
         alloc,
         words.as_slice(),
@@ -51,7 +48,11 @@ fn said_at(alloc: Global, memory: Memory<Mini>, words: &str) -> Result<Vec<u8>, 
         &page_of_errors(),
         &mut place,
         &mut Unguarded {},
-        &mut Rendered::new(alloc, Over::new(&mut out), Over::new(&mut shown)),
+        &mut Rendered::new(
+            alloc,
+            Over::new(Vec::new(alloc)),
+            Over::new(Vec::new(alloc)),
+        ),
         &mut Over::new(&mut said),
     );
     drop(place);

@@ -108,16 +108,13 @@ fn built(rt: &HostRuntime, root: &str) -> Result<String, Fail> {
         processors: 1,
     };
     let rustc = Text::new(format!(in alloc; "{root}/compiler")?);
-    let mut named = Vec::new(alloc);
     let mut place = Spoken::new(
         Told {
             inside: HostPlace::new(alloc, rt),
             rustc,
         },
-        Over::new(&mut named),
+        Over::new(Vec::new(alloc)),
     );
-    let mut lines = Vec::new(alloc);
-    let mut shown = Vec::new(alloc);
     let mut said = Vec::new(alloc);
     let status = run(
         alloc,
@@ -126,7 +123,11 @@ fn built(rt: &HostRuntime, root: &str) -> Result<String, Fail> {
         &page_of_errors(),
         &mut place,
         &mut Unguarded {},
-        &mut Rendered::new(alloc, Over::new(&mut lines), Over::new(&mut shown)),
+        &mut Rendered::new(
+            alloc,
+            Over::new(Vec::new(alloc)),
+            Over::new(Vec::new(alloc)),
+        ),
         &mut Over::new(&mut said),
     );
     drop(place);
