@@ -1,4 +1,4 @@
--- What people are told of a build that came to its end, beside its message lines (our own choice of words).
+-- What people are told about a build that came to its end, beside its message lines (our own choice of words).
 use Rattle.std.specs.Prelude.{ℕ, ◌==◌, ◌-◌, if◌then◌else◌, codes, length, slice_get, drop, List, [], ◌∷◌, ◌++◌, Option, Some, None}
 use Rattle.std.specs.Fmt.{decimal}
 use Rattle.std.specs.List.{concat}
@@ -19,7 +19,7 @@ part Target = codes "the target folder"
 part Toolchain = codes "the version of the compiler"
 part Reads = codes "the list of folders that it may read"
 
--- what happened that a unit's child was started
+-- why a unit's child was started
 abbrev pub reason : Difference → List ℕ
 reason NoRecord = codes "nothing is kept of it"
 reason (Command changed) = concat (part changed ∷ codes " has changed" ∷ [])
@@ -43,21 +43,23 @@ started_lines (key ∷ keys) differences = line_if key (slice_get differences 0)
 abbrev pub counts_line : ℕ → ℕ → List ℕ
 counts_line started kept = concat (decimal started ∷ codes " started, " ∷ decimal kept ∷ codes " kept\n" ∷ [])
 
--- why a build started what it started; and how many were started, and of how many that began nothing differed
+-- why a build started what it started; then how many units it
+-- started, and for how many of those that began nothing differed
 abbrev pub explanation : Summary → List ℕ
 explanation s = started_lines s.started s.differences ++ counts_line (length s.started) (length s.kept)
 
--- What a failing child said.
+-- What a failing child wrote.
 
 abbrev pub feed_after : Option ℕ → List ℕ
 feed_after None = []
 feed_after (Some b) = if b == 10 then [] else 10 ∷ []
 
--- bytes, and a line feed where they do not end with one
+-- the bytes, and a line feed if they do not end with one
 abbrev pub ended : List ℕ → List ℕ
 ended bytes = bytes ++ feed_after (slice_get bytes (length bytes - 1))
 
--- what a bad unit's child wrote that no message line holds, under a line with its key; nothing where it wrote nothing
+-- what a bad unit's child wrote that no message line contains,
+-- after a line with the unit's key; nothing if it wrote nothing
 abbrev pub said_by_bad : Option (List ℕ × UnitFault) → List ℕ → List ℕ
 said_by_bad None said = []
 said_by_bad (Some bad) [] = []

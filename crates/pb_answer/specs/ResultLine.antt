@@ -1,4 +1,4 @@
--- The line that says how a build of a session ended (our own choice). A key stands there as it is.
+-- The line that says how a build of a session ended (our own choice). Keys are written as they are.
 use Rattle.std.specs.Prelude.{ℕ, codes, List, [], ◌∷◌, ◌++◌, Option, Some, None, Result, Ok, Err}
 use Rattle.std.specs.Fmt.{signed_decimal}
 use Rattle.std.specs.List.{concat}
@@ -26,12 +26,12 @@ use Rattle.pb_answer.specs.declared.fault.Refusal.{Refusal}
 use Rattle.pb_answer.specs.declared.fault.Refusal.TheVariants as refusal
 use Rattle.pb_answer.specs.declared.summary.Summary.{Summary}
 
--- keys with a comma before each
+-- the keys, with a comma before each
 abbrev pub keys_rest : List (List ℕ) → List ℕ
 keys_rest [] = []
 keys_rest (key ∷ keys) = codes "," ++ key ++ keys_rest keys
 
--- keys with a comma between them; a dash for none
+-- the keys, with a comma between them; a dash if there are none
 abbrev pub keys_text : List (List ℕ) → List ℕ
 keys_text [] = codes "-"
 keys_text (key ∷ keys) = key ++ keys_rest keys
@@ -44,7 +44,7 @@ line_fault_name (line.BadValue number) = codes "BadValue"
 line_fault_name (line.BadFlag number) = codes "BadFlag"
 line_fault_name line.OutOfMemory = codes "OutOfMemory"
 
--- a unit's fault: its name, with the number of a status and the name of a line's fault
+-- a unit's fault: its name, with the number of its status or the name of its line's fault
 abbrev pub unit_fault_text : UnitFault → List ℕ
 unit_fault_text (unit.Status number) = codes "Status(" ++ signed_decimal number ++ codes ")"
 unit_fault_text (unit.Directive fault) = concat (codes "Directive(" ∷ line_fault_name fault ∷ codes ")" ∷ [])
@@ -54,7 +54,7 @@ unit_fault_text (unit.ForeignInput path) = codes "ForeignInput"
 unit_fault_text unit.OutputTooLong = codes "OutputTooLong"
 unit_fault_text unit.OutOfMemory = codes "OutOfMemory"
 
--- a build that came to its end, from its first bad unit and the keys of those that were started
+-- the line of a build that came to its end, given its first bad unit and the keys of the units that were started
 abbrev pub ended_line : Option (List ℕ × UnitFault) → List ℕ → List ℕ
 ended_line None keys = concat (codes "ok started=" ∷ keys ∷ [])
 ended_line (Some bad) keys = concat (codes "bad " ∷ bad.0 ∷ codes " " ∷ unit_fault_text bad.1 ∷ codes " started=" ∷ keys ∷ [])
@@ -77,7 +77,7 @@ manifest_fault_name manifest.TooLarge = codes "TooLarge"
 manifest_fault_name manifest.OldResolver = codes "OldResolver"
 manifest_fault_name manifest.OutOfMemory = codes "OutOfMemory"
 
--- of a manifest's fault, the fault inside
+-- the name of a fault; for a manifest's fault, the name of the fault inside
 abbrev pub load_fault_name : LoadFault → List ℕ
 load_fault_name (load.NoManifest path) = codes "NoManifest"
 load_fault_name (load.Manifest path fault) = manifest_fault_name fault
@@ -105,7 +105,7 @@ profile_fault_name profile.InheritsCycle = codes "InheritsCycle"
 profile_fault_name profile.NotInOverride = codes "NotInOverride"
 profile_fault_name profile.OutOfMemory = codes "OutOfMemory"
 
--- of a profile's fault, the fault inside
+-- the name of a fault; for a profile's fault, the name of the fault inside
 abbrev pub plan_fault_name : PlanFault → List ℕ
 plan_fault_name (plan.Cycle names) = codes "Cycle"
 plan_fault_name plan.TooManyUnits = codes "TooManyUnits"
@@ -128,7 +128,7 @@ abbrev pub device_fault_name : DeviceFault → List ℕ
 device_fault_name (device.Place fault) = codes "Device"
 device_fault_name device.NumbersSpent = codes "NumbersSpent"
 
--- a fault at a unit or at another place of the build
+-- the line of a fault at a unit, or at another part of the build
 abbrev pub fault_at : List ℕ → List ℕ → List ℕ
 fault_at place name = concat (codes "fault " ∷ place ∷ codes " " ∷ name ∷ [])
 
@@ -140,7 +140,7 @@ fault_line (build.Device unit fault) = fault_at unit (device_fault_name fault)
 fault_line build.Sink = codes "fault sink Sink"
 fault_line build.OutOfMemory = codes "fault memory OutOfMemory"
 
--- how a build ended
+-- the line that says how a build ended
 abbrev pub result_line : Result Summary BuildFault → List ℕ
 result_line (Ok s) = summary_line s
 result_line (Err fault) = fault_line fault

@@ -8,6 +8,6 @@ use pb_project::UnitFault;
 pub struct BadUnit {
     /// Why it is bad.
     pub fault: UnitFault,
-    /// What its child wrote that no message line holds.
+    /// What its child wrote that no message line contains.
     pub said: Bytes,
 }

@@ -1,4 +1,4 @@
-//! What a build answers: its summary, or the fault that ended it, and the line that says it.
+//! The answer of a build: its summary, or the fault that ended it, and the line that says so.
 #![tactic(auto)]
 
 pub mod bad_unit;

@@ -17,7 +17,7 @@ use pb_project::UnitFault;
 use pb_unit::PlanFault;
 use std::alloc::{AllocError, Global};
 
-/// Texts one after another.
+/// Returns texts one after another.
 pub(crate) fn joined(alloc: Global, parts: &[&str]) -> Result<String, AllocError>
     ensures { IfOk result (λ text. string_bytes text ≡ concat (map (λ part. part.now) parts.now)) }
 {
@@ -39,7 +39,7 @@ fn push_keys(text: &mut String, keys: &[Text]) -> Result<(), AllocError>
     Ok(())
 }
 
-/// Keys with a comma between them; a dash for none.
+/// Returns keys with a comma between them; a dash if there are none.
 fn keys_text(alloc: Global, keys: &[Text]) -> Result<String, AllocError>
     ensures { IfOk result (λ text. string_bytes text ≡ keys_text keys.now) }
 {
@@ -52,7 +52,7 @@ fn keys_text(alloc: Global, keys: &[Text]) -> Result<String, AllocError>
     Ok(text)
 }
 
-/// The name of what is wrong with a line.
+/// Returns the name of what is wrong with a line.
 fn line_fault_name(fault: LineFault) -> &'static str
     ensures { result.now ≡ line_fault_name fault }
 {
@@ -65,7 +65,7 @@ fn line_fault_name(fault: LineFault) -> &'static str
     }
 }
 
-/// A unit's fault: its name, with the number of a status and the name of a line's fault.
+/// Returns a unit's fault: its name, with the number of its status or the name of its line's fault.
 fn unit_fault_text(alloc: Global, fault: &UnitFault) -> Result<String, AllocError>
     ensures { IfOk result (λ text. string_bytes text ≡ unit_fault_text fault.now) }
 {
@@ -82,7 +82,7 @@ fn unit_fault_text(alloc: Global, fault: &UnitFault) -> Result<String, AllocErro
     }
 }
 
-/// The line of a build that came to its end.
+/// Returns the line of a build that came to its end.
 fn summary_line(alloc: Global, summary: &Summary) -> Result<String, AllocError>
     ensures { IfOk result (λ text. string_bytes text ≡ summary_line summary.now) }
 {
@@ -106,7 +106,7 @@ fn summary_line(alloc: Global, summary: &Summary) -> Result<String, AllocError>
     }
 }
 
-/// The name of a manifest's fault, without its fields.
+/// Returns the name of a manifest's fault, without its fields.
 fn manifest_fault_name(fault: ManifestFault) -> &'static str
     ensures { result.now ≡ manifest_fault_name fault }
 {
@@ -126,7 +126,8 @@ fn manifest_fault_name(fault: ManifestFault) -> &'static str
     }
 }
 
-/// The name of why a workspace cannot be read; of a manifest that is refused, the name of its fault.
+/// Returns the name of why a workspace cannot be read; for a
+/// refused manifest, the name of the manifest's fault.
 fn load_fault_name(fault: &LoadFault) -> &'static str
     ensures { result.now ≡ load_fault_name fault.now }
 {
@@ -147,7 +148,7 @@ fn load_fault_name(fault: &LoadFault) -> &'static str
     }
 }
 
-/// The name of why no features are resolved.
+/// Returns the name of why no features are resolved.
 fn feature_fault_name(fault: FeatureFault) -> &'static str
     ensures { result.now ≡ feature_fault_name fault }
 {
@@ -159,7 +160,7 @@ fn feature_fault_name(fault: FeatureFault) -> &'static str
     }
 }
 
-/// The name of why a profile gives no settings.
+/// Returns the name of why a profile has no settings.
 fn profile_fault_name(fault: ProfileFault) -> &'static str
     ensures { result.now ≡ profile_fault_name fault }
 {
@@ -171,7 +172,8 @@ fn profile_fault_name(fault: ProfileFault) -> &'static str
     }
 }
 
-/// The name of why there is no plan; of a profile that gives no settings, the name of its fault.
+/// Returns the name of why there is no plan; for a profile
+/// without settings, the name of the profile's fault.
 fn plan_fault_name(fault: &PlanFault) -> &'static str
     ensures { result.now ≡ plan_fault_name fault.now }
 {
@@ -184,7 +186,7 @@ fn plan_fault_name(fault: &PlanFault) -> &'static str
     }
 }
 
-/// The name of the innermost fault of a refusal.
+/// Returns the name of the innermost fault of a refusal.
 fn refusal_name(refusal: &Refusal) -> &'static str
     ensures { result.now ≡ refusal_name refusal.now }
 {
@@ -195,7 +197,7 @@ fn refusal_name(refusal: &Refusal) -> &'static str
     }
 }
 
-/// The name of why a child gave no answer.
+/// Returns the name of why a child gave no answer.
 fn start_fault_name(fault: StartFault) -> &'static str
     ensures { result.now ≡ start_fault_name fault }
 {
@@ -207,7 +209,7 @@ fn start_fault_name(fault: StartFault) -> &'static str
     }
 }
 
-/// The name of a call's fault: one word for all calls on files and variables.
+/// Returns the name of a call's fault: one word for all calls on files and variables.
 fn device_fault_name(fault: DeviceFault) -> &'static str
     ensures { result.now ≡ device_fault_name fault }
 {
@@ -217,14 +219,14 @@ fn device_fault_name(fault: DeviceFault) -> &'static str
     }
 }
 
-/// A fault at a unit or at another place of the build.
+/// Returns the line of a fault at a unit, or at another part of the build.
 fn fault_at(alloc: Global, place: &str, name: &str) -> Result<String, AllocError>
     ensures { IfOk result (λ text. string_bytes text ≡ fault_at place.now name.now) }
 {
     joined(alloc, &["fault ", place, " ", name])
 }
 
-/// The line of a build that ended without a summary.
+/// Returns the line of a build that ended without a summary.
 fn fault_line(alloc: Global, fault: &BuildFault) -> Result<String, AllocError>
     ensures { IfOk result (λ text. string_bytes text ≡ fault_line fault.now) }
 {
@@ -242,20 +244,22 @@ fn fault_line(alloc: Global, fault: &BuildFault) -> Result<String, AllocError>
     }
 }
 
-/// The line that says how a build ended, without a line feed at its end; what a session prints of it. The
-/// form is our own choice:
+/// Returns the line that says how a build ended, without a line feed
+/// at its end, as a session prints it. The form is our own choice:
 ///
-/// - `ok started=KEYS` where all units are good;
-/// - `bad KEY FAULT started=KEYS` with the first bad unit in plan order and its fault's name: `Status(N)`, N a
-///   signed number in decimal; `Directive(NAME)` with the name of the line's fault; `ScriptError`,
-///   `NoDepInfo`, `ForeignInput`, `OutputTooLong`;
-/// - `refused NAME` with the innermost fault's name without its fields;
-/// - `fault AT NAME` with the unit's key, or the path or the variable's name, and the name of the child's fault,
-///   `Device` for a call on files or variables, or `NumbersSpent`; `fault -vV Toolchain`, `fault sink Sink` and
-///   `fault memory OutOfMemory`.
+/// - `ok started=KEYS`, if all units are good;
+/// - `bad KEY FAULT started=KEYS`, with the first bad unit in plan order and its fault's
+///   name: `Status(N)`, where N is a signed decimal number; `Directive(NAME)`, with the
+///   name of the line's fault; `ScriptError`, `NoDepInfo`, `ForeignInput`, `OutputTooLong`;
+/// - `refused NAME`, with the innermost fault's name without its fields;
+/// - `fault AT NAME`, with the unit's key, or the path or the variable's name, and the name
+///   of the child's fault, `Device` for a call on files or variables, or `NumbersSpent`;
+///   `fault -vV Toolchain`, `fault sink Sink` and `fault memory OutOfMemory`.
 ///
-/// KEYS are the keys of the units whose child was started, in order of starting, with `,` between them, or
-/// `-` where there are none. The one error is want of memory.
+/// KEYS are the keys of the units whose child was started, in order
+/// of starting, with `,` between them, or `-` if there are none.
+///
+/// Errors: out of memory.
 pub fn result_line(
     alloc: Global,
     answer: &Result<Summary, BuildFault>,

@@ -1,4 +1,4 @@
-//! What people are told of a build that came to its end, beside its message lines.
+//! What people are told about a build that came to its end, beside its message lines.
 
 ghost use Rattle.std.specs.Prelude.{◌≡◌, ◌++◌, IfOk, OnOk, string_bytes};
 ghost use Rattle.std.specs.Option.{option_copied};
@@ -11,7 +11,7 @@ use pb_record::InputName;
 use pb_store::{CommandPart, Difference};
 use std::alloc::{AllocError, Global};
 
-/// A part of a command.
+/// Returns the words for a part of a command.
 fn part(changed: CommandPart) -> &'static str
     ensures { result.now ≡ part changed }
 {
@@ -26,7 +26,7 @@ fn part(changed: CommandPart) -> &'static str
     }
 }
 
-/// What happened that a unit's child was started.
+/// Returns why a unit's child was started.
 fn reason(alloc: Global, difference: &Difference) -> Result<String, AllocError>
     ensures { IfOk result (λ text. string_bytes text ≡ reason difference.now) }
 {
@@ -42,7 +42,7 @@ fn reason(alloc: Global, difference: &Difference) -> Result<String, AllocError>
     }
 }
 
-/// The line of a unit whose child was started.
+/// Returns the line of a unit whose child was started.
 fn started_line(alloc: Global, key: &Text, difference: &Difference) -> Result<String, AllocError>
     ensures { IfOk result (λ text. string_bytes text ≡ started_line key.now difference.now) }
 {
@@ -67,7 +67,7 @@ fn push_started(
     Ok(())
 }
 
-/// Adds the line of a unit whose child was started, where it is known what differed.
+/// Adds the line of a unit whose child was started, if it is known what differed.
 fn push_line(
     alloc: Global,
     text: &mut String,
@@ -82,7 +82,7 @@ fn push_line(
     }
 }
 
-/// A line for each unit whose child was started.
+/// Returns a line for each unit whose child was started.
 fn started_lines(
     alloc: Global,
     keys: &[Text],
@@ -97,7 +97,8 @@ fn started_lines(
     Ok(text)
 }
 
-/// How many children were started, and of how many units that began nothing differed.
+/// Returns the line with the number of children that were
+/// started, and of units that began without a difference.
 fn counts_line(alloc: Global, started: usize, kept: usize) -> Result<String, AllocError>
     ensures { IfOk result (λ text. string_bytes text ≡ counts_line started kept) }
 {
@@ -109,9 +110,11 @@ fn counts_line(alloc: Global, started: usize, kept: usize) -> Result<String, All
     )
 }
 
-/// Why a build started what it started: for each unit whose child was started, in order of starting, its key and what
-/// differed first; then how many were started, and of how many what is kept was given again. Each line ends with a line
-/// feed. The words are our own choice. The one error is want of memory.
+/// Returns why a build started what it started: for each unit whose child was started, in order
+/// of starting, its key and what differed first; then how many were started, and how many were
+/// replayed from their records. Each line ends with a line feed. The words are our own choice.
+///
+/// Errors: out of memory.
 pub fn explanation(alloc: Global, summary: &Summary) -> Result<String, AllocError>
     ensures { IfOk result (λ text. string_bytes text ≡ explanation summary.now) }
 {
@@ -125,7 +128,7 @@ pub fn explanation(alloc: Global, summary: &Summary) -> Result<String, AllocErro
     Ok(text)
 }
 
-/// Adds bytes, and a line feed where they do not end with one.
+/// Adds bytes, and a line feed if they do not end with one.
 fn push_ended(text: &mut Vec<u8>, bytes: &[u8]) -> Result<(), AllocError>
     ensures { OnOk result (text.new.items ≡ text.old.items ++ ended bytes.now) }
 {
@@ -138,8 +141,11 @@ fn push_ended(text: &mut Vec<u8>, bytes: &[u8]) -> Result<(), AllocError>
     Ok(())
 }
 
-/// What the child of the bad unit wrote that no message line holds, under a line with the unit's key; nothing where it
-/// wrote nothing, or all units are good. A line feed ends it. The one error is want of memory.
+/// Returns what the child of the bad unit wrote that no message line
+/// contains, after a line with the unit's key, and ends it with a line
+/// feed. Returns nothing if the child wrote nothing, or all units are good.
+///
+/// Errors: out of memory.
 pub fn said(alloc: Global, summary: &Summary) -> Result<Bytes, AllocError>
     ensures { IfOk result (λ text. text ≡ said_by_bad summary.now.bad summary.now.said) }
 {

@@ -1,4 +1,4 @@
--- The options of `pb_tool`, as `clap` has them.
+-- The options of `pb_tool`, as they are described to `clap`.
 use Rattle.std.specs.Prelude.{◌≡◌, codes, List, [], ◌∷◌, Some, map, true}
 use Rattle.clap.specs.Walk.{Rule, Text}
 use Rattle.clap.specs.Simple.{App, new_app, new_rule, with_rule, with_subcommand}
@@ -18,28 +18,29 @@ option name = record (new_rule name) { long = Some name; value_names = 1 }
 abbrev pub options : Text → Rule
 options name = record (option name) { action = Some Append }
 
--- what of the workspace is built
+-- the options for what of the workspace is built
 abbrev pub selection : List Rule
 selection =
     record (options (codes "package")) { short = Some 112 }
     ∷ flag (codes "workspace") ∷ flag (codes "lib") ∷ flag (codes "bins") ∷ options (codes "bin") ∷ []
 
--- which features are on, and how it is compiled
+-- the options for the features that are on, and for how the workspace is compiled
 abbrev pub features : List Rule
 features =
     record (options (codes "features")) { short = Some 70 }
     ∷ flag (codes "all-features") ∷ flag (codes "no-default-features")
     ∷ record (flag (codes "release")) { short = Some 114 } ∷ option (codes "profile") ∷ []
 
--- how much is done at one time
+-- the option for how many units are in flight at a time
 abbrev pub at_one_time : List Rule
 at_one_time = record (option (codes "jobs")) { short = Some 106 } ∷ []
 
--- what is told beside the messages
+-- the options for what is shown beside the messages
 abbrev pub telling : List Rule
 telling = flag (codes "explain") ∷ flag (codes "render") ∷ record (flag (codes "verbose")) { short = Some 118 } ∷ record (flag (codes "quiet")) { short = Some 113 } ∷ []
 
--- where it is read from and written to, in which of these forms, and what is started for it and told to children
+-- the options for what a build reads and writes, for the form of its
+-- messages, for the runner, and for the tool that children are told
 abbrev pub places : ValueParser → List Rule
 places formats =
     option (codes "manifest-path") ∷ option (codes "target-dir")
@@ -49,12 +50,12 @@ places formats =
 abbrev pub without_effect : List Rule
 without_effect = flag (codes "locked") ∷ flag (codes "offline") ∷ flag (codes "frozen") ∷ []
 
--- JSON alone
+-- JSON is the only form
 abbrev pub IsJson : ValueParser → Type 0
 IsJson (Names names) = map (λ name. name.now) names.now ≡ codes "json" ∷ []
 IsJson _ = ⊥
 
--- one rule more after another
+-- the app with more rules, one after another
 abbrev pub with_rules : List Rule → App → App
 with_rules [] app = app
 with_rules (rule ∷ rules) app = with_rules rules (with_rule app rule)
@@ -71,10 +72,10 @@ session = with_rule (new_app (codes "session")) record (new_rule (codes "FILE"))
 abbrev pub explain : App
 explain = with_rule (new_app (codes "explain")) record (new_rule (codes "NAME")) { required = true }
 
--- a command that has a version, and wants a subcommand; without any word it tells help
+-- a command that has a version and requires a subcommand; without any words it shows help
 abbrev pub wanting : App → App
 wanting app = record app { top = record app.top { has_version = true; arg_required_else_help = true; subcommand_required = true } }
 
--- the program, which wants one of the three
+-- the program, which requires one of the three subcommands
 abbrev pub program : ValueParser → App
 program formats = with_subcommand (with_subcommand (with_subcommand (wanting (new_app (codes "pb_tool"))) (build formats).top) session.top) explain.top

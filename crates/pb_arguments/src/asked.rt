@@ -1,4 +1,4 @@
-//! What a command line asks for, and why one asks for nothing.
+//! What a command line requests, and why one requests nothing.
 
 ghost use Rattle.std.specs.Prelude.{◌≡◌, ◌≢◌};
 ghost use Rattle.clap.specs.Values.{kind_of};
@@ -15,7 +15,7 @@ use pb_package::Options;
 use pb_place::{PathFault, PathText};
 use std::alloc::{AllocError, Global};
 
-/// What a command line asks for.
+/// What a command line requests.
 #[derive(Drop)]
 pub enum Asked {
     /// The session of the file at this path.
@@ -31,20 +31,20 @@ pub enum Asked {
 pub struct Shown {
     /// Why each child was started.
     pub explain: bool,
-    /// Diagnostics, and what scripts warn of, as text.
+    /// Diagnostics, and the warnings of scripts, as text.
     pub render: bool,
-    /// The program and the words of each child, before it is started.
+    /// The program and the arguments of each child, before it is started.
     pub verbose: bool,
 }
 
-/// Why a command line asks for nothing that is done.
+/// Why a command line requests nothing that is done.
 #[derive(Drop)]
 pub enum Unasked {
-    /// Help or the version was asked for, or there were no words: its text.
+    /// Help or the version was requested, or there were no words: its text.
     Help(Text),
     /// The words are wrong: the text that says what is wrong with them.
     Wrong(Text),
-    /// Memory was refused.
+    /// Memory ran out.
     OutOfMemory,
 }
 
@@ -56,7 +56,7 @@ impl From<AllocError> for Unasked {
     }
 }
 
-/// Returns whether what the reader of the words says is help or the version, which is no mistake.
+/// Returns whether the reader of the words reports help or the version, which is no mistake.
 fn is_help(kind: ErrorKind) -> bool
     ensures { result ≡ is_help kind }
 {
@@ -65,8 +65,8 @@ fn is_help(kind: ErrorKind) -> bool
         || kind == ErrorKind::DisplayHelpOnMissingArgumentOrSubcommand
 }
 
-/// What the reader of the words says: its text, which goes to the output where help was asked for, and else to
-/// standard error.
+/// Returns what the reader of the words reports: its text goes to the
+/// output if help was requested, and otherwise to standard error.
 pub(crate) fn unasked_of(alloc: Global, error: &Error) -> Unasked
     ensures { TellsKind (kind_of error.now) result }
 {
@@ -86,7 +86,7 @@ pub(crate) fn unasked_of(alloc: Global, error: &Error) -> Unasked
     }
 }
 
-/// The words are wrong: this text says why.
+/// Returns the text that says why the words are wrong.
 fn wrong(alloc: Global, text: &str) -> Unasked
     ensures { ToldWrong (λ told. told ≡ text.now) result }
 {
@@ -96,7 +96,7 @@ fn wrong(alloc: Global, text: &str) -> Unasked
     }
 }
 
-/// Why a path of the command line is none.
+/// Returns why a path of the command line is not a path.
 pub(crate) fn bad_path(alloc: Global, fault: PathFault) -> Unasked
     ensures { ToldWrong (λ told. (fault ≢ path_fault.OutOfMemory) × (told ≡ path_told)) result }
 {
@@ -106,14 +106,14 @@ pub(crate) fn bad_path(alloc: Global, fault: PathFault) -> Unasked
     wrong(alloc, "error: a path has byte 0\n")
 }
 
-/// Neither a build, a session nor an explanation is asked for.
+/// Returns the error that neither a build, a session nor an explanation is requested.
 pub(crate) fn no_command(alloc: Global) -> Unasked
     ensures { ToldWrong (λ told. told ≡ command_told) result }
 {
     wrong(alloc, "error: neither `build`, `session` nor `explain`\n")
 }
 
-/// Two profiles are asked for.
+/// Returns the error that two profiles are requested.
 pub(crate) fn two_profiles(alloc: Global) -> Unasked
     ensures { ToldWrong (λ told. told ≡ profiles_told) result }
 {
@@ -123,7 +123,7 @@ pub(crate) fn two_profiles(alloc: Global) -> Unasked
     )
 }
 
-/// It is no number how many units may be in flight at one time.
+/// Returns the error that `--jobs` is not a number.
 pub(crate) fn bad_jobs(alloc: Global) -> Unasked
     ensures { ToldWrong (λ told. told ≡ jobs_told) result }
 {

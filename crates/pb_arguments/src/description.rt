@@ -1,4 +1,4 @@
-//! The words that the program takes, as help tells them.
+//! The words that the program accepts, as help describes them.
 
 ghost use Rattle.std.specs.Prelude.{◌≡◌, IfOk, Some, None, false, List, length, map, option_map, IsOkAnd, true};
 ghost use Rattle.clap.specs.Walk.{Rule, rule_of};
@@ -12,23 +12,23 @@ use clap::{Arg, ArgAction, Command};
 use pb_data::with_next;
 use std::alloc::{AllocError, Global};
 
-/// An option of a build, as the command line has it and help tells it.
+/// An option of a build, as the command line has it and help describes it.
 struct Described {
-    /// What stands behind two hyphens.
+    /// What follows two hyphens.
     name: &'static str,
-    /// What stands behind one, where it has a letter.
+    /// What follows one hyphen, if the option has a letter.
     short: Option<char>,
-    /// What a use of it does, where that is more than to keep one value.
+    /// What a use of it does, if that is more than to keep one value.
     action: Option<ArgAction>,
-    /// What help calls its value; none where it takes no value.
+    /// What help calls its value; empty if it takes no value.
     value: &'static [&'static str],
-    /// What its value may be, where that is not any text.
+    /// What its value may be, if not any text is allowed.
     among: Option<&'static [&'static str]>,
     /// What it is for.
     help: &'static str,
 }
 
-/// An argument with a letter, if there is one.
+/// Returns an argument with a letter, if there is one.
 fn with_short<'a>(arg: Arg<'a>, short: Option<char>) -> Arg<'a>
     ensures rule { (rule_of arg.entry).short ≡ None → rule_of result ≡ record (rule_of arg.entry) { short = short } }
     ensures local { result.global ≡ arg.entry.global }
@@ -39,7 +39,7 @@ fn with_short<'a>(arg: Arg<'a>, short: Option<char>) -> Arg<'a>
     }
 }
 
-/// An argument with what a use of it does, if that is said.
+/// Returns an argument with what a use of it does, if that is given.
 fn with_action<'a>(arg: Arg<'a>, action: Option<ArgAction>) -> Arg<'a>
     ensures rule { (rule_of arg.entry).action ≡ None → rule_of result ≡ record (rule_of arg.entry) { action = action } }
     ensures local { result.global ≡ arg.entry.global }
@@ -50,7 +50,7 @@ fn with_action<'a>(arg: Arg<'a>, action: Option<ArgAction>) -> Arg<'a>
     }
 }
 
-/// An argument with what its value may be, if that is said.
+/// Returns an argument with what its value may be, if that is given.
 fn with_names<'a>(arg: Arg<'a>, among: Option<&'a [&'a str]>) -> Arg<'a>
     ensures rule { (rule_of arg.entry).parser ≡ None → rule_of result ≡ record (rule_of arg.entry) { parser = option_map Names among.entry } }
     ensures local { result.global ≡ arg.entry.global }
@@ -61,7 +61,7 @@ fn with_names<'a>(arg: Arg<'a>, among: Option<&'a [&'a str]>) -> Arg<'a>
     }
 }
 
-/// The argument that an option of a build is.
+/// Returns the argument for an option of a build.
 fn arg_of<'a>(alloc: Global, option: &Described) -> Arg<'a>
     ensures rule { rule_of result ≡ record (new_rule option.now.name.now) {
       long = Some option.now.name.now;
@@ -81,7 +81,7 @@ fn arg_of<'a>(alloc: Global, option: &Described) -> Arg<'a>
     with_names(arg, option.among)
 }
 
-/// A command with these options behind those that it has.
+/// Returns a command with these options after its own.
 fn with_options<'a>(
     alloc: Global,
     command: Command<'a>,
@@ -102,7 +102,7 @@ fn with_options<'a>(
     Ok(command)
 }
 
-/// `pb_tool session FILE`.
+/// Returns the command `pb_tool session FILE`.
 fn session_command<'a>(alloc: Global) -> Result<Command<'a>, AllocError>
     ensures { IfOk result (λ command. app_of command ≡ session) }
 {
@@ -115,7 +115,7 @@ fn session_command<'a>(alloc: Global) -> Result<Command<'a>, AllocError>
     command.arg(file)
 }
 
-/// `pb_tool explain NAME`.
+/// Returns the command `pb_tool explain NAME`.
 fn explain_command<'a>(alloc: Global) -> Result<Command<'a>, AllocError>
     ensures { IfOk result (λ command. app_of command ≡ explain) }
 {
@@ -212,7 +212,7 @@ static OPTIONS: [Described; 23] = [
         among: None,
         help: "Build under this profile",
     },
-    // How much is done at one time.
+    // How many units are in flight at a time.
     Described {
         name: "jobs",
         short: Some('j'),
@@ -221,7 +221,7 @@ static OPTIONS: [Described; 23] = [
         among: None,
         help: "How many units may be in flight at one time: a number (default 1), or `default`, as many as processors",
     },
-    // What is told beside the messages.
+    // What is shown beside the messages.
     Described {
         name: "explain",
         short: None,
@@ -254,7 +254,7 @@ static OPTIONS: [Described; 23] = [
         among: None,
         help: "No effect: nothing is told but what went wrong, and what is asked for",
     },
-    // Where it is read from and written to.
+    // What a build reads and writes.
     Described {
         name: "manifest-path",
         short: None,
@@ -322,7 +322,7 @@ static OPTIONS: [Described; 23] = [
     },
 ];
 
-/// What stands below the options of a build: the variables that count, the statuses, and an example.
+/// The text below the options of a build: the variables that count, the statuses, and an example.
 const BELOW_THE_OPTIONS: &str = "Variables:
   RUSTC             The compiler (default rustc)
   RUSTFLAGS         Words for each of its calls, with spaces between them
@@ -336,7 +336,7 @@ Status:
 Example:
   pb_tool build -p almanac --release --jobs 4 --explain";
 
-/// `pb_tool build`.
+/// Returns the command `pb_tool build`.
 fn build_command<'a>(alloc: Global) -> Result<Command<'a>, AllocError>
     ensures { IfOk result (λ command. (formats : ValueParser) × IsJson formats × (app_of command ≡ build formats)) }
 {
@@ -346,7 +346,7 @@ fn build_command<'a>(alloc: Global) -> Result<Command<'a>, AllocError>
     with_options(alloc, command, &OPTIONS)
 }
 
-/// A command with one more below it, if there is memory for that one.
+/// Returns a command with one more subcommand, if there is memory for it.
 fn with_subcommand<'a>(
     command: Command<'a>,
     below: Result<Command<'a>, AllocError>,
@@ -361,7 +361,7 @@ fn with_subcommand<'a>(
 /// The version of the program.
 const VERSION: &str = "0.1.0";
 
-/// The whole command line.
+/// Returns the whole command line.
 pub(crate) fn program<'a>(alloc: Global) -> Result<Command<'a>, AllocError>
     ensures { IfOk result (λ command. (formats : ValueParser) × IsJson formats × (app_of command ≡ program formats)) }
 {

@@ -2,10 +2,10 @@
 
 use pb_place::PathText;
 
-/// What a program knows of where it runs.
+/// What a program knows about where it runs.
 #[derive(Drop)]
 pub struct Here {
-    /// The current folder, where relative paths start.
+    /// The current folder, at which relative paths start.
     pub folder: PathText,
     /// How many processors it may use.
     pub processors: u64,

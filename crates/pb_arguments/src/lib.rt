@@ -1,5 +1,6 @@
-//! The command line of the program `pb_tool`: the options of a build, as The Cargo Book has them for `cargo build`, or
-//! the file of a session. The reader of words is `clap`, and no type of it is handed on.
+//! The command line of the program `pb_tool`: the options of a build,
+//! as The Cargo Book has them for `cargo build`, or the file of a
+//! session. `clap` reads the words, and none of its types is passed on.
 #![tactic(auto)]
 
 pub mod asked;

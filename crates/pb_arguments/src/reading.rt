@@ -1,4 +1,4 @@
-//! From the words of a command line to what it asks for.
+//! From the words of a command line to what it requests.
 
 ghost use Rattle.std.specs.Prelude.{◌≡◌, ◌⊎◌, ℕ, Ok, Err, IfOk, IfErr, MatchOption, Bool, [], codes, map, option_map, unwrap_or};
 ghost use Rattle.clap.specs.Matches.{found_of};
@@ -25,21 +25,21 @@ use pb_place::PathText;
 use std::alloc::{AllocError, Global};
 use std::convert::AsStr;
 
-/// Whether an option without a value was given.
+/// Returns whether an option without a value was given.
 fn is_given(matches: &ArgMatches<'_>, name: &str) -> bool
     ensures { IsFlag name.now (rows_of (found_of matches.now)) result }
 {
     matches.get_flag(name)
 }
 
-/// The first value of an option, if it was given.
+/// Returns the first value of an option, if it was given.
 fn first<'m>(matches: &ArgMatches<'m>, name: &str) -> Option<&'m str>
     ensures { option_map (λ text. text.now) result ≡ first_of name.now (rows_of (found_of matches.now)) }
 {
     matches.get_str(name)
 }
 
-/// The first value of an option, or another text where it was not given.
+/// Returns the first value of an option, or another text if it was not given.
 fn first_or<'m>(matches: &ArgMatches<'m>, name: &str, other: &'m str) -> &'m str
     ensures { result.now ≡ unwrap_or (first_of name.now (rows_of (found_of matches.now))) other.now }
 {
@@ -49,7 +49,7 @@ fn first_or<'m>(matches: &ArgMatches<'m>, name: &str, other: &'m str) -> &'m str
     }
 }
 
-/// Copies of texts, in their order.
+/// Returns copies of texts, in order.
 fn copies(alloc: Global, texts: &[&str]) -> Result<Items<Text>, AllocError>
     ensures { IfOk result (λ copies. copies ≡ map (λ text. text.now) texts.now) }
 {
@@ -60,7 +60,7 @@ fn copies(alloc: Global, texts: &[&str]) -> Result<Items<Text>, AllocError>
     Ok(copies)
 }
 
-/// The values of an option, in their order.
+/// Returns the values of an option, in order.
 fn values_of(alloc: Global, matches: &ArgMatches<'_>, name: &str) -> Result<Items<Text>, AllocError>
     ensures { IfOk result (λ values. values ≡ values_of name.now (rows_of (found_of matches.now))) }
 {
@@ -70,7 +70,7 @@ fn values_of(alloc: Global, matches: &ArgMatches<'_>, name: &str) -> Result<Item
     }
 }
 
-/// The value of an option, if it was given.
+/// Returns the value of an option, if it was given.
 fn value_of(alloc: Global, matches: &ArgMatches<'_>, name: &str) -> Result<Option<Text>, AllocError>
     ensures { IfOk result (λ value. value ≡ first_of name.now (rows_of (found_of matches.now))) }
 {
@@ -80,7 +80,9 @@ fn value_of(alloc: Global, matches: &ArgMatches<'_>, name: &str) -> Result<Optio
     }
 }
 
-/// The profile: `release` for `--release`, what `--profile` says, else `dev`. Wrong where both are given.
+/// Returns the profile: `release` for `--release`, else what `--profile` says, else `dev`.
+///
+/// Errors: `Wrong`, if both are given.
 fn profile_of(alloc: Global, matches: &ArgMatches<'_>) -> Result<Text, Unasked>
     ensures profile { IfOk result (IsProfile (rows_of (found_of matches.now))) }
     ensures wrong { IfErr result (ToldWrong (λ told. HasTwoProfiles (rows_of (found_of matches.now)) × (told ≡ profiles_told))) }
@@ -97,7 +99,8 @@ fn profile_of(alloc: Global, matches: &ArgMatches<'_>) -> Result<Text, Unasked>
     }
 }
 
-/// The number that digits alone write; none where the text has anything else, or where the number is too great.
+/// Returns the number that digits alone write; `None` if the
+/// text has anything else, or the number is too great.
 fn number_in(text: &str) -> Option<u64>
     ensures { MatchOption result ((n : ℕ) → ¬ IsNumber text.now n) (IsNumber text.now) }
 {
@@ -107,7 +110,9 @@ fn number_in(text: &str) -> Option<u64>
     text.parse::<u64>().ok()
 }
 
-/// The value of `--jobs`, as many as processors for `default`, else 1. Wrong where it is neither a number nor that.
+/// Returns the value of `--jobs`; the number of processors for `default`; 1 if it was not given.
+///
+/// Errors: `Wrong`, if the value is neither a number nor `default`.
 fn jobs_of(alloc: Global, processors: u64, matches: &ArgMatches<'_>) -> Result<u64, Unasked>
     ensures jobs { IfOk result (IsJobs processors (first_of (codes "jobs") (rows_of (found_of matches.now)))) }
     ensures wrong { IfErr result (ToldWrong (λ told. HasBadJobs (rows_of (found_of matches.now)) × (told ≡ jobs_told))) }
@@ -122,7 +127,7 @@ fn jobs_of(alloc: Global, processors: u64, matches: &ArgMatches<'_>) -> Result<u
     }
 }
 
-/// The words of a text, which spaces part.
+/// Returns the words of a text, separated by spaces.
 fn parted(alloc: Global, text: &str) -> Result<Items<Text>, AllocError>
     ensures { IfOk result (λ words. words ≡ words_of text.now) }
 {
@@ -133,7 +138,7 @@ fn parted(alloc: Global, text: &str) -> Result<Items<Text>, AllocError>
     Ok(words)
 }
 
-/// The path that a text of the command line says. A relative one starts at the folder.
+/// Returns the path that a text of the command line means. A relative one starts at the folder.
 fn path_of(alloc: Global, folder: &PathText, text: &str) -> Result<PathText, Unasked>
     ensures path { IfOk result (λ path. joined folder.now text.now ≡ Ok path) }
     ensures wrong { IfErr result (ToldWrong (λ told. (fault : PathFault) × (joined folder.now text.now ≡ Err fault) × (told ≡ path_told))) }
@@ -144,7 +149,7 @@ fn path_of(alloc: Global, folder: &PathText, text: &str) -> Result<PathText, Una
     }
 }
 
-/// What of a build's options may be wrong.
+/// The options of a build that may be wrong.
 #[derive(Drop)]
 struct Judged {
     manifest: PathText,
@@ -152,7 +157,7 @@ struct Judged {
     jobs: u64,
 }
 
-/// What of them is named, each by any number of texts.
+/// The options of a build that name something, each by any number of texts.
 #[derive(Drop)]
 struct Named {
     packages: Items<Text>,
@@ -160,7 +165,8 @@ struct Named {
     bin: Items<Text>,
 }
 
-/// Where all that is made goes, what runs the build scripts, and what children are told that the builder is.
+/// Where all that is made goes, what runs the build scripts, and
+/// what children are told about which program the builder is.
 #[derive(Drop)]
 struct Tools {
     target_dir: Option<Text>,
@@ -178,7 +184,8 @@ struct Flags {
     bins: bool,
 }
 
-/// What of a build's options may be wrong. A relative path of the manifest starts at the folder.
+/// Returns the options of a build that may be wrong. A relative
+/// path of the manifest starts at the folder.
 fn judged_of(alloc: Global, here: &Here, matches: &ArgMatches<'_>) -> Result<Judged, Unasked>
     ensures manifest { IfOk result (λ judged. joined here.now.folder (manifest_of (rows_of (found_of matches.now))) ≡ Ok judged.manifest) }
     ensures profile { IfOk result (λ judged. IsProfile (rows_of (found_of matches.now)) judged.profile) }
@@ -199,7 +206,7 @@ fn judged_of(alloc: Global, here: &Here, matches: &ArgMatches<'_>) -> Result<Jud
     })
 }
 
-/// What of a build's options is named.
+/// Returns the options of a build that name something.
 fn named_of(alloc: Global, matches: &ArgMatches<'_>) -> Result<Named, AllocError>
     ensures packages { IfOk result (λ named. named.packages ≡ values_of (codes "package") (rows_of (found_of matches.now))) }
     ensures features { IfOk result (λ named. named.features ≡ values_of (codes "features") (rows_of (found_of matches.now))) }
@@ -215,7 +222,8 @@ fn named_of(alloc: Global, matches: &ArgMatches<'_>) -> Result<Named, AllocError
     })
 }
 
-/// Returns what children are told that the builder is: what is given for that, else how it was called.
+/// Returns what children are told about which program the
+/// builder is: what was given for that, else how it was called.
 fn told_tool(alloc: Global, tool: &str, matches: &ArgMatches<'_>) -> Result<Text, AllocError>
     ensures { IfOk result (λ told. told ≡ unwrap_or (first_of (codes "tool") (rows_of (found_of matches.now))) tool.now) }
 {
@@ -225,7 +233,7 @@ fn told_tool(alloc: Global, tool: &str, matches: &ArgMatches<'_>) -> Result<Text
     }
 }
 
-/// Where all that is made goes, and whom a build starts.
+/// Returns where all that is made goes, and what a build starts.
 fn tools_of(alloc: Global, tool: &str, matches: &ArgMatches<'_>) -> Result<Tools, AllocError>
     ensures target_dir { IfOk result (λ tools. tools.target_dir ≡ first_of (codes "target-dir") (rows_of (found_of matches.now))) }
     ensures runner { IfOk result (λ tools. tools.runner ≡ words_of (unwrap_or (first_of (codes "runner") (rows_of (found_of matches.now))) [])) }
@@ -241,7 +249,7 @@ fn tools_of(alloc: Global, tool: &str, matches: &ArgMatches<'_>) -> Result<Tools
     })
 }
 
-/// Which options without a value were given.
+/// Returns which options without a value were given.
 fn flags_of(matches: &ArgMatches<'_>) -> Flags
     ensures workspace { IsFlag (codes "workspace") (rows_of (found_of matches.now)) result.workspace }
     ensures all_features { IsFlag (codes "all-features") (rows_of (found_of matches.now)) result.all_features }
@@ -258,7 +266,7 @@ fn flags_of(matches: &ArgMatches<'_>) -> Flags
     }
 }
 
-/// Options of their parts.
+/// Returns options, made of their parts.
 fn joined_of(judged: Judged, named: Named, tools: Tools, flags: Flags) -> Options
     ensures { result ≡ record {
       manifest = judged.manifest;
@@ -295,7 +303,8 @@ fn joined_of(judged: Judged, named: Named, tools: Tools, flags: Flags) -> Option
     }
 }
 
-/// What `pb_tool build` asks for. A relative path of the manifest starts at the current folder.
+/// Returns what `pb_tool build` requests. A relative path of
+/// the manifest starts at the current folder.
 fn options_of(
     alloc: Global,
     tool: &str,
@@ -313,7 +322,7 @@ fn options_of(
     Ok(joined_of(judged, named, tools, flags_of(matches)))
 }
 
-/// What is shown of a build beside its lines.
+/// Returns what is shown of a build beside its lines.
 fn shown_of(matches: &ArgMatches<'_>) -> Shown
     ensures { IsShown (rows_of (found_of matches.now)) result }
 {
@@ -324,7 +333,8 @@ fn shown_of(matches: &ArgMatches<'_>) -> Shown
     }
 }
 
-/// What the subcommand asks for. A relative path of a session's file starts at the current folder.
+/// Returns what the subcommand requests. A relative path of a
+/// session's file starts at the current folder.
 fn asked_by(
     alloc: Global,
     tool: &str,
@@ -358,7 +368,8 @@ fn asked_by(
     }
 }
 
-/// The words as the description of the command line has them, or why it does not take them.
+/// Returns the words as the description of the command line
+/// reads them, or why it does not accept them.
 fn matches_of<'a, S: AsStr>(alloc: Global, words: &'a [S]) -> Result<ArgMatches<'a>, Unasked>
     ensures matches { IfOk result (λ matches. (formats : ValueParser) × IsJson formats × IsTaken formats (map S.text words.now)
         × (subcommand_rows_of matches ≡ subcommand_of (program formats) (map S.text words.now))) }
@@ -371,7 +382,7 @@ fn matches_of<'a, S: AsStr>(alloc: Global, words: &'a [S]) -> Result<ArgMatches<
     }
 }
 
-/// The first word; empty where there is none.
+/// Returns the first word; it is empty if there is none.
 fn tool_of<S: AsStr>(words: &[S]) -> &str
     ensures { result.now ≡ tool_of (map S.text words.now) }
 {
@@ -381,10 +392,12 @@ fn tool_of<S: AsStr>(words: &[S]) -> &str
     }
 }
 
-/// What a command line asks for. The words are those of the whole command line, the program's own name first.
+/// Returns what a command line requests. The words are those of
+/// the whole command line, with the program's own name first.
 ///
-/// Errors: Help where help or the version is asked for, or there are no words; Wrong where the words are none of a
-/// command line, two profiles are given, `--jobs` is wrong, or a path has byte 0, with the text for it; OutOfMemory.
+/// Errors: `Help`, if help or the version is requested, or there are no words;
+/// `Wrong`, with its text, if the words are not a command line, two profiles
+/// are given, `--jobs` is wrong, or a path has byte 0; `OutOfMemory`.
 pub fn read_command_line<S: AsStr>(
     alloc: Global,
     words: &[S],

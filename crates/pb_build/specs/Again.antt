@@ -1,4 +1,4 @@
--- The same build again: after one that succeeded it starts no unit's child.
+-- The same build again: after a successful build, it starts no child for a unit.
 use Rattle.std.specs.Prelude.{◌≡◌, [], ℕ, true, List, Ok}
 use Rattle.pb_answer.specs.declared.summary.Summary.{Summary}
 use Rattle.pb_flight.specs.declared.turn.Step.{Step}
@@ -9,7 +9,8 @@ use Rattle.pb_turns.specs.Crew.{Moment}
 use Rattle.pb_build.specs.Ending.{Builds}
 use Rattle.pb_build.specs.Headline.{RestsOn}
 
--- A build over true records and an honest child succeeded, and the same build began in the world that it left, by whatever turn: where no fault ends that, it tells no unit as started.
+-- A build over true records with an honest child succeeded. In the world that it left,
+-- the same build reports no unit as started, by whatever turn, unless a fault ends it.
 abbrev pub SameBuildStartsNone : {S T : Type 0} → (S → List ℕ → List ℕ → Step → S → Type 0) → (T → List ℕ → List ℕ → Step → T → Type 0) → Type 0
 SameBuildStartsNone {S} {T} Turns OtherTurns = (child : Answers) (options : Options) (from last : S) (again end : T) (summary other : Summary) (first second third fourth : Moment)
     → RestsOn OnRecords child options first.world → Builds true child Turns options from last (Ok summary) first second → summary.success ≡ true

@@ -1,4 +1,4 @@
--- What is done with a plan, of whatever moment and options it is: nothing here asks that it be one of this world.
+-- A build of a given plan, whatever its moment and options are: it need not be a plan of this world.
 use Rattle.std.specs.Prelude.{◌≡◌, ◌⊎◌, ℕ, Bool, max, List, Some, None, IsTrue, Result, Ok, Err}
 use Rattle.pb_answer.specs.declared.fault.BuildFault.{BuildFault}
 use Rattle.pb_answer.specs.declared.fault.BuildFault.TheVariants.{Plan, Toolchain, Child, Device, Sink, OutOfMemory}
@@ -25,7 +25,8 @@ use Rattle.pb_build.specs.declared.builder.BuildPlan.{BuildPlan}
 use Rattle.pb_build.specs.declared.builder.Prepared.{Prepared}
 use Rattle.pb_build.specs.declared.environment.Environment.{Environment}
 
--- what the units of this project start from: the project itself; its setup, by these options and this environment and by the version that the compiler says for it in this world; and as next run number the one above the greatest that its records have or name
+-- what the units of this project start from: the project; its setup by these options, this environment and the
+-- compiler's version in this world; and the next run number, one above the greatest that its records contain or name
 pub record IsReadyFor (child : Answers) (options : Options) (environment : Environment) (project : Project) (w : World) (prepared : Prepared) : Type 0 where
   pub toolchain : List ℕ
   pub says : toolchain_of child environment project (from_nothing project.workspace.target w) ≡ Some toolchain
@@ -33,7 +34,7 @@ pub record IsReadyFor (child : Answers) (options : Options) (environment : Envir
   pub project_is : prepared.project ≡ project
   pub next : prepared.store.next ≡ next_in (records_folder project) w
 
--- a fault that says that the compiler does not say its version comes where it does not
+-- the fault that the compiler does not report its version comes only if that is so
 abbrev pub IsSilentFault : Answers → Environment → Project → World → BuildFault → Type 0
 IsSilentFault child environment project w (Plan why) = Unit {0}
 IsSilentFault child environment project w Toolchain = toolchain_of child environment project (from_nothing project.workspace.target w) ≡ None
@@ -42,7 +43,8 @@ IsSilentFault child environment project w (Device name fault) = Unit {0}
 IsSilentFault child environment project w Sink = Unit {0}
 IsSilentFault child environment project w OutOfMemory = Unit {0}
 
--- what the units of a plan start from was made ready, over the plan's own environment and project: by the query of the compiler, which answered, and the opening of the project's records; nothing was changed or written
+-- a plan's units were prepared, over the plan's own environment and project:
+-- the compiler answered the query, the project's records were opened, and nothing was changed or written
 pub record IsReadied (tells : Bool) (child : Answers) (options : Options) (plan : BuildPlan) (prepared : Prepared) (old new : Moment) : Type 0 where
   pub ready : IsTrue tells → IsReadyFor child options plan.environment plan.project old.world prepared
   pub project : prepared.project ≡ plan.project
@@ -54,7 +56,7 @@ pub record IsReadied (tells : Bool) (child : Answers) (options : Options) (plan 
   pub most : new.most ≡ max old.most 1
   pub heard : new.heard ≡ old.heard
 
--- a fault of the query, or of the opening of the records, ended that; nothing was changed or written
+-- a fault of the query, or of opening the records, ended the preparation; nothing was changed or written
 pub record IsUnready (tells : Bool) (child : Answers) (plan : BuildPlan) (fault : BuildFault) (old new : Moment) : Type 0 where
   pub silent : IsTrue tells → IsSilentFault child plan.environment plan.project old.world fault
   pub may : MayReady fault old.counts.starts new.counts.starts
@@ -65,26 +67,27 @@ pub record IsUnready (tells : Bool) (child : Answers) (plan : BuildPlan) (fault 
   pub most : (new.most ≡ old.most) ⊎ (new.most ≡ max old.most 1)
   pub heard : new.heard ≡ old.heard
 
--- where there is no plan its fault is told, and nothing was done
+-- if there is no plan, its fault is returned and nothing is done; else the plan's units are prepared, or that fails
 abbrev pub Readies : Bool → Answers → Options → Result BuildPlan BuildFault → Result Prepared BuildFault → Moment → Moment → Type 0
 Readies tells child options (Err fault) result old new = (result ≡ Err fault) × (new ≡ old)
 Readies tells child options (Ok plan) (Err fault) old new = IsUnready tells child plan fault old new
 Readies tells child options (Ok plan) (Ok prepared) old new = IsReadied tells child options plan prepared old new
 
--- no unit began, and the turn was asked nothing; or the units ended so, after such a start
+-- either no unit began and the turn was not asked; or the units were prepared and then ended
 pub data WorksOn {S : Type 0} (tells : Bool) (child : Answers) (Turns : S → List ℕ → List ℕ → Step → S → Type 0) (options : Options) (plan : Result BuildPlan BuildFault) (from : S) : S → Result Summary BuildFault → Moment → Moment → Type 0 where
   stopped : (fault : BuildFault) (old new : Moment) (unready : Readies tells child options plan (Err fault) old new) → WorksOn tells child Turns options plan from from (Err fault) old new
   worked : (prepared : Prepared) (last : S) (result : Result Summary BuildFault) (old mid new : Moment) (ready : Readies tells child options plan (Ok prepared) old mid) (ends : TurnsEnd tells child Turns prepared.setup prepared.project prepared.store.next from last result mid new)
       → WorksOn tells child Turns options plan from last result old new
 
--- a build of a plan: how its work ended, and what was then written
+-- a build of a plan: how its work ended, and what was written after it
 pub record BuildsOn {S : Type 0} (tells : Bool) (child : Answers) (Turns : S → List ℕ → List ℕ → Step → S → Type 0) (options : Options) (plan : Result BuildPlan BuildFault) (from last : S) (result : Result Summary BuildFault) (old new : Moment) : Type 0 where
   pub inner : Result Summary BuildFault
   pub heard : Heard
   pub works : WorksOn tells child Turns options plan from last inner old record new { heard = heard }
   pub closes : Closes inner result heard new.heard
 
--- with as many units in flight as the options say, of which the first in plan order begins
+-- a build of a plan with the options' number of units in flight,
+-- in which the first in plan order of those that may begin does so
 abbrev pub BuildsOnFirst : Bool → Answers → Options → Result BuildPlan BuildFault → Result Summary BuildFault → Moment → Moment → Type 0
 BuildsOnFirst tells child options plan result old new =
     (from : Jobs First) × (from.jobs ≡ options.jobs) × (last : Jobs First) × BuildsOn tells child (TurnsOfJobs PicksFirstOf) options plan from last result old new

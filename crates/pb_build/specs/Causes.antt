@@ -1,4 +1,5 @@
--- How many children a build has started before its units, which calls it has made, where a fault ends it, and what such a fault names.
+-- How many children a build has started before its units, which calls it
+-- has made, which fault may end it there, and what such a fault names.
 use Rattle.std.specs.Prelude.{◌≡◌, ◌⊎◌, ◌+◌, ◌++◌, ◌∷◌, codes, length, max, List, [], Result, MatchResult, OnErr, OnOk, ℕ}
 use Rattle.pb_place.specs.At.{At}
 use Rattle.pb_place.specs.CallsInTurn.{past_calls}
@@ -20,7 +21,7 @@ use Rattle.pb_answer.specs.declared.fault.BuildFault.TheVariants.{Plan, Toolchai
 use Rattle.pb_place.specs.declared.place.StartFault.{StartFault}
 use Rattle.pb_place.specs.declared.place.StartFault.TheVariants as start
 
--- the faults of what comes before the query
+-- the faults that may end what comes before the query
 abbrev pub MayPlan : BuildFault → Starts → Starts → Type 0
 MayPlan (Plan why) old new = new ≡ old
 MayPlan Toolchain old new = ⊥
@@ -30,7 +31,7 @@ MayPlan (Device unit device.NumbersSpent) old new = ⊥
 MayPlan Sink old new = ⊥
 MayPlan OutOfMemory old new = new ≡ old
 
--- of the query
+-- the faults that may end the query
 abbrev pub MayAsk : BuildFault → Starts → Starts → Type 0
 MayAsk (Plan why) old new = ⊥
 MayAsk Toolchain old new = new ≡ up_starts old
@@ -39,7 +40,7 @@ MayAsk (Device unit fault) old new = ⊥
 MayAsk Sink old new = ⊥
 MayAsk OutOfMemory old new = (new ≡ old) ⊎ (new ≡ up_starts old)
 
--- of the query, and of what comes after it, where the folder of the records is looked at
+-- the faults that may end the query, or what comes after it, in which the folder of the records is looked at
 abbrev pub MayReady : BuildFault → Starts → Starts → Type 0
 MayReady (Plan why) old new = ⊥
 MayReady Toolchain old new = new ≡ up_starts old
@@ -69,14 +70,16 @@ child_fault unit start.Died = Child unit start.Died
 child_fault unit start.Capture = Child unit start.Capture
 child_fault unit start.OutOfMemory = OutOfMemory
 
--- what a step says of the counters. Where it ended well: no call failed, and so many children were started; as many fly as before. Else: that it may tell this fault after so many starts, and the fault's cause
+-- how a step moves the counters:
+-- - if it succeeds, no call failed, and it started the children that `Begins` says
+-- - if it fails, `May` allows the fault after these starts, and the fault has its cause
 abbrev pub Takes : {T : Type 0} → (T → Starts → Starts → Type 0) → (BuildFault → Starts → Starts → Type 0) → Result T BuildFault → Counts → Counts → Type 0
 Takes Begins May result old new = MatchResult result (λ x. (new.failures ≡ old.failures) × Begins x old.starts new.starts) (λ e. May e old.starts new.starts × HasCause e old new)
 
 abbrev pub OneStart : {T : Type 0} → T → Starts → Starts → Type 0
 OneStart x old new = new ≡ up_starts old
 
--- the faults of a step that starts a child of this name
+-- the faults that may end a step that starts a child of this name
 abbrev pub MayStart : List ℕ → BuildFault → Starts → Starts → Type 0
 MayStart name (Plan refusal) old new = ⊥
 MayStart name Toolchain old new = ⊥
@@ -89,22 +92,22 @@ MayStart name OutOfMemory old new = (new ≡ old) ⊎ (new ≡ up_starts old)
 abbrev pub RunsOnce : {T : Type 0} → T → Counts → Counts → Type 0
 RunsOnce x old new = new ≡ past_call (one_start old)
 
--- the one call, which spawns a child, failed, or the end of that child did; out of memory, it or none was made
+-- the one call, which spawns a child, failed, or the end of that child failed; out of memory: the call was made or not
 abbrev pub SpawnEnds : BuildFault → Counts → Counts → Type 0
 SpawnEnds (Child unit fault) old new = new ≡ past_start_fault fault (one_start old)
 SpawnEnds OutOfMemory old new = (new ≡ old) ⊎ (new ≡ past_call (one_start old))
 SpawnEnds e old new = ⊥
 
--- What is done before the units does to the place.
+-- What the work before the units does to the place.
 
--- it only looks: nothing changes but the counters; a call that failed was the last, and the fault names what it was given
+-- it only looks: only the counters change, a failed call is the last one, and the fault names what that call was given
 pub record OnlyLooks {T : Type 0} (May : BuildFault → Starts → Starts → Type 0) (result : Result T BuildFault) (old new : At) : Type 0 where
   pub world : new.world ≡ old.world
   pub most : new.most ≡ old.most
   pub takes : Takes NoStart May result old.counts new.counts
   pub names : NamesCall result new.counts
 
--- it starts one child and waits for it, and else only looks
+-- it starts one child and waits for its end; otherwise it only looks
 pub record OnlyAsks {T : Type 0} (May : BuildFault → Starts → Starts → Type 0) (result : Result T BuildFault) (old new : At) : Type 0 where
   pub world : new.world ≡ old.world
   pub most : OnOk result (new.most ≡ max old.most (length old.counts.starts.flying + 1))
@@ -113,41 +116,42 @@ pub record OnlyAsks {T : Type 0} (May : BuildFault → Starts → Starts → Typ
 
 -- Which calls are made before the units.
 
--- the variables that are asked for
+-- the variables that a build requests
 abbrev pub variables_asked : List Call
 variables_asked = call.Variable (codes "RUSTC") ∷ call.Variable (codes "RUSTFLAGS") ∷ call.Variable (codes "CARGO_TARGET_DIR") ∷ []
 
--- to plan a build they are asked for, and then the workspace is read
+-- the calls that plan a build: it requests its variables, then reads the workspace
 abbrev pub plan_called : Options → World → List Call
 plan_called options w = variables_asked ++ looked_at options.manifest (environment_of options w.variables).target w
 
--- where the plan is refused, all of these calls were made; else it stopped at one of them
+-- if the plan is refused, all of these calls were made; else they stopped at one of them
 abbrev pub PlanStopsAt : BuildFault → List Call → Counts → Counts → Type 0
 PlanStopsAt (Plan why) calls old new = new ≡ past_calls calls old
 PlanStopsAt e calls old new = StopsAt e calls old new
 
--- where there is a plan, just these calls were made; since each may fail, with the fault of its kind and at its turn, they are told in their order
+-- if there is a plan, exactly these calls were made, in this order; else they stopped as `PlanStopsAt` says
 abbrev pub PlansInTurn : {T : Type 0} → Result T BuildFault → List Call → Counts → Counts → Type 0
 PlansInTurn result calls old new = MatchResult result (λ x. new ≡ past_calls calls old) (λ e. PlanStopsAt e calls old new)
 
--- to ask the compiler a child is started, by one call, also where it says no host
+-- the query starts a child by one call, even if the compiler names no host
 abbrev pub AskEnds : BuildFault → Counts → Counts → Type 0
 AskEnds Toolchain old new = new ≡ past_call (one_start old)
 AskEnds e old new = SpawnEnds e old new
 
--- the query is one call, and then the records are opened
+-- the query is one call; after it the records are opened
 abbrev pub ready_called : List Call → Counts → Counts
 ready_called calls old = past_calls calls (past_call (one_start old))
 
--- it stopped at the query, or at a call by which the records are opened behind it
+-- the calls stopped at the query, or at one of the calls after it that open the records
 abbrev pub ReadyStopsAt : BuildFault → List Call → Counts → Counts → Type 0
 ReadyStopsAt e calls old new = AskEnds e old new ⊎ StopsAt e calls (past_call (one_start old)) new
 
--- where all is ready, just these calls were made, told likewise
+-- if all is ready, exactly these calls were made, in this order; else they stopped as `ReadyStopsAt` says
 abbrev pub ReadiesInTurn : {T : Type 0} → Result T BuildFault → List Call → Counts → Counts → Type 0
 ReadiesInTurn result calls old new = MatchResult result (λ x. new ≡ ready_called calls old) (λ e. ReadyStopsAt e calls old new)
 
--- a build of this world stopped before its units: at its plan; or, behind all calls of the plan, as a project of this world was made ready
+-- a build of this world stopped before its units: while it was planned, or
+-- after all calls of the plan, while a project of this world was made ready
 abbrev pub StopsBefore : Options → World → BuildFault → Counts → Counts → Type 0
 StopsBefore options w fault old new =
     PlanStopsAt fault (plan_called options w) old new

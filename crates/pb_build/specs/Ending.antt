@@ -38,11 +38,12 @@ use Rattle.pb_store.specs.Calls.{FailedLast}
 abbrev pub Stays : Bool → World → World → Type 0
 Stays tells old new = IsTrue tells → new ≡ old
 
--- the plan of a build of this world: what its variables and the options say, and its project
+-- the plan of a build of this world: the environment that its variables and options say, and its project
 abbrev pub IsPlanOf : Options → World → BuildPlan → Type 0
 IsPlanOf options w plan = (plan.environment ≡ environment_of options w.variables) × IsProject options (environment_of options w.variables).target w plan.project
 
--- between two moments a build was planned, and nothing else was done: nothing was changed or written, no child was started, and no call was made but those of its plan
+-- between two moments a build was planned and nothing else was done:
+-- nothing was changed or written, no child was started, and only the plan's calls were made
 pub record PlansFrom (tells : Bool) (options : Options) (plan : Result BuildPlan BuildFault) (old new : Moment) : Type 0 where
   pub is : IsTrue tells → IfOk plan (IsPlanOf options old.world)
   pub refused : IsTrue tells → IfErr plan (IsToldRefusal options (environment_of options old.world.variables).target old.world)
@@ -53,12 +54,13 @@ pub record PlansFrom (tells : Bool) (options : Options) (plan : Result BuildPlan
   pub most : new.most ≡ old.most
   pub heard : new.heard ≡ old.heard
 
--- the compiler does not say its version for a project of this world
+-- the compiler does not report its version for a project of this world
 abbrev pub IsSilent : Answers → Options → World → Type 0
 IsSilent child options w =
     (project : Project) × IsProject options (environment_of options w.variables).target w project × (toolchain_of child (environment_of options w.variables) project (from_nothing (environment_of options w.variables).target w) ≡ None)
 
--- why no unit began: a refusal; a compiler that does not say its version, or gave no answer; a call on this path or variable that failed, before the query or after it, where the folder of the records is looked at; want of memory
+-- why no unit began: a refusal; a compiler that does not report its version, or does not answer; out of memory; or a
+-- call on this path or variable that failed, before the query or after it, when the folder of the records is looked at
 abbrev pub FailsBefore : Bool → Answers → Options → BuildFault → World → Counts → Counts → Type 0
 FailsBefore tells child options (Plan why) w old new = (IsTrue tells → IsRefused options (environment_of options w.variables).target w why) × (new.starts ≡ old.starts) × (new.failures ≡ old.failures)
 FailsBefore tells child options Toolchain w old new = (IsTrue tells → IsSilent child options w) × (new.starts ≡ up_starts old.starts) × (new.failures ≡ old.failures)
@@ -68,7 +70,8 @@ FailsBefore tells child options (Device name device.NumbersSpent) w old new = �
 FailsBefore tells child options Sink w old new = ⊥
 FailsBefore tells child options OutOfMemory w old new = ((new.starts ≡ old.starts) ⊎ (new.starts ≡ up_starts old.starts)) × (new.failures ≡ old.failures)
 
--- what a build's units start from: the project of this world and how it is compiled; and as next run number the one above the greatest that its records have or name
+-- what a build's units start from: the project of this world; its setup; and
+-- the next run number, one above the greatest that its records contain or name
 pub record IsPrepared (child : Answers) (options : Options) (w : World) (prepared : Prepared) : Type 0 where
   pub toolchain : List ℕ
   pub says : toolchain_of child (environment_of options w.variables) prepared.project (from_nothing (environment_of options w.variables).target w) ≡ Some toolchain
@@ -76,7 +79,8 @@ pub record IsPrepared (child : Answers) (options : Options) (w : World) (prepare
   pub project : IsProject options (environment_of options w.variables).target w prepared.project
   pub next : prepared.store.next ≡ next_in (records_folder prepared.project) w
 
--- they start after one query of the compiler, which answered; the project is in order, and nothing was changed; the calls were those of the plan, the query, and the opening of the records, in this order
+-- the units start after one query, which the compiler answered; the project is in order, and nothing was changed;
+-- the calls were those of the plan, the query and the opening of the records, in this order
 pub record Prepares (tells : Bool) (child : Answers) (options : Options) (prepared : Prepared) (old new : World) (before now : Counts) (most : ℕ) (after : ℕ) : Type 0 where
   pub is : IsTrue tells → IsPrepared child options old prepared
   pub order : IsInOrder prepared.project
@@ -88,7 +92,7 @@ pub record Prepares (tells : Bool) (child : Answers) (options : Options) (prepar
 
 -- The units.
 
--- after such a start the units ended so
+-- the units were prepared and then ended
 pub record UnitsEnd {S : Type 0} (tells : Bool) (child : Answers) (Turns : S → List ℕ → List ℕ → Step → S → Type 0) (options : Options) (from last : S) (result : Result Summary BuildFault) (old new : Moment) : Type 0 where
   pub prepared : Prepared
   pub mid : Moment
@@ -106,24 +110,25 @@ pub record NoneBegan (tells : Bool) (child : Answers) (options : Options) (resul
   pub heard : new.heard ≡ old.heard
   pub landed : new.counts.starts.flying ≡ []
 
--- its calls stopped there, and the turn was asked nothing
+-- no unit began, the calls stopped there, and the turn was not asked
 pub record StopsEarly {S : Type 0} (tells : Bool) (child : Answers) (options : Options) (from last : S) (result : Result Summary BuildFault) (old new : Moment) : Type 0 where
   pub none_began : NoneBegan tells child options result old new
   pub unasked : last ≡ from
   pub calls : IsTrue tells → StopsBefore options old.world none_began.fault old.counts new.counts
 
--- a build's work up to its finish line
+-- a build's work up to its finish line: it stops before its units, or its units end
 abbrev pub Works : {S : Type 0} → Bool → Answers → (S → List ℕ → List ℕ → Step → S → Type 0) → Options → S → S → Result Summary BuildFault → Moment → Moment → Type 0
 Works tells child Turns options from last result old new = StopsEarly tells child options from last result old new ⊎ UnitsEnd tells child Turns options from last result old new
 
 -- The finish line.
 
--- bytes are written and this is answered; or the sink fails, which took the first of them and not all, and that is answered
+-- these bytes are written and this answer is returned; or the sink
+-- takes only the first of them and fails, and the answer is that fault
 abbrev pub Finishes : List ℕ → Result Summary BuildFault → Result Summary BuildFault → Heard → Heard → Type 0
 Finishes bytes inner result old new =
     ((result ≡ inner) × Appends old.taken new.taken bytes × (new.faults ≡ old.faults)) ⊎ ((result ≡ Err Sink) × TakesPart bytes old.taken new.taken × (new.faults ≡ up old.faults))
 
--- the finish line is written, but where the build is refused or the sink has failed
+-- the finish line is written, unless the build is refused or the sink has failed
 abbrev pub Closes : Result Summary BuildFault → Result Summary BuildFault → Heard → Heard → Type 0
 Closes (Ok summary) result old new = Finishes (finish_line summary.success) (Ok summary) result old new
 Closes (Err (Plan why)) result old new = (result ≡ Err (Plan why)) × (new ≡ old)
@@ -135,28 +140,29 @@ Closes (Err OutOfMemory) result old new = Finishes (finish_line false) (Err OutO
 
 -- The whole.
 
--- a build: how its work ended, and what was then written
+-- a build: how its work ended, and what was written after it
 pub record Builds {S : Type 0} (tells : Bool) (child : Answers) (Turns : S → List ℕ → List ℕ → Step → S → Type 0) (options : Options) (from last : S) (result : Result Summary BuildFault) (old new : Moment) : Type 0 where
   pub inner : Result Summary BuildFault
   pub heard : Heard
   pub works : Works tells child Turns options from last inner old record new { heard = heard }
   pub closes : Closes inner result heard new.heard
 
--- a build with as many units in flight as the options say, of which those begin that are picked, along a chain of the pick's states from the first of these to the second
+-- a build with the options' number of units in flight, in which the pick chooses
+-- those that begin, along a chain of the pick's states from the first to the second
 abbrev pub BuildsBy : {S : Type 0} → Bool → Answers → (S → List ℕ → ℕ → S → Type 0) → Options → S → S → Result Summary BuildFault → Moment → Moment → Type 0
 BuildsBy {S} tells child Picks options pick picked result old new =
     let from : Jobs S = record { pick = pick; jobs = options.jobs } in
     let last : Jobs S = record { pick = picked; jobs = options.jobs } in
     Builds tells child (TurnsOfJobs Picks) options from last result old new
 
--- of those that may begin the first in plan order does
+-- the first in plan order of the units that may begin is picked
 abbrev pub PicksFirstOf : First → List ℕ → ℕ → First → Type 0
 PicksFirstOf old ready place new = PicksFirst ready place
 
 abbrev pub BuildsFirst : Bool → Answers → Options → Result Summary BuildFault → Moment → Moment → Type 0
 BuildsFirst tells child options result old new = let pick : First = record {} in BuildsBy tells child PicksFirstOf options pick pick result old new
 
--- the last does
+-- the last in plan order of the units that may begin is picked
 abbrev pub PicksLastOf : Last → List ℕ → ℕ → Last → Type 0
 PicksLastOf old ready place new = PicksLast ready place
 

@@ -1,4 +1,4 @@
--- What the variables and the options say of a build, before a file is read (The Cargo Book, Environment Variables).
+-- What the variables and the options say about a build before any file is read (The Cargo Book, Environment Variables).
 use Rattle.std.specs.Prelude.{ℕ, ◌==◌, if◌then◌else◌, codes, List, [], length, Option, Some, None, unwrap_or, Result, Ok, Err}
 use Rattle.std.specs.FinMap as finite
 use Rattle.pb_directive.specs.Directives as line
@@ -8,7 +8,7 @@ use Rattle.pb_place.specs.World.{Map}
 use Rattle.pb_package.specs.declared.options.Options.{Options}
 use Rattle.pb_build.specs.declared.environment.Environment.{Environment}
 
--- a variable that is empty counts as absent
+-- the text of a variable; an empty one counts as absent
 abbrev pub set_text : Option (List ℕ) → Option (List ℕ)
 set_text None = None
 set_text (Some text) = if length text == 0 then None else Some text
@@ -17,22 +17,23 @@ set_text (Some text) = if length text == 0 then None else Some text
 abbrev pub rustc_of : Option (List ℕ) → List ℕ
 rustc_of found = unwrap_or found (codes "rustc")
 
--- the compiler's own words: those of `RUSTFLAGS`, which spaces part
+-- the compiler's own arguments: the words of `RUSTFLAGS`, separated by spaces
 abbrev pub flags_of : Option (List ℕ) → List (List ℕ)
 flags_of None = []
 flags_of (Some text) = line.words_of text
 
--- a path, or another where the text has byte 0
+-- a path, or the other path if the text contains byte 0
 abbrev pub path_or : List ℕ → Result (List ℕ) PathFault → List ℕ
 path_or other (Ok path) = path
 path_or other (Err fault) = other
 
--- the path that a text says, where a relative one starts at the root; or another where there is no text, or one with byte 0
+-- the path that a text names, starting at the root if it is relative;
+-- the other path if there is no text, or it contains byte 0
 abbrev pub told_or : List ℕ → List ℕ → Option (List ℕ) → List ℕ
 told_or root other None = other
 told_or root other (Some text) = path_or other (joined root text)
 
--- the target folder: what `--target-dir` says, else what `CARGO_TARGET_DIR` says, else `target` in the root
+-- the target folder: `--target-dir`, else `CARGO_TARGET_DIR`, else `target` in the root
 abbrev pub target_of : List ℕ → Option (List ℕ) → Option (List ℕ) → List ℕ
 target_of root asked variable = told_or root (told_or root (below root (codes "target")) variable) asked
 

@@ -1,4 +1,5 @@
--- What lasts over a session: the records of a folder stay true, so each build among the steps gives what the present workspace gives from nothing.
+-- What lasts over a session: the records of a folder stay true, so each build
+-- among the steps produces what a clean build of the present workspace produces.
 use Rattle.std.specs.Prelude.{◌≡◌, ◌⊎◌, ◌∷◌, [], ⊤, ℕ, true, false, List, None}
 use Rattle.pb_command.specs.Judge.{judge}
 use Rattle.pb_package.specs.declared.options.Options.{Options}
@@ -17,7 +18,9 @@ use Rattle.pb_build.specs.Session.{Point, Carries, CarriesBuild, ByPicked}
 abbrev pub ShareNoPath : List ℕ → List ℕ → Type 0
 ShareNoPath folder other = (q : List ℕ) → is_at_or_below folder q ≡ true → is_at_or_below other q ≡ false
 
--- a step spares the records of a folder: an edit outside of it, or one that removes it whole; a build without units, one that keeps its records there and whose child is honest, or one that keeps them apart
+-- a step spares the records of a folder in these cases:
+-- - an edit: it is outside of the folder, or removes the folder whole
+-- - a build: it has no units, or keeps its records there with an honest child, or keeps them apart
 abbrev pub Spares : Answers → List ℕ → SessionStep → World → Type 0
 Spares child folder (Write path text) w = is_at_or_below folder path ≡ false
 Spares child folder (Remove path) w = (is_at_or_below path folder ≡ true) ⊎ ShareNoPath folder path
@@ -36,12 +39,14 @@ SparingCourse child folder (step ∷ steps) before after = Spares child folder s
 abbrev pub NothingIsSound : Type 0
 NothingIsSound = (child : Answers) (folder : List ℕ) (files : Map) → ((key : List ℕ) → record_at reading folder files key ≡ None) → Sound reading judge child folder files
 
--- Whatever edits and builds came, and however the builds ended, the records of a folder are true that were true at first.
+-- If each step of a session spares the records of a folder, and they were
+-- true at first, they are true at the end, however the builds ended.
 abbrev pub RecordsStayTrue : Type 0
 RecordsStayTrue = (child : Answers) (folder : List ℕ) (steps : List SessionStep) (before after : Point) → SparingCourse child folder steps before after
     → Sound reading judge child folder before.moment.world.files → Sound reading judge child folder after.moment.world.files
 
--- Any edits, any builds between: a build after them that keeps its records there, whose child is honest, gives what the present workspace gives from nothing, or a fault with the first of its lines.
+-- Any edits and builds spared a folder of true records. Then a build that keeps its records there, with an honest
+-- child, produces what a clean build of the present workspace produces, or a fault with the first of its lines.
 abbrev pub AnyBuildGives : Type 0
 AnyBuildGives = (child : Answers) (options : Options) (pick : PickBy) (steps : List SessionStep) (before mid after : Point)
     → SparingCourse child (records_of options mid.moment.world.variables) steps before mid → Sound reading judge child (records_of options mid.moment.world.variables) before.moment.world.files

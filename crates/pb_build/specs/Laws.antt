@@ -1,4 +1,4 @@
--- Laws of what a build gives, in the words of the rules.
+-- Laws of what a build produces, in the words of the rules.
 use Rattle.std.specs.Prelude.{◌≡◌, ℕ, Bool, List, Result}
 use Rattle.pb_answer.specs.declared.fault.BuildFault.{BuildFault}
 use Rattle.pb_answer.specs.declared.summary.Summary.{Summary}
@@ -16,30 +16,32 @@ abbrev pub LooksAtSources : Type 0
 LooksAtSources = (child : Answers) (options : Options) (v w : World) (r : BuildResult) → v.variables ≡ w.variables
     → from_nothing (environment_of options w.variables).target v ≡ from_nothing (environment_of options w.variables).target w → IsResult child options v r → IsResult child options w r
 
--- a build gives what the same build gives where nothing stands in the target folder
+-- a build produces what the same build produces if nothing exists in the target folder
 abbrev pub GivesFromNothing : Type 0
 GivesFromNothing = (child : Answers) (options : Options) (w : World) (r : BuildResult) → IsResult child options (from_nothing (environment_of options w.variables).target w) r → IsResult child options w r
 
--- two results are the same: one refusal; or no version of the compiler; or the same units of the same plan, with the same outcomes
+-- two results are the same if both are one refusal; or both have no version of the
+-- compiler; or both have the same units of the same plan, with the same outcomes
 abbrev pub IsSame : BuildResult → BuildResult → Type 0
 IsSame (Refused why) (Refused other) = why ≡ other
 IsSame NoToolchain NoToolchain = Unit {0}
 IsSame (Finished project rows) (Finished other more) = (project.workspace ≡ other.workspace) × (project.plan ≡ other.plan) × (project.profile ≡ other.profile) × (rows ≡ more)
 IsSame _ _ = ⊥
 
--- a world has one result alone
+-- a world has only one result
 abbrev pub HasOneResult : Type 0
 HasOneResult = (child : Answers) (options : Options) (w : World) (r s : BuildResult) → IsResult child options w r → IsResult child options w s → IsSame r s
 
--- the units that a build has given are those of the result of its world
+-- the units that a build has produced are those of the result of its world
 abbrev pub UnitsAreOfResult : Type 0
 UnitsAreOfResult = (child : Answers) (options : Options) (w : World) (units : UnitsOf child options w) → IsResult child options w (Finished units.project (rows_for child options w units))
 
--- a build by turns, of which it is known how its work ended and what was then written, keeps the headline; so one of which just that is told does too, as that of the program
+-- a build by turns, known only by how its work ended and what was written after it, keeps
+-- the headline; so a build that promises only that keeps it too, as the program's does
 abbrev pub BuildsKeepHeadline : {S : Type 0} → (S → List ℕ → List ℕ → Step → S → Type 0) → Type 0
 BuildsKeepHeadline {S} Turns = (tells : Bool) (child : Answers) (options : Options) (from last : S) (result : Result Summary BuildFault) (old new : Moment) → Builds tells child Turns options from last result old new
     → Headline tells child (ByTurns Turns from) options result old new
 
--- and so does one in plan order
+-- a build in plan order keeps it too
 abbrev pub FirstBuildsKeepHeadline : Type 0
 FirstBuildsKeepHeadline = (tells : Bool) (child : Answers) (options : Options) (result : Result Summary BuildFault) (old new : Moment) → BuildsFirst tells child options result old new → Headline tells child (ByFirst options) options result old new

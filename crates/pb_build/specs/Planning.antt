@@ -1,4 +1,5 @@
--- What a build is of: the workspace that is read, what of it is selected, its features and its plan; or why it is refused.
+-- What a build is about: the workspace that it reads, the selected
+-- packages, their features and the plan; or why it is refused.
 use Rattle.std.specs.Prelude.{◌≡◌, ℕ, List, Ok, Err}
 use Rattle.pb_place.specs.World.{World}
 use Rattle.pb_workspace.specs.Loaded.{workspace_of}
@@ -24,7 +25,7 @@ pub record IsSelected (options : Options) (target : List ℕ) (w : World) (ws : 
   pub read : workspace_of options.manifest target w ≡ Ok ws
   pub chosen : selected ws options ≡ Ok selection
 
--- these features of a selection are on, and nothing is wrong with what is asked of features
+-- these features of a selection are on, and the requested features have no fault
 pub record IsFeatured (ws : Workspace) (selection : Selection) (features : Features) : Type 0 where
   pub right : (fault : FeatureFault) → feature.Refuses ws selection fault → ⊥
   pub resolved : IsResolved ws selection features
@@ -37,7 +38,8 @@ pub record IsProject (options : Options) (target : List ℕ) (w : World) (projec
   pub profile : project.profile ≡ options.profile
   pub planned : plan.IsPlan project.workspace project.features selection options.profile project.plan
 
--- why a build is refused: the workspace cannot be read; else nothing is selected; else the features are not resolved; else there is no plan
+-- why a build is refused: the workspace cannot be read; else nothing can
+-- be selected; else the features are refused; else the plan is refused
 pub data IsRefused (options : Options) (target : List ℕ) (w : World) : Refusal → Type 0 where
   by_load : (fault : LoadFault) (told : workspace_of options.manifest target w ≡ Err fault) → IsRefused options target w (Load fault)
   by_selection : (fault : LoadFault) (ws : Workspace) (read : workspace_of options.manifest target w ≡ Ok ws) (told : selected ws options ≡ Err fault) → IsRefused options target w (Load fault)
@@ -45,7 +47,7 @@ pub data IsRefused (options : Options) (target : List ℕ) (w : World) : Refusal
   by_plan : (fault : PlanFault) (ws : Workspace) (selection : Selection) (features : Features) (is : IsSelected options target w ws selection) (featured : IsFeatured ws selection features)
       (told : plan.Refuses ws features selection options.profile fault) → IsRefused options target w (Plan fault)
 
--- a refusal that is told is one of this world
+-- a reported refusal is one of this world
 abbrev pub IsToldRefusal : Options → List ℕ → World → BuildFault → Type 0
 IsToldRefusal options target w (told.Plan why) = IsRefused options target w why
 IsToldRefusal options target w told.Toolchain = Unit {0}

@@ -1,4 +1,4 @@
--- What private functions of the build promise to one another. Nothing here is needed to read what a build gives.
+-- What private functions of the build promise to one another. Nothing here is needed to read what a build produces.
 use Rattle.std.specs.Prelude.{◌≡◌, Ok, Err}
 use Rattle.pb_answer.specs.declared.fault.BuildFault.{BuildFault}
 use Rattle.pb_answer.specs.declared.fault.BuildFault.TheVariants.{Plan, Toolchain, Child, Device, Sink, OutOfMemory}

@@ -1,4 +1,4 @@
--- What a build gives, from the child and the sources alone.
+-- What a build produces, from the child and the sources alone.
 use Rattle.std.specs.Prelude.{◌≡◌, ℕ, Bool, ◌&&◌, nat_lt, nat_eq, codes, if◌then◌else◌, List, length, Option, Some, None, is_some, is_none}
 use Rattle.std.specs.List.{list_any, starts_with}
 use Rattle.pb_directive.specs.Lines.{lines_of, text_of}
@@ -18,41 +18,42 @@ use Rattle.pb_build.specs.declared.environment.Environment.{Environment}
 
 -- The compiler's version.
 
--- a line that says the host: `host: ` and something behind it
+-- a line that names the host: `host: ` and something after it
 abbrev pub is_host : List ℕ → Bool
 is_host line = nat_lt 6 (length line) && starts_with nat_eq line (codes "host: ")
 
--- an output that says the host: it is UTF-8, and one of its lines says it
+-- an output that names the host: it is UTF-8, and one of its lines names it
 abbrev pub says_host : List ℕ → Bool
 says_host stdout = is_some (text_of stdout) && list_any is_host (lines_of stdout)
 
--- what an answer to the query says of the compiler's version: status 0, no stream too long, and its host
+-- the compiler's version by an answer to the query: status 0, no stream too long, and the host named
 abbrev pub toolchain_in : Ended → Option (List ℕ)
 toolchain_in e = if is_none (ended_fault e) && says_host e.stdout then Some e.stdout else None
 
--- what the compiler says of its version, where it sees the sources
+-- the version that the compiler reports if it sees the sources
 abbrev pub toolchain_of : Answers → Environment → Project → World → Option (List ℕ)
 toolchain_of child environment project sources = toolchain_in (ended_by (child (query_of environment.rustc project.workspace.root project.workspace.target) sources))
 
--- how things are compiled
+-- how the units are compiled
 abbrev pub setup_of : Options → Environment → List ℕ → Setup
 setup_of options environment toolchain = record { tool = options.tool; rustc = environment.rustc; flags = environment.flags; runner = options.runner; toolchain = toolchain }
 
 -- The result.
 
--- what a build gives: it is refused; the compiler does not say its version; or these units of a project have ended
+-- what a build produces: it is refused; the compiler does not
+-- report its version; or these units of a project have ended
 pub data BuildResult : Type 0 where
   Refused : (why : Refusal) → BuildResult
   NoToolchain : BuildResult
   Finished : (project : Project) (rows : List Row) → BuildResult
 
--- a build with this environment gives this in this world, of whose files it looks at the sources alone
+-- a build with this environment produces this in this world; of the world's files it looks only at the sources
 pub data Comes (child : Answers) (options : Options) (environment : Environment) (w : World) : BuildResult → Type 0 where
   refused : (why : Refusal) (is : IsRefused options environment.target w why) → Comes child options environment w (Refused why)
   no_toolchain : (project : Project) (is : IsProject options environment.target w project) (silent : toolchain_of child environment project (from_nothing environment.target w) ≡ None) → Comes child options environment w NoToolchain
   finished : (project : Project) (toolchain : List ℕ) (is : IsProject options environment.target w project) (says : toolchain_of child environment project (from_nothing environment.target w) ≡ Some toolchain)
       → Comes child options environment w (Finished project (rows_of child (setup_of options environment toolchain) project (from_nothing environment.target w)))
 
--- what a build gives in a world
+-- what a build produces in a world
 abbrev pub IsResult : Answers → Options → World → BuildResult → Type 0
 IsResult child options w r = Comes child options (environment_of options w.variables) w r

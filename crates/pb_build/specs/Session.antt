@@ -1,4 +1,4 @@
--- A session: edits and builds, one after another. Each build's end and its cause are handed on.
+-- A session: edits and builds, one after another. Each build's end and its cause are passed on.
 use Rattle.std.specs.Prelude.{◌≡◌, ◌↔◌, ⊤, ℕ, true, List, [], ◌∷◌, ◌++◌, Result}
 use Rattle.pb_place.specs.Sinks.{Heard}
 use Rattle.pb_place.specs.World.{World, Answers, FilesHavePaths, written, removed}
@@ -24,14 +24,15 @@ use Rattle.pb_build.specs.Kept.{SourcesStay}
 use Rattle.pb_build.specs.Result.{BuildResult, IsResult}
 use Rattle.pb_package.specs.declared.options.Options.{Options}
 
--- a moment of a session; the answers of the builds so far; and the failures that are prepared: the number of the call that fails, 0 for none, and the starts that fail
+-- a moment of a session: the answers of the builds so far, the number of
+-- the call that is to fail (0 for none), and the starts that are to fail
 pub record Point : Type 0 where
   pub moment : Moment
   pub answers : List Answer
   pub fuse : ℕ
   pub deaths : List Death
 
--- with a place in memory
+-- the point with a place in memory
 abbrev pub point : Held → Heard → List Answer → Point
 point memory heard answers = record { moment = moment (at_in memory) heard; answers = answers; fuse = memory.fuse; deaths = memory.deaths }
 
@@ -39,17 +40,17 @@ point memory heard answers = record { moment = moment (at_in memory) heard; answ
 abbrev pub Edits : World → Point → Point → Type 0
 Edits w before after = after ≡ record before { moment = record before.moment { world = w } }
 
--- a build, of which those units begin that the session picks
+-- a build in which the units begin that the session picks
 abbrev pub Picked : Answers → Options → PickBy → Result Summary BuildFault → Moment → Moment → Type 0
 Picked child options First result old new = BuildsFirst true child options result old new
 Picked child options Last result old new = BuildsLast true child options result old new
 
--- its schedule
+-- the schedule of such a build
 abbrev pub ByPicked : PickBy → Options → Project → List (Event BadUnit) → Type 0
 ByPicked First options = ByFirst options
 ByPicked Last options = ByLast options
 
--- the same moment, but that it was set once more which calls are to fail
+-- the same moment, except that one more setting of failures is counted
 abbrev pub set_anew : Moment → Moment
 set_anew m = record m { counts = one_setting m.counts }
 
@@ -58,19 +59,19 @@ pub record CarriesBuild (child : Answers) (options : Options) (pick : PickBy) (b
   pub answer : Answer
   pub ended : Moment
   pub picked : Picked child options pick answer.result before.moment ended
-  -- it changed no source, and kept the headline
+  -- it changed no source and kept the headline
   pub kept : SourcesStay (environment_of options before.moment.world.variables).target before.moment.world ended.world
   pub headline : Headline true child (ByPicked pick options) options answer.result before.moment ended
   -- whatever it wrote, each file has a normalised absolute path
   pub paths : FilesHavePaths ended.world
-  -- if nothing was set to fail, and nothing had failed before, no call of it failed
+  -- if nothing was set to fail, and nothing had failed before, none of its calls failed
   pub unfailing : before.fuse ≡ 0 → before.deaths ≡ [] → before.moment.counts.failures ≡ 0 → ended.counts.failures ≡ 0
-  -- it added its answer; and it was set once in all which calls are to fail, which the starts count: none is to fail any more
+  -- its answer is added; no call is to fail any more, and the starts count this as one setting
   pub behind : after.moment ≡ set_anew ended
   pub answers : after.answers ≡ before.answers ++ answer ∷ []
   pub fuse : after.fuse ≡ 0
 
--- a step: an edit; a failure that is prepared, of which nothing is seen yet but that it was set; or a build
+-- a step: an edit; a prepared failure, of which so far only the setting is seen; or a build
 abbrev pub Carries : Answers → SessionStep → Point → Point → Type 0
 Carries child (Write path text) before after = Edits (written path text before.moment.world) before after
 Carries child (Remove path) before after = Edits (removed path before.moment.world) before after
@@ -85,7 +86,8 @@ abbrev pub Course : Answers → List SessionStep → Point → Point → Type 0
 Course child [] before after = after ≡ before
 Course child (step ∷ steps) before after = (mid : Point) × Carries child step before mid × Course child steps mid after
 
--- memory was refused at a step: of another than a build nothing came; a build is carried whole, but its answer is not noted
+-- memory ran out at a step: if it is a build, it is carried
+-- out, but its answer is not noted; any other step does nothing
 abbrev pub Loses : Answers → SessionStep → Point → Point → Type 0
 Loses child (Write path text) before left = left ≡ before
 Loses child (Remove path) before left = left ≡ before
@@ -95,12 +97,12 @@ Loses child (Die key death) before left = left ≡ before
 Loses child (Fuse number) before left = left ≡ before
 Loses child (Build options pick) before left = (ended : Point) × CarriesBuild child options pick before ended × (left ≡ record ended { answers = before.answers })
 
--- memory was refused at one of the steps, and those before it were taken in turn
+-- memory ran out at one of the steps; those before it were taken in turn
 abbrev pub Breaks : Answers → List SessionStep → Point → Point → Type 0
 Breaks child steps before left =
     (done : List SessionStep) × (step : SessionStep) × (rest : List SessionStep) × (steps ≡ done ++ step ∷ rest) × (mid : Point) × Course child done before mid × Loses child step mid left
 
--- what an edit makes of the world; other steps are none
+-- what an edit makes of the world; other steps change nothing
 abbrev pub edit : SessionStep → World → World
 edit (Write path text) w = written path text w
 edit (Remove path) w = removed path w
@@ -115,7 +117,7 @@ abbrev pub edited : List SessionStep → World → World
 edited [] w = w
 edited (step ∷ steps) w = edited steps (edit step w)
 
--- the target folder of a build
+-- a build uses this target folder; other steps use none
 abbrev pub UsesTarget : List ℕ → SessionStep → World → Type 0
 UsesTarget target (Write path text) w = ⊤
 UsesTarget target (Remove path) w = ⊤
@@ -130,7 +132,8 @@ abbrev pub OneTarget : List ℕ → List SessionStep → World → Type 0
 OneTarget target [] w = ⊤
 OneTarget target (step ∷ steps) w = UsesTarget target step w × OneTarget target steps (edit step w)
 
--- whatever builds came before into the same target folder, and however they ended, a build gives just what the edits alone let it give
+-- whatever builds came before into the same target folder, however they
+-- ended, a build produces exactly what it would produce after the edits alone
 abbrev pub Unaffected : Type 0
 Unaffected = (child : Answers) (options : Options) (steps : List SessionStep) (before after : Point) (r : BuildResult)
     → OneTarget (environment_of options (edited steps before.moment.world).variables).target steps before.moment.world → Course child steps before after

@@ -36,10 +36,10 @@ use pb_store::{OpenFault, Store};
 use pb_turns::run_turns;
 use std::alloc::{AllocError, Global};
 
-/// What a build's units start from.
+/// What the units of a build start from.
 #[derive(Drop)]
 pub struct Prepared {
-    /// How things are compiled.
+    /// How the units are compiled.
     pub setup: Setup,
     /// What is built.
     pub project: OrderedProject,
@@ -47,7 +47,7 @@ pub struct Prepared {
     pub store: Store,
 }
 
-/// How things are compiled.
+/// Returns how the units are compiled.
 fn setup_of(
     alloc: Global,
     options: &Options,
@@ -67,7 +67,7 @@ fn setup_of(
     })
 }
 
-/// The folder of a project's records: the profile's, in the target folder.
+/// Returns the folder of a project's records: the profile's folder, in the target folder.
 fn records_folder(alloc: Global, project: &OrderedProject) -> Result<PathText, AllocError>
     ensures { IfOk result (λ folder. folder ≡ records_folder project.now) }
 {
@@ -83,7 +83,7 @@ fn records_folder(alloc: Global, project: &OrderedProject) -> Result<PathText, A
     }
 }
 
-/// The fault of a store that cannot be opened: Device, with the path of the call that failed.
+/// Returns the fault of a store that cannot be opened: `Device`, with the path of the failed call.
 fn unopened(fault: OpenFault) -> BuildFault
     ensures { result ≡ unopened fault }
 {
@@ -118,7 +118,8 @@ fn opened<P: Place>(
     }
 }
 
-/// Makes ready what the units of a project start from: asks the compiler for its version, and opens the records.
+/// Prepares what a project's units start from: queries the
+/// compiler's version and opens the records.
 fn ready<P: Place>(
     alloc: Global,
     place: &mut P,
@@ -169,7 +170,7 @@ fn ready<P: Place>(
     }
 }
 
-/// A build as far as its plan: nothing is started and nothing is changed yet.
+/// A build up to its plan: nothing has been started or changed yet.
 #[derive(Drop)]
 pub struct BuildPlan {
     /// What the variables and the options say.
@@ -178,11 +179,12 @@ pub struct BuildPlan {
     pub project: OrderedProject,
 }
 
-/// Plans a build. In this order: the variables `RUSTC`, `RUSTFLAGS` and `CARGO_TARGET_DIR`; the workspace; what is
-/// selected of it; its features; the plan. No child is started, no line written and no file changed.
+/// Plans a build: reads the variables `RUSTC`, `RUSTFLAGS` and `CARGO_TARGET_DIR`,
+/// then the workspace, then finds its selected packages, their features and the
+/// plan, in this order. It starts no child, writes no line and changes no file.
 ///
-/// Faults: Plan, with the first refusal; Device, with the variable's name or the path of the call that failed;
-/// OutOfMemory.
+/// Errors: `Plan`, with the first refusal; `Device`, with the
+/// variable's name or the path of the failed call; `OutOfMemory`.
 pub fn plan_build<P: Place>(
     alloc: Global,
     place: &mut P,
@@ -213,8 +215,8 @@ pub fn plan_build<P: Place>(
     }
 }
 
-/// Makes ready what the units of a build that was planned start from: the query of the compiler's version, and the
-/// records of the profile's folder. A plan that failed ends it with its fault.
+/// Prepares what the units of a planned build start from: queries the compiler's version
+/// and opens the records of the profile's folder. If the plan failed, returns its fault.
 fn prepare<P: Place>(
     alloc: Global,
     place: &mut P,
@@ -269,8 +271,8 @@ fn prepare<P: Place>(
     }
 }
 
-/// Works through a build that was planned up to its finish line. What comes of it is said of the moment before it was
-/// planned, where only its planning came between.
+/// Works through a planned build up to its finish line. The contract is
+/// about the moment before planning, if only the planning came between.
 fn work<P: Place, O: Out, T: Turn>(
     alloc: Global,
     place: &mut P,
@@ -299,7 +301,7 @@ fn work<P: Place, O: Out, T: Turn>(
     run_turns(alloc, place, out, setup, project, store, turn)
 }
 
-/// Writes a finish line, and answers as the build did, or Sink where the sink does not take it.
+/// Writes a finish line and returns the build's answer, or `Sink` if the sink fails.
 #[tactic(auto, using(crate::proofs::Closing::finishing_laws))]
 fn finish<O: Out>(
     out: &mut O,
@@ -317,7 +319,7 @@ fn finish<O: Out>(
     }
 }
 
-/// Writes the finish line, but where the build is refused or the sink has failed.
+/// Writes the finish line, unless the build is refused or the sink has failed.
 fn close<O: Out>(out: &mut O, inner: Result<Summary, BuildFault>) -> Result<Summary, BuildFault>
     ensures { Closes inner result (O.heard out.old) (O.heard out.new) }
 {
@@ -330,12 +332,13 @@ fn close<O: Out>(out: &mut O, inner: Result<Summary, BuildFault>) -> Result<Summ
     }
 }
 
-/// Builds what was planned, by the steps that a turn says: what `build_turns` does after the plan. A plan that failed
-/// ends the build as it would have ended there.
+/// Builds what was planned, by the steps that a turn chooses: what `build_turns` does
+/// after the plan. If the plan failed, the build ends as it would have ended there.
 ///
-/// Where only the planning came between, with no other call of the place and nothing written, it ends as `build_turns`
-/// says (`builds`), from the moment before it. A plan of another moment, or of other options, is built as it is: its own
-/// project's units are run, by its own environment and by these options, over the records of its own profile's folder.
+/// If only the planning came between, with no other call of the place and nothing written, the
+/// build ends as `build_turns` promises (`builds`), from the moment before planning. A plan of
+/// another moment or of other options is built as it is: its own project's units are run in
+/// its own environment, with these options, over the records of its own profile's folder.
 pub fn build_plan_turns<P: Place, O: Out, T: Turn>(
     alloc: Global,
     place: &mut P,
@@ -363,7 +366,7 @@ pub fn build_plan_turns<P: Place, O: Out, T: Turn>(
     close(out, inner)
 }
 
-/// Builds what was planned, and begins those units first that come first in plan order: what `build` does after the plan.
+/// Builds what was planned, and begins the units in plan order: what `build` does after the plan.
 pub fn build_plan<P: Place, O: Out>(
     alloc: Global,
     place: &mut P,
@@ -393,21 +396,26 @@ pub fn build_plan<P: Place, O: Out>(
     build_plan_turns(alloc, place, out, options, plan, &mut jobs)
 }
 
-/// Builds the workspace of a root manifest, as `cargo build` does, by the steps that a turn says.
+/// Builds the workspace of a root manifest, as `cargo build`
+/// does, by the steps that a turn chooses.
 ///
-/// In this order: the variables `RUSTC`, `RUSTFLAGS` and `CARGO_TARGET_DIR`; the workspace; what is selected of it; its
-/// features; the plan; the query `-vV`; the records of the profile's folder; the units of the plan, of which those
-/// are begun and answered that the turn says, until all have answered, or all up to and with the first bad one; the
-/// finish line. A unit's child is started only where something differs from its record. Message lines are handed out
-/// in plan order, as units answer. Children that are in flight at the end, or after a fault, are asked for their ends
-/// in order of beginning, and their answers dropped.
+/// The order is: the variables `RUSTC`, `RUSTFLAGS` and `CARGO_TARGET_DIR`; the workspace; its
+/// selected packages; their features; the plan; the query `-vV`; the records of the profile's
+/// folder; the units of the plan; the finish line. The turn chooses which unit begins or
+/// answers next, until all units have answered, or all up to and including the first bad one.
+/// A unit's child is started only if something differs from the unit's record. Message lines
+/// are written in plan order, as units answer. At the end, or after a fault, the children in
+/// flight are waited for in the order in which they began, and their answers are dropped.
 ///
-/// Faults: Plan, before a child is started, a line is written or a file is changed; Toolchain, where the compiler does
-/// not say its host; Child, where a child gave no answer, and Device, where a call on files or variables failed, after
-/// which no further call of the place is made but the ends of children in flight; Device too where no run number is
-/// left; Sink; OutOfMemory. All but Plan and Sink write the failing finish line. A unit that is bad is no fault: the
-/// summary names it. However it ends, the files outside the target folder and the variables stay, and no child is in
-/// flight.
+/// Errors: `Plan`, before a child is started, a line is written or a file is
+/// changed; `Toolchain`, if the compiler does not report its host; `Child`, if a
+/// child gives no answer; `Device`, if a call on files or variables fails, or no
+/// run number is left; `Sink`; `OutOfMemory`. After a failed call no further call
+/// is made, except to wait for children in flight. All errors but `Plan` and `Sink`
+/// write the failing finish line. A bad unit is not an error: the summary names it.
+///
+/// However the build ends, the files outside the target folder and
+/// the variables stay as they were, and no child is in flight.
 pub fn build_turns<P: Place, O: Out, T: Turn>(
     alloc: Global,
     place: &mut P,
@@ -429,10 +437,12 @@ pub fn build_turns<P: Place, O: Out, T: Turn>(
     build_plan_turns(alloc, place, out, options, plan, turn)
 }
 
-/// Builds with as many units in flight at one time as the options say; who picks says which of those that may begin
-/// does. While fewer fly and one may begin, it begins; else the one that was begun first is answered. The pick is
-/// borrowed: its answers, in turn, lead from its state before the build to its state after it. Faults: those of
-/// `build_turns`.
+/// Builds with as many units in flight at a time as the options allow. While
+/// fewer are in flight and a unit may begin, the pick chooses one, and it begins;
+/// otherwise the unit that began first answers. The pick is borrowed: its
+/// answers, in turn, lead from its state before the build to its state after it.
+///
+/// Errors: those of `build_turns`.
 pub fn build_with<P: Place, O: Out, K: Pick>(
     alloc: Global,
     place: &mut P,
@@ -458,7 +468,9 @@ pub fn build_with<P: Place, O: Out, K: Pick>(
     build_turns(alloc, place, out, options, &mut jobs)
 }
 
-/// Builds, and begins those units first that come first in plan order. Faults: those of `build_turns`.
+/// Builds, and begins the units in plan order.
+///
+/// Errors: those of `build_turns`.
 pub fn build<P: Place, O: Out>(
     alloc: Global,
     place: &mut P,
@@ -479,7 +491,8 @@ pub fn build<P: Place, O: Out>(
     build_with(alloc, place, out, options, &mut first)
 }
 
-/// The names of the packages without a library to which enabled dependencies of a plan lead.
+/// Returns the names of the packages without a library to which
+/// enabled dependencies of a plan lead.
 fn without_library(plan: BuildPlan) -> Items<Text>
     ensures { result ≡ plan.project.plan.without_library }
 {
@@ -488,8 +501,11 @@ fn without_library(plan: BuildPlan) -> Items<Text>
     plan.without_library
 }
 
-/// The names of the packages without a library to which enabled dependencies lead, in byte order, each once. It goes as
-/// far as the plan: no child is started, no line written and no file changed. Faults: those of `plan_build`.
+/// Returns the names of the packages without a library to which enabled
+/// dependencies lead, in byte order, each once. It goes as far as the
+/// plan: it starts no child, writes no line and changes no file.
+///
+/// Errors: those of `plan_build`.
 pub fn missing_libraries<P: Place>(
     alloc: Global,
     place: &mut P,

@@ -1,4 +1,4 @@
-//! What the variables and the options say of a build, before a file is read.
+//! What the variables and the options say about a build, before any file is read.
 
 ghost use Rattle.std.specs.Prelude.{◌≡◌, ◌∷◌, [], IfOk, IfErr, IsTrue, codes};
 ghost use Rattle.std.specs.FinMap as finite;
@@ -18,19 +18,19 @@ use pb_place::{PathFault, PathText, Place, RelativePath};
 use pb_run::deviceless;
 use std::alloc::{AllocError, Global};
 
-/// What the variables and the options say of a build.
+/// What the variables and the options say about a build.
 #[derive(Drop)]
 pub struct Environment {
     /// The compiler: `RUSTC`, else `rustc` (The Cargo Book, Environment Variables).
     pub rustc: Text,
-    /// The words of `RUSTFLAGS`, which spaces part.
+    /// The words of `RUSTFLAGS`, separated by spaces.
     pub flags: Items<Text>,
-    /// The target folder: `--target-dir`, else `CARGO_TARGET_DIR`, else `target` in the root. A relative one
-    /// starts at the root (our own choice).
+    /// The target folder: `--target-dir`, else `CARGO_TARGET_DIR`, else `target`
+    /// in the root. A relative path starts at the root (our own choice).
     pub target: PathText,
 }
 
-/// A text that is not empty.
+/// Returns a text that is not empty; an empty one counts as absent.
 fn filled(found: Option<Text>) -> Option<Text>
     ensures { result ≡ set_text found }
 {
@@ -46,7 +46,7 @@ fn filled(found: Option<Text>) -> Option<Text>
     }
 }
 
-/// A variable that is set to some text, asked for by one call: an empty one counts as absent (our own choice).
+/// Reads a variable by one call; an empty variable counts as absent (our own choice).
 #[tactic(auto, using(pb_run::proofs::Calling::call_laws))]
 fn variable<P: Place>(alloc: Global, place: &mut P, name: &str) -> Result<Option<Text>, BuildFault>
     ensures ok { IsTrue P.tells
@@ -67,7 +67,7 @@ fn variable<P: Place>(alloc: Global, place: &mut P, name: &str) -> Result<Option
     }
 }
 
-/// The compiler: what `RUSTC` says, else `rustc`.
+/// Returns the compiler: `RUSTC`, else `rustc`.
 fn rustc_of(alloc: Global, found: Option<Text>) -> Result<Text, AllocError>
     ensures { IfOk result (λ text. text ≡ rustc_of found) }
 {
@@ -77,7 +77,7 @@ fn rustc_of(alloc: Global, found: Option<Text>) -> Result<Text, AllocError>
     }
 }
 
-/// The words of a text, which spaces part.
+/// Returns the words of a text, separated by spaces.
 fn words_in(alloc: Global, text: &str) -> Result<Items<Text>, AllocError>
     ensures { IfOk result (λ words. words ≡ words_of text.now) }
 {
@@ -88,7 +88,7 @@ fn words_in(alloc: Global, text: &str) -> Result<Items<Text>, AllocError>
     Ok(words)
 }
 
-/// The compiler's own words: those of `RUSTFLAGS`.
+/// Returns the compiler's own arguments: the words of `RUSTFLAGS`.
 fn flags_of(alloc: Global, found: Option<Text>) -> Result<Items<Text>, AllocError>
     ensures { IfOk result (λ words. words ≡ flags_of found) }
 {
@@ -98,7 +98,7 @@ fn flags_of(alloc: Global, found: Option<Text>) -> Result<Items<Text>, AllocErro
     }
 }
 
-/// A standard target folder: `target` in the root.
+/// Returns the standard target folder: `target` in the root.
 fn standard_target(alloc: Global, root: &PathText) -> Result<PathText, AllocError>
     ensures { IfOk result (λ path. path ≡ below root.now (codes "target")) }
 {
@@ -106,8 +106,8 @@ fn standard_target(alloc: Global, root: &PathText) -> Result<PathText, AllocErro
     root.below(alloc, &name)
 }
 
-/// The path that a text says, where a relative one starts at the root; or another where there is no text, or one
-/// with byte 0.
+/// Returns the path that a text names, starting at the root if it is
+/// relative; or the other path, if there is no text or it contains byte 0.
 fn told_or(
     alloc: Global,
     root: &PathText,
@@ -126,7 +126,7 @@ fn told_or(
     }
 }
 
-/// The target folder.
+/// Returns the target folder.
 fn target_of(
     alloc: Global,
     root: &PathText,
@@ -140,7 +140,7 @@ fn target_of(
     told_or(alloc, root, other, asked)
 }
 
-/// What the variables that were read and the options say.
+/// Returns what the given variables and the options say.
 fn environment_with(
     alloc: Global,
     options: &Options,
@@ -162,8 +162,10 @@ fn environment_with(
     })
 }
 
-/// What the variables and the options say. `RUSTC` is read first, then `RUSTFLAGS`, then `CARGO_TARGET_DIR`. Faults:
-/// Device, with the variable's name; OutOfMemory.
+/// Returns what the variables and the options say. It reads
+/// `RUSTC`, then `RUSTFLAGS`, then `CARGO_TARGET_DIR`.
+///
+/// Errors: `Device`, with the variable's name; `OutOfMemory`.
 pub(crate) fn environment_of<P: Place>(
     alloc: Global,
     place: &mut P,

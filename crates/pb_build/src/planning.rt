@@ -1,4 +1,4 @@
-//! What a build is of: the workspace that is read, its features and its plan.
+//! What a build is about: the workspace that is read, its features and its plan.
 
 ghost use Rattle.std.specs.Prelude.{◌≡◌, ◌⊎◌, AllPairs, IfOk, IfErr, IsTrue, Ok, Err};
 ghost use Rattle.pb_build.specs.Causes.{MayPlan, PlansInTurn, OnlyLooks};
@@ -27,7 +27,7 @@ use pb_unit::{Plan, PlanFault};
 use pb_workspace::{load, selected};
 use std::alloc::Global;
 
-/// The fault of a build whose workspace cannot be read.
+/// Returns the fault of a build whose workspace cannot be read.
 fn unread(fault: LoadFault) -> BuildFault
     ensures { result ≡ unread fault }
 {
@@ -64,7 +64,7 @@ fn read<P: Place>(
     }
 }
 
-/// The packages that are selected, and what is asked of them.
+/// Returns the selected packages, and what is requested of them.
 fn select<'a>(
     alloc: Global,
     workspace: &'a SettledWorkspace,
@@ -86,7 +86,7 @@ fn select<'a>(
     }
 }
 
-/// The features that are on.
+/// Returns the features that are on.
 fn featured(alloc: Global, chosen: &SelectedWorkspace<'_>) -> Result<Features, BuildFault>
     ensures featured { IfOk result (IsFeatured chosen.now.workspace chosen.now.selection) }
     ensures refused { IfErr result
@@ -102,7 +102,7 @@ fn featured(alloc: Global, chosen: &SelectedWorkspace<'_>) -> Result<Features, B
     }
 }
 
-/// The plan.
+/// Returns the plan.
 fn plan_of(
     alloc: Global,
     chosen: &SelectedWorkspace<'_>,
@@ -126,7 +126,7 @@ fn plan_of(
     }
 }
 
-/// The features and the plan of what is selected of a workspace.
+/// Returns the features and the plan of a workspace's selected packages.
 fn parts_of(
     alloc: Global,
     options: &Options,
@@ -154,7 +154,8 @@ fn parts_of(
     }
 }
 
-/// The project of a workspace that was read: what is selected of it, its features and its plan.
+/// Returns the project of a workspace that was read: its
+/// selected packages, its features and its plan.
 fn project_of(
     alloc: Global,
     options: &Options,
@@ -194,8 +195,10 @@ fn project_of(
     }))
 }
 
-/// Reads the workspace, and plans the build. Faults: Plan, with the first refusal; Device, with the path of the call
-/// that failed; OutOfMemory. No child is started and no file changed.
+/// Reads the workspace and plans the build. It starts no child and changes no file.
+///
+/// Errors: `Plan`, with the first refusal; `Device`, with the
+/// path of the failed call; `OutOfMemory`.
 pub(crate) fn planned<P: Place>(
     alloc: Global,
     place: &mut P,

@@ -21,14 +21,15 @@ use pb_place::{Child, Out, Place};
 use pb_session::{PickBy, SessionStep};
 use std::alloc::{AllocError, Global};
 
-/// What one build of a session answered.
+/// The answer of one build of a session.
 #[derive(Drop)]
 pub struct Answer {
     /// The build's summary, or the fault that ended it.
     pub result: Result<Summary, BuildFault>,
 }
 
-/// Builds over a place of which no call fails, and begins those units first that the session picks. None has failed then.
+/// Builds over a place on which no call fails, and begins the
+/// units that the session picks. After it, no call has failed.
 fn built_unfailing<C: Child + Copy, O: Out>(
     alloc: Global,
     memory: &mut Memory<C>,
@@ -57,7 +58,7 @@ fn built_unfailing<C: Child + Copy, O: Out>(
     result
 }
 
-/// Builds over a place of which no call fails, and begins those units first that are picked.
+/// Builds over a place on which no call fails, and begins the units that are picked.
 fn build_picked<C: Child, O: Out>(
     alloc: Global,
     unfailing: &mut Unfailing<C>,
@@ -82,7 +83,7 @@ fn build_picked<C: Child, O: Out>(
     }
 }
 
-/// Builds over a place of which calls may fail, and begins those units first that the session picks.
+/// Builds over a place on which calls may fail, and begins the units that the session picks.
 fn built_anyhow<C: Child, O: Out>(
     alloc: Global,
     memory: &mut Memory<C>,
@@ -108,8 +109,8 @@ fn built_anyhow<C: Child, O: Out>(
     }
 }
 
-/// Builds, and begins those units first that the session picks. Where nothing is set to fail, and nothing has failed, no
-/// call fails.
+/// Builds, and begins the units that the session picks. If
+/// nothing is set to fail, and nothing has failed, no call fails.
 fn built<C: Child + Copy, O: Out>(
     alloc: Global,
     memory: &mut Memory<C>,
@@ -139,7 +140,8 @@ fn built<C: Child + Copy, O: Out>(
     }
 }
 
-/// Builds, and adds the answer to those of the builds before it. A fuse that the build did not reach is gone then.
+/// Builds, and adds the answer to those of earlier builds. A
+/// fuse that the build did not reach is removed.
 fn add_build<C: Child + Copy, O: Out>(
     alloc: Global,
     memory: &mut Memory<C>,
@@ -166,7 +168,7 @@ fn add_build<C: Child + Copy, O: Out>(
     Ok(())
 }
 
-/// Takes a step. A build adds its answer to those of the builds before it; another step has none.
+/// Takes a step. A build adds its answer to those of earlier builds; any other step has no answer.
 fn take_step<C: Child + Copy, O: Out>(
     alloc: Global,
     memory: &mut Memory<C>,
@@ -194,7 +196,7 @@ fn take_step<C: Child + Copy, O: Out>(
     }
 }
 
-/// Lets the call of this number of the next build fail; 0 lets none.
+/// Makes the call of this number of the next build fail; 0 makes no call fail.
 fn light<C: Child>(memory: &mut Memory<C>, number: u64) -> Result<(), AllocError>
     ensures ok { OnOk result
         (memory.new ≡ record memory.old { tally = one_setting memory.old.tally; fuse = number }) }
@@ -204,12 +206,16 @@ fn light<C: Child>(memory: &mut Memory<C>, number: u64) -> Result<(), AllocError
     Ok(())
 }
 
-/// Takes steps in turn over a place in memory where no child is in flight, and gives an answer for each build. The message lines of all builds go
-/// to one sink. The one fault is want of memory outside a build; within one it is that build's answer. Where memory is
-/// refused at a step, those before it were taken; of a build its end stands, and nothing came of another step.
+/// Takes steps in turn over a place in memory with no child in flight, and returns
+/// an answer for each build. All builds write their message lines to one sink.
 ///
-/// Each build ends as `build` says, in the world that the steps before it have left, and its cause is told with it. Where
-/// nothing was set to fail, and nothing has failed, no call of a build fails but for want of memory.
+/// Each build ends as `build` promises, in the world that the earlier steps
+/// left, and its cause is reported with it. If nothing was set to fail, and
+/// nothing has failed, no call of a build fails, except if memory runs out.
+///
+/// Errors: out of memory, outside of a build; within a build this is the build's
+/// answer. If memory runs out at a step, the steps before it were taken. If the
+/// step is a build, it has ended; any other step has done nothing.
 pub fn session<C: Child + Copy, O: Out>(
     alloc: Global,
     memory: &mut Memory<C>,

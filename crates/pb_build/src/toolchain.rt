@@ -19,14 +19,14 @@ use pb_place::{Command, Ended, Place, StartFault};
 use pb_project::Project;
 use std::alloc::Global;
 
-/// Whether a line says the host: `host: ` and something behind it.
+/// Returns whether a line names the host: `host: ` and something after it.
 fn is_host(line: &[u8]) -> bool
     ensures { result ≡ is_host line.now }
 {
     line.len() > 6 && line.starts_with(b"host: ")
 }
 
-/// Whether one of the lines of a text says the host.
+/// Returns whether one of the lines of a text names the host.
 fn has_host(text: &[u8]) -> bool
     ensures { result ≡ list_any is_host (lines_of text.now) }
 {
@@ -38,15 +38,15 @@ fn has_host(text: &[u8]) -> bool
     false
 }
 
-/// Whether an output is a text of which a line says the host.
+/// Returns whether an output is a text with a line that names the host.
 fn says_host(stdout: &[u8]) -> bool
     ensures { result ≡ says_host stdout.now }
 {
     text_of(stdout).is_some() && has_host(stdout)
 }
 
-/// What an answer to the query says of the compiler's version: nothing where its status is not 0, a stream is too
-/// long, or it does not say its host.
+/// Returns the compiler's version by an answer to the query; nothing
+/// if the status is not 0, a stream is too long, or no host is named.
 fn toolchain_in(ended: Ended) -> Option<Bytes>
     ensures { result ≡ toolchain_in ended }
 {
@@ -81,7 +81,7 @@ fn start<P: Place>(
     ensures only { ChangesOnlyInSome command.now.out (P.at place.old).world
         (P.at place.new).world }
 
-    // One child more was in flight; after a fault it or none.
+    // One more child was in flight; after a fault, one more or none.
     ensures most { OnOk result ((P.at place.new).most
         ≡ max (P.at place.old).most (length (P.at place.old).counts.starts.flying + 1)) }
     ensures most_else { OnErr result (((P.at place.new).most ≡ (P.at place.old).most)
@@ -102,8 +102,10 @@ fn start<P: Place>(
     }
 }
 
-/// Asks the compiler for its version. Toolchain where it does not say its host; Child, with `-vV`, where it gave no
-/// answer.
+/// Queries the compiler's version.
+///
+/// Errors: `Toolchain`, if the compiler does not report its
+/// host; `Child` with `-vV`, if it gives no answer.
 #[tactic(auto, using(crate::proofs::Called::ask_laws))]
 pub(crate) fn ask<P: Place>(
     alloc: Global,

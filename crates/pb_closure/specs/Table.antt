@@ -1,4 +1,4 @@
--- Rules that are written down.
+-- Rules as they are written down.
 use Rattle.std.specs.Prelude.{ℕ, ◌<◌, List, Contains}
 use Rattle.pb_closure.specs.declared.table.Rule.{Rule}
 
@@ -6,7 +6,7 @@ use Rattle.pb_closure.specs.declared.table.Rule.{Rule}
 abbrev pub joined_by : List Rule → ℕ → ℕ → ℕ → Type 0
 joined_by rules x y z = Contains rules (record { first = x; second = y; gives = z })
 
--- a rule speaks of things below the count
+-- a rule is about things below `n`
 pub record IsInRange (n : ℕ) (r : Rule) : Type 0 where
   pub first : r.first < n
   pub second : r.second < n

@@ -1,4 +1,4 @@
-//! The least set that rules give, by a list of what is still to be looked at.
+//! The least set that rules yield, computed with a list of what is still to be looked at.
 
 ghost use Rattle.std.specs.Prelude.{◌≡◌, ℕ, ◌+◌, ◌<◌, IfOk, OnOk, All, Contains, IsTrue, length};
 ghost use Rattle.pb_closure.specs.Closure.{Least, IsGiven, IsLeast, is_on, with_mark, with_marks};
@@ -8,21 +8,21 @@ use std::collections::VecDeque;
 
 /// Rules over the things from 0 up to a count, each with at most two premises.
 pub trait Rules {
-    /// How many things there are.
+    /// The number of things.
     ghost count: { Self → ℕ };
 
-    /// Two things give a third together; a rule with one premise joins a thing with itself.
+    /// Two things yield a third together; a rule with one premise joins a thing with itself.
     ghost joins: { Self → ℕ → ℕ → ℕ → Type 0 };
 
-    /// The rules are well made: what `put_given` asks beside.
+    /// The rules are well formed: what `put_given` requires besides.
     ghost is_fit: { Self → Type 0 };
 
-    /// How many things there are.
+    /// Returns the number of things.
     fn count_things(&self) -> usize
         ensures { result ≡ count self.now };
 
-    /// Puts into a buffer, in place of what is in it, what a known thing gives together with the known
-    /// things. It may put more that follows from known things.
+    /// Replaces the contents of a buffer by what a known thing yields together
+    /// with the known things. It may add more that follows from known things.
     fn put_given(
         &self,
         known: &[bool],
@@ -36,7 +36,7 @@ pub trait Rules {
         ensures given { OnOk result (IsGiven (joins self.now) (is_on known.now) thing given.new.items) };
 }
 
-/// Marks a thing and puts it on the list, unless it is marked.
+/// Marks a thing and puts it on the list, unless it is marked already.
 fn mark_one(
     marks: &mut Vec<bool>,
     todo: &mut VecDeque<usize>,
@@ -54,7 +54,7 @@ fn mark_one(
     Ok(())
 }
 
-/// Marks things and puts those that were not marked on the list.
+/// Marks things, and puts those that were not marked on the list.
 fn mark(
     marks: &mut Vec<bool>,
     todo: &mut VecDeque<usize>,
@@ -70,9 +70,11 @@ fn mark(
     Ok(())
 }
 
-/// The least set of things with the seeds, closed under the rules: whether each thing is in it.
-/// Each thing is looked at once, in the order in which they are found: what is found together mostly lies
-/// together. The one fault is want of memory.
+/// Returns for each thing whether it is in the least set that contains the seeds
+/// and is closed under the rules. Each thing is looked at once, in the order in
+/// which they are found, because things found together are mostly close in memory.
+///
+/// Errors: out of memory.
 pub fn least<R: Rules>(alloc: Global, rules: &R, seeds: &[usize]) -> Result<Vec<bool>, AllocError>
     requires seeds { All (λ x. x < R.count rules.now) seeds.now }
     requires fit { R.is_fit rules.now }

@@ -1,5 +1,5 @@
-//! The index of rules: for each thing, what the rules need beside it and what they then give. It serves
-//! this crate alone.
+//! The index of rules: for each thing, what the rules need
+//! beside it and what they then yield. Only this crate uses it.
 
 ghost use Rattle.std.specs.Prelude.{◌≡◌, ◌<◌, IfOk, OnOk, All, length};
 ghost use Rattle.std.specs.List.{sum_by};
@@ -10,27 +10,27 @@ ghost use Rattle.pb_closure.specs.Index.{link_at, with_link, with_rule, either_w
 use crate::table::Rule;
 use std::alloc::{AllocError, Global};
 
-/// What a thing needs beside it, and what the two give.
+/// What a thing needs beside it, and what the two yield.
 #[derive(Clone, Copy)]
 pub(crate) struct Link {
     /// What it needs beside it.
     pub with: usize,
-    /// What the two give.
+    /// What the two yield.
     pub gives: usize,
     /// The number of the thing's next link.
     pub next: usize,
 }
 
-/// The links of all things. A link's number is one more than its place, and 0 stands for none.
+/// The links of all things. A link's number is one more than its index; 0 means none.
 #[derive(Drop)]
 pub(crate) struct Index {
     /// For each thing, the number of its first link.
     pub heads: Vec<usize>,
-    /// The links, those of one thing from the last one back to the first.
+    /// The links; those of one thing go from the last one back to the first.
     pub links: Vec<Link>,
 }
 
-/// The link of a number.
+/// Returns the link of a number, if there is one.
 fn link_at(links: &[Link], number: usize) -> Option<Link>
     ensures { result ≡ link_at links.now number }
 {
@@ -38,8 +38,8 @@ fn link_at(links: &[Link], number: usize) -> Option<Link>
     links.get(place).copied()
 }
 
-/// Puts into a buffer, in place of what is in it, what the links from a number on give that have what
-/// they need.
+/// Replaces the contents of a buffer by what the links from a
+/// number on yield, if they have what they need.
 pub(crate) fn put_linked(
     known: &[bool],
     links: &[Link],
@@ -85,14 +85,14 @@ fn add_rule(index: &mut Index, rule: Rule) -> Result<(), AllocError>
     add_link(index, rule.second, rule.first, rule.gives)
 }
 
-/// How many links a rule makes.
+/// Returns the number of links that a rule makes.
 fn links_of(rule: Rule) -> usize
     ensures { result ≡ links_of rule }
 {
     if rule.first == rule.second { 1 } else { 2 }
 }
 
-/// How many links the rules make. A number past `usize` counts as want of memory.
+/// Returns the number of links that the rules make. A number past `usize` counts as out of memory.
 fn count_links(rules: &[Rule]) -> Result<usize, AllocError>
     ensures { IfOk result (λ count. count ≡ sum_by links_of rules.now) }
 {
@@ -106,7 +106,7 @@ fn count_links(rules: &[Rule]) -> Result<usize, AllocError>
     Ok(count)
 }
 
-/// The index of rules.
+/// Returns the index of rules.
 pub(crate) fn index_of(alloc: Global, count: usize, rules: &[Rule]) -> Result<Index, AllocError>
     requires { All (IsInRange count) rules.now }
     ensures { IfOk result (λ made. IsIndex count (either_way rules.now) made.heads.items made.links.items) }

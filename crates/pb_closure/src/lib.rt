@@ -1,5 +1,5 @@
-//! The least set that rules give: each thing is looked at once, and what is found is the least set
-//! and nothing else.
+//! The least set that rules yield: each thing is looked at
+//! once, and what is found is the least set and nothing else.
 #![tactic(auto)]
 
 mod closure;

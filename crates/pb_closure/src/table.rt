@@ -1,4 +1,4 @@
-//! Rules that are written down, each with two premises, and what follows from them.
+//! Rules as they are written down, each with two premises, and what follows from them.
 
 ghost use Rattle.std.specs.Prelude.{◌<◌, IfOk, All, Contains};
 ghost use Rattle.pb_closure.specs.Closure.{Least, IsLeast, is_on};
@@ -8,7 +8,7 @@ use crate::closure::{Rules, least};
 use crate::index::{Index, index_of, put_linked};
 use std::alloc::{AllocError, Global};
 
-/// Two things that give a third together. A rule with one premise names it twice.
+/// Two things that yield a third together. A rule with one premise names it twice.
 #[derive(Clone, Copy)]
 pub struct Rule {
     pub first: usize,
@@ -50,8 +50,10 @@ impl<'a> Rules for Indexed<'a> {
     }
 }
 
-/// What follows from the seeds by the rules, of the things from 0 up to a count. Each rule is
-/// looked at once for each of its premises. The one fault is want of memory.
+/// Returns what follows from the seeds by the rules, among the things from
+/// 0 up to a count. Each rule is looked at once for each of its premises.
+///
+/// Errors: out of memory.
 pub fn derived(
     alloc: Global,
     count: usize,

@@ -1,4 +1,5 @@
--- The command of a unit: its program, folder, words and variables, and what it may read; and the query of a compiler's version (The Cargo Book, cargo build, Build Scripts, Environment Variables).
+-- The command of a unit: its program, folder, arguments and environment, and what it may read; and the
+-- query of a compiler's version (The Cargo Book, cargo build, Build Scripts, Environment Variables).
 use Rattle.std.specs.Prelude.{ℕ, codes, List, [], ◌∷◌, ◌++◌, Option, Some, None}
 use Rattle.pb_directive.specs.declared.directive.Directive.{Directive}
 use Rattle.pb_place.specs.declared.command.Command.{Command}
@@ -14,7 +15,7 @@ use Rattle.pb_words.specs.Externs.{library_words, reads_of}
 use Rattle.pb_words.specs.Said.{said_words}
 use Rattle.pb_variables.specs.Pairs.{pairs_of}
 
--- the query of a compiler's version, by the compiler, the workspace's root and the target folder
+-- the query of a compiler's version, given the compiler, the workspace's root and the target folder
 abbrev pub query_of : List ℕ → List ℕ → List ℕ → Command
 query_of rustc root target = record {
   program = rustc;
@@ -27,19 +28,19 @@ query_of rustc root target = record {
   reads = [];
 }
 
--- what is compiled, and how: the crate; what is made and where; settings; features
+-- the arguments for what is compiled and how: the crate; what is made and where; settings; features
 abbrev pub crate_part : Project → Planned → Package → List (List ℕ)
 crate_part project unit p = crate_words project unit p ++ output_words unit p ++ settings_words unit.unit.what unit.settings ++ feature_words project unit p
 
--- what is linked, and what is asked for: libraries; what build scripts ask for; the flags of the user
+-- the arguments for what is linked and requested: libraries; what build scripts request; the user's flags
 abbrev pub asked_part : Setup → Project → Planned → List (Option (List Directive)) → Package → List (List ℕ)
 asked_part setup project unit done p = library_words project unit p ++ said_words project unit done p ++ setup.flags
 
--- the words of a compile
+-- the arguments of a compile
 abbrev pub words_of : Setup → Project → Planned → List (Option (List Directive)) → Package → List (List ℕ)
 words_of setup project unit done p = crate_part project unit p ++ asked_part setup project unit done p
 
--- a compile starts in the workspace's root
+-- the command of a compile, which starts in the workspace's root
 abbrev pub compile_of : Setup → Project → Planned → List (Option (List Directive)) → Package → Command
 compile_of setup project unit done p = record {
   program = setup.rustc;
@@ -56,17 +57,17 @@ compile_of setup project unit done p = record {
 abbrev pub script_path : Project → Planned → List ℕ
 script_path project unit = script_source (script_file project unit)
 
--- the runner, or the script itself
+-- the program of a run: the runner, or the script itself without a runner
 abbrev pub run_program : List (List ℕ) → List ℕ → List ℕ
 run_program [] script = script
 run_program (program ∷ words) script = program
 
--- the runner's other words and the script's path; none without a runner
+-- the arguments of a run: the runner's other words and the script's path; none without a runner
 abbrev pub run_words : List (List ℕ) → List ℕ → List (List ℕ)
 run_words [] script = []
 run_words (program ∷ words) script = words ++ script ∷ []
 
--- a run starts in its package's folder
+-- the command of a run, which starts in its package's folder
 abbrev pub run_of : Setup → Project → Planned → List (Option (List Directive)) → Package → Command
 run_of setup project unit done p = record {
   program = run_program setup.runner (script_path project unit);
@@ -85,7 +86,7 @@ command_by (Bin name) setup project unit done p = compile_of setup project unit 
 command_by Script setup project unit done p = compile_of setup project unit done p
 command_by Run setup project unit done p = run_of setup project unit done p
 
--- what stands for the command of a unit whose package is not there; a plan has no such unit
+-- a filler for the command of a unit whose package does not exist; a plan has no such unit
 abbrev pub nothing_of : Setup → Project → Command
 nothing_of setup project = record {
   program = setup.rustc;
@@ -102,6 +103,6 @@ abbrev pub command_for : Setup → Project → Planned → List (Option (List Di
 command_for setup project unit done None = nothing_of setup project
 command_for setup project unit done (Some p) = command_by unit.unit.what setup project unit done p
 
--- the command of a unit, by what the runs before it have said
+-- the command of a unit, given the directives of the runs before it
 abbrev pub command_of : Setup → Project → Planned → List (Option (List Directive)) → Command
 command_of setup project unit done = command_for setup project unit done (package_of project unit)

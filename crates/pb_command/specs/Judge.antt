@@ -1,4 +1,5 @@
--- What is good in the reply to a command, by the command alone: so the answer of a unit that no plan knows is judged as it was when there was one.
+-- Which replies to a command are good, by the command alone: so the answer of
+-- a unit that no plan knows any more is judged as it was when a plan knew it.
 use Rattle.std.specs.Prelude.{◌≡◌, ℕ, Bool, if◌then◌else◌, codes, List, [], ◌∷◌, ◌++◌, Option, Some, None, Result, Ok, Err, slice_get}
 use Rattle.std.specs.FinMap as finite
 use Rattle.std.specs.Str.{bytes_eq}
@@ -22,11 +23,11 @@ use Rattle.pb_project.specs.declared.project.Setup.{Setup}
 use Rattle.pb_judging.specs.Answers.{compile_answered, run_answered, unless_fault, ended_fault, answered_of}
 use Rattle.pb_command.specs.Command.{command_of}
 
--- how a child ended that replied so
+-- how the child of this reply ended
 abbrev pub ended_by : Reply → Ended
 ended_by r = record { status = r.status; stdout = r.stdout; stderr = r.stderr }
 
--- the files of a reply in an output folder, in which nothing stood before
+-- the files of a reply in an output folder that was empty before
 abbrev pub replied_files : List ℕ → Reply → Map
 replied_files out r = files_in out (put_files out r.files finite.empty)
 
@@ -38,7 +39,8 @@ file_at (Some path) files = finite.get files path
 abbrev pub is_of_run : List ℕ → Bool
 is_of_run out = bytes_eq (last_word out) (codes "run")
 
--- the name of the crate that is compiled: the second word, whatever the first is, which is `--crate-name` in each compile of a plan
+-- the name of the compiled crate: the second argument, whatever the
+-- first one is; in each compile of a plan that is `--crate-name`
 abbrev pub crate_in : List (List ℕ) → List ℕ
 crate_in [] = []
 crate_in (option ∷ []) = []
@@ -48,11 +50,11 @@ crate_in (option ∷ name ∷ words) = name
 abbrev pub dep_info_in : Command → List ℕ → Map → Option (List ℕ)
 dep_info_in c out files = file_at (file_in out (crate_in c.words ++ codes ".d")) files
 
--- what an answer with these files gives; a script is run in its package's folder
+-- the judged answer of a child with these files; a script is run in its package's folder
 abbrev pub answered_in : Command → List ℕ → Ended → Map → Result Answered UnitFault
 answered_in c out e files = unless_fault (ended_fault e) (if is_of_run out then run_answered c c.folder e else compile_answered c (dep_info_in c out files))
 
--- the inputs that were found, where there is no fault
+-- the inputs that were found, if there is no fault
 abbrev pub inputs_if : Result Answered UnitFault → Option (List InputName)
 inputs_if (Ok answered) = Some answered.inputs
 inputs_if (Err fault) = None
@@ -61,11 +63,11 @@ abbrev pub judge_in : Command → Option (List ℕ) → Reply → Option (List I
 judge_in c None r = None
 judge_in c (Some out) r = inputs_if (answered_in c out (ended_by r) (replied_files out r))
 
--- the names of the inputs that are found in a good reply to a command; none where the reply is bad
+-- the names of the inputs that are found in a good reply to a command; none if the reply is bad
 unfoldable pub judge : Command → Reply → Option (List InputName)
 judge c r = judge_in c c.out r
 
--- Of the command of each unit of a plan this is the judgement of the unit's answer.
+-- For the command of each unit of a plan, this is the judgement of the unit's answer.
 abbrev pub JudgesAsAnswered : Type 0
 JudgesAsAnswered = (setup : Setup) (project : Project) (u : Planned) (done : List (Option (List Directive))) (selection : Selection) (place : ℕ) (r : Reply)
     → IsSettled project.workspace → IsPlan project.workspace project.features selection project.profile project.plan → slice_get project.plan.planned place ≡ Some u

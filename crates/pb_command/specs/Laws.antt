@@ -1,4 +1,4 @@
--- What holds of each command, in words of its own.
+-- What is true of each command, in words that do not follow the code.
 use Rattle.std.specs.Prelude.{◌≡◌, ℕ, List, All, IfSome, Option, true, false}
 use Rattle.std.specs.Cmp.Lexicographic.{slice_cmp}
 use Rattle.std.specs.Ordering.{nat_cmp, ordering_then}
@@ -15,16 +15,17 @@ use Rattle.pb_command.specs.Command.{command_of}
 use Rattle.pb_words.specs.Externs.{extern_key}
 use Rattle.pb_variables.specs.Pairs.{composed, pairs_of}
 
--- the names of the variables rise in byte order, so each stands once
+-- the names of the variables are in ascending byte order, so each occurs once
 abbrev pub PairsRise : Type 0
 PairsRise = (setup : Setup) (project : Project) (unit : Planned) (done : List (Option (List Directive))) → IsAscending (names_of (command_of setup project unit done).pairs)
 
--- of the values that a variable is given, the last counts: so what a script has set wins over what the builder sets, and a later line over an earlier one
+-- the last value that a variable is given counts: so a script's value
+-- wins over the builder's, and a later line over an earlier one
 abbrev pub LastValuesCount : Type 0
 LastValuesCount = (setup : Setup) (project : Project) (unit : Planned) (done : List (Option (List Directive))) (p : Package) (name : List ℕ)
     → value_at name (pairs_of setup project unit done p) ≡ last_value name (composed setup project unit done p)
 
--- libraries are put in order by their names and then by their paths: a name has no byte 0
+-- libraries are ordered by their names and then by their paths, since a name has no byte 0
 abbrev pub LibrariesInOrder : Type 0
 LibrariesInOrder = (name other path next : List ℕ) → has_byte_0 name ≡ false → has_byte_0 other ≡ false
     → slice_cmp nat_cmp (extern_key name path) (extern_key other next) ≡ ordering_then (slice_cmp nat_cmp name other) (slice_cmp nat_cmp path next)
@@ -36,7 +37,7 @@ pub record HasPaths (project : Project) : Type 0 where
   pub packages : All (λ (p : Package). is_path p.folder ≡ true) project.workspace.packages
   pub units : All (λ (unit : Planned). is_path unit.out ≡ true) project.plan.planned
 
--- and so are all paths of a command
+-- all paths of a command are normalised absolute paths
 pub record IsAbsolute (command : Command) : Type 0 where
   pub folder : is_path command.folder ≡ true
   pub target : is_path command.target ≡ true

@@ -19,8 +19,10 @@ use pb_words::{
 };
 use std::alloc::{AllocError, Global};
 
-/// The query of a compiler's version, `-vV`: it starts in the workspace's root, sets no variables, reads and
-/// writes nothing in the target folder. The one fault is want of memory.
+/// Returns the query of a compiler's version, `-vV`. It starts in the workspace's
+/// root, sets no variables, and reads and writes nothing in the target folder.
+///
+/// Errors: out of memory.
 pub fn query(alloc: Global, rustc: &Text, workspace: &Workspace) -> Result<Command, AllocError>
     ensures { IfOk result (λ command. command ≡ query_of rustc.now workspace.now.root workspace.now.target) }
 {
@@ -38,7 +40,7 @@ pub fn query(alloc: Global, rustc: &Text, workspace: &Workspace) -> Result<Comma
     })
 }
 
-/// Adds the words of what is compiled, and how.
+/// Adds the arguments for what is compiled, and how.
 fn push_crate_part(
     alloc: Global,
     words: &mut Items<Text>,
@@ -55,7 +57,7 @@ fn push_crate_part(
     Ok(())
 }
 
-/// Adds the words of what is linked, and of what scripts and the user ask for.
+/// Adds the arguments for what is linked, and for what scripts and the user request.
 fn push_asked_part(
     alloc: Global,
     words: &mut Items<Text>,
@@ -73,7 +75,7 @@ fn push_asked_part(
     Ok(())
 }
 
-/// The words of a compile.
+/// Returns the arguments of a compile.
 fn words_of(
     alloc: Global,
     setup: &Setup,
@@ -99,7 +101,7 @@ struct Asking {
     pairs: Items<(Text, Text)>,
 }
 
-/// Where a unit's child writes, and what it may read there.
+/// The folder into which a unit's child writes, and what it may read.
 #[derive(Drop)]
 struct Surroundings {
     out: PathText,
@@ -108,7 +110,7 @@ struct Surroundings {
     reads: Items<PathText>,
 }
 
-/// Where the child of a unit writes, and what it may read there.
+/// Returns the folder into which a unit's child writes, and what it may read.
 fn surroundings_of(
     alloc: Global,
     setup: &Setup,
@@ -129,7 +131,7 @@ fn surroundings_of(
     })
 }
 
-/// A command of its two parts.
+/// Returns a command, made of its two parts.
 fn joined(asking: Asking, surroundings: Surroundings) -> Command
     ensures { result ≡ record { program = asking.program; words = asking.words; folder = asking.folder; pairs = asking.pairs; out = Some surroundings.out; target = surroundings.target; toolchain = surroundings.toolchain; reads = surroundings.reads } }
 {
@@ -145,7 +147,7 @@ fn joined(asking: Asking, surroundings: Surroundings) -> Command
     }
 }
 
-/// What a compile is started with.
+/// Returns what a compile is started with.
 fn compile_asking(
     alloc: Global,
     setup: &Setup,
@@ -168,7 +170,7 @@ fn compile_asking(
     })
 }
 
-/// The compile of a unit.
+/// Returns the command of a compile.
 fn compile_of(
     alloc: Global,
     setup: &Setup,
@@ -185,7 +187,7 @@ fn compile_of(
     Ok(joined(asking, surroundings))
 }
 
-/// The path of the script that a run starts; empty where there is none.
+/// Returns the path of the script that a run starts; it is empty if there is none.
 fn script_path(alloc: Global, project: &Project, unit: &Planned) -> Result<Text, AllocError>
     ensures { IfOk result (λ path. path ≡ script_path project.now unit.now) }
 {
@@ -195,7 +197,7 @@ fn script_path(alloc: Global, project: &Project, unit: &Planned) -> Result<Text,
     }
 }
 
-/// The program that starts a script: the runner, or the script itself.
+/// Returns the program that starts a script: the runner, or the script itself.
 fn run_program(alloc: Global, runner: &[Text], script: &Text) -> Result<Text, AllocError>
     ensures { IfOk result (λ program. program ≡ run_program runner.now script.now) }
 {
@@ -205,7 +207,7 @@ fn run_program(alloc: Global, runner: &[Text], script: &Text) -> Result<Text, Al
     }
 }
 
-/// The words behind that program: the runner's others and the script's path.
+/// Returns the arguments of that program: the runner's other words and the script's path.
 fn run_words(alloc: Global, runner: &[Text], script: &Text) -> Result<Items<Text>, AllocError>
     ensures { IfOk result (λ words. words ≡ run_words runner.now script.now) }
 {
@@ -220,7 +222,7 @@ fn run_words(alloc: Global, runner: &[Text], script: &Text) -> Result<Items<Text
     Ok(words)
 }
 
-/// What the run of a script is started with.
+/// Returns what the run of a script is started with.
 fn run_asking(
     alloc: Global,
     setup: &Setup,
@@ -244,7 +246,7 @@ fn run_asking(
     })
 }
 
-/// The run of a script.
+/// Returns the command of a script's run.
 fn run_of(
     alloc: Global,
     setup: &Setup,
@@ -262,7 +264,7 @@ fn run_of(
     Ok(joined(asking, surroundings))
 }
 
-/// The command of a unit of a package, by what it makes.
+/// Returns the command of a unit of a package, by what the unit makes.
 fn command_by(
     alloc: Global,
     setup: &Setup,
@@ -279,7 +281,7 @@ fn command_by(
     }
 }
 
-/// What stands for the command of a unit whose package is not there.
+/// Returns a filler for the command of a unit whose package does not exist.
 fn nothing_of(alloc: Global, setup: &Setup, project: &Project) -> Result<Command, AllocError>
     ensures { IfOk result (λ command. command ≡ nothing_of setup.now project.now) }
 {
@@ -299,16 +301,19 @@ fn nothing_of(alloc: Global, setup: &Setup, project: &Project) -> Result<Command
     })
 }
 
-/// The command of a unit of the plan. `done` tells what the runs before it have said: its entry at a run's
-/// place in the plan is what the run's lines give, and none at a compile's; a place past its end counts as none.
+/// Returns the command of a unit of the plan. `done` contains the directives
+/// of earlier runs: at the index of a run in the plan, those of the run's
+/// lines; at that of a compile, none. An index past its end counts as none.
 ///
-/// A compile starts the compiler in the workspace's root. Its words are the crate's name, edition and source; its
-/// types, and where it is written; its settings; the features that are on, and those that there are; the
-/// folders of the libraries that it reaches, and the libraries by the names that the source gives them; what
-/// build scripts have asked for; and the flags of the user. A run starts the build script in its package's
-/// folder, behind the runner where there is one. Variables are those of The Cargo Book, Environment Variables,
-/// and those that the script of the package has set, which win. It may read the folders of all units that it
-/// reaches. The one fault is want of memory.
+/// A compile starts the compiler in the workspace's root. Its arguments are, in this order: the
+/// crate's name, edition and source; its types, and where it is written; its settings; the
+/// features that are on, and those that exist; the folders of the libraries that it reaches, and
+/// the libraries under the names that the source uses; what build scripts request; and the user's
+/// flags. A run starts the build script in its package's folder, after the runner if there is one.
+/// The variables are those of The Cargo Book, Environment Variables, and those that the package's
+/// script has set, which win. The child may read the folders of all units that its unit reaches.
+///
+/// Errors: out of memory.
 pub fn command(
     alloc: Global,
     setup: &Setup,

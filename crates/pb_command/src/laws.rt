@@ -3,29 +3,29 @@
 ghost use Rattle.pb_command.specs.Laws.{PairsRise, LastValuesCount, LibrariesInOrder, CommandsAreAbsolute};
 ghost use Rattle.pb_command.specs.Judge.{JudgesAsAnswered};
 
-/// The variables of a command stand in byte order of their names, each name once.
+/// The variables of a command are in byte order of their names, each name once.
 pub fn pairs_rise()
     ensures { PairsRise }
 {}
 
-/// Of the values that a variable is given, the last counts.
+/// The last value that a variable is given counts.
 pub fn last_values_count()
     ensures { LastValuesCount }
 {}
 
-/// What the libraries of a compile are put in order by orders them by their names, and then by their paths, in byte order,
-/// where names have no byte 0.
+/// The order in which the libraries of a compile are sorted is by their
+/// names and then by their paths, in byte order, if names have no byte 0.
 pub fn libraries_in_order()
     ensures { LibrariesInOrder }
 {}
 
-/// The paths of a command are normalised and absolute, where those of its project are.
+/// The paths of a command are normalised and absolute, if those of its project are.
 pub fn commands_are_absolute()
     ensures { CommandsAreAbsolute }
 {}
 
-/// What is found in a reply to the command of a planned unit is found by its command alone: so a record is judged
-/// whatever plan its unit was of.
+/// What is found in a reply to the command of a planned unit depends only
+/// on the command: so a record is judged whatever plan its unit was in.
 pub fn judges_as_answered()
     ensures { JudgesAsAnswered }
 {}

@@ -1,4 +1,5 @@
--- What the words of a compile say (The Cargo Book, Build Cache, Profiles, Features, Build Scripts): of each option all its values, in turn.
+-- What the arguments of a compile say (The Cargo Book, Build Cache,
+-- Profiles, Features, Build Scripts): all values of each option, in order.
 use Rattle.std.specs.Prelude.{◌≡◌, ℕ, Bool, true, false, ◌&&◌, ◌||◌, if◌then◌else◌, is_some, codes, List, [], ◌∷◌, ◌++◌, map, filter, Option, Some, None}
 use Rattle.std.specs.Fmt.{decimal}
 use Rattle.std.specs.List.{flat_map, filter_map, join_by}
@@ -49,11 +50,11 @@ lto_value lto.Fat = Some (codes "fat")
 lto_value lto.Thin = Some (codes "thin")
 lto_value lto.Off = Some (codes "off")
 
--- a row of a table, where there is a value
+-- the row of a table for a value, if there is one
 abbrev pub row : List ℕ → Option (List ℕ) → List (List ℕ × List ℕ)
 row name value = option_to_list (option_map (λ text. (name, text)) value)
 
--- each setting with its value; one without a value is not told
+-- each setting with its value; a setting without a value has no row
 abbrev pub settings_table : What → Settings → List (List ℕ × List ℕ)
 settings_table what s =
     (codes "opt-level", opt_level_text s.opt_level)
@@ -68,7 +69,8 @@ settings_table what s =
 
 -- What the lines of scripts say.
 
--- a line of a script as its key and its value: of `rustc-link-arg-bin=BIN=FLAG` the key is `rustc-link-arg-bin=BIN`; of a line whose key is asked for nowhere both are empty
+-- a line of a script as its key and its value;
+-- the key of `rustc-link-arg-bin=BIN=FLAG` is `rustc-link-arg-bin=BIN`; a line whose key is used nowhere has both empty
 abbrev pub as_line : Directive → List ℕ × List ℕ
 as_line (LinkSearch folder) = (codes "rustc-link-search", folder)
 as_line (LinkLib name) = (codes "rustc-link-lib", name)
@@ -86,11 +88,11 @@ as_line _ = ([], [])
 abbrev pub asked : List ℕ → List Directive → List (List ℕ)
 asked key said = values key (map as_line said)
 
--- a unit to which the run of its own package hands on what it has said: a library or a binary
+-- a unit hears the lines that the run of its own package has printed, if it is a library or a binary
 abbrev pub hears : What → Bool
 hears what = is_library what || is_binary what
 
--- what it hears
+-- the directives that a unit hears
 abbrev pub heard : Project → Planned → List (Option (List Directive)) → List Directive
 heard project unit done = if hears unit.unit.what then own_said project unit done else []
 
@@ -114,11 +116,11 @@ features_there_are features = codes "cfg(feature, values(" ++ join_by (λ (f : F
 
 -- Libraries.
 
--- the units at these places that are libraries
+-- the libraries among the units at these indices
 abbrev pub libraries_at : Project → List ℕ → List Planned
 libraries_at project places = filter (λ (u : Planned). is_library u.unit.what) (filter_map (unit_at project) places)
 
--- What the words of a compile say. `lines` are those of the script that it hears; `Is` holds of its libraries.
+-- What the arguments of a compile say. `lines` are those of the script that it hears; `Is` is true of its libraries.
 pub record CompileSays (project : Project) (unit : Planned) (done : List (Option (List Directive))) (p : Package) (lines : List Directive) (Is : List ℕ → List ℕ → Type 0) (said : List (List ℕ × List ℕ)) : Type 0 where
   pub crate_name : values (codes "--crate-name") said ≡ crate_name_of project unit ∷ []
   pub crate_types : values (codes "--crate-type") said ≡ map crate_type_text (crate_types p.library unit.unit.what)
@@ -128,7 +130,7 @@ pub record CompileSays (project : Project) (unit : Planned) (done : List (Option
   -- the features that are on, and the conditions that the script sets; then the features that exist, and those that it expects
   pub conditions : values (codes "--cfg") said ≡ map feature_is_on (features_at project.features unit.unit.owner unit.unit.side) ++ asked (codes "rustc-cfg") lines
   pub expected : values (codes "--check-cfg") said ≡ features_there_are p.features ∷ asked (codes "rustc-check-cfg") lines
-  -- the folder of each library that the unit reaches, and those that the runs which it reaches have named
+  -- the folder of each library that the unit reaches, and the folders that the runs it reaches have named
   pub searched : values (codes "-L") said ≡ map (λ (library : Planned). codes "dependency=" ++ library.out) (libraries_at project unit.reaches) ++ asked (codes "rustc-link-search") (flat_map (said_at done) unit.reaches)
   -- what the script links: a binary links it only if its package has no library
   pub linked : values (codes "-l") said ≡ (if is_binary unit.unit.what && is_some p.library then [] else asked (codes "rustc-link-lib") lines)
@@ -136,7 +138,8 @@ pub record CompileSays (project : Project) (unit : Planned) (done : List (Option
   pub given : values (codes "--extern") said ≡ map assigned libraries
   pub are : AreLibraries Is libraries
 
--- The law: the words of a compile say this, and then what the flags of the user say. The package is one of a workspace that was read, and its source has a normalised absolute path
+-- The law: the arguments of a compile say this, and then what the user's flags say. The
+-- package is one of a workspace that was read, and its source has a normalised absolute path
 abbrev pub CompilesSay : Type 0
 CompilesSay = (setup : Setup) (project : Project) (unit : Planned) (done : List (Option (List Directive))) (p : Package)
     → IsSettled project.workspace → package_of project unit ≡ Some p → is_run unit.unit.what ≡ false → is_path (source_by p unit.unit.what) ≡ true

@@ -1,4 +1,5 @@
--- The libraries that a compile is given (The Cargo Book, Specifying Dependencies, Renaming dependencies in Cargo.toml).
+-- The libraries that are passed to a compile (The Cargo Book,
+-- Specifying Dependencies, Renaming dependencies in Cargo.toml).
 use Rattle.std.specs.Prelude.{◌≡◌, ◌↔◌, ℕ, ◌∷◌, ◌++◌, true, false, List, Contains, Some, slice_get}
 use Rattle.std.specs.Cmp.Lexicographic.{slice_cmp}
 use Rattle.std.specs.List.Sorted.{IsStrictlySortedBy}
@@ -14,26 +15,30 @@ use Rattle.pb_unit.specs.Units.{is_build}
 use Rattle.pb_unit.specs.declared.plan.Planned.{Planned}
 use Rattle.pb_unit.specs.declared.unit.What.TheVariants.{Bin}
 
--- the crate's name of the library of the package at a place
+-- the crate name of the library of the package at an index
 abbrev pub crate_at : Project → ℕ → List ℕ
 crate_at project place = library_name (library_in (slice_get project.workspace.packages place))
 
--- the name by which a source calls the library to which an entry leads: the crate's own, and where `package` renames it the entry's key, with `_` for each `-`
+-- the name by which a source calls an entry's library: the crate's own
+-- name, or the entry's key with `_` for each `-` if `package` renames it
 pub data IsCalled (project : Project) (entry : Entry) : List ℕ → Type 0 where
   renamed : (is : entry.renamed ≡ true) → IsCalled project entry (underscored entry.key)
   itself : (is : entry.renamed ≡ false) → IsCalled project entry (crate_at project entry.to)
 
--- a library of this name and file: by an entry that is enabled on the unit's side, of `[build-dependencies]` for a script and else of `[dependencies]`, which leads to a package whose library the unit needs; or, of a binary, its package's own library
+-- a library of this name and file is passed to the compile:
+-- - that of an entry which is enabled on the unit's side and leads to a package whose library the unit
+--   needs; the entry is of `[build-dependencies]` for a script, and of `[dependencies]` for any other unit
+-- - a binary's own library
 pub data IsLibrary (project : Project) (unit : Planned) (p : Package) : List ℕ → List ℕ → Type 0 where
   by_entry : (n : ℕ) (entry : Entry) (name file : List ℕ) (there : slice_get p.entries n ≡ Some entry) (enabled : is_enabled project.features unit.unit.owner unit.unit.side n ≡ true)
       (kind : is_build entry.kind ≡ is_script unit.unit.what) (called : IsCalled project entry name) (needed : library_file project unit entry.to ≡ Some file) → IsLibrary project unit p name file
   own : (binary file : List ℕ) (is : unit.unit.what ≡ Bin binary) (needed : library_file project unit unit.unit.owner ≡ Some file) → IsLibrary project unit p (crate_at project unit.unit.owner) file
 
--- by name, and then by file
+-- the order of libraries: by name, and then by file
 abbrev pub by_name : List ℕ × List ℕ → List ℕ × List ℕ → Ordering
 by_name a b = ordering_then (slice_cmp nat_cmp a.0 b.0) (slice_cmp nat_cmp a.1 b.1)
 
--- those libraries of a name and a file of which this is so, in this order, each once
+-- the libraries are exactly those with a name and a file of which `Is` is true, in this order, each once
 pub record AreLibraries (Is : List ℕ → List ℕ → Type 0) (libraries : List (List ℕ × List ℕ)) : Type 0 where
   pub order : IsStrictlySortedBy by_name libraries
   pub same : (library : List ℕ × List ℕ) → Contains libraries library ↔ Is library.0 library.1

@@ -1,4 +1,5 @@
--- What the commands of a plan's units are: for a unit that stands in the plan of its project, all in one (The Cargo Book, cargo build, Build Scripts, Environment Variables, Specifying Dependencies).
+-- The commands of a plan's units, all in one: for a unit that is in the plan of its project
+-- (The Cargo Book, cargo build, Build Scripts, Environment Variables, Specifying Dependencies).
 use Rattle.std.specs.Prelude.{◌≡◌, ℕ, true, false, ◌&&◌, ◌++◌, codes, is_some, List, [], Option, Some, None}
 use Rattle.pb_command.specs.Command.{command_of}
 use Rattle.pb_project.specs.declared.project.Setup.{Setup}
@@ -19,12 +20,14 @@ use Rattle.pb_command_laws.specs.Reading.{said_by}
 use Rattle.pb_command_laws.specs.Starts.{StartsCompiler, StartsScript}
 use Rattle.pb_command_laws.specs.Variables.{HasVariables, compile_table, run_table}
 
--- what a compile hears of its package's script: a library or a binary the lines of the run on its own side, whose files have this folder
+-- what a compile hears of its package's script: a library or a binary hears
+-- the lines of the run on its own side, whose files are in this folder
 pub data Hears (project : Project) (u : Planned) (p : Package) (done : List (Option (List Directive))) : List Directive → Option (List ℕ) → Type 0 where
   nothing : (is : (hears u.unit.what && is_some p.script) ≡ false) → Hears project u p done [] None
   own_run : (is : (hears u.unit.what && is_some p.script) ≡ true) (place : ℕ) (run : Planned) (there : unit_at project place ≡ Some run) (same : run.unit ≡ unit u.unit.owner u.unit.side Run) → Hears project u p done (said_at done place) (Some run.out)
 
--- a compile: what it starts, what it hears, its variables, whose names rise, so each stands once, and what its words say
+-- a compile: what it starts, what it hears, its variables, whose
+-- names ascend so that each occurs once, and what its arguments say
 pub record IsCompile (setup : Setup) (project : Project) (u : Planned) (done : List (Option (List Directive))) (p : Package) (command : Command) : Type 0 where
   pub starts : StartsCompiler setup project u command
   pub lines : List Directive
@@ -36,7 +39,7 @@ pub record IsCompile (setup : Setup) (project : Project) (u : Planned) (done : L
   pub words : said_by command.words ≡ said ++ said_by setup.flags
   pub says : CompileSays project u done p lines (IsWanted project u p) said
 
--- a run starts the script of its package on its side; the names of its variables rise too
+-- a run starts the script of its package on its side; the names of its variables ascend too
 pub record IsRun (setup : Setup) (project : Project) (u : Planned) (done : List (Option (List Directive))) (p : Package) (command : Command) : Type 0 where
   pub starts : StartsScript setup project u p (Some (below (folder_of project (unit u.unit.owner u.unit.side Script)) (codes "build_script_build"))) command
   pub has : HasVariables command (run_table setup project u done p)

@@ -1,4 +1,5 @@
--- Which units of a plan a command speaks of: the libraries that a compile is given, the run that a compile hears, and the script that a run starts (The Cargo Book, Specifying Dependencies, Build Scripts).
+-- Which units of a plan a command is about: the libraries that are passed to a compile, the run that a
+-- compile hears, and the script that a run starts (The Cargo Book, Specifying Dependencies, Build Scripts).
 use Rattle.std.specs.Prelude.{◌≡◌, ◌↔◌, ℕ, ◌++◌, true, false, if◌then◌else◌, codes, is_some, List, Some, None, slice_get}
 use Rattle.pb_resolved.specs.Features.{is_enabled}
 use Rattle.pb_directive.specs.Metadata.{underscored}
@@ -19,7 +20,7 @@ use Rattle.pb_unit.specs.declared.unit.What.TheVariants.{Lib, Bin, Script, Run}
 use Rattle.pb_command_laws.specs.Compiles.{hears}
 use Rattle.pb_command_laws.specs.Libraries.{IsLibrary}
 
--- a unit stands in the plan of its project
+-- a unit is in the plan of its project
 pub record StandsInPlan (project : Project) (u : Planned) (p : Package) : Type 0 where
   pub selection : Selection
   pub place : ℕ
@@ -31,7 +32,7 @@ pub record StandsInPlan (project : Project) (u : Planned) (p : Package) : Type 0
 abbrev pub folder_of : Project → OfPlan → List ℕ
 folder_of project u = below (profile_folder project.workspace project.profile) (key_of project.workspace u)
 
--- the crate and the file of the library of the package at a place, on a side
+-- the crate name and the file of the library of the package at an index, on a side
 pub record IsLibraryOf (project : Project) (place : ℕ) (side : Side) (crate file : List ℕ) : Type 0 where
   pub owner : Package
   pub library : Library
@@ -40,23 +41,26 @@ pub record IsLibraryOf (project : Project) (place : ℕ) (side : Side) (crate fi
   pub crate_is : crate ≡ library.name
   pub file_is : file_in (folder_of project (unit place side Lib)) (codes "lib" ++ crate ++ codes ".rlib") ≡ Some file
 
--- each entry that is enabled on the unit's side, of `[build-dependencies]` for a script and else of `[dependencies]`, and leads to a package with a library, which is that of the unit's role; and, of a binary, its package's own library
+-- a library of this name and file is wanted:
+-- - that of an entry which is enabled on the unit's side and leads to a package with a library; the library is that of
+--   the unit's role; the entry is of `[build-dependencies]` for a script, and of `[dependencies]` for any other unit
+-- - a binary's own library
 pub data IsWanted (project : Project) (u : Planned) (p : Package) : List ℕ → List ℕ → Type 0 where
   by_entry : (n : ℕ) (entry : Entry) (crate file : List ℕ) (there : slice_get p.entries n ≡ Some entry) (enabled : is_enabled project.features u.unit.owner u.unit.side n ≡ true)
       (kind : entry.kind ≡ (if is_script u.unit.what then Build else Normal)) (library : IsLibraryOf project entry.to (role_of u.unit) crate file) → IsWanted project u p (if entry.renamed then underscored entry.key else crate) file
   own : (binary crate file : List ℕ) (is : u.unit.what ≡ Bin binary) (library : IsLibraryOf project u.unit.owner u.unit.side crate file) → IsWanted project u p crate file
 
--- These are the libraries that a compile of a plan is given.
+-- These are the libraries that are passed to a compile of a plan.
 abbrev pub LibrariesAreWanted : Type 0
 LibrariesAreWanted = (project : Project) (u : Planned) (p : Package) → StandsInPlan project u p → is_run u.unit.what ≡ false → (name file : List ℕ) → IsLibrary project u p name file ↔ IsWanted project u p name file
 
--- a run of the package at a place on a side stands at this place of the plan
+-- the run of the package at an index, on a side, is at this index of the plan
 pub record IsRunOf (project : Project) (owner : ℕ) (side : Side) (place : ℕ) : Type 0 where
   pub run : Planned
   pub there : unit_at project place ≡ Some run
   pub is : run.unit ≡ unit owner side Run
 
--- The run that a library or a binary hears is that of its package on its side, where the package has a script, and else there is none.
+-- A library or a binary hears the run of its package on its side, if the package has a script; otherwise it hears none.
 pub record HearsOwnRun (project : Project) (u : Planned) (p : Package) : Type 0 where
   pub some : is_some p.script ≡ true → (place : ℕ) × (own_run project u ≡ Some place) × IsRunOf project u.unit.owner u.unit.side place
   pub none : is_some p.script ≡ false → own_run project u ≡ None
@@ -64,7 +68,7 @@ pub record HearsOwnRun (project : Project) (u : Planned) (p : Package) : Type 0 
 abbrev pub CompilesHearRuns : Type 0
 CompilesHearRuns = (project : Project) (u : Planned) (p : Package) → StandsInPlan project u p → hears u.unit.what ≡ true → HearsOwnRun project u p
 
--- The script that a run starts is that of its package on its side.
+-- A run starts the script of its package on its side.
 abbrev pub RunsStartScripts : Type 0
 RunsStartScripts = (project : Project) (u : Planned) (p : Package) → StandsInPlan project u p → is_run u.unit.what ≡ true
     → script_file project u ≡ Some (below (folder_of project (unit u.unit.owner u.unit.side Script)) (codes "build_script_build"))

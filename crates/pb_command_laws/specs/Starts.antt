@@ -10,7 +10,8 @@ use Rattle.pb_project.specs.declared.project.Project.{Project}
 use Rattle.pb_project.specs.declared.project.Setup.{Setup}
 use Rattle.pb_command.specs.Command.{command_of}
 
--- a command starts in a folder and writes into its unit's; of the target folder it may read the folders of all units that its unit reaches, in plan order
+-- a unit's command starts in a folder and writes into the unit's folder;
+-- in the target folder it may read the folders of all units that its unit reaches, in plan order
 pub record IsOfUnit (setup : Setup) (project : Project) (unit : Planned) (folder : List ℕ) (command : Command) : Type 0 where
   pub folder_is : command.folder ≡ folder
   pub out : command.out ≡ Some unit.out
@@ -22,7 +23,7 @@ pub record IsOfUnit (setup : Setup) (project : Project) (unit : Planned) (folder
 abbrev pub StartsCompiler : Setup → Project → Planned → Command → Type 0
 StartsCompiler setup project unit command = (command.program ≡ setup.rustc) × IsOfUnit setup project unit project.workspace.root command
 
--- a run starts its script, where there is one, behind the words of the runner where there is one, in its package's folder
+-- a run starts its script, if there is one, in its package's folder, after the runner's words if there is a runner
 abbrev pub StartsScript : Setup → Project → Planned → Package → Option (List ℕ) → Command → Type 0
 StartsScript setup project unit p file command = ((script : List ℕ) → file ≡ Some script → command.program ∷ command.words ≡ setup.runner ++ script ∷ []) × IsOfUnit setup project unit p.folder command
 

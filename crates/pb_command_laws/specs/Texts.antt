@@ -10,11 +10,12 @@ use Rattle.pb_directive.specs.declared.dep_info.DepInfo.{DepInfo}
 use Rattle.pb_directive.specs.declared.fault.LineFault.{LineFault}
 use Rattle.pb_directive.specs.declared.fault.Problem.{Problem}
 
--- A line without the blanks at both ends: what is left behind those in front, without those at its end.
+-- A line without the blanks at both ends is what remains without those at the front and then without those at the end.
 abbrev pub LinesAreTrimmed : Type 0
 LinesAreTrimmed = (line : List ℕ) → let rest = drop (prefix_len is_blank line) line in trimmed line ≡ take (length rest - suffix_len is_blank rest) rest
 
--- what is read of lines: all that each of them gives, in turn; or what is wrong with the first that does not read, told with its number from 1
+-- the result of reading lines: all that each line yields, in order; or the problem
+-- of the first line that does not read, with that line's number, counted from 1
 pub data AreRead {T U : Type 0} (read : List ℕ → Result T Problem) (all : List T → U) (lines : List (List ℕ)) : Result U LineFault → Type 0 where
   each : (parts : List T) (are : AllZip (λ line part. read line ≡ Ok part) lines parts) → AreRead read all lines (Ok (all parts))
   first : (place : ℕ) (line : List ℕ) (problem : Problem) (there : slice_get lines place ≡ Some line) (wrong : read line ≡ Err problem)

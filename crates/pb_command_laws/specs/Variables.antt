@@ -1,4 +1,5 @@
--- What the variables of a command are (The Cargo Book, Environment Variables): tables of names and values, of which the last of a name counts.
+-- The variables of a command (The Cargo Book, Environment Variables):
+-- tables of names and values, in which the last value of a name counts.
 use Rattle.std.specs.Prelude.{◌≡◌, ℕ, true, false, if◌then◌else◌, codes, List, [], ◌∷◌, ◌++◌, map, reverse, Option, Some, None}
 use Rattle.std.specs.Fmt.{decimal}
 use Rattle.std.specs.List.{flat_map, list_any, join_by}
@@ -25,17 +26,18 @@ use Rattle.pb_command.specs.Command.{command_of}
 use Rattle.pb_variables.specs.Pairs.{triple_of}
 use Rattle.pb_command_laws.specs.Compiles.{binary_name, row, hears, heard}
 
--- a command has the variables of a table: each name has the value that stands last there, the first from behind, and no other name is set
+-- a command has exactly the variables of a table: each name has the
+-- last value of that name in the table, and no other name is set
 abbrev pub HasVariables : Command → List (List ℕ × List ℕ) → Type 0
 HasVariables command table = (name : List ℕ) → value_at name command.pairs ≡ value_at name (reverse table)
 
--- Of every unit.
+-- For every unit.
 
--- the parts of a version, which each package has: three numbers and what stands behind `-`
+-- the parts of a version, which each package has: three numbers, and what comes after `-` and after `+`
 abbrev pub parts_of : List ℕ → ℕ × ℕ × ℕ × List ℕ × List ℕ
 parts_of version = result_unwrap_or (version_parts version) (0, 0, 0, [], [])
 
--- the builder, and what the unit's package is and says of itself
+-- the variables for the builder, and for what the unit's package is and says about itself
 abbrev pub package_table : Setup → Package → List (List ℕ × List ℕ)
 package_table setup p =
     (codes "CARGO", setup.tool) ∷ (codes "CARGO_MANIFEST_DIR", p.folder) ∷ (codes "CARGO_MANIFEST_PATH", p.manifest) ∷ (codes "CARGO_PKG_NAME", p.name)
@@ -46,18 +48,20 @@ package_table setup p =
     ∷ (codes "CARGO_PKG_VERSION_MAJOR", decimal (parts_of p.version).0) ∷ (codes "CARGO_PKG_VERSION_MINOR", decimal (parts_of p.version).1)
     ∷ (codes "CARGO_PKG_VERSION_PATCH", decimal (parts_of p.version).2) ∷ (codes "CARGO_PKG_VERSION_PRE", (parts_of p.version).3) ∷ []
 
--- Of compiles.
+-- For compiles.
 
 abbrev pub variable_set : Directive → List (List ℕ × List ℕ)
 variable_set (Env name value) = (name, value) ∷ []
 variable_set _ = []
 
--- a compile: what every unit has; the crate; of a binary its name; of a library or a binary whose package has a run the folder of the run's files; and whatever that run sets, which wins. `said` are the lines of that run, `ran` is its folder
+-- the variables of a compile: those of every unit; the crate; a binary's name; for a library or a binary
+-- whose package has a run, the folder of the run's files; and all that this run sets, which wins;
+-- `said` are the lines of that run, `ran` is its folder
 abbrev pub compile_table : Setup → Project → Planned → Package → List Directive → Option (List ℕ) → List (List ℕ × List ℕ)
 compile_table setup project unit p said ran =
     package_table setup p ++ (codes "CARGO_CRATE_NAME", crate_name_of project unit) ∷ row (codes "CARGO_BIN_NAME") (binary_name unit.unit.what) ++ row (codes "OUT_DIR") ran ++ flat_map variable_set said
 
--- the output folder of the unit at a place
+-- the output folder of the unit at an index
 abbrev pub folder_at : Project → Option ℕ → Option (List ℕ)
 folder_at project None = None
 folder_at project (Some place) = option_map (λ (u : Planned). u.out) (unit_at project place)
@@ -67,23 +71,24 @@ abbrev pub CompilesHave : Type 0
 CompilesHave = (setup : Setup) (project : Project) (unit : Planned) (done : List (Option (List Directive))) (p : Package)
     → package_of project unit ≡ Some p → is_run unit.unit.what ≡ false → HasVariables (command_of setup project unit done) (compile_table setup project unit p (heard project unit done) (if hears unit.unit.what then folder_at project (own_run project unit) else None))
 
--- Of runs.
+-- For runs.
 
--- `true` where anything is told for debuggers
+-- `true` if there is any debug information
 abbrev pub debug_text : DebugInfo → List ℕ
 debug_text debug_info.Nothing = codes "false"
 debug_text _ = codes "true"
 
--- what the package of a run links
+-- what the package of a run links, if it links something
 abbrev pub links_of_run : Project → Planned → Option (List ℕ)
 links_of_run project u = if is_run u.unit.what then option_and_then (λ (p : Package). p.links) (package_of project u) else None
 
--- the metadata of the run at a place, as variables of what its package links
+-- the metadata of the run at an index, as variables for what its package links
 abbrev pub handed_on : Project → List (Option (List Directive)) → ℕ → List (List ℕ × List ℕ)
 handed_on project done place = option_map_or (λ links. passed links (said_at done place)) (option_and_then (links_of_run project) (unit_at project place)) []
 
--- a run: the variables of every unit, what its package links, `1` for each feature that is on, its folder, the platform,
--- the settings of its package, the compiler and its flags, and the metadata of the runs that it needs, in plan order.
+-- the variables of a run: those of every unit, what its package links, `1` for each
+-- feature that is on, its folder, the platform, the settings of its package, the
+-- compiler and its flags, and the metadata of the runs that it needs, in plan order;
 -- `PROFILE` is `release` if the profile, or one from which it inherits, is `release`
 abbrev pub run_table : Setup → Project → Planned → List (Option (List Directive)) → Package → List (List ℕ × List ℕ)
 run_table setup project unit done p =

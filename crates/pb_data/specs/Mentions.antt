@@ -7,16 +7,16 @@ use Rattle.std.specs.Str.{bytes_eq}
 abbrev pub is_mentioned : List (List ℕ) → List ℕ → Bool
 is_mentioned texts text = list_any (bytes_eq text) texts
 
--- with one more text: it goes last, unless it is there
+-- the texts with one more at the end, unless it is there already
 abbrev pub mentioned : List (List ℕ) → List ℕ → List (List ℕ)
 mentioned texts text = if is_mentioned texts text then texts else texts ++ text ∷ []
 
--- with more texts, one after another
+-- the texts with more texts, one after another
 abbrev pub mentioned_all : List (List ℕ) → List (List ℕ) → List (List ℕ)
 mentioned_all texts [] = texts
 mentioned_all texts (text ∷ more) = mentioned_all (mentioned texts text) more
 
--- the texts but this one
+-- the texts without this one
 abbrev pub without : List ℕ → List (List ℕ) → List (List ℕ)
 without text texts = filter (λ other. not (bytes_eq text other)) texts
 
@@ -25,6 +25,6 @@ abbrev pub once : List (List ℕ) → List (List ℕ)
 once [] = []
 once (text ∷ texts) = text ∷ without text (once texts)
 
--- no text stands twice
+-- no text occurs twice
 abbrev pub EachOnce : List (List ℕ) → Type 0
 EachOnce texts = IsDistinct bytes_eq texts

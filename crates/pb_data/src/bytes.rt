@@ -6,7 +6,7 @@ use crate::copying::TryCopy;
 use std::alloc::{AllocError, Global};
 use std::marker::Model;
 
-/// Bytes. Contracts see the list of them.
+/// Bytes. Contracts see them as a list.
 #[derive(Debug, Drop)]
 pub struct Bytes {
     inside: Vec<u8>,
@@ -21,14 +21,16 @@ impl Model for Bytes {
 }
 
 impl Bytes {
-    /// The bytes of a `Vec`, which takes no memory.
+    /// Returns the bytes of a `Vec`, without using memory.
     pub fn new(inside: Vec<u8>) -> Bytes
         ensures { result ≡ inside.items }
     {
         Bytes { inside }
     }
 
-    /// A copy of a slice. The one fault is want of memory.
+    /// Returns a copy of a slice.
+    ///
+    /// Errors: out of memory.
     pub fn from_slice(alloc: Global, bytes: &[u8]) -> Result<Bytes, AllocError>
         ensures { IfOk result (λ made. made ≡ bytes.now) }
     {
@@ -37,14 +39,14 @@ impl Bytes {
         })
     }
 
-    /// The bytes themselves.
+    /// Returns the bytes themselves.
     pub fn as_slice(&self) -> &[u8]
         ensures { result.now ≡ self.now }
     {
         self.inside.as_slice()
     }
 
-    /// The `Vec` back, which takes no memory.
+    /// Returns the `Vec`, without using memory.
     pub fn into_vec(self) -> Vec<u8>
         ensures { result.items ≡ self }
     {

@@ -4,10 +4,12 @@ ghost use Rattle.std.specs.Prelude.{◌≡◌, IfOk};
 
 use std::alloc::{AllocError, Global};
 
-/// A value of which a copy can be made. Our own choice in place of `Clone`: the copy is equal to
-/// the value for contracts, and the allocator is named where memory is taken.
+/// A value that can be copied. We use it instead of `Clone`, as our own choice: contracts
+/// know that the copy is equal to the value, and the allocator is named when memory is used.
 pub trait TryCopy: Drop {
-    /// A copy. The one fault is want of memory.
+    /// Returns a copy.
+    ///
+    /// Errors: out of memory.
     fn copy(&self, alloc: Global) -> Result<Self, AllocError>
         ensures { IfOk result (λ made. made ≡ self.now) };
 }

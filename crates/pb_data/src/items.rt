@@ -6,7 +6,7 @@ use crate::copying::TryCopy;
 use std::alloc::{AllocError, Global};
 use std::marker::Model;
 
-/// Items in order. Contracts see the list of them.
+/// Items in order. Contracts see them as a list.
 #[derive(Debug, Drop)]
 pub struct Items<T> {
     inside: Vec<T>,
@@ -21,7 +21,7 @@ impl<T> Model for Items<T> {
 }
 
 impl<T> Items<T> {
-    /// No items, which takes no memory.
+    /// Returns no items, without using memory.
     pub fn new(alloc: Global) -> Items<T>
         ensures { result ≡ [] }
     {
@@ -30,42 +30,44 @@ impl<T> Items<T> {
         }
     }
 
-    /// The items of a `Vec`, which takes no memory.
+    /// Returns the items of a `Vec`, without using memory.
     pub fn from_vec(inside: Vec<T>) -> Items<T>
         ensures { result ≡ inside.items }
     {
         Items { inside }
     }
 
-    /// The items themselves.
+    /// Returns the items themselves.
     pub fn as_slice(&self) -> &[T]
         ensures { result.now ≡ self.now }
     {
         self.inside.as_slice()
     }
 
-    /// The `Vec` back, which takes no memory.
+    /// Returns the `Vec`, without using memory.
     pub fn into_vec(self) -> Vec<T>
         ensures { result.items ≡ self }
     {
         self.inside
     }
 
-    /// How many items there are.
+    /// Returns the number of items.
     pub fn len(&self) -> usize
         ensures { result ≡ length self.now }
     {
         self.inside.as_slice().len()
     }
 
-    /// Whether there are none.
+    /// Returns whether there are no items.
     pub fn is_empty(&self) -> bool
         ensures { result ≡ (length self.now == 0) }
     {
         self.inside.as_slice().is_empty()
     }
 
-    /// Adds an item at the end. Where memory is refused, the items stay as they were.
+    /// Adds an item at the end.
+    ///
+    /// Errors: out of memory; the items stay as they were.
     pub fn push(&mut self, item: T) -> Result<(), AllocError>
     where
         T: Drop,

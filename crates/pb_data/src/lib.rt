@@ -1,5 +1,6 @@
-//! The data that every crate of the builder is made of, as contracts see it: texts and bytes as
-//! lists of numbers, items as lists. And the words for an answer that memory may cut short.
+//! The data that every crate of the builder is made of, as contracts
+//! see it: texts and bytes as lists of numbers, items as lists. Also
+//! the words for an answer that running out of memory may prevent.
 #![tactic(auto)]
 
 mod bytes;

@@ -9,7 +9,7 @@ use indexmap::IndexSet;
 use std::alloc::{AllocError, Global};
 use std::marker::Model;
 
-/// Texts, each once, in order of first mention. Contracts see the list of them.
+/// Texts, each once, in order of first mention. Contracts see them as a list.
 #[derive(Debug, Drop)]
 pub struct Mentions {
     inside: IndexSet<Text>,
@@ -28,7 +28,7 @@ impl Model for Mentions {
 }
 
 impl Mentions {
-    /// No texts, which takes no memory.
+    /// Returns no texts, without using memory.
     pub fn new(alloc: Global) -> Mentions
         ensures { result ≡ [] }
     {
@@ -37,8 +37,9 @@ impl Mentions {
         }
     }
 
-    /// Adds a text at the end, unless it is there. Where memory is refused, the texts stay as they
-    /// were.
+    /// Adds a text at the end, unless it is there already.
+    ///
+    /// Errors: out of memory; the texts stay as they were.
     pub fn insert(&mut self, text: Text) -> Result<(), AllocError>
         ensures ok { OnOk result (self.new ≡ mentioned self.old text) }
         ensures err { OnErr result (self.new ≡ self.old) }
@@ -47,14 +48,14 @@ impl Mentions {
         Ok(())
     }
 
-    /// Whether a text is among them.
+    /// Returns whether a text is among them.
     pub fn contains(&self, text: &Text) -> bool
         ensures { result ≡ is_mentioned self.now text.now }
     {
         self.inside.contains(text)
     }
 
-    /// The texts themselves, of which no two are equal.
+    /// Returns the texts themselves, no two of which are equal.
     pub fn as_slice(&self) -> &[Text]
         ensures same { result.now ≡ self.now }
         ensures once { EachOnce self.now }
@@ -62,7 +63,9 @@ impl Mentions {
         self.inside.as_slice()
     }
 
-    /// The texts as items. The one fault is want of memory.
+    /// Returns the texts as items.
+    ///
+    /// Errors: out of memory.
     pub fn into_items(self, alloc: Global) -> Result<Items<Text>, AllocError>
         ensures { IfOk result (λ items. items ≡ self) }
     {
@@ -71,18 +74,18 @@ impl Mentions {
     }
 }
 
-/// A law: texts that are added one after another to none stand each once, in order of first
-/// mention.
+/// A law: texts that are added to none, one after another, each
+/// occur once, in order of first mention.
 pub fn mentions_are_once()
     ensures { (texts : List (List ℕ)) → mentioned_all [] texts ≡ once texts }
 {}
 
-/// A law: no text stands there twice.
+/// A law: no text occurs twice.
 pub fn once_is_distinct()
     ensures { (texts : List (List ℕ)) → EachOnce (once texts) }
 {}
 
-/// A law: each text stands there, and no other.
+/// A law: each of the texts occurs, and no other.
 pub fn once_keeps_texts()
     ensures { (texts : List (List ℕ)) (text : List ℕ) → is_mentioned (once texts) text ≡ is_mentioned texts text }
 {}

@@ -2,8 +2,9 @@
 
 ghost use Rattle.std.specs.Prelude.{◌≡◌, Ok, Err, IfOk, IfErr, MatchResult};
 
-/// A value with the next one, or the fault of the next one. So a value is let go in one place, for all types: at a `?`
-/// while it is at hand each of its fields would be let go, and each step of that be proved.
+/// Returns a value with the next one, or the fault of the next one. A value is dropped
+/// at this one point, for all types. If a `?` stood while the value is alive, each of
+/// its fields would be dropped there, and each of these drops would be proved.
 pub fn with_next<A: Drop, B: Drop, E: Drop>(value: A, next: Result<B, E>) -> Result<(A, B), E>
     ensures whole { MatchResult next (λ b. result ≡ Ok (value, b)) (λ e. result ≡ Err e) }
     ensures both { IfOk result (λ pair. (pair.0 ≡ value) × (next ≡ Ok pair.1)) }

@@ -13,8 +13,8 @@ use indexmap::map::Iter;
 use std::alloc::{AllocError, Global};
 use std::marker::Model;
 
-/// Values by texts, each text once, in order of first mention. Contracts see the list of the
-/// entries.
+/// Values by texts, each text once, in order of first mention.
+/// Contracts see the list of the entries.
 #[derive(Debug, Drop)]
 pub struct Table<V> {
     inside: IndexMap<Text, V>,
@@ -34,7 +34,7 @@ impl<V> Model for Table<V> {
 }
 
 impl<V: Drop> Table<V> {
-    /// No entries, which takes no memory.
+    /// Returns no entries, without using memory.
     pub fn new(alloc: Global) -> Table<V>
         ensures { result ≡ [] }
     {
@@ -43,8 +43,10 @@ impl<V: Drop> Table<V> {
         }
     }
 
-    /// Adds an entry. A text that is there keeps its place and takes the value; a new one goes
-    /// last. Where memory is refused, the entries stay as they were.
+    /// Adds an entry. A text that is there keeps its position and
+    /// takes the value; a new one goes last.
+    ///
+    /// Errors: out of memory; the entries stay as they were.
     pub fn insert(&mut self, name: Text, value: V) -> Result<(), AllocError>
         ensures ok { OnOk result (self.new ≡ with_entry self.old name value) }
         ensures err { OnErr result (self.new ≡ self.old) }
@@ -53,28 +55,28 @@ impl<V: Drop> Table<V> {
         Ok(())
     }
 
-    /// The value that a text has.
+    /// Returns the value of a text, if it has one.
     pub fn get(&self, name: &Text) -> Option<&V>
         ensures { option_copied result ≡ value_at name.now self.now }
     {
         self.inside.get(name)
     }
 
-    /// Whether a text has a value.
+    /// Returns whether a text has a value.
     pub fn contains(&self, name: &Text) -> bool
         ensures { result ≡ is_some (value_at name.now self.now) }
     {
         self.inside.contains_key(name)
     }
 
-    /// How many entries there are.
+    /// Returns the number of entries.
     pub fn len(&self) -> usize
         ensures { result ≡ length self.now }
     {
         self.inside.len()
     }
 
-    /// The entries in their order.
+    /// Returns the entries in order.
     pub fn iter(&self) -> Iter<'_, Text, V>
         ensures rest { result ≡ self.now }
         ensures runs { ShowsInOrder (deref_pair {K = List ℕ} {X = V}) }
@@ -83,7 +85,9 @@ impl<V: Drop> Table<V> {
         self.inside.iter()
     }
 
-    /// The entries as items. The one fault is want of memory.
+    /// Returns the entries as items.
+    ///
+    /// Errors: out of memory.
     pub fn into_items(self, alloc: Global) -> Result<Items<(Text, V)>, AllocError>
         ensures { IfOk result (λ items. items ≡ self) }
     {
@@ -97,12 +101,12 @@ pub fn table_names<V>()
     ensures { (entries : List (List ℕ × V)) → names_of (table_of entries) ≡ once (names_of entries) }
 {}
 
-/// A law: a table of entries gives each text the last value that the entries give it.
+/// A law: a table of entries contains for each text its last value in the entries.
 pub fn table_values<V>()
     ensures { (entries : List (List ℕ × V)) (name : List ℕ) → value_at name (table_of entries) ≡ last_value name entries }
 {}
 
-/// A law: a table of entries, and more after them, is the table of them all.
+/// A law: a table of entries with more entries added is the table of them all.
 pub fn table_joins<V>()
     ensures { (entries more : List (List ℕ × V)) → with_entries (table_of entries) more ≡ table_of (entries ++ more) }
 {}

@@ -7,7 +7,7 @@ use std::alloc::{AllocError, Global};
 use std::cmp::Ordering;
 use std::marker::Model;
 
-/// A text. Contracts see the list of its UTF-8 bytes.
+/// A text. Contracts see it as the list of its UTF-8 bytes.
 #[derive(Debug, Drop)]
 pub struct Text {
     inside: String,
@@ -22,14 +22,16 @@ impl Model for Text {
 }
 
 impl Text {
-    /// The text of a `String`, which takes no memory.
+    /// Returns the text of a `String`, without using memory.
     pub fn new(inside: String) -> Text
         ensures { result ≡ string_bytes inside }
     {
         Text { inside }
     }
 
-    /// A copy of a `&str`. The one fault is want of memory.
+    /// Returns a copy of a `&str`.
+    ///
+    /// Errors: out of memory.
     pub fn from_str(alloc: Global, text: &str) -> Result<Text, AllocError>
         ensures { IfOk result (λ made. made ≡ text.now) }
     {
@@ -38,21 +40,21 @@ impl Text {
         })
     }
 
-    /// The text itself.
+    /// Returns the text itself.
     pub fn as_str(&self) -> &str
         ensures { result.now ≡ self.now }
     {
         self.inside.as_str()
     }
 
-    /// The UTF-8 bytes of the text.
+    /// Returns the UTF-8 bytes of the text.
     pub fn as_bytes(&self) -> &[u8]
         ensures { result.now ≡ self.now }
     {
         self.inside.as_bytes()
     }
 
-    /// The `String` back, which takes no memory.
+    /// Returns the `String`, without using memory.
     pub fn into_string(self) -> String
         ensures { string_bytes result ≡ self }
     {
@@ -118,7 +120,7 @@ impl Ord for Text {
 
     ghost matches_eq = { Prim.search (comparing, rules) };
 
-    /// Byte order.
+    /// Compares texts in byte order.
     fn cmp(&self, other: &Text) -> Ordering {
         self.as_bytes().cmp(other.as_bytes())
     }

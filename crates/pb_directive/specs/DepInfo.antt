@@ -1,4 +1,4 @@
--- What the dep-info of a compiler says (The Cargo Book, "Build Cache", "Dep-Info Files").
+-- What the dep-info of a compiler names (The Cargo Book, "Build Cache", "Dep-Info Files").
 use Rattle.std.specs.Prelude.{◌≡◌, ◌≢◌, ℕ, ◌+◌, ◌==◌, ◌&&◌, not, Bool, true, List, [], ◌∷◌, ◌++◌, if◌then◌else◌, codes, filter, is_some, Option, Some, None, Result, Ok, Err, MatchResult}
 use Rattle.std.specs.List.{onto_first, before_first}
 use Rattle.std.specs.Str.Lines.{strip_carriage_return}
@@ -26,17 +26,17 @@ joined a b = record { words = a.words ++ b.words; variables = a.variables ++ b.v
 
 -- ---- a rule
 
--- a colon here ends the outputs of a rule: a space follows it, or nothing
+-- a colon before these bytes ends the outputs of a rule: a space follows it, or nothing
 abbrev pub ends_outputs : List ℕ → Bool
 ends_outputs [] = true
 ends_outputs (b ∷ bytes) = b == 32
 
--- what follows the outputs of a rule, where they end
+-- what follows the outputs of a rule, if the outputs end
 abbrev pub after_outputs : List ℕ → Option (List ℕ)
 after_outputs [] = None
 after_outputs (b ∷ bytes) = if (b == 58) && ends_outputs bytes then Some bytes else after_outputs bytes
 
--- the parts between spaces, where `\ ` stands for a space inside a part and any other `\` for itself
+-- the parts between spaces; `\ ` is a space inside a part, and any other `\` is itself
 abbrev pub parts_of : List ℕ → List (List ℕ)
 parts_of [] = [] ∷ []
 parts_of (b ∷ []) = if b == 32 then [] ∷ [] ∷ [] else (b ∷ []) ∷ []
@@ -49,14 +49,14 @@ parts_of (b ∷ c ∷ bytes) =
 abbrev pub rule_words : List ℕ → List (List ℕ)
 rule_words bytes = filter (λ part. not (is_empty part)) (parts_of bytes)
 
--- a rule names its words; byte 0, which no part loses, is in none of them
+-- what a rule names: its words, none of which may contain byte 0
 abbrev pub rule_info : Option (List ℕ) → Result DepInfo Problem
 rule_info None = Err problem.BadValue
 rule_info (Some rest) = if has_byte 0 rest then Err problem.BadValue else Ok (only_words (rule_words rest))
 
 -- ---- a line
 
--- `NAME` or `NAME=VALUE`: the name, which is not empty and has no byte 0
+-- the variable of `NAME` or `NAME=VALUE`; its name is not empty and has no byte 0
 abbrev pub variable_info : List ℕ → Result DepInfo Problem
 variable_info text =
     let name = before_first (λ b. b == 61) text in
@@ -64,7 +64,7 @@ variable_info text =
     else (if has_byte 0 name then Err problem.BadValue
     else Ok (one_variable name))
 
--- a line that begins with `#`
+-- what a line that begins with `#` names
 abbrev pub comment_info : Option (List ℕ) → Result DepInfo Problem
 comment_info None = Ok nothing
 comment_info (Some variable) = variable_info variable
@@ -84,7 +84,7 @@ line_info line = text_info (text_of (strip_carriage_return line))
 
 -- ---- a text
 
--- what lines name, one after another, or the fault of the first line that has one; the first line has this number
+-- what the lines name, one after another, or the fault of the first line that has one; the first line has this number
 abbrev pub info_from : ℕ → List (List ℕ) → Result DepInfo LineFault
 info_from number [] = Ok nothing
 info_from number (line ∷ lines) =
@@ -104,7 +104,7 @@ all_names_of bytes = info_from 1 (lines_of bytes)
 abbrev pub dep_info_of : List ℕ → Result DepInfo LineFault
 dep_info_of bytes = all_names_of bytes >>= (λ info. Ok (each_once info))
 
--- with what is named after it
+-- the names with those that are named after them
 abbrev pub with_info : DepInfo → DepInfo → DepInfo
 with_info old more = record { words = mentioned_all old.words more.words; variables = mentioned_all old.variables more.variables }
 
@@ -112,7 +112,7 @@ with_info old more = record { words = mentioned_all old.words more.words; variab
 abbrev pub AddsInfo : {U : Type 0} → Result U Problem → DepInfo → DepInfo → Result DepInfo Problem → Type 0
 AddsInfo result old new answer = MatchResult result (λ _. (answer >>= (λ more. Ok (with_info old more))) ≡ Ok new) (λ e. e ≢ problem.OutOfMemory → answer ≡ Err e)
 
--- the parts, with this in front of the first
+-- the parts with this text in front of the first
 abbrev pub onto_part : List ℕ → List (List ℕ) → List (List ℕ)
 onto_part front [] = front ∷ []
 onto_part front (part ∷ parts) = (front ++ part) ∷ parts

@@ -1,4 +1,4 @@
--- What the output of a build script says (The Cargo Book, "Build Scripts", "Outputs of the Build Script").
+-- What the output of a build script means (The Cargo Book, "Build Scripts", "Outputs of the Build Script").
 use Rattle.std.specs.Prelude.{◌≡◌, ◌≢◌, ℕ, ◌+◌, ◌==◌, not, Bool, List, [], ◌∷◌, ◌++◌, if◌then◌else◌, codes, length, filter, Option, Some, None, Result, Ok, Err, MatchResult}
 use Rattle.std.specs.List.{slice_split}
 use Rattle.std.specs.Str.{bytes_eq}
@@ -22,7 +22,7 @@ is_empty text = length text == 0
 abbrev pub plain : List ℕ → Result (List ℕ) Problem
 plain value = if has_byte 0 value then Err problem.BadValue else Ok value
 
--- and not empty
+-- a value without byte 0 that is not empty
 abbrev pub filled : List ℕ → Result (List ℕ) Problem
 filled value = if is_empty value then Err problem.BadValue else plain value
 
@@ -30,7 +30,7 @@ filled value = if is_empty value then Err problem.BadValue else plain value
 abbrev pub variable : List ℕ → Result (List ℕ) Problem
 variable value = if has_byte 61 value then Err problem.BadValue else filled value
 
--- what stands before and after the first `=`
+-- what comes before and after the first `=`
 abbrev pub halves_of : Option (List ℕ × List ℕ) → Result (List ℕ × List ℕ) Problem
 halves_of None = Err problem.BadValue
 halves_of (Some halves) = Ok halves
@@ -52,7 +52,7 @@ words_of text = filter (λ word. not (is_empty word)) (slice_split (λ b. b == 3
 abbrev pub some_word : List ℕ → List (List ℕ) → List (List ℕ)
 some_word word words = if is_empty word then words else word ∷ words
 
--- the name behind a flag's letter, which is not empty
+-- the name after a flag's letter, which is not empty
 abbrev pub flag_name : Option (List ℕ) → Option (List ℕ)
 flag_name None = None
 flag_name (Some name) = if is_empty name then None else Some name
@@ -65,11 +65,11 @@ abbrev pub library_flag : Option (List ℕ) → Result Directive Problem → Res
 library_flag None other = other
 library_flag (Some name) other = Ok (says.LinkLib name)
 
--- `-lX` or `-LX` in one word
+-- the flag `-lX` or `-LX` in one word
 abbrev pub flag_of : List ℕ → Result Directive Problem
 flag_of word = library_flag (flag_name (after_prefix (codes "-l") word)) (search_flag (flag_name (after_prefix (codes "-L") word)))
 
--- flags in one word each, or `-l` and `-L` with their X in the next word
+-- the flags of these words, in one word each, or `-l` and `-L` with their X in the next word
 abbrev pub flags_of : List (List ℕ) → Result (List Directive) Problem
 flags_of [] = Ok []
 flags_of (word ∷ []) = flag_of word >>= (λ flag. Ok (flag ∷ []))
@@ -119,7 +119,7 @@ new_key_of name =
 abbrev pub one : Directive → Result (List Directive) Problem
 one directive = Ok (directive ∷ [])
 
--- what a key says with a value
+-- the directives of a key with a value
 abbrev pub directives_at : Key → List ℕ → Result (List Directive) Problem
 directives_at key.RerunIfChanged value = filled value >>= (λ path. one (says.RerunIfChanged path))
 directives_at key.RerunIfEnvChanged value = variable value >>= (λ name. one (says.RerunIfEnvChanged name))
@@ -175,13 +175,13 @@ abbrev pub text_directives : Option (List ℕ) → Result (List Directive) Probl
 text_directives None = Ok []
 text_directives (Some text) = new_line (after_prefix (codes "cargo::") text) text
 
--- what a line says
+-- the directives of a line
 abbrev pub line_directives : List ℕ → Result (List Directive) Problem
 line_directives line = text_directives (text_of (trimmed line))
 
 -- ---- a text
 
--- what lines say, one after another, or the fault of the first line that has one; the first line has this number
+-- the directives of these lines, in order, or the fault of the first line that has one; the first line has this number
 abbrev pub directives_from : ℕ → List (List ℕ) → Result (List Directive) LineFault
 directives_from number [] = Ok []
 directives_from number (line ∷ lines) =
@@ -189,10 +189,10 @@ directives_from number (line ∷ lines) =
     directives_from (number + 1) lines >>= (λ more.
     Ok (here ++ more)))
 
--- what a text says
+-- the directives of a text
 abbrev pub directives_of : List ℕ → Result (List Directive) LineFault
 directives_of bytes = directives_from 1 (lines_of bytes)
 
--- what was said has been added at the end, unless memory ran out
+-- the directives have been added at the end, unless memory ran out
 abbrev pub Adds : {U : Type 0} → Result U Problem → List Directive → List Directive → Result (List Directive) Problem → Type 0
 Adds result old new answer = MatchResult result (λ _. (answer >>= (λ more. Ok (old ++ more))) ≡ Ok new) (λ e. e ≢ problem.OutOfMemory → answer ≡ Err e)

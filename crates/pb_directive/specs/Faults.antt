@@ -1,4 +1,4 @@
--- What is wrong with a line, and with a text.
+-- What can be wrong with a line, and with a text.
 use Rattle.std.specs.Prelude.{ℕ, Result}
 use Rattle.pb_data.specs.Gives.{Gives as GivesUnless}
 use Rattle.pb_directive.specs.declared.fault.Problem.{Problem}
@@ -6,7 +6,7 @@ use Rattle.pb_directive.specs.declared.fault.Problem.TheVariants as problem
 use Rattle.pb_directive.specs.declared.fault.LineFault.{LineFault}
 use Rattle.pb_directive.specs.declared.fault.LineFault.TheVariants as fault
 
--- the problem, told with the number of its line
+-- the problem with the number of its line
 abbrev pub fault_at : ℕ → Problem → LineFault
 fault_at line problem.NotText = fault.NotText line
 fault_at line problem.UnknownKey = fault.UnknownKey line
@@ -14,10 +14,10 @@ fault_at line problem.BadValue = fault.BadValue line
 fault_at line problem.BadFlag = fault.BadFlag line
 fault_at line problem.OutOfMemory = fault.OutOfMemory
 
--- what a line gives, unless memory ran out
+-- the result is the line's answer, unless memory ran out
 abbrev pub LineGives : {T : Type 0} → Result T Problem → Result T Problem → Type 0
 LineGives result answer = GivesUnless problem.OutOfMemory (λ x. x) result answer
 
--- what a text gives, unless memory ran out
+-- the result is the text's answer, unless memory ran out
 abbrev pub TextGives : {T : Type 0} → Result T LineFault → Result T LineFault → Type 0
 TextGives result answer = GivesUnless fault.OutOfMemory (λ x. x) result answer

@@ -1,4 +1,5 @@
--- What a line of dep-info names, in words of its own (The Cargo Book, "Build Cache", "Dep-Info Files").
+-- What a line of dep-info names, in words that do not follow
+-- the code (The Cargo Book, "Build Cache", "Dep-Info Files").
 use Rattle.std.specs.Prelude.{◌≡◌, ◌≢◌, ◌↔◌, ℕ, true, false, codes, List, [], ◌∷◌, ◌++◌, Some, Result, Ok, Err}
 use Rattle.std.specs.Str.{is_utf8}
 use Rattle.std.specs.Str.Lines.{strip_carriage_return}
@@ -8,12 +9,14 @@ use Rattle.pb_directive.specs.declared.dep_info.DepInfo.{DepInfo}
 use Rattle.pb_directive.specs.declared.fault.Problem.{Problem}
 use Rattle.pb_directive.specs.declared.fault.Problem.TheVariants as problem
 
--- nothing, or `=` and a value
+-- a text is empty, or is `=` and a value
 abbrev pub IsValue : List ℕ → Type 0
 IsValue [] = Unit {0}
 IsValue (b ∷ value) = b ≡ 61
 
--- what a line names, without a carriage return at its end: an empty one nothing; `# env-dep:NAME` or `# env-dep:NAME=VALUE` a variable, any other with `#` nothing; a rule the words behind its outputs, which have no byte 0
+-- what a line without its carriage return names:
+-- an empty line names nothing; `# env-dep:NAME` or `# env-dep:NAME=VALUE` a variable; any other line with `#` nothing;
+-- a rule names the words after its outputs, which contain no byte 0
 pub data IsInfo (text : List ℕ) : Result DepInfo Problem → Type 0 where
   raw : (is : is_utf8 text ≡ false) → IsInfo text (Err problem.NotText)
   empty : (is : text ≡ []) → IsInfo text (Ok nothing)
@@ -23,6 +26,6 @@ pub data IsInfo (text : List ℕ) : Result DepInfo Problem → Type 0 where
   rule : (utf8 : is_utf8 text ≡ true) (some : text ≢ []) (no_comment : (rest : List ℕ) → text ≢ 35 ∷ rest) (rest : List ℕ) (behind : after_outputs text ≡ Some rest) (plain : IsPlain rest) → IsInfo text (Ok record { words = rule_words rest; variables = [] })
   rule_refused : (utf8 : is_utf8 text ≡ true) (some : text ≢ []) (no_comment : (rest : List ℕ) → text ≢ 35 ∷ rest) (none : (rest : List ℕ) → after_outputs text ≡ Some rest → IsPlain rest → ⊥) → IsInfo text (Err problem.BadValue)
 
--- what is read of a line is just that
+-- the reader reads this from a line if and only if the line names it
 abbrev pub InfosSay : Type 0
 InfosSay = (line : List ℕ) (answer : Result DepInfo Problem) → (line_info line ≡ answer) ↔ IsInfo (strip_carriage_return line) answer

@@ -8,7 +8,7 @@ use Rattle.pb_directive.specs.declared.directive.Directive.{Directive}
 use Rattle.pb_directive.specs.declared.fault.LineFault.{LineFault}
 use Rattle.pb_directive.specs.declared.fault.LineFault.TheVariants as fault
 
--- the fault, so many lines further down
+-- the fault, n lines further down
 abbrev pub later_by : ℕ → LineFault → LineFault
 later_by lines (fault.NotText number) = fault.NotText (lines + number)
 later_by lines (fault.UnknownKey number) = fault.UnknownKey (lines + number)
@@ -16,15 +16,15 @@ later_by lines (fault.BadValue number) = fault.BadValue (lines + number)
 later_by lines (fault.BadFlag number) = fault.BadFlag (lines + number)
 later_by lines fault.OutOfMemory = fault.OutOfMemory
 
--- a text, a line feed and another text
+-- a text, then a line feed, then another text
 abbrev pub followed_by : List ℕ → List ℕ → List ℕ
 followed_by text more = text ++ 10 ∷ more
 
--- what the first text says and then what the second says, or the first fault, that of the second text further down
+-- the directives of the first text and then of the second, or the first fault, that of the second text further down
 abbrev pub then_said : ℕ → Result (List Directive) LineFault → Result (List Directive) LineFault → Result (List Directive) LineFault
 then_said lines first second = first >>= (λ said. lifted (later_by lines) second >>= (λ more. Ok (said ++ more)))
 
--- the same of names
+-- the same for names
 abbrev pub then_named : ℕ → Result DepInfo LineFault → Result DepInfo LineFault → Result DepInfo LineFault
 then_named lines first second = first >>= (λ named. lifted (later_by lines) second >>= (λ more. Ok (joined named more)))
 

@@ -1,4 +1,5 @@
--- What a line of a build script's output says, key by key, in words of its own (The Cargo Book, "Build Scripts", "Outputs of the Build Script").
+-- What a line of a build script's output means, key by key, in words that do not
+-- follow the code (The Cargo Book, "Build Scripts", "Outputs of the Build Script").
 use Rattle.std.specs.Prelude.{◌≡◌, ◌≢◌, ◌↔◌, ℕ, true, false, not, ◌&&◌, if◌then◌else◌, codes, List, [], ◌∷◌, ◌++◌, Result, Ok, Err}
 use Rattle.std.specs.Str.{bytes_eq, is_utf8}
 use Rattle.pb_directive.specs.Directives.{line_directives, words_of}
@@ -8,7 +9,7 @@ use Rattle.pb_directive.specs.declared.directive.Directive.TheVariants as says
 use Rattle.pb_directive.specs.declared.fault.Problem.{Problem}
 use Rattle.pb_directive.specs.declared.fault.Problem.TheVariants as problem
 
--- without byte 0; and not empty; without `=`
+-- a text is plain if it has no byte 0, filled if it is also not empty, and uncut if it has no `=`
 abbrev pub IsPlain : List ℕ → Type 0
 IsPlain text = has_byte 0 text ≡ false
 
@@ -18,7 +19,7 @@ IsFilled text = (text ≢ []) × IsPlain text
 abbrev pub IsUncut : List ℕ → Type 0
 IsUncut text = has_byte 61 text ≡ false
 
--- the flags of `rustc-flags`: `-lX` or `-LX` in one word, or in two
+-- words are flags of `rustc-flags`: `-lX` or `-LX` in one word, or in two
 pub data AreFlags : List (List ℕ) → List Directive → Type 0 where
   none : AreFlags [] []
   library : (name : List ℕ) (some : name ≢ []) (words : List (List ℕ)) (more : List Directive) (behind : AreFlags words more) → AreFlags ((codes "-l" ++ name) ∷ words) (says.LinkLib name ∷ more)
@@ -26,7 +27,7 @@ pub data AreFlags : List (List ℕ) → List Directive → Type 0 where
   library_next : (name : List ℕ) (words : List (List ℕ)) (more : List Directive) (behind : AreFlags words more) → AreFlags (codes "-l" ∷ name ∷ words) (says.LinkLib name ∷ more)
   search_next : (name : List ℕ) (words : List (List ℕ)) (more : List Directive) (behind : AreFlags words more) → AreFlags (codes "-L" ∷ name ∷ words) (says.LinkSearch name ∷ more)
 
--- what a key says with a value
+-- a key with a value means these directives
 pub data IsSaid : List ℕ → List ℕ → List Directive → Type 0 where
   rerun_if_changed : (path : List ℕ) (is : IsFilled path) → IsSaid (codes "rerun-if-changed") path (says.RerunIfChanged path ∷ [])
   rerun_if_env_changed : (name : List ℕ) (is : IsFilled name) (whole : IsUncut name) → IsSaid (codes "rerun-if-env-changed") name (says.RerunIfEnvChanged name ∷ [])
@@ -45,17 +46,17 @@ pub data IsSaid : List ℕ → List ℕ → List Directive → Type 0 where
   env : (name value : List ℕ) (some : name ≢ []) (whole : IsUncut name) (is : IsPlain (name ++ 61 ∷ value)) → IsSaid (codes "rustc-env") (name ++ 61 ∷ value) (says.Env name value ∷ [])
   warning : (text : List ℕ) → IsSaid (codes "warning") text (says.Warning text ∷ [])
 
--- after `cargo::` also `metadata` and `error`
+-- the same after `cargo::`, which also has the keys `metadata` and `error`
 pub data IsSaidNew (key value : List ℕ) (said : List Directive) : Type 0 where
   known : (is : IsSaid key value said) → IsSaidNew key value said
   metadata : (is_key : key ≡ codes "metadata") (name text : List ℕ) (some : name ≢ []) (whole : IsUncut name) (is : IsPlain value) (parts : value ≡ name ++ 61 ∷ text) (same : said ≡ says.Metadata name text ∷ []) → IsSaidNew key value said
   error : (is_key : key ≡ codes "error") (same : said ≡ says.Error value ∷ []) → IsSaidNew key value said
 
--- a key that says nothing, whatever its value
+-- a key has no meaning, whatever its value is
 abbrev pub IsUnknown : (List ℕ → List ℕ → List Directive → Type 0) → List ℕ → Type 0
 IsUnknown Says key = (value : List ℕ) (said : List Directive) → Says key value said → ⊥
 
--- after `cargo:` each other key is metadata
+-- the same after `cargo:`, after which any other key is metadata
 pub data IsSaidOld (key value : List ℕ) (said : List Directive) : Type 0 where
   known : (is : IsSaid key value said) → IsSaidOld key value said
   metadata : (other : IsUnknown IsSaid key) (is : IsFilled key) (plain : IsPlain value) (same : said ≡ says.Metadata key value ∷ []) → IsSaidOld key value said
@@ -64,17 +65,19 @@ pub data IsSaidOld (key value : List ℕ) (said : List Directive) : Type 0 where
 abbrev pub IsOld : List ℕ → Type 0
 IsOld key = (rest : List ℕ) → key ≢ 58 ∷ rest
 
--- what is wrong with a value that a key does not take
+-- what is wrong with a value that its key does not accept
 abbrev pub problem_at : List ℕ → List ℕ → Problem
 problem_at key value = if bytes_eq key (codes "rustc-flags") && not (has_byte 0 value) then problem.BadFlag else problem.BadValue
 
--- a line, without the blanks at its ends, is UTF-8 and has this form: a prefix, a key, and behind the first `=` a value
+-- a line, without the blanks at its ends, is UTF-8 and is a prefix, a key, the first `=` after the prefix, and a value
 pub record IsSetting (line prefix key value : List ℕ) : Type 0 where
   pub text : is_utf8 (trimmed line) ≡ true
   pub whole : trimmed line ≡ prefix ++ key ++ 61 ∷ value
   pub first : IsUncut key
 
--- what a line says: `cargo::KEY=VALUE`, or `cargo:KEY=VALUE`; any other line says nothing, but that one with `cargo::` has to have a value
+-- what a line means: `cargo::KEY=VALUE` or `cargo:KEY=VALUE`
+-- what its key means; a line with `cargo::` must have a value;
+-- any other line means nothing
 pub data IsLine (line : List ℕ) : Result (List Directive) Problem → Type 0 where
   new : (key value : List ℕ) (said : List Directive) (at : IsSetting line (codes "cargo::") key value) (is : IsSaidNew key value said) → IsLine line (Ok said)
   new_unknown : (key value : List ℕ) (at : IsSetting line (codes "cargo::") key value) (unknown : IsUnknown IsSaidNew key) → IsLine line (Err problem.UnknownKey)
@@ -84,6 +87,6 @@ pub data IsLine (line : List ℕ) : Result (List Directive) Problem → Type 0 w
   old_refused : (key value : List ℕ) (at : IsSetting line (codes "cargo:") key value) (is_old : IsOld key) (unsaid : (said : List Directive) → IsSaidOld key value said → ⊥) → IsLine line (Err (problem_at key value))
   silent : (no_new : (setting : List ℕ) → is_utf8 (trimmed line) ≡ true → trimmed line ≡ codes "cargo::" ++ setting → ⊥) (no_old : (key value : List ℕ) → IsSetting line (codes "cargo:") key value → ⊥) → IsLine line (Ok [])
 
--- what is read of a line is just that
+-- the reader reads this from a line if and only if the line means it
 abbrev pub LinesSay : Type 0
 LinesSay = (line : List ℕ) (answer : Result (List Directive) Problem) → (line_directives line ≡ answer) ↔ IsLine line answer

@@ -3,7 +3,7 @@ use Rattle.std.specs.Prelude.{ℕ, ◌==◌, ◌||◌, nat_lt, Bool, List, [], �
 use Rattle.std.specs.List.{slice_split, list_any, position_or_len, before_first, after_first}
 use Rattle.std.specs.Str.{is_utf8}
 
--- a text is split at line feeds; what follows the last one is a line
+-- the lines of a text, which is split at line feeds; what follows the last line feed is a line too
 abbrev pub lines_of : List ℕ → List (List ℕ)
 lines_of bytes = slice_split (λ b. b == 10) bytes
 
@@ -11,20 +11,20 @@ lines_of bytes = slice_split (λ b. b == 10) bytes
 abbrev pub is_blank : ℕ → Bool
 is_blank b = (b == 32) || ((b == 9) || (b == 13))
 
--- without the blanks at the front
+-- the bytes without the blanks at the front
 abbrev pub trimmed_front : List ℕ → List ℕ
 trimmed_front [] = []
 trimmed_front (b ∷ bytes) = if is_blank b then trimmed_front bytes else b ∷ bytes
 
--- without the blanks at the end
+-- the bytes without the blanks at the end
 abbrev pub trimmed_end : List ℕ → List ℕ
 trimmed_end bytes = reverse (trimmed_front (reverse bytes))
 
--- without the blanks at both ends
+-- the bytes without the blanks at both ends
 abbrev pub trimmed : List ℕ → List ℕ
 trimmed bytes = trimmed_end (trimmed_front bytes)
 
--- the bytes, where they are UTF-8
+-- the bytes, if they are UTF-8
 abbrev pub text_of : List ℕ → Option (List ℕ)
 text_of bytes = if is_utf8 bytes then Some bytes else None
 
@@ -32,12 +32,12 @@ text_of bytes = if is_utf8 bytes then Some bytes else None
 abbrev pub has_byte : ℕ → List ℕ → Bool
 has_byte byte bytes = list_any (λ b. b == byte) bytes
 
--- what follows a prefix, where the bytes begin with it
+-- what follows a prefix, if the bytes begin with it
 abbrev pub after_prefix : List ℕ → List ℕ → Option (List ℕ)
 after_prefix [] bytes = Some bytes
 after_prefix (a ∷ prefix) [] = None
 after_prefix (a ∷ prefix) (b ∷ bytes) = if a == b then after_prefix prefix bytes else None
 
--- what stands before and after the first such byte, where there is one
+-- what comes before and after the first such byte, if there is one
 abbrev pub split_first : ℕ → List ℕ → Option (List ℕ × List ℕ)
 split_first byte bytes = if nat_lt (position_or_len (λ b. b == byte) bytes) (length bytes) then Some (before_first (λ b. b == byte) bytes, after_first (λ b. b == byte) bytes) else None

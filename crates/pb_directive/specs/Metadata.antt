@@ -6,27 +6,27 @@ use Rattle.pb_data.specs.Table.{table_of}
 use Rattle.pb_directive.specs.declared.directive.Directive.{Directive}
 use Rattle.pb_directive.specs.declared.directive.Directive.TheVariants.{Metadata}
 
--- with `_` for each `-`
+-- the text with `_` for each `-`
 abbrev pub underscored : List ℕ → List ℕ
 underscored text = map (λ b. if b == 45 then 95 else b) text
 
--- in upper case, with `_` for each `-`
+-- the text in upper case, with `_` for each `-`
 abbrev pub in_capitals : List ℕ → List ℕ
 in_capitals text = underscored (str_to_uppercase text)
 
--- `DEP_LINKS_KEY`
+-- the name `DEP_LINKS_KEY` of a variable
 abbrev pub dep_name : List ℕ → List ℕ → List ℕ
 dep_name links key = codes "DEP_" ++ in_capitals links ++ codes "_" ++ in_capitals key
 
--- a line of metadata gives a variable its value
+-- the variable that a directive sets: one of metadata does, any other does not
 abbrev pub dep_pair : List ℕ → Directive → Option (List ℕ × List ℕ)
 dep_pair links (Metadata key value) = Some (dep_name links key, value)
 dep_pair links _ = None
 
--- the variables that the metadata names, with their values, in printed order
+-- the variables that the metadata sets, with their values, in printed order
 abbrev pub passed : List ℕ → List Directive → List (List ℕ × List ℕ)
 passed links directives = filter_map (dep_pair links) directives
 
--- the variables that the metadata gives, each once, with the last value
+-- the variables that the metadata sets, each once, with its last value
 abbrev pub dep_pairs : List ℕ → List Directive → List (List ℕ × List ℕ)
 dep_pairs links directives = table_of (passed links directives)

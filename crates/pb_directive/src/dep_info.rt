@@ -10,14 +10,14 @@ use std::alloc::Global;
 /// of first mention.
 #[derive(Drop)]
 pub struct DepInfo {
-    /// The words of its rules: paths, of which a relative one starts at the compiler's folder.
+    /// The words of its rules: paths; a relative one starts at the compiler's folder.
     pub words: Mentions,
     /// The names of the variables that were read.
     pub variables: Mentions,
 }
 
 impl DepInfo {
-    /// No names, which takes no memory.
+    /// Returns no names, without using memory.
     pub fn new(alloc: Global) -> DepInfo
         ensures { result ≡ nothing }
     {

@@ -1,9 +1,9 @@
-//! What a line of a build script's output gives.
+//! What a line of a build script's output means.
 
 use pb_data::{Items, Text};
 
-/// What one line of a build script's output gives (The Cargo Book, "Build Scripts"). A line
-/// `rustc-flags` gives a directive for each of its flags.
+/// What one line of a build script's output means (The Cargo Book, "Build
+/// Scripts"). A line `rustc-flags` has a directive for each of its flags.
 #[derive(Drop)]
 pub enum Directive {
     /// `rerun-if-changed`: a path whose change makes the script run again.
@@ -42,7 +42,7 @@ pub enum Directive {
     Error(Text),
 }
 
-/// What the lines of a build script's output give, in printed order.
+/// What the lines of a build script's output mean, in printed order.
 pub type Directives = Items<Directive>;
 
 /// A key that a line may have (The Cargo Book, "Build Scripts").
@@ -78,10 +78,10 @@ pub enum Key {
     Flags,
     /// `rustc-env`
     Env,
-    /// `metadata`, a key after `cargo::` alone
+    /// `metadata`, a key only after `cargo::`
     Metadata,
     /// `warning`
     Warning,
-    /// `error`, a key after `cargo::` alone
+    /// `error`, a key only after `cargo::`
     Error,
 }

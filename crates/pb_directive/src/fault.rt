@@ -12,17 +12,17 @@ pub enum LineFault {
     /// A line of dep-info is not UTF-8.
     #[error("line {0} is not UTF-8")]
     NotText(u64),
-    /// The key after `cargo::` is none that is known.
+    /// The key after `cargo::` is unknown.
     #[error("line {0} has an unknown key")]
     UnknownKey(u64),
-    /// A value that its key may not have; a line after `cargo::` without `=`; an empty name, a name or a word with
-    /// byte 0; a rule of dep-info in which no colon ends the outputs.
+    /// A value that its key may not have; a line after `cargo::` without `=`; an empty name,
+    /// a name or a word with byte 0; a rule of dep-info in which no colon ends the outputs.
     #[error("line {0} has a bad value")]
     BadValue(u64),
     /// A word of `rustc-flags` is neither a library nor a folder of libraries.
     #[error("line {0} has a bad flag")]
     BadFlag(u64),
-    /// Memory was refused.
+    /// Memory ran out.
     #[error("out of memory")]
     OutOfMemory,
 }
@@ -33,23 +33,23 @@ pub enum Problem {
     /// The line is not UTF-8.
     #[error("not UTF-8")]
     NotText,
-    /// The key after `cargo::` is none that is known.
+    /// The key after `cargo::` is unknown.
     #[error("an unknown key")]
     UnknownKey,
-    /// A value that its key may not have; a line after `cargo::` without `=`; an empty name, a name or a word with
-    /// byte 0; a rule of dep-info in which no colon ends the outputs.
+    /// A value that its key may not have; a line after `cargo::` without `=`; an empty name,
+    /// a name or a word with byte 0; a rule of dep-info in which no colon ends the outputs.
     #[error("a bad value")]
     BadValue,
     /// A word of `rustc-flags` is neither a library nor a folder of libraries.
     #[error("a bad flag")]
     BadFlag,
-    /// Memory was refused.
+    /// Memory ran out.
     #[error("out of memory")]
     OutOfMemory,
 }
 
 impl Problem {
-    /// The fault of a text whose line of this number has the problem.
+    /// Returns the fault of a text whose line of this number has the problem.
     pub fn at(self, line: u64) -> LineFault
         ensures { result ≡ fault_at line self }
     {

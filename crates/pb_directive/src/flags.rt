@@ -13,7 +13,7 @@ use crate::words::Words;
 use pb_data::Text;
 use std::alloc::Global;
 
-/// The name behind a flag's letter, which is not empty.
+/// Returns the name after a flag's letter, which is not empty.
 fn flag_name<'a>(letter: &str, word: &'a str) -> Option<&'a str>
     ensures { option_copied result ≡ flag_name (after_prefix letter.now word.now) }
 {
@@ -24,7 +24,7 @@ fn flag_name<'a>(letter: &str, word: &'a str) -> Option<&'a str>
     Some(name)
 }
 
-/// A flag in one word.
+/// Returns the flag of one word.
 fn flag_of(alloc: Global, word: &str) -> Result<Directive, Problem>
     ensures { LineGives result (flag_of word.now) }
 {
@@ -37,7 +37,7 @@ fn flag_of(alloc: Global, word: &str) -> Result<Directive, Problem>
     Err(Problem::BadFlag)
 }
 
-/// The next word, as the name of a flag whose letter stands alone.
+/// Returns the next word, as the name of a flag whose letter is a word of its own.
 fn next_name(alloc: Global, words: &mut Words) -> Result<Text, Problem>
     ensures name { NextName result words.old words.new }
     ensures shorter { length words.new ≤ length words.old }
@@ -48,7 +48,8 @@ fn next_name(alloc: Global, words: &mut Words) -> Result<Text, Problem>
     Ok(Text::from_str(alloc, word)?)
 }
 
-/// The flag that begins with a word. Where the word is its letter alone, its name is the next one.
+/// Returns the flag that begins with a word. If the word is
+/// only the letter, its name is the next word.
 #[tactic(auto, using(crate::proofs::FlagLemmas::flag_laws))]
 fn flag_from(alloc: Global, word: &str, words: &mut Words) -> Result<Directive, Problem>
     ensures flag { TakesFlag result word.now words.old words.new }
@@ -64,7 +65,7 @@ fn flag_from(alloc: Global, word: &str, words: &mut Words) -> Result<Directive, 
     }
 }
 
-/// Adds the flags that some words are, of which each is a library or a folder of libraries.
+/// Adds the flags of some words, each of which is a library or a folder of libraries.
 pub fn add_flags(alloc: Global, words: Words, found: &mut Directives) -> Result<(), Problem>
     ensures { Adds result found.old found.new (flags_of words.entry) }
 {

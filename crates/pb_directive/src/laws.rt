@@ -13,19 +13,19 @@ ghost use Rattle.pb_directive.specs.Metadata.{passed, dep_pairs};
 ghost use Rattle.pb_directive.specs.declared.directive.Directive.{Directive};
 ghost use Rattle.pb_directive.specs.declared.dep_info.DepInfo.{DepInfo};
 
-/// A text, a line feed and another text say what the one says and then what the other says. A fault
-/// is the first: where the first text has none, that of the second, further down by the lines of
-/// the first.
+/// A text, a line feed and another text mean what the first means and
+/// then what the second means. The first fault counts: if the first text
+/// has none, that of the second, further down by the lines of the first.
 pub fn directives_concatenate()
     ensures { (text more : List ℕ) → directives_of (followed_by text more) ≡ then_said (line_count text) (directives_of text) (directives_of more) }
 {}
 
-/// The same of all that dep-info names, before each name is kept once.
+/// The same is true of all names of dep-info, before each name is kept once.
 pub fn names_concatenate()
     ensures { (text more : List ℕ) → all_names_of (followed_by text more) ≡ then_named (line_count text) (all_names_of text) (all_names_of more) }
 {}
 
-/// A line that begins with neither prefix says what an empty line in its place says.
+/// A line that begins with neither prefix means what an empty line means.
 pub fn other_lines_say_nothing()
     ensures { (number : ℕ) (before after : List (List ℕ)) (line : List ℕ)
         → after_prefix (codes "cargo::") (trimmed line) ≡ None → after_prefix (codes "cargo:") (trimmed line) ≡ None
@@ -42,24 +42,24 @@ pub fn variables_stand_once()
     ensures { (bytes : List ℕ) (info : DepInfo) → dep_info_of bytes ≡ Ok info → EachOnce info.variables }
 {}
 
-/// Of the values that metadata gives a variable, the last one counts.
+/// The last value that metadata gives a variable counts.
 pub fn last_metadata_counts()
     ensures { (links name : List ℕ) (directives : List Directive) → value_at name (dep_pairs links directives) ≡ last_value name (passed links directives) }
 {}
 
-/// Each variable that metadata names stands once, in order of first mention.
+/// Each variable that metadata names occurs once, in order of first mention.
 pub fn passed_names_stand_once()
     ensures { (links : List ℕ) (directives : List Directive) → names_of (dep_pairs links directives) ≡ once (names_of (passed links directives)) }
 {}
 
-/// A line of a build script's output says what its key says with its value, key by key (The Cargo Book, Build Scripts,
-/// Outputs of the Build Script), and what is refused is refused so.
+/// A line of a build script's output means what its key means with its value, key by key (The
+/// Cargo Book, Build Scripts, Outputs of the Build Script), and each refusal is the right one.
 pub fn lines_say()
     ensures { LinesSay }
 {}
 
-/// A line of dep-info names what its kind of line names (The Cargo Book, Build Cache, Dep-Info Files), and what is refused
-/// is refused so.
+/// A line of dep-info names what its kind of line names (The Cargo Book,
+/// Build Cache, Dep-Info Files), and each refusal is the right one.
 pub fn infos_say()
     ensures { InfosSay }
 {}

@@ -1,4 +1,4 @@
-//! What the output of a build script and the dep-info of a compiler say, line by line.
+//! What the output of a build script and the dep-info of a compiler mean, line by line.
 #![tactic(auto)]
 
 mod copying;

@@ -6,7 +6,7 @@ ghost use Rattle.pb_directive.specs.Lines.{lines_of, is_blank, trimmed_front, tr
 
 use std::marker::Model;
 
-/// The lines of a text that are still to come. Contracts see the list of them.
+/// The lines of a text that are still to come. Contracts see them as a list.
 #[derive(Drop)]
 pub struct Lines<'a> {
     rest: Option<&'a [u8]>,
@@ -22,7 +22,8 @@ impl<'a> Model for Lines<'a> {
     ghost view = { λ a. option_map_or (λ rest. lines_of rest.now) a.rest [] };
 }
 
-/// The lines of a text, without their line feeds. What follows the last line feed is a line.
+/// Returns the lines of a text, without their line feeds. What
+/// follows the last line feed is a line too.
 #[tactic(auto, using(crate::proofs::TextLemmas::length_laws))]
 pub fn lines_of(bytes: &[u8]) -> Lines<'_>
     ensures lines { result ≡ lines_of bytes.now }
@@ -54,7 +55,7 @@ fn line_end(bytes: &[u8]) -> Option<usize>
     bytes.iter().position(|byte| *byte == b'\n')
 }
 
-/// The first line, and what follows its line feed, if there is one.
+/// Returns the first line, and what follows its line feed, if there is one.
 #[tactic(auto, using(crate::proofs::TextLemmas::line_laws))]
 fn first_line(bytes: &[u8]) -> (&[u8], Option<&[u8]>)
     ensures { lines_of bytes.now ≡ result.0.now ∷ option_map_or (λ rest. lines_of rest.now) result.1 [] }
@@ -97,7 +98,7 @@ fn trimmed_end(bytes: &[u8]) -> &[u8]
     kept
 }
 
-/// A line without the spaces, tabs and carriage returns at its ends.
+/// Returns a line without the spaces, tabs and carriage returns at its ends.
 pub fn trimmed(line: &[u8]) -> &[u8]
     ensures { result.now ≡ trimmed line.now }
 {

@@ -10,14 +10,14 @@ use crate::directive::{Directive, Directives};
 use pb_data::{Table, Text, TryCopy};
 use std::alloc::{AllocError, Global};
 
-/// What stands before and after the first `-`, where there is one.
+/// Returns what comes before and after the first `-`, if there is one.
 fn split_at_dash(text: &str) -> Option<(&str, &str)>
     ensures { option_map (λ p. (p.0.now, p.1.now)) result ≡ split_first 45 text.now }
 {
     text.split_once('-')
 }
 
-/// A text with `_` for each `-`.
+/// Returns a text with `_` for each `-`.
 pub fn underscored(alloc: Global, text: &str) -> Result<String, AllocError>
     ensures { IfOk result (λ made. string_bytes made ≡ underscored text.now) }
 {
@@ -32,7 +32,7 @@ pub fn underscored(alloc: Global, text: &str) -> Result<String, AllocError>
     Ok(made)
 }
 
-/// A text in upper case, with `_` for each `-`.
+/// Returns a text in upper case, with `_` for each `-`.
 fn in_capitals(alloc: Global, text: &str) -> Result<String, AllocError>
     ensures { IfOk result (λ made. string_bytes made ≡ in_capitals text.now) }
 {
@@ -41,7 +41,7 @@ fn in_capitals(alloc: Global, text: &str) -> Result<String, AllocError>
     Ok(made)
 }
 
-/// The name of the variable by which a key of a package's metadata is passed on.
+/// Returns the name of the variable that passes on a key of a package's metadata.
 fn dep_name(alloc: Global, links: &str, key: &str) -> Result<Text, AllocError>
     ensures { IfOk result (λ name. name ≡ dep_name links.now key.now) }
 {
@@ -54,10 +54,11 @@ fn dep_name(alloc: Global, links: &str, key: &str) -> Result<Text, AllocError>
     Ok(Text::new(name))
 }
 
-/// The variables that are there, and those that the metadata of one more build script gives, in printed
-/// order: a later value takes the place of an earlier one, and a new name goes last. Their names are those
-/// of `dep_pairs`. It takes the table and gives it back, so that nobody sees one to which a part was added;
-/// the one fault is want of memory.
+/// Adds the variables that the metadata of one more build script sets, in printed order: a later
+/// value replaces an earlier one, and a new name goes last. Their names are those of `dep_pairs`.
+/// The function takes the table and returns it, so that nobody sees a table with only a part added.
+///
+/// Errors: out of memory.
 pub fn add_dep_pairs(
     alloc: Global,
     links: &str,
@@ -76,13 +77,15 @@ pub fn add_dep_pairs(
     Ok(after)
 }
 
-/// The variables by which the metadata of one build script reaches the build scripts of the
-/// packages that need its package directly, with their values (The Cargo Book, "Build Scripts",
-/// "The `links` Manifest Key").
+/// Returns the variables by which the metadata of one build script reaches the
+/// build scripts of the packages that need its package directly, with their
+/// values (The Cargo Book, "Build Scripts", "The `links` Manifest Key").
 ///
-/// `links` is the value of `links` in the package's manifest. A variable's name is `DEP_LINKS_KEY`,
-/// where `links` and the metadata's key are in upper case, with `_` for each `-`. Each name stands
-/// once, in order of first mention, with its last value. The one fault is want of memory.
+/// `links` is the value of `links` in the package's manifest. A variable's name is
+/// `DEP_LINKS_KEY`; in it `links` and the metadata's key are in upper case, with `_`
+/// for each `-`. Each name occurs once, in order of first mention, with its last value.
+///
+/// Errors: out of memory.
 pub fn dep_pairs(
     alloc: Global,
     links: &str,

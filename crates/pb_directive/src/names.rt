@@ -14,7 +14,7 @@ use crate::texts::{after_prefix, has_nul, split_at_equals, text_of};
 use pb_data::Text;
 use std::alloc::Global;
 
-/// A line without a carriage return at its end.
+/// Returns a line without a carriage return at its end.
 fn without_return(line: &[u8]) -> &[u8]
     ensures { result.now ≡ strip_carriage_return line.now }
 {
@@ -24,7 +24,7 @@ fn without_return(line: &[u8]) -> &[u8]
     }
 }
 
-/// The name of a variable, from `NAME` or `NAME=VALUE`.
+/// Returns the name of a variable, from `NAME` or `NAME=VALUE`.
 #[tactic(auto, using(crate::proofs::NameLemmas::name_laws))]
 fn name_of(text: &str) -> &str
     ensures { result.now ≡ before_first (λ b. b == 61) text.now }
@@ -62,7 +62,7 @@ fn add_rule(alloc: Global, text: &str, info: &mut DepInfo) -> Result<(), Problem
     Ok(())
 }
 
-/// Mentions what a line names that is not empty.
+/// Mentions what a line that is not empty names.
 fn add_full_line(alloc: Global, text: &str, info: &mut DepInfo) -> Result<(), Problem>
     ensures { AddsInfo result info.old info.new (full_line text.now) }
 {
@@ -90,16 +90,16 @@ fn add_line(alloc: Global, line: &[u8], info: &mut DepInfo) -> Result<(), Proble
 
 /// Reads the dep-info of a compiler (The Cargo Book, "Build Cache").
 ///
-/// The text is read line by line: what follows the last line feed is a line, and a carriage return
-/// at the end of a line is not looked at. An empty line names nothing. A line `# env-dep:NAME` or
-/// `# env-dep:NAME=VALUE` names a variable, whatever the value; other lines that begin with `#`
-/// name nothing. Any other line is a rule: the first `:` that a space follows or that ends the line
-/// ends its outputs, and behind it stand its words, separated by spaces, where `\ ` is a space of a
-/// word and any other `\` stands for itself.
+/// The text is read line by line. What follows the last line feed is a line too, and a
+/// carriage return at the end of a line is ignored. An empty line names nothing. A line
+/// `# env-dep:NAME` or `# env-dep:NAME=VALUE` names a variable, whatever the value;
+/// other lines that begin with `#` name nothing. Any other line is a rule: its outputs
+/// end at the first `:` that a space follows or that ends the line. After it come its
+/// words, separated by spaces; `\ ` is a space of a word, and any other `\` is itself.
 ///
-/// The first line with a fault is told by its number, from 1: `NotText` for a line that is not
-/// UTF-8; `BadValue` for a rule without such a `:`, a word or a variable's name with byte 0, and an
-/// empty name. `OutOfMemory` where memory is refused.
+/// Errors: that of the first faulty line, with its number from 1: `NotText`,
+/// if it is not UTF-8; `BadValue`, for a rule without such a `:`, a word or
+/// a variable's name with byte 0, or an empty name. `OutOfMemory`.
 pub fn read_dep_info(alloc: Global, bytes: &[u8]) -> Result<DepInfo, LineFault>
     ensures { TextGives result (dep_info_of bytes.now) }
 {

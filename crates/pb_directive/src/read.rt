@@ -15,7 +15,7 @@ use crate::words::words_of;
 use pb_data::{Items, Text};
 use std::alloc::Global;
 
-/// Adds what a key says with a value.
+/// Adds the directives of a key with a value.
 fn add_at(alloc: Global, key: Key, value: &str, found: &mut Directives) -> Result<(), Problem>
     ensures { Adds result found.old found.new (directives_at key value.now) }
 {
@@ -57,7 +57,7 @@ fn add_at(alloc: Global, key: Key, value: &str, found: &mut Directives) -> Resul
     Ok(())
 }
 
-/// Adds what stands behind `cargo::`.
+/// Adds the directives of what follows `cargo::`.
 fn add_new(alloc: Global, setting: &str, found: &mut Directives) -> Result<(), Problem>
     ensures { Adds result found.old found.new (new_setting (split_first 61 setting.now)) }
 {
@@ -70,7 +70,7 @@ fn add_new(alloc: Global, setting: &str, found: &mut Directives) -> Result<(), P
     add_at(alloc, key, value, found)
 }
 
-/// Metadata, whose key is not empty.
+/// Returns metadata, whose key is not empty.
 fn metadata(alloc: Global, name: &str, value: &str) -> Result<Directive, Problem>
     ensures { LineGives result (metadata name.now value.now) }
 {
@@ -79,7 +79,7 @@ fn metadata(alloc: Global, name: &str, value: &str) -> Result<Directive, Problem
     Ok(Directive::Metadata(name, value))
 }
 
-/// Adds what stands behind `cargo:`.
+/// Adds the directives of what follows `cargo:`.
 fn add_old(alloc: Global, setting: &str, found: &mut Directives) -> Result<(), Problem>
     ensures { Adds result found.old found.new (old_setting (split_first 61 setting.now)) }
 {
@@ -93,7 +93,7 @@ fn add_old(alloc: Global, setting: &str, found: &mut Directives) -> Result<(), P
     Ok(())
 }
 
-/// Adds what a line says.
+/// Adds the directives of a line.
 fn add_line(alloc: Global, line: &[u8], found: &mut Directives) -> Result<(), Problem>
     ensures { Adds result found.old found.new (line_directives line.now) }
 {
@@ -111,17 +111,16 @@ fn add_line(alloc: Global, line: &[u8], found: &mut Directives) -> Result<(), Pr
 
 /// Reads the output of a build script (The Cargo Book, "Build Scripts").
 ///
-/// The text is read line by line: what follows the last line feed is a line, and spaces, tabs and
-/// carriage returns at both ends of a line are not looked at. A line that is not UTF-8, or that
-/// begins with neither `cargo::` nor `cargo:`, says nothing. After the prefix the key goes to the
-/// first `=`.
+/// The text is read line by line. What follows the last line feed is a line too, and
+/// spaces, tabs and carriage returns at both ends of a line are ignored. A line that is
+/// not UTF-8, or that begins with neither `cargo::` nor `cargo:`, means nothing. After
+/// the prefix comes the key, up to the first `=`. After `cargo:`, a line without `=`
+/// means nothing, and any other key, including `metadata` and `error`, is metadata.
 ///
-/// The first line with a fault is told by its number, from 1: after `cargo::` `UnknownKey` for a
-/// key that is not known, and `BadValue` where there is no `=`; after either prefix `BadValue` for
-/// a value that the key may not have, and `BadFlag` for a word of `rustc-flags` that is neither
-/// `-l` nor `-L` with a name. After `cargo:` a line without `=` says nothing, and any other key,
-/// `metadata` and `error` too, is metadata. That an unknown key after `cargo::` is refused is our
-/// own choice. `OutOfMemory` where memory is refused.
+/// Errors: that of the first faulty line, with its number from 1. After `cargo::`:
+/// `UnknownKey`, if the key is unknown (our own choice), and `BadValue`, if there is no `=`.
+/// After either prefix: `BadValue`, for a value that the key does not accept, and `BadFlag`,
+/// for a word of `rustc-flags` that is neither `-l` nor `-L` with a name. `OutOfMemory`.
 pub fn read_directives(alloc: Global, bytes: &[u8]) -> Result<Directives, LineFault>
     ensures { TextGives result (directives_of bytes.now) }
 {

@@ -11,7 +11,7 @@ use crate::words::split_at_space;
 use pb_data::{Mentions, Text};
 use std::alloc::{AllocError, Global};
 
-/// Whether a colon before this text ends the outputs of a rule.
+/// Returns whether a colon before this text ends the outputs of a rule.
 fn ends_outputs(text: &str) -> bool
     ensures { result ≡ ends_outputs text.now }
 {
@@ -21,14 +21,14 @@ fn ends_outputs(text: &str) -> bool
     }
 }
 
-/// What stands before and after the first colon, where there is one.
+/// Returns what comes before and after the first colon, if there is one.
 fn split_at_colon(text: &str) -> Option<(&str, &str)>
     ensures { option_map (λ p. (p.0.now, p.1.now)) result ≡ split_first 58 text.now }
 {
     text.split_once(':')
 }
 
-/// What follows the first colon that ends the outputs of a rule, where there is one.
+/// Returns what follows the first colon that ends the outputs of a rule, if there is one.
 #[tactic(auto, using(crate::proofs::RuleLemmas::output_laws))]
 pub fn after_outputs(text: &str) -> Option<&str>
     ensures { option_copied result ≡ after_outputs text.now }
@@ -43,14 +43,14 @@ pub fn after_outputs(text: &str) -> Option<&str>
     None
 }
 
-/// A part without the `\` at its end, where there is one.
+/// Returns a part without the `\` at its end, if there is one.
 fn before_backslash(part: &str) -> Option<&str>
     ensures { MatchOption result ((front : List ℕ) → part.now ≢ front ++ 92 ∷ []) (λ front. part.now ≡ front.now ++ 92 ∷ []) }
 {
     part.strip_suffix('\\')
 }
 
-/// The first part of a text, and what follows the space that ends it, if there is one.
+/// Returns the first part of a text, and what follows the space that ends it, if there is one.
 fn first_part(alloc: Global, text: &str) -> Result<(String, Option<&str>), AllocError>
     ensures parts { IfOk result (λ p. parts_of text.now ≡ string_bytes p.0 ∷ option_map_or (λ rest. parts_of rest.now) p.1 []) }
     ensures shorter { IfOk result (λ p. IfSome p.1 (λ rest. length rest.now < length text.now)) }
@@ -85,7 +85,7 @@ fn add_part(part: String, words: &mut Mentions) -> Result<(), AllocError>
     Ok(())
 }
 
-/// Mentions the words of a rule, which stand behind its outputs.
+/// Mentions the words of a rule, which follow its outputs.
 pub fn add_words(alloc: Global, text: &str, words: &mut Mentions) -> Result<(), AllocError>
     ensures { OnOk result (words.new ≡ mentioned_all words.old (rule_words text.now)) }
 {

@@ -4,7 +4,7 @@ ghost use Rattle.std.specs.Prelude.{◌≡◌, codes};
 ghost use Rattle.std.specs.Option.{option_copied, option_map};
 ghost use Rattle.pb_directive.specs.Lines.{text_of, has_byte, after_prefix, split_first};
 
-/// Bytes as a text, where they are UTF-8.
+/// Returns bytes as a text, if they are UTF-8.
 #[tactic(auto, using(crate::proofs::TextLemmas::text_laws))]
 pub fn text_of(bytes: &[u8]) -> Option<&str>
     ensures { option_copied result ≡ text_of bytes.now }
@@ -15,21 +15,21 @@ pub fn text_of(bytes: &[u8]) -> Option<&str>
     }
 }
 
-/// Whether a text has byte 0.
+/// Returns whether a text has byte 0.
 pub fn has_nul(text: &str) -> bool
     ensures { result ≡ has_byte 0 text.now }
 {
     text.as_bytes().contains(&0)
 }
 
-/// What follows a prefix, where the text begins with it.
+/// Returns what follows a prefix, if the text begins with it.
 pub fn after_prefix<'a>(prefix: &str, text: &'a str) -> Option<&'a str>
     ensures { option_copied result ≡ after_prefix prefix.now text.now }
 {
     text.strip_prefix(prefix)
 }
 
-/// What stands before and after the first `=`, where there is one.
+/// Returns what comes before and after the first `=`, if there is one.
 pub fn split_at_equals(text: &str) -> Option<(&str, &str)>
     ensures { option_map (λ p. (p.0.now, p.1.now)) result ≡ split_first 61 text.now }
 {

@@ -8,7 +8,7 @@ use crate::texts::{has_nul, split_at_equals};
 use pb_data::Text;
 use std::alloc::Global;
 
-/// A value without byte 0.
+/// Returns a value without byte 0.
 pub fn plain(alloc: Global, value: &str) -> Result<Text, Problem>
     ensures { LineGives result (plain value.now) }
 {
@@ -18,7 +18,7 @@ pub fn plain(alloc: Global, value: &str) -> Result<Text, Problem>
     Ok(Text::from_str(alloc, value)?)
 }
 
-/// A value without byte 0 that is not empty.
+/// Returns a value without byte 0 that is not empty.
 pub fn filled(alloc: Global, value: &str) -> Result<Text, Problem>
     ensures { LineGives result (filled value.now) }
 {
@@ -29,7 +29,7 @@ pub fn filled(alloc: Global, value: &str) -> Result<Text, Problem>
     Ok(text)
 }
 
-/// The name of a variable: not empty, without `=` and byte 0.
+/// Returns the name of a variable: not empty, without `=` and byte 0.
 pub fn variable(alloc: Global, value: &str) -> Result<Text, Problem>
     ensures { LineGives result (variable value.now) }
 {
@@ -40,7 +40,7 @@ pub fn variable(alloc: Global, value: &str) -> Result<Text, Problem>
     Ok(name)
 }
 
-/// What stands before and after the first `=` of a value without byte 0.
+/// Returns what comes before and after the first `=` of a value without byte 0.
 pub fn halves(alloc: Global, value: &str) -> Result<(Text, Text), Problem>
     ensures { LineGives result (halves value.now) }
 {
@@ -57,7 +57,7 @@ pub fn halves(alloc: Global, value: &str) -> Result<(Text, Text), Problem>
     }
 }
 
-/// `NAME=VALUE`, with a name that is not empty.
+/// Returns the parts of `NAME=VALUE`, with a name that is not empty.
 pub fn named_value(alloc: Global, value: &str) -> Result<(Text, Text), Problem>
     ensures { LineGives result (named_value value.now) }
 {

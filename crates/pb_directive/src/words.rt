@@ -1,4 +1,4 @@
-//! The words of a text, which spaces separate.
+//! The words of a text, separated by spaces.
 
 ghost use Rattle.std.specs.Prelude.{◌≡◌, ◌∷◌, [], MatchOption};
 ghost use Rattle.std.specs.Option.{option_map};
@@ -7,7 +7,7 @@ ghost use Rattle.pb_directive.specs.Directives.{words_of};
 
 use std::marker::Model;
 
-/// The words of a text that are still to come. Contracts see the list of them.
+/// The words of a text that are still to come. Contracts see them as a list.
 #[derive(Drop)]
 pub struct Words<'a> {
     rest: &'a str,
@@ -22,7 +22,7 @@ impl<'a> Model for Words<'a> {
     ghost view = { λ a. words_of a.rest.now };
 }
 
-/// The parts of a text between spaces that are not empty.
+/// Returns the parts of a text between spaces that are not empty.
 pub fn words_of(text: &str) -> Words<'_>
     ensures { result ≡ words_of text.now }
 {
@@ -45,14 +45,14 @@ impl<'a> Iterator for Words<'a> {
     }
 }
 
-/// What stands before and after the first space, where there is one.
+/// Returns what comes before and after the first space, if there is one.
 pub fn split_at_space(text: &str) -> Option<(&str, &str)>
     ensures { option_map (λ p. (p.0.now, p.1.now)) result ≡ split_first 32 text.now }
 {
     text.split_once(' ')
 }
 
-/// The first word and what follows it, where there is one.
+/// Returns the first word and what follows it, if there is one.
 #[tactic(auto, using(crate::proofs::WordLemmas::word_laws))]
 fn first_word(text: &str) -> Option<(&str, &str)>
     ensures { MatchOption result (words_of text.now ≡ []) (λ p. words_of text.now ≡ p.0.now ∷ words_of p.1.now) }

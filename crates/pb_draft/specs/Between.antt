@@ -12,11 +12,12 @@ is_word part = not (length part == 0)
 abbrev pub names_in : List ℕ → List (List ℕ)
 names_in path = filter is_word (slice_split (λ b. b == 47) path)
 
--- `..` for each of these names
+-- one `..` for each of these names
 abbrev pub upward : List (List ℕ) → List (List ℕ)
 upward names = replicate (length names) (codes "..")
 
--- from the end of the first names to the end of the others: the names that both begin with are left out, and then it goes up and down
+-- the steps from the end of the first names to the end of the others: their common beginning
+-- is left out, then `..` for each name that is left of the first, then the rest of the others
 abbrev pub steps_between : List (List ℕ) → List (List ℕ) → List (List ℕ)
 steps_between [] others = others
 steps_between (name ∷ names) [] = upward (name ∷ names)
@@ -27,6 +28,6 @@ abbrev pub spelled : List (List ℕ) → List ℕ
 spelled [] = []
 spelled (name ∷ names) = name ++ slashed names
 
--- as `../README.md`; empty where the two are one
+-- the path from a folder to a path, as `../README.md`; empty if they are equal
 abbrev pub text_between : List ℕ → List ℕ → List ℕ
 text_between folder path = spelled (steps_between (names_in folder) (names_in path))

@@ -1,4 +1,5 @@
--- The binaries of a package (The Cargo Book, Cargo Targets). `sources` is the world without what lies at or below the target folder.
+-- The binaries of a package (The Cargo Book, Cargo Targets). `sources`
+-- is the world without what is at or below the target folder.
 use Rattle.std.specs.Prelude.{ℕ, Bool, if◌then◌else◌, codes, List, [], ◌∷◌, ◌++◌, map, Option, Some, None, unwrap_or}
 use Rattle.std.specs.Str.{bytes_eq}
 use Rattle.pb_place.specs.Paths.{below}
@@ -8,7 +9,7 @@ use Rattle.pb_package.specs.declared.package.Binary.{Binary}
 use Rattle.pb_draft.specs.Sorted.{with_entry}
 use Rattle.pb_draft.specs.Sources.{own_source, resolved}
 
--- the three places of a binary's source, from the package's folder
+-- the three paths that a binary's source may have, from the package's folder
 abbrev pub main_source : List ℕ
 main_source = codes "src/main.rs"
 
@@ -18,7 +19,7 @@ flat_source name = codes "src/bin/" ++ (name ++ codes ".rs")
 abbrev pub nested_source : List ℕ → List ℕ
 nested_source name = codes "src/bin/" ++ (name ++ codes "/main.rs")
 
--- the first of two that is there
+-- the first of two that exists
 abbrev pub first_some : {A : Type 0} → Option A → Option A → Option A
 first_some None second = second
 first_some (Some x) second = Some x
@@ -27,13 +28,14 @@ first_some (Some x) second = Some x
 abbrev pub looked_in_bin : List ℕ → World → List ℕ → Option (List ℕ)
 looked_in_bin folder sources name = first_some (own_source folder sources (flat_source name)) (own_source folder sources (nested_source name))
 
--- of a `[[bin]]` without path: `src/main.rs`, where it is named as its package, and then these two; where none of them is a file, the first of the list
+-- the source of a `[[bin]]` without a path: `src/main.rs` if it is named as its package, then the two of `src/bin`;
+-- if none of them is a file, it is the first of this list
 abbrev pub looked_for : List ℕ → World → Bool → List ℕ → List ℕ
 looked_for folder sources is_packages name =
     if is_packages then unwrap_or (first_some (own_source folder sources main_source) (looked_in_bin folder sources name)) (below folder main_source)
     else unwrap_or (looked_in_bin folder sources name) (below folder (flat_source name))
 
--- the source of a `[[bin]]`: its path, or the one that is found
+-- the source of a `[[bin]]`: its path, or the one that is looked for
 abbrev pub binary_source : List ℕ → World → List ℕ → List ℕ → Option (List ℕ) → List ℕ
 binary_source folder sources package_name name (Some path) = resolved folder path
 binary_source folder sources package_name name None = looked_for folder sources (bytes_eq name package_name) name
@@ -46,7 +48,7 @@ written_binary folder sources package_name b = record {
   required_features = b.required_features;
 }
 
--- binaries in turn, each in its place by byte order of the names; one of its name gives way
+-- the entries with these binaries added in turn, in byte order of the names; a later one replaces one of the same name
 abbrev pub with_binaries : List (List ℕ × Binary) → List Binary → List (List ℕ × Binary)
 with_binaries entries [] = entries
 with_binaries entries (b ∷ bs) = with_binaries (with_entry entries b.name b) bs
@@ -55,6 +57,7 @@ with_binaries entries (b ∷ bs) = with_binaries (with_entry entries b.name b) b
 abbrev pub binary_of : List ℕ × Binary → Binary
 binary_of entry = record { name = entry.0; source = entry.1.source; required_features = entry.1.required_features }
 
--- the found binaries, those that count last first, and then the written ones, which replace them
+-- the binaries of a package: the found ones, of which the last
+-- of a name counts, and the written ones, which replace them
 abbrev pub binaries_of : List Binary → List Binary → List Binary
 binaries_of found written = map binary_of (with_binaries (with_binaries [] found) written)

@@ -1,4 +1,4 @@
--- How a step that reads files ends: which faults come from outside the rules, and how the counters of the place moved.
+-- How a step that reads files ends: which faults come from outside the rules, and how the counters of the place move.
 use Rattle.std.specs.Prelude.{◌≡◌, ℕ, List, [], Bool, true, false, Option, Some, None, Result, Ok, Err, MatchResult}
 use Rattle.pb_place.specs.At.{At}
 use Rattle.pb_place.specs.Children.{KeepsStill}
@@ -26,7 +26,7 @@ is_failure (Place path fault) = true
 is_failure NoSuchPackage = false
 is_failure OutOfMemory = false
 
--- the outside failed, or memory was refused: of these faults a definition of an answer says nothing
+-- the outside failed, or memory ran out; definitions of answers say nothing about these faults
 abbrev pub is_outside : LoadFault → Bool
 is_outside (NoManifest path) = false
 is_outside (Manifest path fault) = false
@@ -42,7 +42,7 @@ is_outside (Place path fault) = true
 is_outside NoSuchPackage = false
 is_outside OutOfMemory = true
 
--- a file could not be read, or a folder not listed
+-- a file could not be read, or a folder could not be listed
 abbrev pub is_read_fault : PlaceFault → Bool
 is_read_fault place.Read = true
 is_read_fault place.List = true
@@ -51,7 +51,7 @@ is_read_fault place.Remove = false
 is_read_fault place.Variable = false
 is_read_fault place.OutOfMemory = false
 
--- the call that failed, if one did, was one that reads
+-- the failed call, if there is one, is one that reads
 abbrev pub is_read : LoadFault → Bool
 is_read (NoManifest path) = true
 is_read (Manifest path fault) = true
@@ -67,7 +67,7 @@ is_read (Place path fault) = is_read_fault fault
 is_read NoSuchPackage = true
 is_read OutOfMemory = true
 
--- what the place answered to the call that failed
+-- what the place answered to the failed call
 abbrev pub failure_of : LoadFault → Option Failure
 failure_of (NoManifest path) = None
 failure_of (Manifest path fault) = None
@@ -83,7 +83,7 @@ failure_of (Place path fault) = Some (Called fault)
 failure_of NoSuchPackage = None
 failure_of OutOfMemory = None
 
--- the path that the call that failed was given
+-- the path that was passed to the failed call
 abbrev pub path_told : LoadFault → List ℕ
 path_told (NoManifest path) = []
 path_told (Manifest path fault) = []
@@ -99,7 +99,7 @@ path_told (Place path fault) = path
 path_told NoSuchPackage = []
 path_told OutOfMemory = []
 
--- what a call on a path that failed is told as; want of memory stays so
+-- the fault of a failed call on a path; out of memory stays so
 abbrev pub fault_at : List ℕ → PlaceFault → LoadFault
 fault_at path place.Read = Place path place.Read
 fault_at path place.List = Place path place.List
@@ -108,16 +108,18 @@ fault_at path place.Remove = Place path place.Remove
 fault_at path place.Variable = Place path place.Variable
 fault_at path place.OutOfMemory = OutOfMemory
 
--- the result is the answer, unless the outside failed or memory was refused
+-- the result is the answer, unless the outside failed or memory ran out
 abbrev pub Told : {A : Type 0} → Result A LoadFault → Result A LoadFault → Type 0
 Told result answer = MatchResult result (λ x. answer ≡ Ok x) (λ e. is_outside e ≡ false → answer ≡ Err e)
 
--- no child was started; a call failed just where the fault says so, with this very fault and on this very path, and then no further call was made
+-- no child was started;
+-- a call failed if and only if the fault says so, with this very
+-- fault and on this very path; then no further call was made
 abbrev pub Reads : {T : Type 0} → Result T LoadFault → Counts → Counts → Type 0
 Reads result old new = MatchResult result (λ _. (new.failures ≡ old.failures) × (new.starts ≡ old.starts))
     (λ e. (new.starts ≡ old.starts) × (is_failure e ≡ false → new.failures ≡ old.failures) × (is_failure e ≡ true → new.failures ≡ up old.failures) × (is_failure e ≡ true → new.late ≡ 0) × (is_failure e ≡ true → new.last ≡ failure_of e) × (is_failure e ≡ true → named_in new ≡ path_told e) × (is_read e ≡ true))
 
--- a step that only looks: nothing changes but the counters, and a call that failed was the last
+-- a step that only looks: only the counters change, and a failed call is the last one
 pub record OnlyLooks {T : Type 0} (result : Result T LoadFault) (old new : At) : Type 0 where
   pub world : new.world ≡ old.world
   pub most : new.most ≡ old.most

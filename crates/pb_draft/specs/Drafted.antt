@@ -1,4 +1,5 @@
--- What every package that is read keeps to, whatever the files say. These words serve the promise that a workspace which was read is settled.
+-- What is true of every package that is read, whatever the files contain. The
+-- promise that a workspace which was read is settled needs these definitions.
 use Rattle.std.specs.Prelude.{◌≡◌, ◌||◌, true, List, map, IfSome}
 use Rattle.std.specs.List.{AllByRecursion}
 use Rattle.pb_manifest.specs.Letters.{is_name, is_crate_name, is_feature_name}
@@ -13,7 +14,7 @@ use Rattle.pb_draft.specs.declared.settling.Targets.{Targets}
 use Rattle.pb_draft.specs.declared.wanted.Wanted.{Wanted}
 use Rattle.pb_package.specs.Settled.{IsAscending}
 
--- the letters of names
+-- each name consists of the letters that its kind of name may have
 abbrev pub IsLibraryNamed : Library → Type 0
 IsLibraryNamed l = is_crate_name l.name ≡ true
 
@@ -35,17 +36,17 @@ IsWantedKeyed w = is_name w.key ≡ true
 abbrev pub IsWrittenLibrary : WrittenLibrary → Type 0
 IsWrittenLibrary l = IfSome l.name (λ name. is_crate_name name ≡ true)
 
--- binaries by their names
+-- the binaries have valid names, in ascending order
 pub record AreBinaries (bs : List Binary) : Type 0 where
   pub named : AllByRecursion IsBinaryNamed bs
   pub order : IsAscending (map (λ (b : Binary). b.name) bs)
 
--- features by their names
+-- the features have valid names, in ascending order
 pub record AreFeatures (fs : List Feature) : Type 0 where
   pub named : AllByRecursion IsFeatureNamed fs
   pub order : IsAscending (map (λ (f : Feature). f.name) fs)
 
--- what a manifest promises of its tables
+-- what a manifest promises about its tables
 abbrev pub ArePromised : Tables → Type 0
 ArePromised t =
     IfSome t.library IsWrittenLibrary × AllByRecursion IsKeyed t.dependencies × AllByRecursion IsKeyed t.build_dependencies × AllByRecursion IsWrittenFeature t.features

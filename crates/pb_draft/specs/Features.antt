@@ -8,7 +8,7 @@ use Rattle.pb_manifest.specs.declared.feature.FeatureItem.{FeatureItem}
 use Rattle.pb_manifest.specs.declared.feature.FeatureItem.TheVariants as item
 use Rattle.pb_draft.specs.Sorted.{with_entry}
 
--- the item `dep:N`
+-- a feature's item is `dep:N` with this name
 abbrev pub enables : List ℕ → FeatureItem → Bool
 enables name (item.Own feature) = false
 enables name (item.Dependency dependency) = bytes_eq name dependency
@@ -23,12 +23,12 @@ is_enabled_by_name name features = list_any (λ f. list_any (enables name) f.ite
 abbrev pub makes_feature : List Feature → Dependency → Bool
 makes_feature written d = d.optional && not (is_enabled_by_name d.key written)
 
--- the features that entries make, each of them the one item `dep:N`
+-- the entries with the features that dependency entries make, each with the single item `dep:N`
 abbrev pub with_made : List Feature → List (List ℕ × List FeatureItem) → List Dependency → List (List ℕ × List FeatureItem)
 with_made written entries [] = entries
 with_made written entries (d ∷ ds) = with_made written (if makes_feature written d then with_entry entries d.key (item.Dependency d.key ∷ []) else entries) ds
 
--- the written ones, which take the place of those made under their name
+-- the entries with the written features, each of which replaces a made one of the same name
 abbrev pub with_written : List (List ℕ × List FeatureItem) → List Feature → List (List ℕ × List FeatureItem)
 with_written entries [] = entries
 with_written entries (f ∷ fs) = with_written (with_entry entries f.name f.items) fs
@@ -36,6 +36,7 @@ with_written entries (f ∷ fs) = with_written (with_entry entries f.name f.item
 abbrev pub feature_of : List ℕ × List FeatureItem → Feature
 feature_of entry = record { name = entry.0; items = entry.1 }
 
--- the features of a package with these entries in `[dependencies]` and `[build-dependencies]`, in byte order of their names
+-- the features of a package with these entries in `[dependencies]`
+-- and `[build-dependencies]`, in byte order of their names
 abbrev pub features_of : List Feature → List Dependency → List Dependency → List Feature
 features_of written dependencies build = map feature_of (with_written (with_made written (with_made written [] dependencies) build) written)

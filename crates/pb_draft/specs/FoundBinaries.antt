@@ -1,4 +1,5 @@
--- The binaries that a package's folder has (The Cargo Book, Cargo Targets). `sources` is the world without what lies at or below the target folder.
+-- The binaries that a package's folder has (The Cargo Book, Cargo Targets).
+-- `sources` is the world without what is at or below the target folder.
 use Rattle.std.specs.Prelude.{ℕ, Bool, true, false, ◌&&◌, if◌then◌else◌, codes, List, [], ◌∷◌, ◌++◌, Option, Some, None}
 use Rattle.std.specs.List.{filter_map}
 use Rattle.std.specs.Str.{bytes_eq}
@@ -11,7 +12,7 @@ use Rattle.pb_draft.specs.Between.{names_in}
 use Rattle.pb_draft.specs.Binaries.{main_source}
 use Rattle.pb_draft.specs.Sources.{own_source}
 
--- NAME of a file NAME.rs, where it has the letters of a package's name
+-- NAME of a file NAME.rs, if it has the letters of a package's name
 abbrev pub stem_in : Option (List ℕ × List ℕ) → Option (List ℕ)
 stem_in None = None
 stem_in (Some parts) = if is_name parts.0 && bytes_eq parts.1 (codes "rs") then Some parts.0 else None
@@ -22,7 +23,7 @@ flat_name [] = None
 flat_name (file ∷ []) = stem_in (parted 46 file)
 flat_name (first ∷ second ∷ more) = None
 
--- NAME of `NAME/main.rs` there
+-- NAME of `NAME/main.rs` in `src/bin`
 abbrev pub nested_name : List (List ℕ) → Option (List ℕ)
 nested_name [] = None
 nested_name (file ∷ []) = None
@@ -33,17 +34,17 @@ abbrev pub name_by : Bool → List (List ℕ) → Option (List ℕ)
 name_by true names = nested_name names
 name_by false names = flat_name names
 
--- of a path in the folder `src/bin`
+-- NAME of a path in the folder `src/bin`
 abbrev pub name_inside : Bool → Option (List ℕ) → Option (List ℕ)
 name_inside nested None = None
 name_inside nested (Some relative) = name_by nested (names_in relative)
 
--- a binary at a path that was found
+-- the binary at a path that was found, if it has a name
 abbrev pub found_at : List ℕ → Option (List ℕ) → Option Binary
 found_at path None = None
 found_at path (Some name) = Some record { name = name; source = path; required_features = [] }
 
--- the binary that a path in the folder `src/bin` gives
+-- the binary at a path in the folder `src/bin`, if it is one
 abbrev pub binary_at : Bool → List ℕ → List ℕ → Option Binary
 binary_at nested bin path = found_at path (name_inside nested (inside bin path))
 
@@ -55,7 +56,8 @@ main_binary name (Some path) = record { name = name; source = path; required_fea
 abbrev pub bin_folder : List ℕ → List ℕ
 bin_folder folder = below folder (codes "src/bin")
 
--- the binaries that are found: `src/bin/NAME/main.rs`, `src/bin/NAME.rs`, `src/main.rs`. Of two of one name the later counts
+-- the binaries that are found: `src/bin/NAME/main.rs`, `src/bin/NAME.rs`,
+-- `src/main.rs`; of two with one name the later one counts
 abbrev pub found_binaries : List ℕ → World → List ℕ → List Binary
 found_binaries folder sources name =
     filter_map (binary_at true (bin_folder folder)) (listed (bin_folder folder) sources)

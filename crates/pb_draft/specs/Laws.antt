@@ -1,4 +1,4 @@
--- What is so of the binaries that are found.
+-- Laws of the binaries that are found.
 use Rattle.std.specs.Prelude.{◌≡◌, ◌≢◌, ℕ, true, List, ◌∷◌, ◌++◌, Contains, None}
 use Rattle.pb_place.specs.Paths.{is_path}
 use Rattle.pb_place.specs.World.{World, FilesHavePaths}
@@ -6,7 +6,8 @@ use Rattle.pb_package.specs.declared.package.Binary.{Binary}
 use Rattle.pb_draft.specs.Binaries.{binary_source}
 use Rattle.pb_draft.specs.FoundBinaries.{found_binaries}
 
--- Of the binaries that are found in the folder of a package, the last of a name, which counts, has the source that a `[[bin]]` of this name would have that writes no path.
+-- Of the binaries found in a package's folder, the last one of a name counts.
+-- It has the source that a `[[bin]]` of this name without a path would have.
 abbrev pub FoundAsLookedFor : Type 0
 FoundAsLookedFor = (folder : List ℕ) (sources : World) (owner : List ℕ) (before later : List Binary) (b : Binary) → is_path folder ≡ true → FilesHavePaths sources
     → found_binaries folder sources owner ≡ before ++ b ∷ later → ((other : Binary) → Contains later other → other.name ≢ b.name) → b.source ≡ binary_source folder sources owner b.name None

@@ -1,4 +1,5 @@
--- What is seen of the folder of a package, which decides all that is found there. `sources` is the world without what lies at or below the target folder.
+-- What is seen of a package's folder, which decides all that is found there.
+-- `sources` is the world without what is at or below the target folder.
 use Rattle.std.specs.Prelude.{◌≡◌, ℕ, Bool, List, filter}
 use Rattle.pb_place.specs.World.{World, listed}
 use Rattle.pb_draft.specs.declared.listings.Listings.{Listings}
@@ -11,7 +12,7 @@ use Rattle.pb_draft.specs.Sources.{has_own_file}
 abbrev pub is_there : List ℕ → World → OwnFile → Bool
 is_there folder sources file = has_own_file folder sources (name_of file)
 
--- the files with a fixed place that the folder has, and the files below its `src/bin`
+-- the files at fixed paths that the folder has, and the files below its `src/bin`
 pub record AreListingsOf (folder : List ℕ) (sources : World) (l : Listings) : Type 0 where
   pub own : l.own ≡ filter (is_there folder sources) own_files
   pub in_bin : l.in_bin ≡ listed (bin_folder folder) sources

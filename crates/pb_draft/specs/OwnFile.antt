@@ -1,9 +1,9 @@
--- The files that have a fixed place in the folder of a package (The Cargo Book, Manifest Format, Cargo Targets, Build Scripts).
+-- The files at fixed paths in a package's folder (The Cargo Book, Manifest Format, Cargo Targets, Build Scripts).
 use Rattle.std.specs.Prelude.{ℕ, codes, List, [], ◌∷◌}
 use Rattle.pb_draft.specs.declared.own_file.OwnFile.{OwnFile}
 use Rattle.pb_draft.specs.declared.own_file.OwnFile.TheVariants as own
 
--- the name of one, from the package's folder
+-- the name of such a file, from the package's folder
 abbrev pub name_of : OwnFile → List ℕ
 name_of own.ReadmeMd = codes "README.md"
 name_of own.ReadmeTxt = codes "README.txt"
@@ -12,6 +12,6 @@ name_of own.BuildScript = codes "build.rs"
 name_of own.Library = codes "src/lib.rs"
 name_of own.Main = codes "src/main.rs"
 
--- all of them, in the order in which they are asked for
+-- all of them, in the order in which the place is asked about them
 abbrev pub own_files : List OwnFile
 own_files = own.ReadmeMd ∷ own.ReadmeTxt ∷ own.Readme ∷ own.BuildScript ∷ own.Library ∷ own.Main ∷ []

@@ -1,4 +1,5 @@
--- A package, settled from its manifest, its folder and what its workspace gives (The Cargo Book, Manifest Format and Workspaces). `sources` is the world without what lies at or below the target folder.
+-- A package, settled from its manifest, its folder and what its workspace gives (The Cargo Book,
+-- Manifest Format and Workspaces). `sources` is the world without what is at or below the target folder.
 use Rattle.std.specs.Prelude.{ℕ, Bool, false, ◌||◌, if◌then◌else◌, List, [], ◌∷◌, ◌++◌, map, Option, Result, Ok}
 use Rattle.pb_data.specs.Gives.{◌>>=◌}
 use Rattle.pb_data.specs.Mentions.{is_mentioned, mentioned}
@@ -22,13 +23,13 @@ use Rattle.pb_draft.specs.FoundBinaries.{found_binaries}
 use Rattle.pb_draft.specs.Sources.{found_readme, library_of, script_of}
 use Rattle.pb_draft.specs.Wanted.{each_wanted, wanted_of}
 
--- the README that is looked for, where none is written
+-- the README that is looked for if none is written
 abbrev pub readme_found : List ℕ → World → Inheritable Readme → List ℕ
 readme_found folder sources (Written readme) = []
 readme_found folder sources Workspace = []
 readme_found folder sources Absent = found_readme folder sources
 
--- what the entries of its two tables ask for
+-- what the entries of the two dependency tables request
 abbrev pub wanted_in : Standing → Given → List Dependency → List Dependency → Result (List Wanted) LoadFault
 wanted_in at given dependencies build =
     each_wanted (wanted_of at.root at.folder at.manifest given.dependencies Normal) dependencies >>= (λ normal.
@@ -39,7 +40,7 @@ wanted_in at given dependencies build =
 abbrev pub discovered : List ℕ → World → List ℕ → Bool → List Binary
 discovered folder sources name autobins = if autobins then found_binaries folder sources name else []
 
--- what a package is built to
+-- what a package is built into: its library, its binaries and its build script
 abbrev pub targets_of : List ℕ → World → List ℕ → Bool → Build → Option WrittenLibrary → List WrittenBinary → Targets
 targets_of folder sources name autobins build library binaries = record {
   library = library_of folder sources name library;
@@ -47,11 +48,11 @@ targets_of folder sources name autobins build library binaries = record {
   script = script_of folder sources build;
 }
 
--- one of the names comes again, or is among those that came before
+-- one of the names repeats, or is among the earlier names
 abbrev pub comes_again : List (List ℕ) → List (List ℕ) → Bool
 comes_again before [] = false
 comes_again before (name ∷ names) = is_mentioned before name || comes_again (mentioned before name) names
 
--- two `[[bin]]` have one name
+-- two `[[bin]]` have the same name
 abbrev pub has_same_binaries : List WrittenBinary → Bool
 has_same_binaries binaries = comes_again [] (map (λ (b : WrittenBinary). b.name) binaries)

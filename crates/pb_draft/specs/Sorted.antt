@@ -4,6 +4,6 @@ use Rattle.std.specs.BTreeMap.{insert_entry}
 use Rattle.std.specs.Ordering.{nat_cmp}
 use Rattle.std.specs.Cmp.Lexicographic.{slice_cmp}
 
--- with one more entry, in its place by byte order; one of its name gives way
+-- the entries with one more, in byte order of the names; it replaces one of the same name
 abbrev pub with_entry : {V : Type 0} → List (List ℕ × V) → List ℕ → V → List (List ℕ × V)
 with_entry entries name value = insert_entry (slice_cmp nat_cmp) entries name value

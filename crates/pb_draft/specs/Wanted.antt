@@ -1,4 +1,5 @@
--- What the entries of a package ask for, with what they take from the workspace (The Cargo Book, Specifying Dependencies and Workspaces).
+-- What the entries of a package request, with what they take from the
+-- workspace (The Cargo Book, Specifying Dependencies and Workspaces).
 use Rattle.std.specs.Prelude.{ℕ, Bool, false, not, ◌||◌, List, [], ◌∷◌, ◌++◌, Option, Some, None, unwrap_or, Result, Ok, Err}
 use Rattle.std.specs.List.{find}
 use Rattle.std.specs.Str.{bytes_eq}
@@ -17,12 +18,12 @@ use Rattle.pb_package.specs.declared.package.DependencyKind.{DependencyKind}
 use Rattle.pb_draft.specs.declared.wanted.Wanted.{Wanted}
 use Rattle.pb_draft.specs.Sources.{resolved}
 
--- `package` gives another name than the key
+-- `package` names another package than the key
 abbrev pub is_renamed : List ℕ → Option (List ℕ) → Bool
 is_renamed key None = false
 is_renamed key (Some name) = not (bytes_eq name key)
 
--- what an entry asks for. `base` is the folder from which its path starts
+-- what an entry requests; `base` is the folder from which its path starts
 abbrev pub wanted_at : List ℕ → DependencyKind → List ℕ → Bool → Bool → List (List ℕ) → PathSource → Wanted
 wanted_at base kind key optional default features source = record {
   key = key;
@@ -36,16 +37,18 @@ wanted_at base kind key optional default features source = record {
   features = features;
 }
 
--- the workspace's entry of this key
+-- the workspace's entry for this key
 abbrev pub shared_at : List ℕ → List WorkspaceDependency → Option WorkspaceDependency
 shared_at key dependencies = find (λ d. bytes_eq key d.key) dependencies
 
--- with an entry of the workspace: its features and then the member's, `default` where one of the two asks for it
+-- what an entry requests that takes a workspace entry: the workspace's
+-- features and then its own, and `default` if one of the two requests it
 abbrev pub taken_from : List ℕ → List ℕ → DependencyKind → Dependency → Bool → WorkspaceDependency → WorkspaceSource → Result Wanted LoadFault
 taken_from root manifest kind d default w (shared.Path source) = Ok (wanted_at root kind d.key d.optional (source.default_features || default) (w.features ++ d.features) source)
 taken_from root manifest kind d default w shared.Unsupported = Err (Manifest manifest UnsupportedSource)
 
--- an entry of the package in this folder, whose manifest is this one. `given` are the workspace's entries, none where it has none to give
+-- what an entry of a package requests, given the package's folder and manifest;
+-- `given` are the workspace's entries, none if it has none to give
 abbrev pub wanted_by : List ℕ → List ℕ → List ℕ → List WorkspaceDependency → DependencyKind → Dependency → Source → Result Wanted LoadFault
 wanted_by root folder manifest given kind d (Path source) = Ok (wanted_at folder kind d.key d.optional source.default_features d.features source)
 wanted_by root folder manifest given kind d (Workspace default) = some_or NoInherited (shared_at d.key given) >>= (λ w. taken_from root manifest kind d default w w.source)
@@ -53,7 +56,7 @@ wanted_by root folder manifest given kind d (Workspace default) = some_or NoInhe
 abbrev pub wanted_of : List ℕ → List ℕ → List ℕ → List WorkspaceDependency → DependencyKind → Dependency → Result Wanted LoadFault
 wanted_of root folder manifest given kind d = wanted_by root folder manifest given kind d d.source
 
--- the entries of a table in turn, up to the first fault
+-- what the entries of a table request, up to the first fault
 abbrev pub each_wanted : (Dependency → Result Wanted LoadFault) → List Dependency → Result (List Wanted) LoadFault
 each_wanted one [] = Ok []
 each_wanted one (d ∷ ds) = one d >>= (λ w. each_wanted one ds >>= (λ ws. Ok (w ∷ ws)))

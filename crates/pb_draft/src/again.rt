@@ -1,4 +1,4 @@
-//! Names that come again.
+//! Names that repeat.
 
 ghost use Rattle.std.specs.Prelude.{◌≡◌, IfOk, OnOk};
 ghost use Rattle.pb_data.specs.Mentions.{is_mentioned, mentioned};
@@ -6,7 +6,9 @@ ghost use Rattle.pb_data.specs.Mentions.{is_mentioned, mentioned};
 use pb_data::{Mentions, Text, TryCopy};
 use std::alloc::{AllocError, Global};
 
-/// Whether a name was mentioned before. From now on it is. The one fault is want of memory.
+/// Returns whether a name was mentioned before, and mentions it.
+///
+/// Errors: out of memory.
 pub fn was_mentioned(alloc: Global, seen: &mut Mentions, name: &Text) -> Result<bool, AllocError>
     ensures before { IfOk result (λ answer. answer ≡ is_mentioned seen.old name.now) }
     ensures now { OnOk result (seen.new ≡ mentioned seen.old name.now) }

@@ -9,7 +9,9 @@ use pb_data::Text;
 use pb_place::PathText;
 use std::alloc::{AllocError, Global};
 
-/// The parts of a text, between its slashes, of which some may be empty. The one fault is want of memory.
+/// Returns the parts of a text between its slashes, some of which may be empty.
+///
+/// Errors: out of memory.
 pub fn cut_at_slashes(alloc: Global, text: &str) -> Result<Vec<&str>, AllocError>
     ensures { IfOk result
         (λ parts. map (λ part. part.now) parts.items ≡ slice_split (λ b. b == 47) text.now) }
@@ -17,7 +19,7 @@ pub fn cut_at_slashes(alloc: Global, text: &str) -> Result<Vec<&str>, AllocError
     text.split('/').collect(alloc)
 }
 
-/// The parts that are not empty.
+/// Returns the parts that are not empty.
 fn words_in<'a>(alloc: Global, parts: &[&'a str]) -> Result<Vec<&'a str>, AllocError>
     ensures { IfOk result (λ words. map (λ word. word.now) words.items
         ≡ filter is_word (map (λ part. part.now) parts.now)) }
@@ -31,7 +33,9 @@ fn words_in<'a>(alloc: Global, parts: &[&'a str]) -> Result<Vec<&'a str>, AllocE
     Ok(words)
 }
 
-/// The names of a path: its parts between slashes that are not empty. The one fault is want of memory.
+/// Returns the names of a path: its parts between slashes that are not empty.
+///
+/// Errors: out of memory.
 pub fn names_in(alloc: Global, path: &str) -> Result<Vec<&str>, AllocError>
     ensures { IfOk result (λ names. map (λ name. name.now) names.items ≡ names_in path.now) }
 {
@@ -39,7 +43,7 @@ pub fn names_in(alloc: Global, path: &str) -> Result<Vec<&str>, AllocError>
     words_in(alloc, parts.as_slice())
 }
 
-/// Adds `..` so many times.
+/// Adds `..` `count` times.
 fn add_upward<'a>(steps: &mut Vec<&'a str>, count: usize) -> Result<(), AllocError>
     ensures { OnOk result (map (λ step. step.now) steps.new.items
         ≡ map (λ step. step.now) steps.old.items ++ replicate count (codes "..")) }
@@ -50,7 +54,7 @@ fn add_upward<'a>(steps: &mut Vec<&'a str>, count: usize) -> Result<(), AllocErr
     Ok(())
 }
 
-/// Adds names.
+/// Adds these names.
 fn add_names<'a>(steps: &mut Vec<&'a str>, names: &[&'a str]) -> Result<(), AllocError>
     ensures { OnOk result (map (λ step. step.now) steps.new.items
         ≡ map (λ step. step.now) steps.old.items ++ map (λ name. name.now) names.now) }
@@ -61,7 +65,7 @@ fn add_names<'a>(steps: &mut Vec<&'a str>, names: &[&'a str]) -> Result<(), Allo
     Ok(())
 }
 
-/// The steps up from the one end and down to the other.
+/// Returns the steps up from the end of one path and down to the end of the other.
 fn up_and_down<'a>(
     alloc: Global,
     names: &[&str],
@@ -76,7 +80,7 @@ fn up_and_down<'a>(
     Ok(steps)
 }
 
-/// The steps from the end of the first names to the end of the others.
+/// Returns the steps from the end of the first names to the end of the others.
 fn steps_between<'a>(
     alloc: Global,
     names: &[&str],
@@ -114,7 +118,7 @@ fn add_slashed(text: &mut String, names: &[&str]) -> Result<(), AllocError>
     Ok(())
 }
 
-/// Names with a slash between them.
+/// Returns the names with a slash between them.
 fn spelled(alloc: Global, names: &[&str]) -> Result<Text, AllocError>
     ensures { IfOk result (λ text. text ≡ spelled (map (λ name. name.now) names.now)) }
 {
@@ -127,8 +131,9 @@ fn spelled(alloc: Global, names: &[&str]) -> Result<Text, AllocError>
     Ok(Text::new(text))
 }
 
-/// The path from a folder to a path, as `../README.md`, empty where the two are one. The one fault is want
-/// of memory.
+/// Returns the path from a folder to a path, as `../README.md`; it is empty if they are equal.
+///
+/// Errors: out of memory.
 pub fn text_between(alloc: Global, folder: &PathText, path: &PathText) -> Result<Text, AllocError>
     ensures { IfOk result (λ text. text ≡ text_between folder.now path.now) }
 {

@@ -48,7 +48,7 @@ fn looked_in_bin(
     bin_source(alloc, listings, folder, nested.as_str())
 }
 
-/// Returns `src/bin/NAME.rs`, whether it is there or not.
+/// Returns `src/bin/NAME.rs`, whether it exists or not.
 #[tactic(auto, using(crate::proofs::BinPaths::bin_laws))]
 fn flat_path(alloc: Global, folder: &PathText, name: &str) -> Result<PathText, AllocError>
     requires { is_name name.now ≡ true }
@@ -95,12 +95,14 @@ fn looked_for_main(
     OwnFile::Main.path(alloc, folder)
 }
 
-/// Returns the source of a `[[bin]]` of a package (The Cargo Book, Cargo Targets): the path that it writes, as it is.
+/// Returns the source of a `[[bin]]` of a package (The Cargo
+/// Book, Cargo Targets): the path that it writes, as it is.
 ///
-/// If it writes none, this is the first file of `src/main.rs`, if it is named as its package, `src/bin/NAME.rs` and
-/// `src/bin/NAME/main.rs`. If none of them is a file, it is the first of these paths.
+/// If it writes none, this is the first file of `src/main.rs`, if it is
+/// named as its package, `src/bin/NAME.rs` and `src/bin/NAME/main.rs`.
+/// If none of them is a file, it is the first of these paths.
 ///
-/// Errors: memory is refused.
+/// Errors: out of memory.
 pub fn binary_source(
     alloc: Global,
     listings: &Listings,
@@ -122,7 +124,7 @@ pub fn binary_source(
     looked_for_other(alloc, listings, folder, name.as_str())
 }
 
-/// The binary of a `[[bin]]`.
+/// Returns the binary of a `[[bin]]`.
 pub fn written_binary(
     alloc: Global,
     listings: &Listings,
@@ -150,7 +152,7 @@ pub fn written_binary(
     })
 }
 
-/// The binaries of the `[[bin]]`s of a package, in the manifest's order.
+/// Returns the binaries of a package's `[[bin]]`s, in the manifest's order.
 pub fn written_binaries(
     alloc: Global,
     listings: &Listings,
@@ -171,7 +173,7 @@ pub fn written_binaries(
     Ok(binaries)
 }
 
-/// Puts binaries in turn; one of the same name gives way.
+/// Adds binaries in turn; each replaces one of the same name.
 fn put_binaries(
     alloc: Global,
     entries: &mut Sorted<Binary>,
@@ -186,7 +188,7 @@ fn put_binaries(
     Ok(())
 }
 
-/// The values of entries.
+/// Returns the values of entries.
 fn values_of(alloc: Global, entries: Items<(Text, Binary)>) -> Result<Items<Binary>, AllocError>
     ensures { IfOk result (λ binaries. binaries ≡ map binary_of entries) }
 {
@@ -201,9 +203,11 @@ fn values_of(alloc: Global, entries: Items<(Text, Binary)>) -> Result<Items<Bina
     Ok(binaries)
 }
 
-/// The binaries of a package, in byte order of their names, each once: those that were found, of two of one
-/// name the later, and the written ones, which replace found ones of their name. The one fault is want of
-/// memory.
+/// Returns the binaries of a package, in byte order of their names, each
+/// once: the found ones, of which the later of two with one name counts,
+/// and the written ones, which replace found ones of their name.
+///
+/// Errors: out of memory.
 pub fn binaries_of(
     alloc: Global,
     found: Items<Binary>,

@@ -1,5 +1,5 @@
-//! What entries ask for, and the entries of `[workspace.dependencies]`, in order. An entry of the
-//! workspace is found by halving, and not by a walk.
+//! What entries request, and the entries of `[workspace.dependencies]`,
+//! in order. An entry of the workspace is found by binary search.
 
 ghost use Rattle.std.specs.Prelude.{◌≡◌, [], map};
 ghost use Rattle.std.specs.List.{find};
@@ -16,7 +16,7 @@ use pb_manifest::WorkspaceDependency;
 use std::alloc::Global;
 use std::marker::Model;
 
-/// What entries ask for, in the order of the entries. Contracts see the list of it.
+/// What entries request, in the order of the entries. Contracts see it as a list.
 #[derive(Drop)]
 pub struct WantedByKey {
     inside: Items<Wanted>,
@@ -39,7 +39,7 @@ impl Model for WantedByKey {
 }
 
 impl WantedByKey {
-    /// What entries ask for that stand in order.
+    /// Makes the value from items that are in order.
     pub fn from_items(wanted: Items<Wanted>) -> WantedByKey
         requires { IsStrictlySortedBy (slice_cmp nat_cmp)
             (map (λ one. table_key one.kind one.key) wanted) }
@@ -48,14 +48,14 @@ impl WantedByKey {
         WantedByKey { inside: wanted }
     }
 
-    /// The list itself.
+    /// Returns the list itself.
     pub fn as_slice(&self) -> &[Wanted]
         ensures { result.now ≡ self.now }
     {
         self.inside.as_slice()
     }
 
-    /// The items back, which takes no memory.
+    /// Returns the items, without using memory.
     pub fn into_items(self) -> Items<Wanted>
         ensures same { result ≡ self }
         ensures order { IsStrictlySortedBy (slice_cmp nat_cmp)
@@ -65,8 +65,8 @@ impl WantedByKey {
     }
 }
 
-/// Entries of `[workspace.dependencies]` in byte order of their keys, no two of one key. Contracts see
-/// the list of them.
+/// Entries of `[workspace.dependencies]` in byte order of their
+/// keys, with no two of one key. Contracts see them as a list.
 #[derive(Drop)]
 pub struct SharedByKey {
     inside: Items<WorkspaceDependency>,
@@ -88,7 +88,7 @@ impl Model for SharedByKey {
 }
 
 impl SharedByKey {
-    /// No entries, which takes no memory.
+    /// Returns no entries, without using memory.
     pub fn new(alloc: Global) -> SharedByKey
         ensures { result ≡ [] }
     {
@@ -97,7 +97,7 @@ impl SharedByKey {
         }
     }
 
-    /// Entries that stand in byte order of their keys.
+    /// Makes the value from entries that are in byte order of their keys.
     pub fn from_items(entries: Items<WorkspaceDependency>) -> SharedByKey
         requires { IsStrictlySortedBy (slice_cmp nat_cmp) (map (λ entry. entry.key) entries) }
         ensures { result ≡ entries }
@@ -105,7 +105,7 @@ impl SharedByKey {
         SharedByKey { inside: entries }
     }
 
-    /// The entry of a key.
+    /// Returns the entry of a key, if there is one.
     pub fn keyed(&self, key: &Text) -> Option<&WorkspaceDependency>
         ensures { option_copied result ≡ find (λ entry. bytes_eq key.now entry.key) self.now }
     {

@@ -1,4 +1,4 @@
-//! A package as one whole, whose entries' packages are not looked for yet.
+//! A package as a whole; the packages of its entries have not been looked for yet.
 
 ghost use Rattle.std.specs.Prelude.{◌≡◌, All, IfErr, IsTrue, false, true, IfOk, map};
 ghost use Rattle.pb_data.specs.Gives.{Gives};
@@ -25,7 +25,7 @@ use pb_package::{About, BinariesByName, FeaturesByName, Library, LoadFault};
 use pb_place::{PathText, Place};
 use std::alloc::Global;
 
-/// The tables of a manifest beside `[package]` that say something of its package.
+/// The tables of a manifest, beside `[package]`, that describe its package.
 #[derive(Drop)]
 pub struct Tables {
     /// `[lib]`.
@@ -42,10 +42,10 @@ pub struct Tables {
     pub features: Items<Feature>,
 }
 
-/// A package as one whole, whose entries' packages are not looked for yet.
+/// A package as a whole; the packages of its entries have not been looked for yet.
 #[derive(Drop)]
 pub struct Draft {
-    /// The folder that its manifest lies in.
+    /// The folder that contains its manifest.
     pub folder: PathText,
     /// The path of its manifest.
     pub manifest: PathText,
@@ -57,38 +57,39 @@ pub struct Draft {
     pub version: Version,
     /// Its edition.
     pub edition: Edition,
-    /// What it says of itself to people.
+    /// What it says about itself to people.
     pub about: About,
     /// The native library that it links.
     pub links: Option<Text>,
-    /// Its library, where it has one.
+    /// Its library, if it has one.
     pub library: Option<Library>,
     /// Its binaries, in byte order of their names.
     pub binaries: BinariesByName,
-    /// The source of its build script, where it has one.
+    /// The source of its build script, if it has one.
     pub script: Option<PathText>,
-    /// What its entries ask for.
+    /// What its entries request.
     pub wanted: WantedByKey,
     /// Its features, with those that its optional entries make.
     pub features: FeaturesByName,
     /// The keys of `[dev-dependencies]`.
     pub development: Items<Text>,
-    /// Whether two of its `[[bin]]` have one name.
+    /// Whether two of its `[[bin]]` have the same name.
     pub has_same_binaries: bool,
 }
 
-/// What the lists of a manifest come to.
+/// What the lists of a manifest result in.
 #[derive(Drop)]
 pub struct Lists {
-    /// What its entries ask for.
+    /// What its entries request.
     pub wanted: WantedByKey,
     /// Its features, with those that its optional entries make.
     pub features: FeaturesByName,
-    /// Whether two of its `[[bin]]` have one name.
+    /// Whether two of its `[[bin]]` have the same name.
     pub has_same_binaries: bool,
 }
 
-/// What the lists of a manifest come to: its entries, its features and the names of its `[[bin]]`.
+/// Returns what the lists of a manifest result in: its entries,
+/// its features and whether names of its `[[bin]]` repeat.
 fn lists_of(
     alloc: Global,
     at: &Standing,
@@ -119,7 +120,7 @@ fn lists_of(
     })
 }
 
-/// A package of these parts.
+/// Returns the package with these parts.
 fn draft_from(
     at: Standing,
     is_member: bool,
@@ -149,7 +150,7 @@ fn draft_from(
     }
 }
 
-/// The package of these keys.
+/// Returns the package with these keys.
 #[tactic(auto, unfolding(crate::specs::Drafts::draft_with))]
 fn draft_with(
     alloc: Global,
@@ -197,7 +198,7 @@ fn draft_with(
     Ok(draft_from(at, is_member, keys, lists, development, targets))
 }
 
-/// The package of a manifest in whose folder these listings were made.
+/// Returns the package of a manifest, given the listings of its folder.
 #[tactic(auto, unfolding(crate::specs::Drafts::draft_of))]
 fn draft_seen(
     alloc: Global,
@@ -223,14 +224,16 @@ fn draft_seen(
     draft_with(alloc, listings, at, is_member, given, tables, keys)
 }
 
-/// Returns the package of a manifest: what the manifest and its folder say, with all that it takes from its workspace
-/// (The Cargo Book, Manifest Format and Workspaces). It looks at its folder once.
+/// Returns the package of a manifest: what the manifest and its folder
+/// say, with all that it takes from its workspace (The Cargo Book,
+/// Manifest Format and Workspaces). It looks at its folder once.
 ///
-/// Errors, of which the first that occurs is returned. It takes the keys, then `[dependencies]`, then
-/// `[build-dependencies]`:
+/// Errors: the first that occurs. It reads the keys, then
+/// `[dependencies]`, then `[build-dependencies]`:
 /// - `Place`: a call failed. It contains the path of that call.
 /// - `NoInherited`: a key or an entry is taken that the workspace does not have.
-/// - `Manifest` with `UnsupportedSource`: the entry that is taken has no path, or `git` or `registry`.
+/// - `Manifest` with `UnsupportedSource`: the entry that is
+///   taken has no path, or has `git` or `registry`.
 /// - `OutOfMemory`, at any time.
 pub fn draft_of<P: Place>(
     alloc: Global,

@@ -57,7 +57,7 @@ fn mention_features(
     Ok(())
 }
 
-/// The names N of which some feature lists `dep:N`.
+/// Returns the names N that some feature lists as `dep:N`.
 fn enabled_names(alloc: Global, features: &[Feature]) -> Result<Mentions, AllocError>
     ensures { IfOk result (λ names. AreEnabledNames names features.now) }
 {
@@ -66,14 +66,15 @@ fn enabled_names(alloc: Global, features: &[Feature]) -> Result<Mentions, AllocE
     Ok(names)
 }
 
-/// Whether an entry makes a feature of its name, where some features list `dep:N` for these names.
+/// Returns whether an entry makes a feature of its name, given
+/// the names N that features list as `dep:N`.
 fn makes_feature(names: &Mentions, entry: &Dependency) -> bool
     ensures { result ≡ (entry.now.optional && not (is_mentioned names.now entry.now.key)) }
 {
     entry.optional && !names.contains(&entry.key)
 }
 
-/// Puts the feature that an entry makes.
+/// Adds the feature that an entry makes.
 fn put_made(
     alloc: Global,
     made: &mut Sorted<Items<FeatureItem>>,
@@ -87,7 +88,7 @@ fn put_made(
     Ok(())
 }
 
-/// Puts the feature that an entry makes, where it makes one.
+/// Adds the feature that an entry makes, if it makes one.
 fn add_one_made(
     alloc: Global,
     names: &Mentions,
@@ -102,7 +103,7 @@ fn add_one_made(
     Ok(())
 }
 
-/// Puts the features that entries make, where some features list `dep:N` for these names.
+/// Adds the features that entries make, given the names N that features list as `dep:N`.
 fn add_made(
     alloc: Global,
     names: &Mentions,
@@ -118,7 +119,7 @@ fn add_made(
     Ok(())
 }
 
-/// Puts the written features, which take the place of those made under their name.
+/// Adds the written features, which replace made ones of their name.
 fn add_written(
     made: &mut Sorted<Items<FeatureItem>>,
     written: Items<Feature>,
@@ -131,7 +132,7 @@ fn add_written(
     Ok(())
 }
 
-/// Entries as features.
+/// Returns the entries as features.
 fn listed(
     alloc: Global,
     entries: Items<(Text, Items<FeatureItem>)>,
@@ -145,7 +146,8 @@ fn listed(
     Ok(features)
 }
 
-/// Puts the features that the entries of the two tables make, where some features list `dep:N` for these names.
+/// Adds the features that the entries of the two tables make,
+/// given the names N that features list as `dep:N`.
 fn add_all_made(
     alloc: Global,
     names: &Mentions,
@@ -161,7 +163,7 @@ fn add_all_made(
     Ok(())
 }
 
-/// The features that the entries of the two tables make, where these features are written.
+/// Returns the features that the entries of the two tables make, given the written features.
 fn made_of(
     alloc: Global,
     written: &[Feature],
@@ -179,10 +181,11 @@ fn made_of(
     Ok(made)
 }
 
-/// The features of a package, in byte order of their names, each once (The Cargo Book, Features). An optional
-/// entry N of one of its two tables gives a feature N with the one item `dep:N`, unless some feature lists
-/// `dep:N`; a written feature takes the place of one that is made under its name. The one fault is want of
-/// memory.
+/// Returns the features of a package, in byte order of their names, each once (The Cargo Book,
+/// Features). An optional entry N of one of its two tables makes a feature N with the single item
+/// `dep:N`, unless some feature lists `dep:N`. A written feature replaces a made one of its name.
+///
+/// Errors: out of memory.
 pub fn features_of(
     alloc: Global,
     written: Items<Feature>,

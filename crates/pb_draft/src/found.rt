@@ -16,10 +16,11 @@ use pb_package::Library;
 use pb_place::PathText;
 use std::alloc::{AllocError, Global};
 
-/// Returns the README of a package that names none: the first of `README.md`, `README.txt` and `README` that is a file
-/// of its folder (The Cargo Book, Manifest Format). If none is, it returns the empty text.
+/// Returns the README of a package that names none: the first of
+/// `README.md`, `README.txt` and `README` that is a file of its folder (The
+/// Cargo Book, Manifest Format). If none is, it returns the empty text.
 ///
-/// Errors: memory is refused.
+/// Errors: out of memory.
 pub fn found_readme(
     alloc: Global,
     listings: &Listings,
@@ -40,10 +41,11 @@ pub fn found_readme(
     Text::from_str(alloc, "")
 }
 
-/// Returns the source of a package's build script, if it has one (The Cargo Book, Build Scripts): `build.rs` if that is
-/// a file, unless `build` says otherwise. A path that `build` writes is taken as it is.
+/// Returns the source of a package's build script, if it has one (The
+/// Cargo Book, Build Scripts): `build.rs` if that is a file, unless
+/// `build` says otherwise. A path that `build` writes is taken as it is.
 ///
-/// Errors: memory is refused.
+/// Errors: out of memory.
 pub fn script_of(
     alloc: Global,
     listings: &Listings,
@@ -145,10 +147,10 @@ fn found_library(
     }))
 }
 
-/// Returns the library of a package of this name, if it has one (The Cargo Book, Cargo Targets): that of `[lib]`, or
-/// `src/lib.rs`, if that is a file.
+/// Returns the library of a package of this name, if it has one (The Cargo
+/// Book, Cargo Targets): that of `[lib]`, or `src/lib.rs`, if that is a file.
 ///
-/// Errors: memory is refused.
+/// Errors: out of memory.
 #[tactic(auto, using(crate::proofs::Naming::library_laws))]
 pub fn library_of(
     alloc: Global,

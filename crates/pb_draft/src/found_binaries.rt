@@ -20,7 +20,7 @@ use pb_package::Binary;
 use pb_place::PathText;
 use std::alloc::{AllocError, Global};
 
-/// What stands before and after the first `.`.
+/// Returns what comes before and after the first `.`.
 #[tactic(auto, unfolding(pb_manifest::specs::Features::parted))]
 fn parted_at_dot(text: &str) -> Option<(&str, &str)>
     ensures { option_map (λ x. (x.0.now, x.1.now)) result ≡ parted 46 text.now }
@@ -28,7 +28,7 @@ fn parted_at_dot(text: &str) -> Option<(&str, &str)>
     text.split_once('.')
 }
 
-/// NAME of `NAME.rs`, where it has the letters of a package's name.
+/// Returns NAME of `NAME.rs`, if it has the letters of a package's name.
 fn stem_of(alloc: Global, file: &str) -> Result<Option<Text>, AllocError>
     ensures { IfOk result (λ name. name ≡ stem_in (parted 46 file.now)) }
 {
@@ -44,7 +44,7 @@ fn stem_of(alloc: Global, file: &str) -> Result<Option<Text>, AllocError>
     }
 }
 
-/// NAME of the path `NAME.rs`.
+/// Returns NAME of the path `NAME.rs`.
 fn flat_name(alloc: Global, names: &[&str]) -> Result<Option<Text>, AllocError>
     ensures { IfOk result (λ name. name ≡ flat_name (map (λ x. x.now) names.now)) }
 {
@@ -54,7 +54,7 @@ fn flat_name(alloc: Global, names: &[&str]) -> Result<Option<Text>, AllocError>
     }
 }
 
-/// NAME of the path `NAME/main.rs`.
+/// Returns NAME of the path `NAME/main.rs`.
 fn nested_name(alloc: Global, names: &[&str]) -> Result<Option<Text>, AllocError>
     ensures { IfOk result (λ name. name ≡ nested_name (map (λ x. x.now) names.now)) }
 {
@@ -70,7 +70,7 @@ fn nested_name(alloc: Global, names: &[&str]) -> Result<Option<Text>, AllocError
     }
 }
 
-/// The name of the binary that a path gives.
+/// Returns the name of the binary at a path, if it is one.
 fn name_by(alloc: Global, nested: bool, path: &str) -> Result<Option<Text>, AllocError>
     ensures { IfOk result (λ name. name ≡ name_by nested (names_in path.now)) }
 {
@@ -82,7 +82,7 @@ fn name_by(alloc: Global, nested: bool, path: &str) -> Result<Option<Text>, Allo
     }
 }
 
-/// The name of the binary that a path in `src/bin` gives.
+/// Returns the name of the binary at a path in `src/bin`, if it is one.
 fn name_inside(
     alloc: Global,
     nested: bool,
@@ -97,7 +97,7 @@ fn name_inside(
     }
 }
 
-/// The binary that a path in `src/bin` gives.
+/// Returns the binary at a path in `src/bin`, if it is one.
 fn binary_at(
     alloc: Global,
     nested: bool,
@@ -118,7 +118,7 @@ fn binary_at(
     }))
 }
 
-/// Adds the binaries that paths in `src/bin` give.
+/// Adds the binaries at paths in `src/bin`.
 fn add_binaries(
     alloc: Global,
     nested: bool,
@@ -137,7 +137,7 @@ fn add_binaries(
     Ok(())
 }
 
-/// Adds the binary of `src/main.rs`, where it is there, named as the package.
+/// Adds the binary of `src/main.rs`, if that file exists, named as the package.
 fn add_main(
     alloc: Global,
     name: &Text,
@@ -156,7 +156,7 @@ fn add_main(
     Ok(())
 }
 
-/// The binaries of these files in `src/bin` and of `src/main.rs`.
+/// Returns the binaries of these files in `src/bin` and of `src/main.rs`.
 fn binaries_from(
     alloc: Global,
     name: &Text,
@@ -174,13 +174,14 @@ fn binaries_from(
     Ok(binaries)
 }
 
-/// Returns the binaries that a package's folder has (The Cargo Book, Cargo Targets), in this order: of
-/// `src/bin/NAME/main.rs`, of `src/bin/NAME.rs`, and of `src/main.rs`, which is named as the package.
+/// Returns the binaries that a package's folder has (The Cargo Book, Cargo
+/// Targets), in this order: of `src/bin/NAME/main.rs`, of
+/// `src/bin/NAME.rs`, and of `src/main.rs`, which is named as the package.
 ///
-/// If two have one name, the later counts. NAME has the letters of a package's name. What lies at or below the target
-/// folder is left out.
+/// If two have the same name, the later one counts. NAME has the letters
+/// of a package's name. What is at or below the target folder is left out.
 ///
-/// Errors: memory is refused.
+/// Errors: out of memory.
 pub fn found_binaries(
     alloc: Global,
     listings: &Listings,

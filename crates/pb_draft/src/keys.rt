@@ -26,7 +26,7 @@ pub struct Keys {
     pub version: Version,
     /// Its edition.
     pub edition: Edition,
-    /// What it says of itself to people.
+    /// What it says about itself to people.
     pub about: About,
     /// The native library that it links.
     pub links: Option<Text>,
@@ -36,7 +36,7 @@ pub struct Keys {
     pub build: Build,
 }
 
-/// What `build` says, again.
+/// Returns a copy of what `build` says.
 fn build_of(alloc: Global, build: &Build) -> Result<Build, AllocError>
     ensures { IfOk result (λ made. made ≡ build.now) }
 {
@@ -51,7 +51,7 @@ fn build_of(alloc: Global, build: &Build) -> Result<Build, AllocError>
     }
 }
 
-/// The keys of a package that it alone has.
+/// Those keys of a package that it cannot inherit.
 #[derive(Drop)]
 pub struct Own {
     /// Its name.
@@ -62,7 +62,7 @@ pub struct Own {
     pub build: Build,
 }
 
-/// The keys of a package that it alone has, again.
+/// Returns a copy of those keys of a package that it cannot inherit.
 fn own_keys(alloc: Global, found: &Package) -> Result<Own, AllocError>
     ensures name { IfOk result (λ own. own.name ≡ found.now.name) }
     ensures links { IfOk result (λ own. own.links ≡ found.now.links) }
@@ -74,7 +74,7 @@ fn own_keys(alloc: Global, found: &Package) -> Result<Own, AllocError>
     Ok(Own { name, links, build })
 }
 
-/// The keys, with the README that was looked for.
+/// Returns the keys, with the README that was looked for.
 fn keys_from(
     alloc: Global,
     at: &Standing,
@@ -105,9 +105,10 @@ fn keys_from(
     })
 }
 
-/// The keys of a package: what it writes, or takes from its workspace, or has in its folder (The Cargo Book,
-/// Manifest Format and Workspaces). NoInherited where a key is taken from a workspace that has none to give; OutOfMemory
-/// where memory is refused.
+/// Returns the keys of a package: what it writes, takes from its workspace
+/// or has in its folder (The Cargo Book, Manifest Format and Workspaces).
+///
+/// Errors: `NoInherited`, if a key is taken from a workspace that does not have it; `OutOfMemory`.
 pub fn keys_of(
     alloc: Global,
     listings: &Listings,

@@ -2,9 +2,9 @@
 
 ghost use Rattle.pb_draft.specs.Laws.{FoundAsLookedFor};
 
-/// The last binary of a name that is found, which counts, has the source that a `[[bin]]` of this name would have that
-/// writes no path, where paths are normalised (The Cargo Book, Cargo Targets): what is found and what is looked for are
-/// told in opposite orders, and agree.
+/// The last binary of a name that is found, which counts, has the source that a `[[bin]]`
+/// of this name without a path would have, if paths are normalised (The Cargo Book, Cargo
+/// Targets). What is found and what is looked for are listed in opposite orders, and agree.
 pub fn found_binaries_are_looked_for()
     ensures { FoundAsLookedFor }
 {}

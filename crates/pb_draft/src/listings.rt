@@ -1,4 +1,4 @@
-//! What is seen of the folder of a package.
+//! What is seen of a package's folder.
 
 ghost use Rattle.std.specs.Prelude.{◌≡◌, ◌++◌, ℕ, List, IfOk, IfErr, IsTrue, true, codes, filter};
 ghost use Rattle.std.specs.List.{flat_map, list_any};
@@ -19,10 +19,10 @@ use pb_package::LoadFault;
 use pb_place::{PathText, Place};
 use std::alloc::{AllocError, Global};
 
-/// What the folder of a package has. These two lists decide all that is found there.
+/// What a package's folder has. These two lists decide all that is found there.
 #[derive(Drop)]
 pub struct Listings {
-    /// The files with a fixed place, in the order in which they are asked for.
+    /// The files at fixed paths, in the order in which the place is asked about them.
     pub own: Items<OwnFile>,
     /// The files below its `src/bin`, in byte order.
     pub in_bin: Items<PathText>,
@@ -30,17 +30,17 @@ pub struct Listings {
 
 /// Returns the path of the folder `src/bin` of a package.
 ///
-/// Errors: memory is refused.
+/// Errors: out of memory.
 pub fn bin_folder(alloc: Global, folder: &PathText) -> Result<PathText, AllocError>
     ensures { IfOk result (λ path. path ≡ bin_folder folder.now) }
 {
     own_path(alloc, folder, "src/bin")
 }
 
-/// Returns whether the folder of a package has a file with a fixed place. It does not ask for one at or below the target
-/// folder.
+/// Returns whether a package's folder has a file at a fixed path.
+/// It does not ask about one at or below the target folder.
 ///
-/// Errors: `Place`, if the question failed, with its path; `OutOfMemory`.
+/// Errors: `Place`, if the call failed, with its path; `OutOfMemory`.
 fn is_there<P: Place>(
     alloc: Global,
     place: &mut P,
@@ -59,10 +59,10 @@ fn is_there<P: Place>(
     is_source(alloc, place, target, &path)
 }
 
-/// Returns the files with a fixed place that the folder of a package has. It asks for each of them in turn, but for none
-/// at or below the target folder.
+/// Returns the files at fixed paths that a package's folder has. It asks
+/// about each of them in turn, but about none at or below the target folder.
 ///
-/// Errors: `Place`, if a question failed, with its path; `OutOfMemory`.
+/// Errors: `Place`, if a call failed, with its path; `OutOfMemory`.
 fn files_there<P: Place>(
     alloc: Global,
     place: &mut P,
@@ -85,10 +85,10 @@ fn files_there<P: Place>(
     Ok(own)
 }
 
-/// Returns what the folder of a package has. It asks for each file with a fixed place, and then it lists `src/bin`. It
-/// looks at nothing at or below the target folder.
+/// Returns what a package's folder has. It asks about each file at a fixed path,
+/// and then lists `src/bin`. It looks at nothing at or below the target folder.
 ///
-/// Errors: `Place`, if a question or the listing failed, with its path; `OutOfMemory`.
+/// Errors: `Place`, if a call failed, with its path; `OutOfMemory`.
 pub fn listings_of<P: Place>(
     alloc: Global,
     place: &mut P,
@@ -115,7 +115,7 @@ pub fn listings_of<P: Place>(
     }
 }
 
-/// Returns whether a file with a fixed place is one of the sources.
+/// Returns whether a file at a fixed path is one of the sources.
 pub fn has_own_file(listings: &Listings, file: OwnFile) -> bool
     ensures { (folder : List ℕ) (sources : World) → AreListingsOf folder sources listings.now
         → result ≡ has_own_file folder sources (name_of file) }
@@ -123,9 +123,9 @@ pub fn has_own_file(listings: &Listings, file: OwnFile) -> bool
     listings.own.as_slice().contains(&file)
 }
 
-/// Returns the path of a file with a fixed place, if it is one of the sources.
+/// Returns the path of a file at a fixed path, if it is one of the sources.
 ///
-/// Errors: memory is refused.
+/// Errors: out of memory.
 pub fn own_source(
     alloc: Global,
     listings: &Listings,
@@ -142,9 +142,9 @@ pub fn own_source(
     Ok(Some(path))
 }
 
-/// Returns the path of a file in the folder `src/bin` of a package, whether it is there or not.
+/// Returns the path of a file in the folder `src/bin` of a package, whether it exists or not.
 ///
-/// Errors: memory is refused.
+/// Errors: out of memory.
 #[tactic(auto, using(crate::proofs::Listed::bin_laws))]
 pub fn bin_path(alloc: Global, folder: &PathText, rest: &str) -> Result<PathText, AllocError>
     requires { is_relative rest.now ≡ true }
@@ -167,7 +167,7 @@ fn is_in_bin(listings: &Listings, path: &PathText) -> bool
 
 /// Returns the path of a file in the folder `src/bin` of a package, if it is one of the sources.
 ///
-/// Errors: memory is refused.
+/// Errors: out of memory.
 pub fn bin_source(
     alloc: Global,
     listings: &Listings,

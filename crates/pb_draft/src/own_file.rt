@@ -1,4 +1,4 @@
-//! The files that have a fixed place in the folder of a package.
+//! The files at fixed paths in a package's folder.
 
 ghost use Rattle.std.specs.Prelude.{◌≡◌, IfOk};
 ghost use Rattle.pb_place.specs.Paths.{below};
@@ -8,8 +8,8 @@ use crate::source::own_path;
 use pb_place::PathText;
 use std::alloc::{AllocError, Global};
 
-/// A file that has a fixed place in the folder of a package (The Cargo Book, Manifest Format, Cargo Targets, Build
-/// Scripts).
+/// A file at a fixed path in a package's folder (The Cargo
+/// Book, Manifest Format, Cargo Targets, Build Scripts).
 #[derive(Clone, Copy, PartialEq, Eq)]
 pub enum OwnFile {
     /// `README.md`.
@@ -26,7 +26,7 @@ pub enum OwnFile {
     Main,
 }
 
-/// All of them, in the order in which they are asked for.
+/// All of them, in the order in which the place is asked about them.
 pub const OWN_FILES: [OwnFile; 6] = [
     OwnFile::ReadmeMd,
     OwnFile::ReadmeTxt,
@@ -53,7 +53,7 @@ impl OwnFile {
 
     /// Returns its path, from the folder of the package.
     ///
-    /// Errors: memory is refused.
+    /// Errors: out of memory.
     #[tactic(auto, using(crate::proofs::OwnFiles::own_name_laws))]
     pub fn path(self, alloc: Global, folder: &PathText) -> Result<PathText, AllocError>
         ensures { IfOk result (λ path. path ≡ below folder.now (name_of self)) }

@@ -26,8 +26,8 @@ use pb_package::{BinariesByName, Binary, DependencyKind, Library, LoadFault};
 use pb_place::PathText;
 use std::alloc::{AllocError, Global};
 
-/// What a package may take from its workspace. A package that may take nothing is given a table without
-/// values and no entries.
+/// What a package may take from its workspace. A package that
+/// may take nothing gets a table without values and no entries.
 #[derive(Drop)]
 pub struct Given {
     /// `[workspace.package]`.
@@ -36,19 +36,21 @@ pub struct Given {
     pub dependencies: SharedByKey,
 }
 
-/// What a package is built to.
+/// What a package is built into.
 #[derive(Drop)]
 pub struct Targets {
-    /// Its library, where it has one.
+    /// Its library, if it has one.
     pub library: Option<Library>,
     /// Its binaries, in byte order of their names.
     pub binaries: BinariesByName,
-    /// The source of its build script, where it has one.
+    /// The source of its build script, if it has one.
     pub script: Option<PathText>,
 }
 
-/// The README that is looked for in a package's folder, where none is written; else the empty text. The one fault is want
-/// of memory.
+/// Returns the README that is found in a package's folder if
+/// none is written; otherwise the empty text.
+///
+/// Errors: out of memory.
 pub fn readme_found(
     alloc: Global,
     listings: &Listings,
@@ -65,7 +67,7 @@ pub fn readme_found(
     }
 }
 
-/// Entries and then more of them.
+/// Returns the entries of both lists, one after the other.
 fn joined(first: Items<Wanted>, second: Items<Wanted>) -> Result<Items<Wanted>, AllocError>
     ensures { IfOk result (λ made. made ≡ first ++ second) }
 {
@@ -76,9 +78,12 @@ fn joined(first: Items<Wanted>, second: Items<Wanted>) -> Result<Items<Wanted>, 
     Ok(made)
 }
 
-/// What the entries of `[dependencies]` and then of `[build-dependencies]` ask for, up to the first fault: NoInherited
-/// where one is taken from a workspace that has it not to give; the manifest with UnsupportedSource where the entry that
-/// it has to give has no path, or `git` or `registry`; OutOfMemory.
+/// Returns what the entries of `[dependencies]` and then of
+/// `[build-dependencies]` request, up to the first fault.
+///
+/// Errors: `NoInherited`, if an entry is taken that the workspace does
+/// not have; `Manifest` with `UnsupportedSource`, if the workspace's
+/// entry has no path, or has `git` or `registry`; `OutOfMemory`.
 pub fn wanted_in(
     alloc: Global,
     at: &Standing,
@@ -102,7 +107,7 @@ pub fn wanted_in(
     Ok(WantedByKey::from_items(wanted))
 }
 
-/// The binaries that are found, unless `autobins` is false.
+/// Returns the binaries that are found, unless `autobins` is false.
 fn discovered(
     alloc: Global,
     listings: &Listings,
@@ -121,8 +126,10 @@ fn discovered(
     found_binaries(alloc, listings, folder, name)
 }
 
-/// What a package of these keys is built to: its library, its binaries and its build script, each where it is
-/// written or found (The Cargo Book, Cargo Targets and Build Scripts). The one fault is want of memory.
+/// Returns what a package with these keys is built into: its library, its binaries and its build
+/// script, each if it is written or found (The Cargo Book, Cargo Targets and Build Scripts).
+///
+/// Errors: out of memory.
 pub fn targets_of(
     alloc: Global,
     listings: &Listings,
@@ -156,7 +163,7 @@ pub fn targets_of(
     })
 }
 
-/// Whether a name of these `[[bin]]` comes again, or was mentioned before.
+/// Returns whether a name of these `[[bin]]` repeats, or was mentioned before.
 fn binaries_come_again(
     alloc: Global,
     seen: &mut Mentions,
@@ -173,7 +180,9 @@ fn binaries_come_again(
     Ok(false)
 }
 
-/// Whether two `[[bin]]` have one name. The one fault is want of memory.
+/// Returns whether two `[[bin]]` have the same name.
+///
+/// Errors: out of memory.
 pub fn has_same_binaries(
     alloc: Global,
     binaries: &[pb_manifest::Binary],

@@ -24,7 +24,7 @@ impl<V> Model for Sorted<V> {
 }
 
 impl<V: Drop> Sorted<V> {
-    /// No entries, which takes no memory.
+    /// Returns no entries, without using memory.
     pub fn new(alloc: Global) -> Sorted<V>
         ensures { result ≡ [] }
     {
@@ -33,7 +33,7 @@ impl<V: Drop> Sorted<V> {
         }
     }
 
-    /// Puts an entry in its place; one of its name gives way.
+    /// Adds an entry in its order; it replaces one of the same name.
     pub fn insert(&mut self, name: Text, value: V) -> Result<(), AllocError>
         ensures { OnOk result (self.new ≡ with_entry self.old name value) }
     {
@@ -41,7 +41,9 @@ impl<V: Drop> Sorted<V> {
         Ok(())
     }
 
-    /// The entries as items. The one fault is want of memory.
+    /// Returns the entries as items.
+    ///
+    /// Errors: out of memory.
     pub fn into_items(self, alloc: Global) -> Result<Items<(Text, V)>, AllocError>
         ensures same { IfOk result (λ items. items ≡ self) }
         ensures order { IfOk result (λ items. IsAscending (map (λ e. e.0) items)) }

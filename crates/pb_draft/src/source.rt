@@ -1,4 +1,4 @@
-//! Files of the sources: what lies at or below the target folder is left out.
+//! Files of the sources: what is at or below the target folder is left out.
 
 ghost use Rattle.std.specs.Prelude.{◌≡◌, IfOk, IfErr, IsTrue, true, take};
 ghost use Rattle.std.specs.FinMap as finite;
@@ -16,7 +16,7 @@ use pb_package::LoadFault;
 use pb_place::{PathText, Place, PlaceFault, RelativePath};
 use std::alloc::{AllocError, Global};
 
-/// Returns the fault of a call on a path that failed. Out of memory stays so. It takes no memory.
+/// Returns the fault of a failed call on a path; out of memory stays so. It uses no memory.
 pub fn failed(path: PathText, fault: PlaceFault) -> LoadFault
     ensures { result ≡ fault_at path fault }
 {
@@ -26,8 +26,8 @@ pub fn failed(path: PathText, fault: PlaceFault) -> LoadFault
     }
 }
 
-/// Returns the first bytes of the file at a path, at most `most`, if it is one of the sources. It does not read a path at
-/// or below the target folder.
+/// Returns the first bytes of the file at a path, at most `most`, if it is
+/// one of the sources. It does not read a path at or below the target folder.
 ///
 /// Errors: `Place`, if the read failed, with its path; `OutOfMemory`.
 #[tactic(auto, using(crate::proofs::SourceLemmas::source_laws))]
@@ -55,9 +55,10 @@ pub fn source<P: Place>(
     }
 }
 
-/// Returns whether a file of the sources is at a path. It does not ask for a path at or below the target folder.
+/// Returns whether a file of the sources is at a path. It does
+/// not ask about a path at or below the target folder.
 ///
-/// Errors: `Place`, if the question failed, with its path; `OutOfMemory`.
+/// Errors: `Place`, if the call failed, with its path; `OutOfMemory`.
 #[tactic(auto, using(crate::proofs::SourceLemmas::asking_laws))]
 pub fn is_source<P: Place>(
     alloc: Global,
@@ -82,7 +83,8 @@ pub fn is_source<P: Place>(
     }
 }
 
-/// Returns the files of the sources below a folder, in byte order. It looks at nothing at or below the target folder.
+/// Returns the files of the sources below a folder, in byte
+/// order. It looks at nothing at or below the target folder.
 ///
 /// Errors: `Place`, if the listing failed, with its path; `OutOfMemory`.
 #[tactic(auto, using(crate::proofs::SourceLemmas::listing_laws))]
@@ -109,8 +111,8 @@ pub fn listed_sources<P: Place>(
     }
 }
 
-/// Returns the folders directly in a folder that hold sources, each once. It does not list a folder at or below the
-/// target folder.
+/// Returns the folders directly in a folder that contain sources, each
+/// once. It does not list a folder at or below the target folder.
 ///
 /// Errors: `Place`, if the listing failed, with its path; `OutOfMemory`.
 #[tactic(auto, using(crate::proofs::SourceLemmas::listing_laws))]
@@ -139,7 +141,7 @@ pub fn source_folders<P: Place>(
 
 /// Returns the path of a name, or of names with slashes between them, from a folder.
 ///
-/// Errors: memory is refused.
+/// Errors: out of memory.
 pub fn own_path(alloc: Global, folder: &PathText, name: &str) -> Result<PathText, AllocError>
     requires { is_relative name.now ≡ true }
     ensures { IfOk result (λ path. path ≡ below folder.now name.now) }
@@ -148,10 +150,10 @@ pub fn own_path(alloc: Global, folder: &PathText, name: &str) -> Result<PathText
     folder.below(alloc, &name)
 }
 
-/// Returns the path that a written one means from a folder; an absolute one means itself. A written path contains no
-/// byte 0, so it always means one.
+/// Returns the path that a written path means from a folder; an absolute one
+/// means itself. A written path contains no byte 0, so it always means one.
 ///
-/// Errors: memory is refused.
+/// Errors: out of memory.
 #[tactic(auto, using(crate::proofs::Resolving::resolving_laws))]
 pub fn resolved(
     alloc: Global,

@@ -1,4 +1,4 @@
-//! What a package says of itself: written in its manifest, or taken from its workspace.
+//! What a package says about itself: written in its manifest, or taken from its workspace.
 
 ghost use Rattle.std.specs.Prelude.{◌≡◌, ◌++◌, IfOk, IfErr, OnOk, false, string_bytes};
 ghost use Rattle.pb_data.specs.Gives.{Gives};
@@ -13,7 +13,9 @@ use pb_package::{About, LoadFault};
 use pb_place::{PathFault, PathText};
 use std::alloc::{AllocError, Global};
 
-/// A package's version. NoInherited where it is taken from a workspace that has none to give.
+/// Returns a package's version.
+///
+/// Errors: `NoInherited`, if it is taken from a workspace that has none.
 pub fn version_of(
     alloc: Global,
     own: &Inherited<Version>,
@@ -32,7 +34,9 @@ pub fn version_of(
     }
 }
 
-/// A package's edition. NoInherited where it is taken from a workspace that has none to give.
+/// Returns a package's edition.
+///
+/// Errors: `NoInherited`, if it is taken from a workspace that has none.
 pub fn edition_of(own: &Inherited<Edition>, given: Option<Edition>) -> Result<Edition, LoadFault>
     ensures told { result ≡ own_or_given own.now given }
     ensures here { IfErr result (λ e. is_failure e ≡ false) }
@@ -46,7 +50,7 @@ pub fn edition_of(own: &Inherited<Edition>, given: Option<Edition>) -> Result<Ed
     }
 }
 
-/// A text of a package, empty where it is absent.
+/// Returns a text of a package; it is empty if it is absent.
 fn text_of(alloc: Global, own: &Inheritable<Text>, given: &Option<Text>) -> Result<Text, LoadFault>
     ensures told { Gives load_fault.OutOfMemory (λ text. text) result (text_of own.now given.now) }
     ensures here { IfErr result (λ e. is_failure e ≡ false) }
@@ -73,7 +77,7 @@ fn add_authors(text: &mut String, authors: &[Text]) -> Result<(), AllocError>
     Ok(())
 }
 
-/// The authors with `:` between them.
+/// Returns the authors with `:` between them.
 fn joined_authors(alloc: Global, authors: &[Text]) -> Result<Text, AllocError>
     ensures { IfOk result (λ text. text ≡ joined_authors authors.now) }
 {
@@ -86,7 +90,7 @@ fn joined_authors(alloc: Global, authors: &[Text]) -> Result<Text, AllocError>
     Ok(Text::new(text))
 }
 
-/// The authors of a package.
+/// Returns the authors of a package.
 fn authors_of(
     alloc: Global,
     own: &Inheritable<Items<Text>>,
@@ -106,8 +110,8 @@ fn authors_of(
     }
 }
 
-/// A text of the workspace that is a path from the root, as a path from the member's folder. One with byte 0
-/// is no path and stays as it is.
+/// Returns a text of the workspace, which is a path from the root, as a path
+/// from the member's folder. A text with byte 0 is no path and stays as it is.
 fn from_member(
     alloc: Global,
     root: &PathText,
@@ -123,7 +127,7 @@ fn from_member(
     }
 }
 
-/// `license-file`, as a path from the package's folder.
+/// Returns `license-file`, as a path from the package's folder.
 fn license_file_of(
     alloc: Global,
     root: &PathText,
@@ -145,7 +149,7 @@ fn license_file_of(
     }
 }
 
-/// What a written `readme` says.
+/// Returns the path that a written `readme` names.
 fn readme_text(alloc: Global, readme: &Readme) -> Result<Text, AllocError>
     ensures { IfOk result (λ text. text ≡ readme_text readme.now) }
 {
@@ -156,7 +160,7 @@ fn readme_text(alloc: Global, readme: &Readme) -> Result<Text, AllocError>
     }
 }
 
-/// The workspace's README, as a path from the member's folder.
+/// Returns the workspace's README, as a path from the member's folder.
 fn given_readme(
     alloc: Global,
     root: &PathText,
@@ -172,7 +176,7 @@ fn given_readme(
     }
 }
 
-/// The README of a package; where nothing is written, the one that was found in its folder.
+/// Returns the README of a package; if nothing is written, the one that was found in its folder.
 fn readme_of(
     alloc: Global,
     root: &PathText,
@@ -195,9 +199,11 @@ fn readme_of(
     }
 }
 
-/// What a package says of itself to people. `given` is what its workspace gives it, `found` the README of its
-/// folder. A path that is taken from the workspace is one from the package's folder. NoInherited where a key is
-/// taken from a workspace that has none to give.
+/// Returns what a package says about itself to people. `given` is what
+/// its workspace gives it, `found` the README of its folder. A path that
+/// is taken from the workspace becomes a path from the package's folder.
+///
+/// Errors: `NoInherited`, if a key is taken from a workspace that does not have it.
 pub fn about_of(
     alloc: Global,
     root: &PathText,

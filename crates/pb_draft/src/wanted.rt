@@ -1,4 +1,4 @@
-//! What the entries of a package ask for, with what they take from the workspace.
+//! What the entries of a package request, with what they take from the workspace.
 
 ghost use Rattle.std.specs.Prelude.{◌≡◌, ◌++◌, IfOk, IfErr, OnOk, false, unwrap_or};
 ghost use Rattle.pb_data.specs.Gives.{Gives};
@@ -17,30 +17,31 @@ use pb_package::{DependencyKind, LoadFault};
 use pb_place::PathText;
 use std::alloc::{AllocError, Global};
 
-/// An entry of `[dependencies]` or `[build-dependencies]` whose package is not looked for yet.
+/// An entry of `[dependencies]` or `[build-dependencies]` whose
+/// package has not been looked for yet.
 #[derive(Drop)]
 pub struct Wanted {
     /// The name that the manifest gives it.
     pub key: Text,
-    /// The table that it stands in.
+    /// The table that contains it.
     pub kind: DependencyKind,
     /// The folder of its package.
     pub folder: PathText,
-    /// The name that its package has to have.
+    /// The name that its package must have.
     pub name: Text,
-    /// What its package's version has to match.
+    /// The requirement that its package's version must match.
     pub version: Option<Requirement>,
-    /// Whether `package` names it otherwise than its key does.
+    /// Whether `package` names another package than the key.
     pub renamed: bool,
     /// Whether it is left out unless something enables it.
     pub optional: bool,
-    /// Whether it turns on the feature `default` of its package, where there is one.
+    /// Whether it turns on the feature `default` of its package, if that exists.
     pub default_features: bool,
     /// The features that it turns on.
     pub features: Items<Text>,
 }
 
-/// Where an entry stands.
+/// Where an entry is written.
 #[derive(Drop)]
 pub struct Standing {
     /// The workspace's root.
@@ -51,7 +52,7 @@ pub struct Standing {
     pub manifest: PathText,
 }
 
-/// Whether `package` gives another name than the key.
+/// Returns whether `package` names another package than the key.
 fn is_renamed(key: &Text, name: &Option<Text>) -> bool
     ensures { result ≡ is_renamed key.now name.now }
 {
@@ -61,7 +62,7 @@ fn is_renamed(key: &Text, name: &Option<Text>) -> bool
     }
 }
 
-/// The name that an entry's package has to have.
+/// Returns the name that an entry's package must have.
 fn name_of(alloc: Global, key: &Text, name: &Option<Text>) -> Result<Text, AllocError>
     ensures { IfOk result (λ made. made ≡ unwrap_or name.now key.now) }
 {
@@ -71,7 +72,7 @@ fn name_of(alloc: Global, key: &Text, name: &Option<Text>) -> Result<Text, Alloc
     }
 }
 
-/// What an entry asks for, whose path starts at `base`.
+/// Returns what an entry requests whose path starts at `base`.
 fn wanted_at(
     alloc: Global,
     base: &PathText,
@@ -112,7 +113,7 @@ fn add_texts(alloc: Global, texts: &[Text], made: &mut Items<Text>) -> Result<()
     Ok(())
 }
 
-/// The features of the workspace's entry and then the member's.
+/// Returns the features of the workspace's entry and then the member's.
 fn joined_features(
     alloc: Global,
     first: &[Text],
@@ -126,7 +127,7 @@ fn joined_features(
     Ok(made)
 }
 
-/// The refusal of a source that is taken from the workspace.
+/// Returns the refusal of a source that is taken from the workspace.
 fn unsupported(alloc: Global, manifest: &PathText) -> Result<LoadFault, AllocError>
     ensures { IfOk result
         (λ fault. fault ≡ load_fault.Manifest manifest.now ManifestFault.UnsupportedSource) }
@@ -135,7 +136,7 @@ fn unsupported(alloc: Global, manifest: &PathText) -> Result<LoadFault, AllocErr
     Ok(LoadFault::Manifest(manifest, ManifestFault::UnsupportedSource))
 }
 
-/// What an entry asks for that takes one of the workspace's.
+/// Returns what an entry requests that takes one of the workspace's.
 fn taken_from(
     alloc: Global,
     at: &Standing,
@@ -167,9 +168,10 @@ fn taken_from(
     Ok(wanted)
 }
 
-/// What an entry asks for (The Cargo Book, Specifying Dependencies and Workspaces). NoInherited where it takes
-/// an entry that the workspace has not to give; the package's manifest with UnsupportedSource where that entry
-/// has no path, or `git` or `registry`.
+/// Returns what an entry requests (The Cargo Book, Specifying Dependencies and Workspaces).
+///
+/// Errors: `NoInherited`, if it takes an entry that the workspace does not have; `Manifest`
+/// with `UnsupportedSource`, if that entry has no path, or has `git` or `registry`.
 fn wanted_of(
     alloc: Global,
     at: &Standing,
@@ -203,8 +205,9 @@ fn wanted_of(
     }
 }
 
-/// What the entries of one table ask for, in their order, up to the first fault: NoInherited, the manifest with
-/// UnsupportedSource, or OutOfMemory.
+/// Returns what the entries of one table request, in order, up to the first fault.
+///
+/// Errors: `NoInherited`; `Manifest` with `UnsupportedSource`; `OutOfMemory`.
 pub fn each_wanted(
     alloc: Global,
     at: &Standing,

@@ -5,7 +5,7 @@ use crate::refused::REFUSED;
 
 /// What a name of a result line means.
 pub struct Entry {
-    /// The name, without what stands in brackets behind it.
+    /// The name, without what follows it in brackets.
     pub name: &'static str,
     /// What the page says below it.
     pub text: &'static str,

@@ -1,4 +1,4 @@
--- Whether an asked text is a feature of a package; it serves private functions alone.
+-- Whether a requested text is a feature of a package; only private functions need these definitions.
 use Rattle.std.specs.Prelude.{◌≡◌, ℕ, Bool, false, List, Option, Some, None, Contains, slice_get}
 use Rattle.std.specs.List.{list_any}
 use Rattle.pb_manifest.specs.declared.feature.Feature.{Feature}
@@ -19,7 +19,7 @@ is_owner_at ps text p = owner_is (slice_get ps p) text
 abbrev pub is_answered : List Package → List ℕ → List ℕ → Bool
 is_answered ps places text = list_any (is_owner_at ps text) places
 
--- an asked text that is a feature of no selected package
+-- a requested text is a feature of no selected package
 pub record IsUnanswered (ps : List Package) (selection : Selection) : Type 0 where
   pub text : List ℕ
   pub asked : Contains selection.features text

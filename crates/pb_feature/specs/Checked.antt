@@ -1,4 +1,4 @@
--- The first fault of packages, as far as they were looked at; it serves private functions alone.
+-- The first fault of the packages looked at so far; only private functions need these definitions.
 use Rattle.std.specs.Prelude.{◌≡◌, ℕ, ◌<◌, Bool, true, false, List, Option, Some, None, slice_get, if◌then◌else◌}
 use Rattle.std.specs.Ordering.{nat_cmp, is_lt}
 use Rattle.std.specs.Cmp.Lexicographic.{slice_cmp}
@@ -7,11 +7,11 @@ use Rattle.pb_feature.specs.declared.fault.FeatureFault.{FeatureFault}
 use Rattle.pb_feature.specs.declared.checks.First.{First}
 use Rattle.pb_feature.specs.Faults.{package_fault}
 
--- whether the name of the first is less
+-- the name of the first package is less
 abbrev pub is_lesser : Package → Package → Bool
 is_lesser p q = is_lt (slice_cmp nat_cmp p.name q.name)
 
--- the package at this place has this fault, and of those below the count none of a lesser name has one
+-- the package at this index has this fault, and no package of a lesser name among the first n has one
 pub record IsFirstBelow (ps : List Package) (n place : ℕ) (fault : FeatureFault) : Type 0 where
   pub owner : Package
   pub package_at : slice_get ps place ≡ Some owner
@@ -22,7 +22,7 @@ abbrev pub IsSofar : List Package → ℕ → Option First → Type 0
 IsSofar ps n None = (q : ℕ) (other : Package) → q < n → slice_get ps q ≡ Some other → package_fault other ≡ None
 IsSofar ps n (Some first) = IsFirstBelow ps n first.place first.fault
 
--- whether the package at a place has a lesser name than the one that was found; it has where none was found
+-- the package at an index has a lesser name than the one that was found; this is true if none was found
 abbrev pub lesser_of : Option Package → Option Package → Bool
 lesser_of None w = false
 lesser_of (Some p) None = false
@@ -32,7 +32,7 @@ abbrev pub is_lesser_at : List Package → ℕ → Option First → Bool
 is_lesser_at ps n None = true
 is_lesser_at ps n (Some first) = lesser_of (slice_get ps n) (slice_get ps first.place)
 
--- what is found after one more package
+-- what has been found after one more package
 abbrev pub picked : Option FeatureFault → Option First → Bool → ℕ → Option First
 picked None first lesser n = first
 picked (Some fault) None lesser n = Some (record { place = n; fault = fault })

@@ -8,7 +8,8 @@ use Rattle.pb_package.specs.declared.options.Selection.{Selection}
 use Rattle.pb_package.specs.declared.workspace.Workspace.{Workspace}
 use Rattle.pb_package.specs.Workspace.{side_of, HasEntry, ListsItem, HasFeature}
 
--- a package, known by its place, is on at a side; it has a feature there; its entry at a place is enabled there; a feature is asked of the package of that entry
+-- a package, known by its index, is on at a side; it has a feature there; its entry
+-- of an index is enabled there; a feature is requested of the package of that entry
 pub data Fact : Type 0 where
   On : (p : ℕ) (s : Side) → Fact
   Has : (p : ℕ) (s : Side) (feature : List ℕ) → Fact
@@ -19,7 +20,8 @@ pub data Fact : Type 0 where
 abbrev pub of_package : List ℕ → List ℕ → List ℕ
 of_package name feature = name ++ 47 ∷ feature
 
--- what is chosen for a package, of the features that it has: all of them; one that is asked for by its name; one that is asked of this package; `default`
+-- what is chosen for a package among its features: all of them; a feature
+-- requested by its name; one requested of this package; `default`
 pub data IsChosen (ws : Workspace) (selection : Selection) (p : ℕ) : List ℕ → Type 0 where
   all : (feature : List ℕ) (asked : selection.all_features ≡ true) (there : HasFeature ws p feature) → IsChosen ws selection p feature
   asked : (feature : List ℕ) (is : Contains selection.features feature) (there : HasFeature ws p feature) → IsChosen ws selection p feature
@@ -32,17 +34,19 @@ pub data Holds (ws : Workspace) (selection : Selection) : Fact → Type 0 where
   chosen : (p : ℕ) (feature : List ℕ) (is : Contains selection.packages p) (chosen : IsChosen ws selection p feature) → Holds ws selection (Has p Target feature)
   -- a package that is on enables its entries that are not optional
   required : (p : ℕ) (s : Side) (n : ℕ) (e : Entry) (on : Holds ws selection (On p s)) (has : HasEntry ws p n e) (needed : e.optional ≡ false) → Holds ws selection (Enabled p s n)
-  -- a feature gives the features that it lists
+  -- a feature turns on the features that it lists
   listed : (p : ℕ) (s : Side) (f g : List ℕ) (on : Holds ws selection (Has p s f)) (lists : ListsItem ws p f (Own g)) → Holds ws selection (Has p s g)
   -- `dep:N` enables the entries N; the implicit feature N lists it
   named : (p : ℕ) (s : Side) (f : List ℕ) (n : ℕ) (e : Entry) (on : Holds ws selection (Has p s f)) (lists : ListsItem ws p f (Dependency e.key)) (has : HasEntry ws p n e) → Holds ws selection (Enabled p s n)
-  -- `N/F` enables the entries N, asks F of them, and gives the feature N where one of them is optional and there is one
+  -- `N/F` enables the entries N, requests F of them, and turns
+  -- on the feature N if it exists and one of them is optional
   of_enables : (p : ℕ) (s : Side) (f g : List ℕ) (n : ℕ) (e : Entry) (on : Holds ws selection (Has p s f)) (lists : ListsItem ws p f (Of e.key g)) (has : HasEntry ws p n e) → Holds ws selection (Enabled p s n)
   of_asks : (p : ℕ) (s : Side) (f g : List ℕ) (n : ℕ) (e : Entry) (on : Holds ws selection (Has p s f)) (lists : ListsItem ws p f (Of e.key g)) (has : HasEntry ws p n e) → Holds ws selection (Asked p s n g)
   of_gives : (p : ℕ) (s : Side) (f g : List ℕ) (n : ℕ) (e : Entry) (on : Holds ws selection (Has p s f)) (lists : ListsItem ws p f (Of e.key g)) (has : HasEntry ws p n e) (is_optional : e.optional ≡ true) (there : HasFeature ws p e.key) → Holds ws selection (Has p s e.key)
-  -- `N?/F` asks F of the entries N that are enabled
+  -- `N?/F` requests F of the entries N that are enabled
   of_enabled : (p : ℕ) (s : Side) (f g : List ℕ) (n : ℕ) (e : Entry) (on : Holds ws selection (Has p s f)) (lists : ListsItem ws p f (OfEnabled e.key g)) (has : HasEntry ws p n e) (enabled : Holds ws selection (Enabled p s n)) → Holds ws selection (Asked p s n g)
-  -- an enabled entry puts its package on, at this side or, for a build entry, at the host, with its listed and asked features and, unless it says otherwise, `default` where there is one
+  -- an enabled entry puts its package on, at this side or, for a build entry, at the host; the package gets
+  -- the listed and the requested features and, unless the entry says otherwise, `default` if it exists
   leads : (p : ℕ) (s : Side) (n : ℕ) (e : Entry) (enabled : Holds ws selection (Enabled p s n)) (has : HasEntry ws p n e) → Holds ws selection (On e.to (side_of e.kind s))
   with_listed : (p : ℕ) (s : Side) (n : ℕ) (e : Entry) (f : List ℕ) (enabled : Holds ws selection (Enabled p s n)) (has : HasEntry ws p n e) (is : Contains e.features f) → Holds ws selection (Has e.to (side_of e.kind s) f)
   with_asked : (p : ℕ) (s : Side) (n : ℕ) (e : Entry) (f : List ℕ) (enabled : Holds ws selection (Enabled p s n)) (asked : Holds ws selection (Asked p s n f)) (has : HasEntry ws p n e) → Holds ws selection (Has e.to (side_of e.kind s) f)

@@ -1,4 +1,4 @@
--- Why no features are resolved (The Cargo Book, Features): what an item names has to be there.
+-- Why no features are resolved (The Cargo Book, Features): what an item names must exist.
 use Rattle.std.specs.Prelude.{◌≡◌, ℕ, Bool, true, List, [], ◌∷◌, Contains, Option, Some, None, ◌&&◌, if◌then◌else◌, slice_get}
 use Rattle.std.specs.List.{list_any}
 use Rattle.std.specs.Option.{option_or}
@@ -18,33 +18,34 @@ use Rattle.pb_feature.specs.declared.fault.FeatureFault.{FeatureFault}
 use Rattle.pb_feature.specs.declared.fault.FeatureFault.TheVariants.{NoSuchFeature, NoSuchDependency, NotOptional}
 use Rattle.pb_feature.specs.Facts.{Has, Holds, of_package}
 
--- whether an entry has this name, in either table; whether one that has it is optional
+-- an entry has this name, in either table; one that has it is optional
 abbrev pub is_entry : Package → List ℕ → Bool
 is_entry p name = list_any (λ (e : Entry). bytes_eq name e.key) p.entries
 
 abbrev pub is_optional_entry : Package → List ℕ → Bool
 is_optional_entry p name = list_any (λ (e : Entry). bytes_eq name e.key && e.optional) p.entries
 
--- a name of `[dev-dependencies]` alone does nothing; any other name without an entry is none
+-- the fault of a name without an entry: none if `[dev-dependencies]`
+-- has the name, else that there is no such dependency
 abbrev pub absent_fault : Package → List ℕ → Option FeatureFault
 absent_fault p name = if list_any (bytes_eq name) p.development then None else Some NoSuchDependency
 
--- an item that names an entry
+-- the fault of an item that names an entry
 abbrev pub entry_fault : Package → List ℕ → Option FeatureFault
 entry_fault p name = if is_entry p name then None else absent_fault p name
 
--- an item that names an entry which has to be optional
+-- the fault of an item that names an entry which must be optional
 abbrev pub optional_fault : Package → List ℕ → Option FeatureFault
 optional_fault p name = if is_entry p name then (if is_optional_entry p name then None else Some NotOptional) else absent_fault p name
 
--- what is wrong with an item
+-- the fault of an item, if it has one
 abbrev pub item_fault : Package → FeatureItem → Option FeatureFault
 item_fault p (Own feature) = if has_feature_named p.features feature then None else Some NoSuchFeature
 item_fault p (Dependency name) = optional_fault p name
 item_fault p (Of name feature) = entry_fault p name
 item_fault p (OfEnabled name feature) = optional_fault p name
 
--- the first fault of items as they are written, and of features in byte order
+-- the first fault: of items in written order, and of features in byte order
 abbrev pub items_fault : Package → List FeatureItem → Option FeatureFault
 items_fault p [] = None
 items_fault p (item ∷ items) = option_or (item_fault p item) (items_fault p items)
@@ -56,7 +57,7 @@ features_fault p (feature ∷ features) = option_or (items_fault p feature.items
 abbrev pub package_fault : Package → Option FeatureFault
 package_fault p = features_fault p p.features
 
--- the fault of a package whose items are wrong, where no package of a lesser name has one
+-- the fault of a package with a wrong item, if no package of a lesser name has one
 pub record IsFirstFault (ws : Workspace) (fault : FeatureFault) : Type 0 where
   pub place : ℕ
   pub owner : Package
@@ -64,16 +65,16 @@ pub record IsFirstFault (ws : Workspace) (fault : FeatureFault) : Type 0 where
   pub told : package_fault owner ≡ Some fault
   pub first : (q : ℕ) (other : Package) → slice_get ws.packages q ≡ Some other → is_lt (slice_cmp nat_cmp other.name owner.name) ≡ true → package_fault other ≡ None
 
--- no item of any package is wrong
+-- no item of any package has a fault
 abbrev pub ItemsAreRight : Workspace → Type 0
 ItemsAreRight ws = (place : ℕ) (owner : Package) → slice_get ws.packages place ≡ Some owner → package_fault owner ≡ None
 
--- an asked feature is that of a selected package
+-- a requested feature is one of a selected package
 pub data IsAnswered (ws : Workspace) (selection : Selection) (text : List ℕ) : Type 0 where
   by_name : (p : ℕ) (selected : Contains selection.packages p) (there : HasFeature ws p text) → IsAnswered ws selection text
   by_package : (p : ℕ) (feature : List ℕ) (selected : Contains selection.packages p) (there : HasFeature ws p feature) (is : text ≡ of_package there.owner.name feature) → IsAnswered ws selection text
 
--- a feature that holds and that the package does not have
+-- a feature is on for a package that does not have it
 pub record IsMissing (ws : Workspace) (selection : Selection) : Type 0 where
   pub place : ℕ
   pub side : Side
@@ -81,7 +82,8 @@ pub record IsMissing (ws : Workspace) (selection : Selection) : Type 0 where
   pub holds : Holds ws selection (Has place side feature)
   pub missing : HasFeature ws place feature → ⊥
 
--- why nothing is resolved: an item; else an asked feature that no selected package has; else a feature that is asked of a package which has none of that name
+-- why nothing is resolved: an item has a fault; else no selected package has a requested
+-- feature; else a feature is requested of a package that has none of that name
 pub data Refuses (ws : Workspace) (selection : Selection) : FeatureFault → Type 0 where
   by_item : (fault : FeatureFault) (first : IsFirstFault ws fault) → Refuses ws selection fault
   by_asked : (right : ItemsAreRight ws) (text : List ℕ) (asked : Contains selection.features text) (none : IsAnswered ws selection text → ⊥) → Refuses ws selection NoSuchFeature

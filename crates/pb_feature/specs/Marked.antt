@@ -1,4 +1,4 @@
--- What is handed out, made from marked numbers; it serves private functions alone.
+-- The resolved features as they are made from marked numbers; only private functions need these definitions.
 use Rattle.std.specs.Prelude.{◌≡◌, ℕ, ◌+◌, ◌<◌, Bool, true, false, List, [], ◌∷◌, length, if◌then◌else◌}
 use Rattle.pb_manifest.specs.declared.feature.Feature.{Feature}
 use Rattle.pb_package.specs.declared.package.Side.{Side}
@@ -11,7 +11,7 @@ use Rattle.pb_resolved.specs.declared.features.Part.{Part}
 use Rattle.pb_resolved.specs.declared.features.Sides.{Sides}
 use Rattle.pb_feature.specs.Numbers.{on, has, enabled}
 
--- the name of a feature that is marked
+-- the name of a feature, if it is marked
 abbrev pub marked_name : List Bool → List ℕ → ℕ → Side → ℕ → Feature → List (List ℕ)
 marked_name marks bs p s i f = if is_on marks (has bs p s (i + 1)) then f.name ∷ [] else []
 
@@ -29,13 +29,13 @@ marked_part marks bs p s owner = record {
 abbrev pub marked_sides : List Bool → List ℕ → ℕ → Package → List Sides
 marked_sides marks bs p owner = (record { target = marked_part marks bs p Target owner; host = marked_part marks bs p Host owner }) ∷ []
 
--- a package at a place below is given a feature that it does not have
+-- one of the first `count` packages is given a feature that it does not have
 pub record IsMarkedMissing (marks : List Bool) (bs : List ℕ) (count : ℕ) : Type 0 where
   pub place : ℕ
   pub side : Side
   pub below : place < count
   pub marked : is_on marks (has bs place side 0) ≡ true
 
--- none of the packages below is
+-- none of the first `count` packages is
 abbrev pub NoneMarkedMissing : List Bool → List ℕ → ℕ → Type 0
 NoneMarkedMissing marks bs count = (p : ℕ) → p < count → (is_on marks (has bs p Target 0) ≡ false) × (is_on marks (has bs p Host 0) ≡ false)

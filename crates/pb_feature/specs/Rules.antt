@@ -1,4 +1,5 @@
--- The rules on numbers that the packages of a workspace give, one after another, and what is chosen; they serve private functions alone.
+-- The rules on numbers that the packages of a workspace yield, one after
+-- another, and what is chosen; only private functions need these definitions.
 use Rattle.std.specs.Prelude.{ℕ, ◌+◌, ◌==◌, Bool, not, ◌||◌, ◌&&◌, codes, List, [], ◌∷◌, ◌++◌, Option, Some, None, length, slice_get, if◌then◌else◌}
 use Rattle.std.specs.List.{list_any}
 use Rattle.std.specs.Str.{bytes_eq}
@@ -22,34 +23,34 @@ pair x y z = record { first = x; second = y; gives = z }
 abbrev pub alone : ℕ → ℕ → Rule
 alone x z = pair x x z
 
--- a feature of a slot, under a test and where there is one
+-- the rule that turns on the feature of a slot, if the test is true and the feature exists
 abbrev pub there_rules : List ℕ → ℕ → ℕ → Side → Bool → ℕ → List Rule
 there_rules bs from q t test k = if test then (if k == 0 then [] else alone from (has bs q t k) ∷ []) else []
 
--- a feature of a name
+-- the rule that turns on the feature of a name
 abbrev pub given_rules : List Package → List ℕ → ℕ → ℕ → Side → ℕ → List ℕ → List Rule
 given_rules ps bs from q t _ f = alone from (has bs q t (slot_at ps q f)) ∷ []
 
--- an enabled entry puts its package on, with its features
+-- the rules of an enabled entry: it puts its package on, with its features
 abbrev pub enabled_rules : List Package → List ℕ → ℕ → Side → Entry → List Rule
 enabled_rules ps bs from t e =
     (alone from (on bs e.to t) ∷ [])
     ++ there_rules bs from e.to t e.default_features (slot_at ps e.to (codes "default"))
     ++ placed (given_rules ps bs from e.to t) 0 e.features
 
--- an entry that is not optional is enabled where its package is on
+-- the rules of an entry: it is enabled if its package is on, unless it is optional
 abbrev pub entry_rules : List Package → List ℕ → Side → ℕ → ℕ → ℕ → Entry → List Rule
 entry_rules ps bs s p features n e =
     (if e.optional then [] else alone (on bs p s) (enabled bs p s features n) ∷ [])
     ++ enabled_rules ps bs (enabled bs p s features n) (side_of e.kind s) e
 
--- an item `N/F` at an entry N
+-- the rules of an item `N/F` at an entry N
 abbrev pub of_rules : List ℕ → ℕ → ℕ → Side → ℕ → ℕ → ℕ → Entry → List Rule
 of_rules bs from p s own asked en e =
     (alone from en ∷ alone from (has bs e.to (side_of e.kind s) asked) ∷ [])
     ++ there_rules bs from p s e.optional own
 
--- an item at an entry that it may name
+-- the rules of an item at an entry that it may name
 abbrev pub item_rules : List Package → List ℕ → Side → ℕ → List Feature → ℕ → FeatureItem → ℕ → Entry → List Rule
 item_rules ps bs s p fs k (Own g) n e = []
 item_rules ps bs s p fs k (Dependency name) n e =
@@ -59,11 +60,11 @@ item_rules ps bs s p fs k (Of name g) n e =
 item_rules ps bs s p fs k (OfEnabled name g) n e =
     if bytes_eq name e.key then pair (has bs p s k) (enabled bs p s (length fs) n) (has bs e.to (side_of e.kind s) (slot_at ps e.to g)) ∷ [] else []
 
--- on both sides
+-- the same rules on both sides
 abbrev pub both_item_rules : List Package → List ℕ → ℕ → List Feature → ℕ → FeatureItem → ℕ → Entry → List Rule
 both_item_rules ps bs p fs k item n e = item_rules ps bs Target p fs k item n e ++ item_rules ps bs Host p fs k item n e
 
--- an item that names a feature of its own package
+-- the rules of an item that names a feature of its own package
 abbrev pub own_rules : List ℕ → Side → ℕ → List Feature → ℕ → FeatureItem → List Rule
 own_rules bs s p fs k (Own g) = alone (has bs p s k) (has bs p s (slot fs g)) ∷ []
 own_rules bs s p fs k (Dependency name) = []
@@ -89,16 +90,16 @@ package_rules ps bs p owner = both_entry_rules ps bs p owner ++ placed (feature_
 abbrev pub rules_of : List Package → List ℕ → List Rule
 rules_of ps bs = placed (package_rules ps bs) 0 ps
 
--- whether one of the asked texts is this feature of the package of this name
+-- one of the requested texts is this feature of the package of this name
 abbrev pub is_text_of : List ℕ → List ℕ → List ℕ → Bool
 is_text_of name feature text = bytes_eq text feature || bytes_eq text (of_package name feature)
 
--- whether a feature is chosen
+-- a feature is chosen
 abbrev pub is_chosen : Selection → List ℕ → List ℕ → Bool
 is_chosen selection name feature =
     selection.all_features || (not selection.no_default_features && bytes_eq feature (codes "default")) || list_any (is_text_of name feature) selection.features
 
--- what holds from the start
+-- the numbers that are true from the start
 abbrev pub chosen_seeds : List ℕ → Selection → ℕ → List ℕ → ℕ → Feature → List ℕ
 chosen_seeds bs selection p name i f = if is_chosen selection name f.name then has bs p Target (i + 1) ∷ [] else []
 

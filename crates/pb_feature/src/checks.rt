@@ -7,24 +7,24 @@ use crate::fault::FeatureFault;
 use crate::items::package_fault;
 use pb_package::Package;
 
-/// A package whose items are wrong.
+/// A package with a wrong item.
 #[derive(Clone, Copy)]
 pub(crate) struct First {
-    /// Its place.
+    /// Its index.
     pub place: usize,
     /// Its fault.
     pub fault: FeatureFault,
 }
 
-/// Whether the name of the first package is less, in byte order.
+/// Returns whether the name of the first package is less, in byte order.
 fn is_lesser(one: &Package, other: &Package) -> bool
     ensures { result ≡ is_lesser one.now other.now }
 {
     one.name.cmp(&other.name).is_lt()
 }
 
-/// Whether the package at a place has a lesser name than the one that was found. It has where none was
-/// found.
+/// Returns whether the package at an index has a lesser name
+/// than the one that was found; true if none was found.
 fn is_lesser_at(packages: &[Package], place: usize, first: Option<First>) -> bool
     ensures { result ≡ is_lesser_at packages.now place first }
 {
@@ -37,7 +37,7 @@ fn is_lesser_at(packages: &[Package], place: usize, first: Option<First>) -> boo
     }
 }
 
-/// What is found after one more package.
+/// Returns what has been found after one more package.
 fn picked(
     fault: Option<FeatureFault>,
     first: Option<First>,
@@ -59,7 +59,7 @@ fn picked(
     }
 }
 
-/// The first package in byte order of names whose items are wrong.
+/// Returns the first package in byte order of names that has a wrong item.
 fn first_fault(packages: &[Package]) -> Option<First>
     ensures { IsSofar packages.now (length packages.now) result }
 {
@@ -72,7 +72,7 @@ fn first_fault(packages: &[Package]) -> Option<First>
     first
 }
 
-/// The items of all packages are right.
+/// Checks the items of all packages.
 pub(crate) fn check_items(packages: &[Package]) -> Result<(), FeatureFault>
     ensures ok { OnOk result (IsSofar packages.now (length packages.now) None) }
     ensures err { IfErr result (λ e. (place : ℕ) × IsFirstBelow packages.now (length packages.now) place e) }

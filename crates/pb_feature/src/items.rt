@@ -14,21 +14,21 @@ use pb_data::Text;
 use pb_manifest::FeatureItem;
 use pb_package::{DependencyKind, EntriesByKey, FeaturesByName, Package};
 
-/// Whether a feature has this name.
+/// Returns whether a feature has this name.
 fn has_feature_named(features: &FeaturesByName, name: &[u8]) -> bool
     ensures { result ≡ has_feature_named features.now name.now }
 {
     slot(features, name) != 0
 }
 
-/// Whether one of the texts is this one.
+/// Returns whether one of the texts is this one.
 fn has_text(texts: &[Text], name: &[u8]) -> bool
     ensures { result ≡ list_any (bytes_eq name.now) texts.now }
 {
     texts.iter().any(|text| name == text.as_bytes())
 }
 
-/// Whether an entry has this name.
+/// Returns whether an entry has this name.
 fn is_entry(entries: &EntriesByKey, name: &[u8]) -> bool
     ensures { result ≡ list_any (λ e. bytes_eq name.now e.key) entries.now }
 {
@@ -36,7 +36,7 @@ fn is_entry(entries: &EntriesByKey, name: &[u8]) -> bool
         || entries.place_of(DependencyKind::Build, name).is_some()
 }
 
-/// Whether the entry at a place is optional.
+/// Returns whether the entry at an index is optional.
 fn is_optional_at(entries: &EntriesByKey, place: Option<usize>) -> bool
     ensures { result ≡ found is_optional false entries.now place }
 {
@@ -49,21 +49,21 @@ fn is_optional_at(entries: &EntriesByKey, place: Option<usize>) -> bool
     }
 }
 
-/// Whether one of two places was found.
+/// Returns whether one of two indices was found.
 fn is_either(normal: Option<usize>, build: Option<usize>) -> bool
     ensures { result ≡ (is_some normal || is_some build) }
 {
     normal.is_some() || build.is_some()
 }
 
-/// Whether an entry at one of two places is optional.
+/// Returns whether an entry at one of two indices is optional.
 fn is_either_optional(entries: &EntriesByKey, normal: Option<usize>, build: Option<usize>) -> bool
     ensures { result ≡ (found is_optional false entries.now normal || found is_optional false entries.now build) }
 {
     is_optional_at(entries, normal) || is_optional_at(entries, build)
 }
 
-/// The fault of a name that no entry has.
+/// Returns the fault of a name that no entry has.
 fn absent_fault(owner: &Package, name: &[u8]) -> Option<FeatureFault>
     ensures { result ≡ absent_fault owner.now name.now }
 {
@@ -74,7 +74,7 @@ fn absent_fault(owner: &Package, name: &[u8]) -> Option<FeatureFault>
     }
 }
 
-/// What is wrong with an item that names an entry.
+/// Returns what is wrong with an item that names an entry.
 fn entry_fault(owner: &Package, name: &[u8]) -> Option<FeatureFault>
     ensures { result ≡ entry_fault owner.now name.now }
 {
@@ -85,7 +85,7 @@ fn entry_fault(owner: &Package, name: &[u8]) -> Option<FeatureFault>
     }
 }
 
-/// What is wrong with an item that names an entry which has to be optional.
+/// Returns what is wrong with an item that names an entry which must be optional.
 fn optional_fault(owner: &Package, name: &[u8]) -> Option<FeatureFault>
     ensures { result ≡ optional_fault owner.now name.now }
 {
@@ -102,7 +102,7 @@ fn optional_fault(owner: &Package, name: &[u8]) -> Option<FeatureFault>
     }
 }
 
-/// What is wrong with an item.
+/// Returns what is wrong with an item.
 fn item_fault(owner: &Package, item: &FeatureItem) -> Option<FeatureFault>
     ensures { result ≡ item_fault owner.now item.now }
 {
@@ -126,7 +126,7 @@ fn item_fault(owner: &Package, item: &FeatureItem) -> Option<FeatureFault>
     }
 }
 
-/// The first fault of items as they are written.
+/// Returns the first fault of items as they are written.
 fn items_fault(owner: &Package, items: &[FeatureItem]) -> Option<FeatureFault>
     ensures { result ≡ items_fault owner.now items.now }
 {
@@ -138,7 +138,7 @@ fn items_fault(owner: &Package, items: &[FeatureItem]) -> Option<FeatureFault>
     None
 }
 
-/// The first fault of a package's items, its features in byte order.
+/// Returns the first fault of a package's items, with its features in byte order.
 pub(crate) fn package_fault(owner: &Package) -> Option<FeatureFault>
     ensures { result ≡ package_fault owner.now }
 {

@@ -1,4 +1,5 @@
-//! The numbers of what can hold of the packages of a workspace, for the rules that are written down.
+//! The numbers of what can be true of the packages of a
+//! workspace, for the rules as they are written down.
 
 ghost use Rattle.std.specs.Prelude.{◌≡◌, ◌+◌, ◌*◌, IfOk, IfSome};
 ghost use Rattle.pb_feature.specs.Numbers.{width_of, bases_from, end_from, side_number, number_from, number_at, slot, slot_at, on, has, enabled};
@@ -6,10 +7,10 @@ ghost use Rattle.pb_feature.specs.Numbers.{width_of, bases_from, end_from, side_
 use pb_package::{FeaturesByName, Package, Side};
 use std::alloc::{AllocError, Global};
 
-/// Where the numbers of each package begin, and how many there are.
+/// Where the numbers of each package begin, and how many numbers there are.
 #[derive(Drop)]
 pub(crate) struct Bases {
-    /// A place for each package.
+    /// The first number of each package.
     pub bases: Vec<usize>,
     /// How many numbers there are.
     pub count: usize,
@@ -20,11 +21,11 @@ pub(crate) struct Bases {
 pub(crate) struct Ground<'a> {
     /// The packages.
     pub packages: &'a [Package],
-    /// A place for each package.
+    /// The first number of each package.
     pub bases: &'a [usize],
 }
 
-/// How many numbers a package has on one side.
+/// Returns how many numbers a package has on one side.
 fn width_of(owner: &Package) -> Option<usize>
     ensures { IfSome result (λ width. width ≡ width_of owner.now) }
 {
@@ -36,7 +37,7 @@ fn width_of(owner: &Package) -> Option<usize>
         .checked_add(2)
 }
 
-/// Where the next package's numbers begin. A number past `usize` counts as want of memory.
+/// Returns where the next package's numbers begin. A number past `usize` counts as out of memory.
 fn next_base(base: usize, owner: &Package) -> Result<usize, AllocError>
     ensures { IfOk result (λ next. next ≡ base + width_of owner.now) }
 {
@@ -49,7 +50,7 @@ fn next_base(base: usize, owner: &Package) -> Result<usize, AllocError>
     }
 }
 
-/// Where the numbers of each package begin.
+/// Returns where the numbers of each package begin.
 pub(crate) fn bases_of(alloc: Global, packages: &[Package]) -> Result<Bases, AllocError>
     ensures bases { IfOk result (λ made. made.bases.items ≡ bases_from 0 packages.now) }
     ensures count { IfOk result (λ made. made.count ≡ end_from 0 packages.now * 2) }
@@ -66,7 +67,7 @@ pub(crate) fn bases_of(alloc: Global, packages: &[Package]) -> Result<Bases, All
     }
 }
 
-/// A side's number.
+/// Returns a side's number.
 fn side_number(side: Side) -> usize
     ensures { result ≡ side_number side }
 {
@@ -76,7 +77,7 @@ fn side_number(side: Side) -> usize
     }
 }
 
-/// The number of a place after a base, on a side.
+/// Returns the number at an offset after a base, on a side.
 fn number_from(base: usize, side: Side, local: usize) -> Option<usize>
     ensures { IfSome result (λ i. i ≡ number_from base side local) }
 {
@@ -85,7 +86,7 @@ fn number_from(base: usize, side: Side, local: usize) -> Option<usize>
         .checked_add(side_number(side))
 }
 
-/// The place of a feature counted from 1; 0 where there is none of that name.
+/// Returns the number of a feature, counted from 1; 0 if there is none of that name.
 pub(crate) fn slot(features: &FeaturesByName, name: &[u8]) -> usize
     ensures { result ≡ slot features.now name.now }
 {
@@ -100,8 +101,8 @@ pub(crate) fn slot(features: &FeaturesByName, name: &[u8]) -> usize
 }
 
 impl Ground<'_> {
-    /// The number of a place in a package's row, on a side. A number past `usize` counts as want of
-    /// memory.
+    /// Returns the number at an offset in a package's row, on a
+    /// side. A number past `usize` counts as out of memory.
     pub(crate) fn number(&self, place: usize, side: Side, local: usize) -> Result<usize, AllocError>
         ensures { IfOk result (λ i. i ≡ number_at self.now.bases.now place side local) }
     {
@@ -115,7 +116,7 @@ impl Ground<'_> {
         }
     }
 
-    /// The place of a feature of a package counted from 1; 0 where there is none of that name.
+    /// Returns the number of a package's feature, counted from 1; 0 if there is none of that name.
     pub(crate) fn slot_at(&self, place: usize, name: &[u8]) -> usize
         ensures { result ≡ slot_at self.now.packages.now place name.now }
     {
@@ -125,7 +126,7 @@ impl Ground<'_> {
         }
     }
 
-    /// The number of a package that is on.
+    /// Returns the number that means: the package is on.
     pub(crate) fn on(&self, place: usize, side: Side) -> Result<usize, AllocError>
         ensures { IfOk result (λ i. i ≡ on self.now.bases.now place side) }
     {
@@ -133,8 +134,8 @@ impl Ground<'_> {
         Ok(i)
     }
 
-    /// The number of a feature that a package has, by its place counted from 1; 0 is a feature that it
-    /// does not have.
+    /// Returns the number that means: the package has the feature of this
+    /// slot, counted from 1; slot 0 is a feature that it does not have.
     pub(crate) fn has(&self, place: usize, side: Side, feature: usize) -> Result<usize, AllocError>
         ensures { IfOk result (λ i. i ≡ has self.now.bases.now place side feature) }
     {
@@ -145,7 +146,8 @@ impl Ground<'_> {
         Ok(i)
     }
 
-    /// The number of an enabled entry, behind so many features.
+    /// Returns the number that means: the entry is enabled; the
+    /// entries' numbers come after those of the features.
     pub(crate) fn enabled(
         &self,
         place: usize,
@@ -165,7 +167,7 @@ impl Ground<'_> {
         Ok(i)
     }
 
-    /// The number of a feature of a name.
+    /// Returns the number that means: the package has the feature of this name.
     pub(crate) fn given(&self, place: usize, side: Side, name: &[u8]) -> Result<usize, AllocError>
         ensures { IfOk result (λ i. i ≡ has self.now.bases.now place side (slot_at self.now.packages.now place name.now)) }
     {

@@ -1,5 +1,5 @@
-//! Which packages, features and entries are on: the faults in their order, and then the least set of
-//! what the rules give.
+//! Which packages, features and entries are on: first the faults
+//! in their order, and then the least set of what the rules yield.
 
 ghost use Rattle.std.specs.Prelude.{◌≡◌, ℕ, ◌*◌, ◌<◌, ◌⊎◌, ◌||◌, IfOk, IfErr, OnOk, All, Contains, length};
 ghost use Rattle.pb_package.specs.Settled.{IsSettled};
@@ -26,7 +26,7 @@ use pb_package::{Package, SelectedWorkspace, Side};
 use pb_resolved::{Features, is_marked};
 use std::alloc::{AllocError, Global};
 
-/// The packages of the workspace that something is selected of.
+/// Returns the packages of the workspace from which packages are selected.
 fn packages_of<'a>(selected: &'a SelectedWorkspace<'_>) -> &'a [Package]
     ensures packages { result.now ≡ selected.now.workspace.packages }
     ensures settled { IsSettled selected.now.workspace }
@@ -34,7 +34,7 @@ fn packages_of<'a>(selected: &'a SelectedWorkspace<'_>) -> &'a [Package]
     selected.workspace().get().packages.as_slice()
 }
 
-/// Which numbers follow from what is chosen.
+/// Returns which numbers follow from what is chosen.
 fn marks_of(
     alloc: Global,
     selected: &SelectedWorkspace<'_>,
@@ -59,7 +59,7 @@ fn marks_of(
     }
 }
 
-/// Whether the package at a place is given a feature that it does not have.
+/// Returns whether the package at an index is given a feature that it does not have.
 fn is_missing_at(ground: &Ground<'_>, marks: &[bool], place: usize) -> Result<bool, AllocError>
     ensures { IfOk result (λ is. is ≡ (is_on marks.now (has ground.now.bases.now place Target 0) || is_on marks.now (has ground.now.bases.now place Host 0))) }
 {
@@ -68,7 +68,7 @@ fn is_missing_at(ground: &Ground<'_>, marks: &[bool], place: usize) -> Result<bo
     Ok(is_marked(marks, target) || is_marked(marks, host))
 }
 
-/// Each package is given features that it has alone.
+/// Checks that each package is given only features that it has.
 fn check_missing(ground: &Ground<'_>, marks: &[bool]) -> Result<(), FeatureFault>
     ensures ok { OnOk result (NoneMarkedMissing marks.now ground.now.bases.now (length ground.now.packages.now)) }
     ensures err { IfErr result (λ e. (e ≡ OutOfMemory) ⊎ ((e ≡ NoSuchFeature) × IsMarkedMissing marks.now ground.now.bases.now (length ground.now.packages.now))) }
@@ -81,7 +81,7 @@ fn check_missing(ground: &Ground<'_>, marks: &[bool]) -> Result<(), FeatureFault
     Ok(())
 }
 
-/// What is on, where each feature that is asked of a package is there.
+/// Returns what is on, if each feature that is requested of a package exists.
 fn resolved(alloc: Global, selected: &SelectedWorkspace<'_>) -> Result<Features, FeatureFault>
     ensures exactly { IfOk result (IsResolved selected.now.workspace selected.now.selection) }
     ensures complete { OnOk result (IsMissing selected.now.workspace selected.now.selection → ⊥) }
@@ -97,12 +97,12 @@ fn resolved(alloc: Global, selected: &SelectedWorkspace<'_>) -> Result<Features,
     Ok(features)
 }
 
-/// Which packages, features and entries are on, on each of two sides: the least set of what is chosen and
-/// what the rules give (The Cargo Book, Features, resolver 2).
+/// Returns which packages, features and entries are on, on each of two sides: the least
+/// set of what is chosen and what the rules yield (The Cargo Book, Features, resolver 2).
 ///
-/// Refused, in this order: the first wrong item of the first package in byte order of names; an asked
-/// feature that no selected package has; a feature that is asked of a package which is on and does not have
-/// it. Beside these there is want of memory alone.
+/// Errors, in this order: the first wrong item of the first package in byte order of
+/// names; a requested feature that no selected package has; a feature that is requested
+/// of a package which is on and does not have it. Besides these, only out of memory.
 pub fn resolve(alloc: Global, selected: &SelectedWorkspace<'_>) -> Result<Features, FeatureFault>
     ensures resolved { IfOk result (IsResolved selected.now.workspace selected.now.selection) }
     ensures right { OnOk result ((fault : FeatureFault) → Refuses selected.now.workspace selected.now.selection fault → ⊥) }

@@ -1,4 +1,4 @@
-//! What is on, as it is handed out.
+//! The resolved features, as they are returned.
 
 ghost use Rattle.std.specs.Prelude.{◌≡◌, ◌++◌, [], ◌∷◌, IfOk, OnOk};
 ghost use Rattle.pb_closure.specs.Closure.{is_on};
@@ -35,7 +35,7 @@ fn add_name(
     Ok(())
 }
 
-/// The names of the features that are marked.
+/// Returns the names of the features that are marked.
 fn names_of(
     alloc: Global,
     ground: &Ground<'_>,
@@ -79,7 +79,7 @@ fn add_mark(
     Ok(())
 }
 
-/// Whether each entry is marked.
+/// Returns whether each entry is marked.
 fn entries_of(
     alloc: Global,
     ground: &Ground<'_>,
@@ -98,7 +98,7 @@ fn entries_of(
     Ok(enabled)
 }
 
-/// What is on of a package, on one side.
+/// Returns what is on of a package, on one side.
 fn part_of(
     alloc: Global,
     ground: &Ground<'_>,
@@ -121,7 +121,7 @@ fn part_of(
     })
 }
 
-/// What is on of a package.
+/// Returns what is on of a package.
 fn sides_of(
     alloc: Global,
     ground: &Ground<'_>,
@@ -136,7 +136,7 @@ fn sides_of(
     Ok(Sides { target, host })
 }
 
-/// What is on of each package.
+/// Returns what is on of each package.
 pub(crate) fn features_marked(
     alloc: Global,
     ground: &Ground<'_>,

@@ -1,4 +1,4 @@
-//! The rules that the packages of a workspace give, written with numbers.
+//! The rules that the packages of a workspace yield, written with numbers.
 
 ghost use Rattle.std.specs.Prelude.{◌≡◌, ◌++◌, IfOk, OnOk};
 ghost use Rattle.pb_feature.specs.Rules.{package_rules, rules_of};
@@ -10,7 +10,7 @@ use pb_closure::Rule;
 use pb_package::Package;
 use std::alloc::{AllocError, Global};
 
-/// The rules of a package, on both sides.
+/// Adds the rules of a package, on both sides.
 fn add_package(
     rules: &mut Vec<Rule>,
     ground: &Ground<'_>,
@@ -28,7 +28,7 @@ fn add_package(
     Ok(())
 }
 
-/// The rules of all packages, on both sides.
+/// Returns the rules of all packages, on both sides.
 pub(crate) fn rules_of(alloc: Global, ground: &Ground<'_>) -> Result<Vec<Rule>, AllocError>
     ensures { IfOk result (λ rules. rules.items ≡ rules_of ground.now.packages.now ground.now.bases.now) }
 {

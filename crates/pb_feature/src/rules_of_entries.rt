@@ -1,4 +1,4 @@
-//! The rules that the entries of a package give, written with numbers.
+//! The rules that the entries of a package yield, written with numbers.
 
 ghost use Rattle.std.specs.Prelude.{◌≡◌, ◌++◌, [], ◌∷◌, OnOk};
 ghost use Rattle.pb_package.specs.Workspace.{side_of};
@@ -11,7 +11,7 @@ use pb_data::Text;
 use pb_package::{DependencyKind, Entry, Package, Side};
 use std::alloc::AllocError;
 
-/// The side on which an entry's package is made.
+/// Returns the side on which an entry's package is made.
 pub(crate) fn side_made(kind: DependencyKind, side: Side) -> Side
     ensures { result ≡ side_of kind side }
 {
@@ -21,7 +21,7 @@ pub(crate) fn side_made(kind: DependencyKind, side: Side) -> Side
     }
 }
 
-/// A rule with one premise.
+/// Adds a rule with one premise.
 pub(crate) fn add_alone(rules: &mut Vec<Rule>, first: usize, gives: usize) -> Result<(), AllocError>
     ensures { OnOk result (rules.new.items ≡ rules.old.items ++ alone first gives ∷ []) }
 {
@@ -33,7 +33,7 @@ pub(crate) fn add_alone(rules: &mut Vec<Rule>, first: usize, gives: usize) -> Re
     Ok(())
 }
 
-/// The rule that gives a feature by its place, under a test and where there is one.
+/// Adds the rule that turns on a feature by its slot, if a test is true and the feature exists.
 pub(crate) fn add_there(
     rules: &mut Vec<Rule>,
     ground: &Ground<'_>,
@@ -55,7 +55,7 @@ pub(crate) fn add_there(
     add_alone(rules, from, gives)
 }
 
-/// The rules that give features of these names.
+/// Adds the rules that turn on features of these names.
 fn add_given(
     rules: &mut Vec<Rule>,
     ground: &Ground<'_>,
@@ -73,7 +73,7 @@ fn add_given(
     Ok(())
 }
 
-/// What an enabled entry gives to its package.
+/// Adds the rules for what an enabled entry turns on in its package.
 fn add_enabled(
     rules: &mut Vec<Rule>,
     ground: &Ground<'_>,
@@ -105,7 +105,7 @@ fn add_enabled(
     )
 }
 
-/// The rules of an entry.
+/// Adds the rules of an entry.
 fn add_entry(
     rules: &mut Vec<Rule>,
     ground: &Ground<'_>,
@@ -125,7 +125,7 @@ fn add_entry(
     add_enabled(rules, ground, enabled, side_made(entry.kind, side), entry)
 }
 
-/// The rules of the entries of a package on a side.
+/// Adds the rules of a package's entries, on a side.
 fn add_entries(
     rules: &mut Vec<Rule>,
     ground: &Ground<'_>,
@@ -142,7 +142,7 @@ fn add_entries(
     Ok(())
 }
 
-/// The rules of the entries of a package, on both sides.
+/// Adds the rules of a package's entries, on both sides.
 pub(crate) fn add_both_entries(
     rules: &mut Vec<Rule>,
     ground: &Ground<'_>,

@@ -1,5 +1,5 @@
-//! The rules that the items of a package's features give, written with numbers. What an item names is
-//! looked up once, for both sides.
+//! The rules that the items of a package's features yield, written
+//! with numbers. What an item names is looked up once, for both sides.
 
 ghost use Rattle.std.specs.Prelude.{◌≡◌, ◌+◌, ◌++◌, [], ◌∷◌, Some, OnOk, IfOk, length, if◌then◌else◌};
 ghost use Rattle.std.specs.Option.{option_copied};
@@ -17,7 +17,7 @@ use pb_manifest::FeatureItem;
 use pb_package::{DependencyKind, Entry, FeaturesByName, Package, Side};
 use std::alloc::AllocError;
 
-/// The rule of a feature that lists one of its own package, by their places.
+/// Adds the rule of a feature that lists one of its own package, by their slots.
 fn add_listed(
     rules: &mut Vec<Rule>,
     ground: &Ground<'_>,
@@ -33,7 +33,7 @@ fn add_listed(
     add_alone(rules, has, gives)
 }
 
-/// The rules of an item that names a feature of its own package, on both sides.
+/// Adds the rules of an item that names a feature of its own package, on both sides.
 fn add_own(
     rules: &mut Vec<Rule>,
     ground: &Ground<'_>,
@@ -57,33 +57,33 @@ fn add_own(
 /// An item of a feature, at an entry that it may name.
 #[derive(Clone, Copy)]
 struct AtEntry<'a> {
-    /// The place of the package.
+    /// The index of the package.
     place: usize,
     /// The features of the package.
     features: &'a FeaturesByName,
-    /// The place of the feature that lists the item, counted from 1.
+    /// The number of the feature that lists the item, counted from 1.
     feature: usize,
-    /// The place of the entry.
+    /// The index of the entry.
     index: usize,
     /// The entry.
     entry: &'a Entry,
 }
 
-/// The number of the feature that lists an item, on a side.
+/// Returns the number of the feature that lists an item, on a side.
 fn listing(ground: &Ground<'_>, side: Side, at: &AtEntry<'_>) -> Result<usize, AllocError>
     ensures { IfOk result (λ number. number ≡ has ground.now.bases.now at.now.place side at.now.feature) }
 {
     ground.has(at.place, side, at.feature)
 }
 
-/// The number of the entry that an item names, on a side.
+/// Returns the number of the entry that an item names, on a side.
 fn named(ground: &Ground<'_>, side: Side, at: &AtEntry<'_>) -> Result<usize, AllocError>
     ensures { IfOk result (λ number. number ≡ enabled ground.now.bases.now at.now.place side (length at.now.features.now) at.now.index) }
 {
     ground.enabled(at.place, side, at.features.as_slice().len(), at.index)
 }
 
-/// The rule of an item `dep:N` at an entry N.
+/// Adds the rule of an item `dep:N` at an entry N.
 fn add_dependency(
     rules: &mut Vec<Rule>,
     ground: &Ground<'_>,
@@ -97,7 +97,7 @@ fn add_dependency(
     add_alone(rules, has, enabled)
 }
 
-/// The rules of an item `N/F` at an entry N, by the places of the features N and F.
+/// Adds the rules of an item `N/F` at an entry N, by the slots of the features N and F.
 fn add_of(
     rules: &mut Vec<Rule>,
     ground: &Ground<'_>,
@@ -117,7 +117,7 @@ fn add_of(
     add_there(rules, ground, has, at.place, side, entry.optional, own)
 }
 
-/// The rule of an item `N?/F` at an entry N, by the place of the feature F.
+/// Adds the rule of an item `N?/F` at an entry N, by the slot of the feature F.
 fn add_of_enabled(
     rules: &mut Vec<Rule>,
     ground: &Ground<'_>,
@@ -139,15 +139,16 @@ fn add_of_enabled(
     Ok(())
 }
 
-/// The place of a feature of a name where a test holds, counted from 1; else 0, as where there is none.
+/// Returns the number of a feature of a name, counted from 1,
+/// if a test is true; else 0, as if there is none.
 fn slot_where(test: bool, features: &FeaturesByName, name: &[u8]) -> usize
     ensures { result ≡ (if test then slot features.now name.now else 0) }
 {
     if test { slot(features, name) } else { 0 }
 }
 
-/// The rules of an item at an entry that it may name, on both sides. The features that it names are
-/// looked up once.
+/// Adds the rules of an item at an entry that it may name, on
+/// both sides. The features that it names are looked up once.
 fn add_item(
     rules: &mut Vec<Rule>,
     ground: &Ground<'_>,
@@ -192,7 +193,7 @@ fn add_item(
     }
 }
 
-/// The name of the entries that an item names, where it names entries.
+/// Returns the name of the entries that an item names, if it names entries.
 fn entry_named(item: &FeatureItem) -> Option<&Text>
     ensures { option_copied result ≡ entry_named item.now }
 {
@@ -210,7 +211,7 @@ fn entry_named(item: &FeatureItem) -> Option<&Text>
     }
 }
 
-/// The rules of an item at the entry of a place, where one was found.
+/// Adds the rules of an item at the entry of an index, if one was found.
 fn add_found(
     rules: &mut Vec<Rule>,
     ground: &Ground<'_>,
@@ -240,7 +241,7 @@ fn add_found(
     }
 }
 
-/// The rules of an item at the entries of its name: one in each table at most.
+/// Adds the rules of an item at the entries of its name: at most one in each table.
 fn add_named(
     rules: &mut Vec<Rule>,
     ground: &Ground<'_>,
@@ -261,7 +262,7 @@ fn add_named(
     Ok(())
 }
 
-/// The rules of an item, on both sides.
+/// Adds the rules of an item, on both sides.
 fn add_one_item(
     rules: &mut Vec<Rule>,
     ground: &Ground<'_>,
@@ -282,7 +283,7 @@ fn add_one_item(
     }
 }
 
-/// The rules of the items of a feature, on both sides.
+/// Adds the rules of the items of a feature, on both sides.
 pub(crate) fn add_feature(
     rules: &mut Vec<Rule>,
     ground: &Ground<'_>,

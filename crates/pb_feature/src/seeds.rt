@@ -12,7 +12,7 @@ use pb_manifest::Feature;
 use pb_package::{Package, Selection, Side};
 use std::alloc::{AllocError, Global};
 
-/// The text `PACKAGE/FEATURE`.
+/// Returns the text `PACKAGE/FEATURE`.
 pub(crate) fn of_package(alloc: Global, name: &str, feature: &str) -> Result<Text, AllocError>
     ensures { IfOk result (λ text. text ≡ of_package name.now feature.now) }
 {
@@ -22,7 +22,7 @@ pub(crate) fn of_package(alloc: Global, name: &str, feature: &str) -> Result<Tex
     Ok(Text::new(text))
 }
 
-/// Whether one of the texts is one of these two.
+/// Returns whether one of the texts is one of these two.
 fn has_either(texts: &[Text], one: &[u8], other: &[u8]) -> bool
     ensures { result ≡ list_any (λ text. bytes_eq text one.now || bytes_eq text other.now) texts.now }
 {
@@ -31,7 +31,7 @@ fn has_either(texts: &[Text], one: &[u8], other: &[u8]) -> bool
         .any(|text| text.as_bytes() == one || text.as_bytes() == other)
 }
 
-/// Whether a feature of the package of this name is asked for.
+/// Returns whether a feature of the package of this name is requested.
 fn is_asked(alloc: Global, asked: &[Text], name: &str, feature: &str) -> Result<bool, AllocError>
     ensures { IfOk result (λ is. is ≡ list_any (is_text_of name.now feature.now) asked.now) }
 {
@@ -39,7 +39,7 @@ fn is_asked(alloc: Global, asked: &[Text], name: &str, feature: &str) -> Result<
     Ok(has_either(asked, feature.as_bytes(), whole.as_bytes()))
 }
 
-/// Whether a feature of the package of this name is chosen where the package is selected.
+/// Returns whether a feature of the package of this name is chosen, if the package is selected.
 fn is_chosen(
     alloc: Global,
     selection: &Selection,
@@ -58,7 +58,7 @@ fn is_chosen(
     Ok(is)
 }
 
-/// Adds a feature of a selected package, where it is chosen.
+/// Adds a feature of a selected package, if it is chosen.
 fn add_chosen(
     alloc: Global,
     seeds: &mut Vec<usize>,
@@ -112,7 +112,7 @@ fn add_owner(
     Ok(())
 }
 
-/// Adds the package at a selected place.
+/// Adds the package at a selected index.
 fn add_selected(
     alloc: Global,
     seeds: &mut Vec<usize>,
@@ -128,7 +128,7 @@ fn add_selected(
     }
 }
 
-/// What holds from the start.
+/// Returns the numbers that are true from the start.
 pub(crate) fn seeds_of(
     alloc: Global,
     ground: &Ground<'_>,

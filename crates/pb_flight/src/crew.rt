@@ -9,35 +9,38 @@ ghost use Rattle.pb_flight.specs.declared.flight.State.TheVariants.{Begun};
 use crate::flight::Answer;
 use std::alloc::{AllocError, Global};
 
-/// Who begins units and takes their answers, in an outside of two parts: a place that units change, and what hears their
-/// lines. What it says of its work it says of all that has happened since some moment: a story, told by the events of
-/// the flight.
+/// The code that begins units and takes their answers, in an outside of two parts: a
+/// place that units change, and a receiver of their lines. Its contracts describe all
+/// that has happened since some moment: a story, expressed by the events of the flight.
 pub trait Crew<P, O, F, E> {
-    /// What each unit needs, by its place in plan order.
+    /// What each unit needs, by its index in plan order.
     ghost needs: { Self → List (List ℕ) };
 
     /// The units in flight, in order of beginning.
     ghost flying: { Self → List ℕ };
 
-    /// What holds at each moment, whatever has happened.
+    /// What is true at each moment, whatever has happened.
     ghost holds: { Self → P → O → Type 0 };
 
-    /// What holds at each moment at which no call has failed yet, and what each call needs.
+    /// What is true at each moment at which no call has failed yet, and what each call needs.
     ghost able: { Self → P → O → Type 0 };
 
-    /// What has happened between two moments by these events, the newest first, where the lines of so many units have
-    /// been handed out.
+    /// What has happened between two moments by these events, the newest
+    /// first, if the lines of the first n units have been handed out.
     ghost story: { Self → P → O → Self → P → O → List (Event F) → ℕ → Type 0 };
 
-    /// What has happened between two moments by these events, where a fault then ended it, as the answer of this unit
-    /// was taken; of none, where no answer was.
+    /// What has happened between two moments by these events, if a fault then ended
+    /// it while the answer of this unit was taken; `None` if no answer was taken.
     ghost stops: { E → Option ℕ → Self → P → O → Self → P → O → List (Event F) → Type 0 };
 
-    /// The units in flight, in order of beginning. The one fault is want of memory.
+    /// Returns the units in flight, in order of beginning.
+    ///
+    /// Errors: out of memory.
     fn flying(&self, alloc: Global) -> Result<Vec<usize>, AllocError>
         ensures { IfOk result (λ units. units.items ≡ flying self.now) };
 
-    /// Begins a unit, and says whether a child was started for it. After a fault it is not in flight.
+    /// Begins a unit, and returns whether a child was started for
+    /// it. After a fault the unit is not in flight.
     fn begin(&mut self, alloc: Global, place: &mut P, out: &mut O, unit: usize) -> Result<bool, E>
         requires holds { holds self.old place.old out.old }
         requires able { able self.old place.old out.old }
@@ -61,7 +64,8 @@ pub trait Crew<P, O, F, E> {
             × stops e None first first_place first_out self.new place.new out.new
             (Began unit spawned ∷ es)) };
 
-    /// Takes the answer of the unit at a place of those in flight, which it is no more then, also after a fault.
+    /// Takes the answer of the unit at an index of those in flight.
+    /// It is no longer in flight then, even after a fault.
     fn answer(
         &mut self,
         alloc: Global,
@@ -114,7 +118,7 @@ pub trait Crew<P, O, F, E> {
             stops e None first first_place first_out self.new place.new out.new
             (Gave unit answer ∷ es)) };
 
-    /// The fault of memory that was refused.
+    /// Returns the fault for out of memory.
     fn refused(&self) -> E
         ensures { (first : Self) (first_place last_place : P) (first_out last_out : O)
             (es : List (Event F)) (given : ℕ)

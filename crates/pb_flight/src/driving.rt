@@ -1,4 +1,4 @@
-//! A flight, step by step, by what a turn says.
+//! A flight, step by step, as a turn chooses.
 
 ghost use Rattle.std.specs.Prelude.{◌≡◌, ◌⊎◌, ◌<◌, ◌++◌, ◌∷◌, [], ℕ, Bool, true, false, List, length, Option, IfOk, OnOk, OnErr, MatchResult, Some, None, Contains, slice_get};
 ghost use Rattle.std.specs.List.{remove};
@@ -14,7 +14,7 @@ use crate::flight::{Answer, Flight};
 use crate::turn::{Step, Turn};
 use std::alloc::Global;
 
-/// Begins a unit that may.
+/// Begins a unit that may begin.
 fn begin_one<P, O, F: Drop, E, C: Crew<P, O, F, E>>(
     alloc: Global,
     crew: &mut C,
@@ -97,7 +97,8 @@ fn tell<P, O, F: Drop, E, C: Crew<P, O, F, E>>(
     }
 }
 
-/// Takes the answer of the unit at a place of those in flight, and hands out the lines that are due then.
+/// Takes the answer of the unit at an index of those in flight,
+/// and hands out the lines that are then due.
 fn answer_one<P, O, F: Drop, E, C: Crew<P, O, F, E>>(
     alloc: Global,
     crew: &mut C,
@@ -148,7 +149,7 @@ fn answer_one<P, O, F: Drop, E, C: Crew<P, O, F, E>>(
         Ok(answer) => answer,
         Err(fault) => return Err(fault),
     };
-    // Noted before lines are told: its own may be due.
+    // Noted before lines are handed out: its own may be due.
     flight.answer(unit, answer);
     match tell(alloc, crew, place, out, flight) {
         Ok(()) => Ok(()),
@@ -223,9 +224,10 @@ fn step<P, O, F: Drop, E, C: Crew<P, O, F, E>, T: Turn>(
     }
 }
 
-/// Drives a flight on which nothing has begun: each step that the turn says is made, until all units have answered, or
-/// all up to and with the first bad one. Units later than the first bad one may be in flight at the end, and after a
-/// fault any may be. No answer is asked for once all these have answered, and after a fault the turn is asked no more.
+/// Drives a flight on which nothing has begun: makes each step that the turn chooses, until
+/// all units have answered, or all up to and including the first bad one. Units later than
+/// the first bad one may be in flight at the end, and after a fault any may be. Once all
+/// these units have answered, no answer is taken; after a fault the turn is not asked again.
 pub fn drive<P, O, F: Drop, E, C: Crew<P, O, F, E>, T: Turn>(
     alloc: Global,
     crew: &mut C,

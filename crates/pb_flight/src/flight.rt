@@ -10,7 +10,7 @@ use pb_data::{Bytes, Items};
 use std::alloc::{AllocError, Global};
 use std::marker::Model;
 
-/// What a unit answered.
+/// The answer of a unit.
 #[derive(Drop)]
 pub struct Answer<F> {
     /// Why it is bad, if it is.
@@ -19,7 +19,7 @@ pub struct Answer<F> {
     pub lines: Bytes,
 }
 
-/// Where a unit stands.
+/// The state of a unit.
 #[derive(Drop)]
 pub enum State<F> {
     /// It has not begun.
@@ -30,9 +30,9 @@ pub enum State<F> {
     Answered(Answer<F>),
 }
 
-/// Which units of a plan have begun and what they answered, and whose lines have been handed out. A unit is known by
-/// its place in plan order. Contracts see what each unit needs, where each stands, and the lines of how many units
-/// have been handed out.
+/// Which units of a plan have begun, what they answered, and whose lines have been
+/// handed out. A unit is known by its index in plan order. Contracts see what each unit
+/// needs, the state of each, and of how many units the lines have been handed out.
 #[derive(Drop)]
 pub struct Flight<F> {
     needs: Items<Items<usize>>,
@@ -54,7 +54,7 @@ impl<F> Model for Flight<F> {
     ghost invariant = { λ a. IsKept a.needs a.needed_by.items a.met.items a.reach a.states.items a.given };
 }
 
-/// Whether a unit has answered and is bad.
+/// Returns whether a unit has answered and is bad.
 fn is_bad<F>(state: &State<F>) -> bool
     ensures { result ≡ is_bad state.now }
 {
@@ -65,7 +65,7 @@ fn is_bad<F>(state: &State<F>) -> bool
     }
 }
 
-/// Whether a unit has not begun.
+/// Returns whether a unit has not begun.
 fn is_untouched<F>(state: &State<F>) -> bool
     ensures { result ≡ is_untouched state.now }
 {
@@ -76,7 +76,7 @@ fn is_untouched<F>(state: &State<F>) -> bool
     }
 }
 
-/// Whether the unit at a place has answered and is good.
+/// Returns whether the unit at an index has answered and is good.
 pub(crate) fn is_good_at<F>(states: &[State<F>], place: usize) -> bool
     ensures { result ≡ is_good_at (slice_get states.now place) }
 {
@@ -88,7 +88,7 @@ pub(crate) fn is_good_at<F>(states: &[State<F>], place: usize) -> bool
     }
 }
 
-/// Whether a unit has not begun and needs nothing more.
+/// Returns whether a unit has not begun and needs nothing more.
 fn is_open<F>(
     states: &[State<F>],
     met: &[usize],
@@ -102,7 +102,7 @@ fn is_open<F>(
     is_untouched(state) && met[unit] == wanted.len()
 }
 
-/// Whether the last of so many units has answered and is bad.
+/// Returns whether the last of the first `count` units has answered and is bad.
 fn ends_badly<F>(states: &[State<F>], count: usize) -> bool
     ensures { result ≡ ends_badly count states.now }
 {
@@ -115,8 +115,8 @@ fn ends_badly<F>(states: &[State<F>], count: usize) -> bool
     }
 }
 
-/// Whether the unit at a place may begin, where no unit before it has answered and is bad; nothing where it has and is
-/// bad itself, or is none.
+/// Returns whether the unit at an index may begin, if no unit before it has answered
+/// and is bad; `None` if it has answered and is bad itself, or does not exist.
 fn may_begin<F>(
     needs: &[Items<usize>],
     met: &[usize],
@@ -136,7 +136,8 @@ fn may_begin<F>(
     Some(is_open(states, met, unit, state, wanted.as_slice()))
 }
 
-/// The units that may begin, where the first so many are all due and none from a place on has all that it needs.
+/// Returns the units that may begin, if the first n are all due
+/// and none from an index on has all that it needs.
 fn ready_of<F>(
     alloc: Global,
     needs: &[Items<usize>],
@@ -166,7 +167,7 @@ fn ready_of<F>(
     Ok(ready)
 }
 
-/// The units after the first so many.
+/// Returns the units after the first `count`.
 fn after<F>(states: &[State<F>], count: usize) -> &[State<F>]
     requires { count ≤ length states.now }
     ensures { result.now ≡ drop count states.now }
@@ -174,14 +175,14 @@ fn after<F>(states: &[State<F>], count: usize) -> &[State<F>]
     &states[count..]
 }
 
-/// Lines that are due, and of how many units.
+/// Lines that are due, and how many units they belong to.
 #[derive(Drop)]
 struct Due {
     lines: Vec<u8>,
     count: usize,
 }
 
-/// The lines that are due, and of how many units.
+/// Returns the lines that are due, and how many units they belong to.
 fn due_of<F>(alloc: Global, states: &[State<F>]) -> Result<Due, AllocError>
     ensures lines { IfOk result (λ made. made.lines.items ≡ due states.now) }
     ensures count { IfOk result (λ made. made.count ≡ count_due states.now) }
@@ -204,7 +205,8 @@ fn due_of<F>(alloc: Global, states: &[State<F>]) -> Result<Due, AllocError>
     Ok(Due { lines, count })
 }
 
-/// The lines that are due after so many units, all of which are due, and how many units are due in all.
+/// Returns the lines that are due after the first `given` units,
+/// all of which are due, and how many units are due in all.
 fn due_after<F>(alloc: Global, states: &[State<F>], given: usize) -> Result<Due, AllocError>
     requires { given ≤ count_due states.now }
     ensures lines { IfOk result (λ made. made.lines.items ≡ due_after given states.now) }
@@ -224,7 +226,7 @@ fn due_after<F>(alloc: Global, states: &[State<F>], given: usize) -> Result<Due,
     })
 }
 
-/// Whether all units have answered, or all up to and with the first bad one.
+/// Returns whether all units have answered, or all up to and including the first bad one.
 fn are_finished<F>(states: &[State<F>]) -> bool
     ensures { result ≡ is_finished states.now }
 {
@@ -242,7 +244,7 @@ fn are_finished<F>(states: &[State<F>]) -> bool
     true
 }
 
-/// The same, where the first so many units are all due.
+/// Returns the same, if the first `given` units are all due.
 fn are_finished_after<F>(states: &[State<F>], given: usize) -> bool
     requires { given ≤ count_due states.now }
     ensures { result ≡ is_finished states.now }
@@ -250,7 +252,7 @@ fn are_finished_after<F>(states: &[State<F>], given: usize) -> bool
     ends_badly(states, given) || are_finished(after(states, given))
 }
 
-/// The first bad one of the units that have answered, from the start of plan order.
+/// Returns the first bad one of the units that have answered, from the start of plan order.
 fn first_bad<F>(states: &[State<F>]) -> Option<usize>
     ensures { result ≡ first_bad states.now }
 {
@@ -268,7 +270,7 @@ fn first_bad<F>(states: &[State<F>]) -> Option<usize>
     None
 }
 
-/// Units that have not begun.
+/// Returns units that have not begun.
 fn untouched<F: Drop>(alloc: Global, needs: &[Items<usize>]) -> Result<Vec<State<F>>, AllocError>
     ensures { IfOk result (λ states. states.items ≡ map (λ _. Untouched) needs.now) }
 {
@@ -280,8 +282,10 @@ fn untouched<F: Drop>(alloc: Global, needs: &[Items<usize>]) -> Result<Vec<State
 }
 
 impl<F: Drop> Flight<F> {
-    /// A table for units with these needs, of which none has begun: the places in plan order of what each unit needs. The one fault is want of
-    /// memory; all that `begin` and `answer` ever write has room from here on.
+    /// Returns a table for units with these needs, none of which has begun. The needs of a unit are
+    /// indices in plan order. The memory for all that `begin` and `answer` write is allocated here.
+    ///
+    /// Errors: out of memory.
     pub fn new(alloc: Global, needs: Items<Items<usize>>) -> Result<Flight<F>, AllocError>
         ensures { IfOk result (λ flight. flight ≡ fresh needs) }
     {
@@ -299,21 +303,21 @@ impl<F: Drop> Flight<F> {
         })
     }
 
-    /// Where each unit stands.
+    /// Returns the state of each unit.
     pub fn states(&self) -> &[State<F>]
         ensures { result.now ≡ self.now.states }
     {
         self.states.as_slice()
     }
 
-    /// Where each unit stood at the end, which takes no memory.
+    /// Returns the state of each unit at the end, without using memory.
     pub fn into_states(self) -> Vec<State<F>>
         ensures { result.items ≡ self.states }
     {
         self.states
     }
 
-    /// Whether a unit is in flight: it has begun and not answered.
+    /// Returns whether a unit is in flight: it has begun and not answered.
     pub fn is_flying(&self, unit: usize) -> bool
         ensures { IsTrue result ↔ slice_get self.now.states unit ≡ Some Begun }
     {
@@ -325,23 +329,26 @@ impl<F: Drop> Flight<F> {
         }
     }
 
-    /// Whether all units have answered, or all up to and with the first bad one.
+    /// Returns whether all units have answered, or all up to and including the first bad one.
     pub fn is_finished(&self) -> bool
         ensures { result ≡ is_finished self.now.states }
     {
         are_finished_after(self.states.as_slice(), self.given)
     }
 
-    /// The bad unit that is told of the build: the first in plan order of those that have answered, as long as all
-    /// before it have answered too, whatever answered first in time.
+    /// Returns the bad unit that is reported for the build: the first in plan order of those that
+    /// have answered, as long as all before it have answered too, whatever answered first in time.
     pub fn first_bad(&self) -> Option<usize>
         ensures { result ≡ first_bad self.now.states }
     {
         first_bad(self.states.as_slice())
     }
 
-    /// The units that may begin, in plan order: those that have not begun and whose needs have all answered and are
-    /// good, as long as no unit earlier in plan order has answered and is bad. The one fault is want of memory.
+    /// Returns the units that may begin, in plan order: those that have
+    /// not begun and whose needs have all answered and are good, as
+    /// long as no unit earlier in plan order has answered and is bad.
+    ///
+    /// Errors: out of memory.
     pub fn ready(&self, alloc: Global) -> Result<Vec<usize>, AllocError>
         ensures { IfOk result (λ ready. ready.items ≡ ready_of self.now.needs self.now.states) }
     {
@@ -355,7 +362,7 @@ impl<F: Drop> Flight<F> {
         )
     }
 
-    /// Notes that a unit has begun, one of those that may. This takes no memory.
+    /// Notes that a unit has begun, one of those that may. This uses no memory.
     pub fn begin(&mut self, unit: usize)
         requires ready { Contains (ready_of self.old.needs self.old.states) unit }
         ensures { self.new ≡ begun unit self.old }
@@ -363,7 +370,7 @@ impl<F: Drop> Flight<F> {
         self.states[unit] = State::Begun;
     }
 
-    /// Notes what a unit in flight answered. This takes no memory.
+    /// Notes the answer of a unit in flight. This uses no memory.
     pub fn answer(&mut self, unit: usize, answer: Answer<F>)
         requires flying { slice_get self.old.states unit ≡ Some Begun }
         ensures { self.new ≡ answered unit answer self.old }
@@ -379,15 +386,17 @@ impl<F: Drop> Flight<F> {
         self.reach = reach;
     }
 
-    /// The lines that are due now and have not been handed out: of the units that have answered, from the start of
-    /// plan order, up to and with the first bad one. The one fault is want of memory; then nothing has been handed
-    /// out, and the next call gives these lines too.
+    /// Returns the lines that are due now and have not been handed out: those of the units that
+    /// have answered, from the start of plan order, up to and including the first bad one.
+    ///
+    /// Errors: out of memory; then nothing has been handed out, and
+    /// the next call returns these lines too.
     pub fn emit(&mut self, alloc: Global) -> Result<Vec<u8>, AllocError>
         ensures lines { IfOk result (λ lines. lines.items ≡ due_after self.old.given self.old.states) }
         ensures given { OnOk result (self.new ≡ emitted self.old) }
         ensures same { OnErr result (self.new ≡ self.old) }
     {
-        // Lines before the count: where memory is refused none are lost.
+        // Lines before the count: if memory runs out, none are lost.
         let due = due_after(alloc, self.states.as_slice(), self.given)?;
         self.given = due.count;
         Ok(due.lines)

@@ -37,7 +37,7 @@ fn list_unit(lists: &mut Vec<Items<usize>>, unit: usize, needs: &[usize]) -> Res
     Ok(())
 }
 
-/// An empty list for each unit.
+/// Returns an empty list for each unit.
 fn no_lists(alloc: Global, needs: &[Items<usize>]) -> Result<Vec<Items<usize>>, AllocError>
     ensures { IfOk result (λ lists. length lists.items ≡ length needs.now) }
 {
@@ -48,7 +48,7 @@ fn no_lists(alloc: Global, needs: &[Items<usize>]) -> Result<Vec<Items<usize>>, 
     Ok(lists)
 }
 
-/// For each unit those that need it.
+/// Returns for each unit those that need it.
 pub fn needed_by(alloc: Global, needs: &[Items<usize>]) -> Result<Vec<Items<usize>>, AllocError>
     ensures long { IfOk result (λ lists. length lists.items ≡ length needs.now) }
     ensures listed { IfOk result (λ lists. AreListed needs.now (length needs.now) lists.items) }
@@ -60,7 +60,7 @@ pub fn needed_by(alloc: Global, needs: &[Items<usize>]) -> Result<Vec<Items<usiz
     Ok(lists)
 }
 
-/// No need of any unit is met.
+/// Returns a count of 0 for each unit: no need is met.
 pub fn none_met(alloc: Global, needs: &[Items<usize>]) -> Result<Vec<usize>, AllocError>
     ensures { IfOk result (λ met. met.items ≡ map (λ _. 0) needs.now) }
 {
@@ -71,7 +71,7 @@ pub fn none_met(alloc: Global, needs: &[Items<usize>]) -> Result<Vec<usize>, All
     Ok(met)
 }
 
-/// How many of these needs are met, of which so many are known to be.
+/// Returns how many of these needs are met, if the first `from` are known to be.
 fn met_from<F>(states: &[State<F>], needs: &[usize], from: usize) -> usize
     requires { from ≤ count_met states.now needs.now }
     ensures { result ≡ count_met states.now needs.now }
@@ -83,7 +83,7 @@ fn met_from<F>(states: &[State<F>], needs: &[usize], from: usize) -> usize
     met
 }
 
-/// The place after the last unit that needs nothing.
+/// Returns the index after the last unit that needs nothing.
 pub fn reach_of(needs: &[Items<usize>]) -> usize
     ensures { (met : List ℕ) → met ≡ map (λ _. 0) needs.now → IsFar needs.now met result }
 {
@@ -96,8 +96,8 @@ pub fn reach_of(needs: &[Items<usize>]) -> usize
     reach
 }
 
-/// Counts the needs of a unit that are met, from what was known on. The place up to which units may have all that they
-/// need.
+/// Counts the needs of a unit that are met, starting from the known count.
+/// Returns the index up to which units may have all that they need.
 fn move_one<F>(
     needs: &[Items<usize>],
     states: &[State<F>],
@@ -123,8 +123,8 @@ fn move_one<F>(
     reach
 }
 
-/// Counts the needs of these units that are met, from what was known on. The place up to which units may have all
-/// that they need.
+/// Counts the needs of these units that are met, starting from the known
+/// counts. Returns the index up to which units may have all that they need.
 pub fn move_on<F>(
     needs: &[Items<usize>],
     states: &[State<F>],

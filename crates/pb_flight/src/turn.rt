@@ -1,27 +1,27 @@
-//! Who decides what is done next.
+//! Who decides the next step.
 
 ghost use Rattle.std.specs.Prelude.{◌≡◌, ◌<◌, ◌+◌, ℕ, List, length};
 ghost use Rattle.pb_flight.specs.declared.turn.Step.{Step};
 ghost use Rattle.pb_flight.specs.Steps.{IsWithin, PicksFirst, PicksLast, PicksLent, TurnsOfJobs};
 
-/// A step of a build: the unit at a place of the list of those that may begin is begun, or the one at a place of the
-/// list of those in flight is answered.
+/// A step of a build: the unit at an index of the list of those that may begin
+/// does begin, or the one at an index of the list of those in flight answers.
 #[derive(Clone, Copy, Debug)]
 pub enum Step {
-    /// The one at this place of the first list begins.
+    /// The unit at this index of the first list begins.
     Begin(usize),
-    /// The one at this place of the second list is answered.
+    /// The unit at this index of the second list answers.
     Answer(usize),
 }
 
 /// Decides each step of a build. It may have a state, which each step may change.
 pub trait Turn {
-    /// How its state, the two lists, the step and its new state belong together.
+    /// How its state, the two lists, the step and its new state are related.
     ghost turns: { Self → List ℕ → List ℕ → Step → Self → Type 0 };
 
-    /// The next step. `ready` are the units that may begin, in plan order; `flying` those that have begun and not
-    /// answered, in order of beginning; they are not both empty. The step is one of an item of its list. This takes
-    /// no memory.
+    /// Returns the next step. `ready` are the units that may begin, in plan order;
+    /// `flying` those that have begun and not answered, in order of beginning; not
+    /// both are empty. The step names an item of its list. This uses no memory.
     fn turn(&mut self, ready: &[usize], flying: &[usize]) -> Step
         requires some { 0 < length ready.now + length flying.now }
         ensures turned { turns self.old ready.now flying.now result self.new }
@@ -30,18 +30,18 @@ pub trait Turn {
 
 /// Decides which unit begins. It may have a state, which each call may change.
 pub trait Pick {
-    /// How its state, the list, the answer and its new state belong together.
+    /// How its state, the list, the answer and its new state are related.
     ghost picks: { Self → List ℕ → ℕ → Self → Type 0 };
 
-    /// A place of a list that is not empty: that of the unit that begins, among those that may, in plan order. This
-    /// takes no memory.
+    /// Returns an index of a list that is not empty: that of the unit that
+    /// begins, among those that may, in plan order. This uses no memory.
     fn pick(&mut self, ready: &[usize]) -> usize
         requires some { 0 < length ready.now }
         ensures picked { picks self.old ready.now result self.new }
         ensures within { result < length ready.now };
 }
 
-/// A borrowed pick picks as the pick itself does, and stays the same reference.
+/// A borrowed pick chooses as the pick itself does, and stays the same reference.
 impl<P: Pick> Pick for &mut P {
     ghost picks = { PicksLent P.picks };
 
@@ -74,13 +74,13 @@ impl Pick for Last {
     }
 }
 
-/// A turn by a number of jobs: a unit begins, as it is picked, where one may and fewer than so many fly; else the one
-/// that was begun first is answered. No job counts as one (our own choice).
+/// A turn by a number of jobs. If a unit may begin and fewer units than the jobs are in flight, the
+/// picked one begins; else the one that began first answers. No job counts as one (our own choice).
 #[derive(Drop)]
 pub struct Jobs<P> {
     /// Which unit begins.
     pub pick: P,
-    /// How many units may be in flight at one time.
+    /// How many units may be in flight at a time.
     pub jobs: u64,
 }
 

@@ -1,4 +1,5 @@
--- That the small compiler is an honest child on the commands of units: a good reply is given again wherever what it rests on is the same.
+-- The small compiler is an honest child on the commands of units: it gives
+-- a good reply again whenever all that the reply rests on is the same.
 use Rattle.std.specs.Prelude.{◌≡◌, ℕ, true, false, codes, List, [], ◌∷◌, Option, Some, Result, Ok, Err, IfSome, slice_get}
 use Rattle.std.specs.List.{AllByRecursion}
 use Rattle.pb_data.specs.Mentions.{is_mentioned}
@@ -35,13 +36,14 @@ use Rattle.pb_honesty.specs.Said.{CanBeSaid, declared_in_image}
 abbrev pub small_compiler : Answers
 small_compiler c w = answered c.words c.pairs w
 
--- what its dep-info can tell: an output of one line, and names that are not empty, of one line and end neither with `\` nor with a carriage return; a variable's has no `=`
+-- dep-info can express these names: the output is one line; each name is one line, is not
+-- empty, and ends with neither `\` nor a carriage return; a variable's name has no `=`
 pub record CanBeSpelled (line : CommandLine) (names : Names) : Type 0 where
   pub output : has_byte 10 (below line.out_dir line.image) ≡ false
   pub paths : AllByRecursion CanBeTold names.paths
   pub variables : AllByRecursion CanBeAsked names.variables
 
--- what a compile reads can be spelled; what a script declares can be said
+-- dep-info can express what a compile reads, and directives can express what a script declares
 abbrev pub CanTellOf : Result Request CommandLineFault → Command → World → Type 0
 CanTellOf (Ok Version) c w = Unit {0}
 CanTellOf (Ok (Run image)) c w = AllByRecursion CanBeSaid (declared_in_image (table_of c.pairs) w (looked.file_at w (looked.path_of image)))
@@ -51,17 +53,19 @@ CanTellOf (Err e) c w = Unit {0}
 abbrev pub CanTell : Command → World → Type 0
 CanTell c w = CanTellOf (request_of c.words) c w
 
--- the words of a runner after its name are `--run` alone
+-- the runner's words after its name are only `--run`
 abbrev pub RunsAlone : List (List ℕ) → Type 0
 RunsAlone [] = Unit {0}
 RunsAlone (program ∷ words) = words ≡ codes "--run" ∷ []
 
--- how things are compiled: the user's flags give no libraries, and scripts are run by the small compiler
+-- the setup of the small compiler: the user's flags name no libraries, and the small compiler runs the scripts
 pub record IsSmall (setup : Setup) : Type 0 where
   pub flags : is_mentioned setup.flags (codes "--extern") ≡ false
   pub runner : RunsAlone setup.runner
 
--- a unit of a project that was read and planned: as each that was read it is settled, it has its plan, and its paths are normalised absolute ones, as is that of the unit's source; a run has none
+-- a unit of a project that was read and planned:
+-- the project is settled and has its plan; its paths and that of the
+-- unit's source are normalised absolute paths; a run has no source
 pub record IsOfProject (project : Project) (u : Planned) : Type 0 where
   pub settled : IsSettled project.workspace
   pub paths : HasPaths project
@@ -71,7 +75,8 @@ pub record IsOfProject (project : Project) (u : Planned) : Type 0 where
   pub place : ℕ
   pub there : slice_get project.plan.planned place ≡ Some u
 
--- The law: on the command of every unit of a project, whatever the scripts before it have said, in every world of which it can tell what it reads.
+-- The law: the small compiler is honest on the command of every unit of a project, whatever
+-- earlier scripts have printed, in every world in which it can express what it reads.
 abbrev pub SmallCompilerIsHonest : Type 0
 SmallCompilerIsHonest = (setup : Setup) (project : Project) (u : Planned) (done : List (Option (List Directive))) (v : World) → IsSmall setup → IsOfProject project u
     → CanTell (command_of setup project u done) (seen_by (command_of setup project u done) v) → IsHonest judge small_compiler (command_of setup project u done) v

@@ -1,4 +1,4 @@
--- Names that are told in dep-info, and read there.
+-- Names that are written in dep-info, and read back from it.
 use Rattle.std.specs.Prelude.{◌≡◌, ℕ, ◌==◌, not, ◌||◌, Bool, true, false, List, [], ◌∷◌, Option, Ok}
 use Rattle.std.specs.List.{AllByRecursion}
 use Rattle.pb_data.specs.Mentions.{is_mentioned}
@@ -16,21 +16,21 @@ ends_plainly [] = false
 ends_plainly (b ∷ []) = not ((b == 92) || (b == 13))
 ends_plainly (b ∷ c ∷ bytes) = ends_plainly (c ∷ bytes)
 
--- a name that can be told: it ends so, and is one line
+-- a name can be written in dep-info: it ends plainly, and is one line
 pub record CanBeTold (name : List ℕ) : Type 0 where
   pub ends : ends_plainly name ≡ true
   pub one_line : has_byte 10 name ≡ false
 
--- and a variable's, which the first `=` ends
+-- a variable can be written in dep-info: its name can, and has no `=`, which would end it
 pub record CanBeAsked (variable : List ℕ × Option (List ℕ)) : Type 0 where
   pub told : CanBeTold variable.0
   pub no_equals : has_byte 61 variable.0 ≡ false
 
--- each of these texts is among those
+-- each of the first texts is among the others
 abbrev pub AreAmong : List (List ℕ) → List (List ℕ) → Type 0
 AreAmong texts others = (text : List ℕ) → is_mentioned texts text ≡ true → is_mentioned others text ≡ true
 
--- What is read names all that was told.
+-- What is read names all that was written.
 abbrev pub ReadsBack : List ℕ → Names → DepInfo → Type 0
 ReadsBack output names info = is_absolute output ≡ true → has_byte 10 output ≡ false → AllByRecursion CanBeTold names.paths → AllByRecursion CanBeAsked names.variables
     → dep_info_of (dep_info_text output names) ≡ Ok info → AreAmong names.paths info.words × AreAmong (names_of names.variables) info.variables

@@ -14,7 +14,7 @@ ends_visibly [] = false
 ends_visibly (b ∷ []) = not (is_blank b)
 ends_visibly (b ∷ c ∷ bytes) = ends_visibly (c ∷ bytes)
 
--- a text that a directive can say: it ends so, and is one line
+-- a directive can express a text: it ends visibly, and is one line
 pub record CanBeSaid (text : List ℕ) : Type 0 where
   pub ends : ends_visibly text ≡ true
   pub one_line : has_byte 10 text ≡ false
@@ -32,12 +32,12 @@ abbrev pub declared_in : Option (List ℕ) → List (List ℕ)
 declared_in None = []
 declared_in (Some line) = declared_by (deed_of (word_in line)) (rest_of line)
 
--- what follows the line that ends a script declares nothing
+-- what the lines after a step declare: nothing, if the step ends the script
 abbrev pub declared_after : Step → List (List ℕ) → List (List ℕ)
 declared_after (Writes output) texts = texts
 declared_after (Ends status) texts = []
 
--- those of a script
+-- the names and paths that a script declares
 abbrev pub declared_of : List (List ℕ × List ℕ) → World → List (List ℕ) → List (List ℕ)
 declared_of pairs w [] = []
 declared_of pairs w (line ∷ lines) = declared_in (text_of line) ++ declared_after (step_of pairs w line) (declared_of pairs w lines)

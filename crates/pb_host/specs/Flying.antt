@@ -1,4 +1,4 @@
--- What a place of real files tells of a child in flight: its ticket and its command. Of the rest it tells nothing.
+-- What a place of real files tells about a child in flight: its ticket and its command, and nothing else.
 use Rattle.std.specs.Prelude.{ℕ, pos, []}
 use Rattle.std.specs.FinMap as map
 use Rattle.pb_place.specs.World.{World, Answers}
@@ -6,7 +6,7 @@ use Rattle.pb_place.specs.Children.{child_spawned}
 use Rattle.pb_place.specs.declared.command.Command.{Command}
 use Rattle.pb_place.specs.declared.child_in_flight.ChildInFlight.{ChildInFlight}
 
--- where no map is told, and no answer
+-- the world that is used when no maps and no answers are told
 abbrev pub no_world : World
 no_world = record { files = map.empty; variables = map.empty }
 

@@ -6,24 +6,24 @@ use Rattle.std.specs.Cmp.Lexicographic.{slice_cmp}
 use Rattle.pb_place.specs.Paths.{is_below, is_at_or_below}
 use Rattle.pb_host.specs.declared.listing.Found.{Found}
 
--- each of these paths lies strictly below the folder
+-- each of these paths is strictly below the folder
 abbrev pub AreBelow : List ℕ → List (List ℕ) → Type 0
 AreBelow folder paths = All (λ path. is_below folder path ≡ true) paths
 
--- whether a path lies at or below what is left out
+-- a path is at or below the one that is left out
 abbrev pub is_left_out : Option (List ℕ) → List ℕ → Bool
 is_left_out None path = false
 is_left_out (Some folder) path = is_at_or_below folder path
 
--- and none of them does
+-- none of these paths is left out
 abbrev pub AreOutside : Option (List ℕ) → List (List ℕ) → Type 0
 AreOutside left_out paths = All (λ path. is_left_out left_out path ≡ false) paths
 
--- in byte order
+-- the paths are in byte order
 abbrev pub AreOrdered : List (List ℕ) → Type 0
 AreOrdered paths = IsSorted (slice_cmp nat_cmp) paths
 
--- the files that were found lie below the folder, and the folders that wait at it or below it
+-- the files that were found are below the folder, and the folders that wait are at it or below it
 pub record StaysBelow (folder : List ℕ) (found : Found) : Type 0 where
   pub files : AreBelow folder found.files.items
   pub waiting : All (λ waiting. is_at_or_below folder waiting.folder ≡ true) found.waiting.items
@@ -32,6 +32,6 @@ pub record StaysBelow (folder : List ℕ) (found : Found) : Type 0 where
 abbrev pub KeepsBelow : List ℕ → Found → Found → Type 0
 KeepsBelow here old new = (above : List ℕ) → is_at_or_below above here ≡ true → StaysBelow above old → StaysBelow above new
 
--- no file is found that is left out
+-- no file that is left out is found
 abbrev pub KeepsOutside : Option (List ℕ) → Found → Found → Type 0
 KeepsOutside left_out old new = AreOutside left_out old.files.items → AreOutside left_out new.files.items

@@ -19,7 +19,7 @@ use std::rt::{Env, Files};
 pub(crate) struct Spawned {
     /// The output folder.
     pub(crate) out: PathText,
-    /// None if that cannot be told.
+    /// `None` if that is unknown.
     pub(crate) since: Option<Moment>,
 }
 
@@ -27,11 +27,11 @@ pub(crate) struct Spawned {
 #[derive(Drop)]
 pub(crate) struct Running<K> {
     pub(crate) process: K,
-    /// None if the child has no output folder.
+    /// `None` if the child has no output folder.
     pub(crate) spawned: Option<Spawned>,
 }
 
-/// Starts the child of a command, and returns it with when that was.
+/// Starts the child of a command, and returns it with the time at which it started.
 pub(crate) fn begun<R: Files + Env + Processes + AllocGlobal>(
     runtime: &R,
     alloc: Global,
@@ -57,7 +57,7 @@ pub(crate) fn kept_of<K: Drop>(flying: Flying<K>) -> K
     kept
 }
 
-/// Returns what the place tells of a child in flight: its ticket and its command.
+/// Returns what the place tells about a child in flight: its ticket and its command.
 #[tactic(auto, using(crate::proofs::Silence::silence_laws))]
 pub(crate) fn child_in_flight(
     alloc: Global,
@@ -80,7 +80,8 @@ pub(crate) fn child_in_flight(
     })
 }
 
-/// Adds a child in flight for which there is room, and returns the most that ever were in flight.
+/// Adds a child in flight, for which space is reserved, and
+/// returns the greatest number that ever were in flight.
 #[tactic(auto, using(pb_memory::proofs::InFlight::fly_laws))]
 pub(crate) fn add_child<K: Drop>(flying: &mut Vec<Flying<K>>, most: u64, one: Flying<K>) -> u64
     requires room { vec_len flying.old < vec_capacity flying.old }

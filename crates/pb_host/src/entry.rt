@@ -1,4 +1,4 @@
-//! What stands at an entry of a real folder.
+//! What is at an entry of a real folder.
 
 use crate::reading::{Standing, says_absent, standing_of};
 use crate::tag::leads_into_target;
@@ -7,8 +7,9 @@ use std::alloc::Global;
 use std::rt::Files;
 use std::{fs, io};
 
-/// What stands at an entry whose links lead further than the system follows them: nothing, if the entry's own link
-/// leads in a circle. Else it is too deep: a link to a folder above it, gone through again and again.
+/// Returns what is at an entry whose links lead further than the system follows
+/// them. It is nothing if the entry's own link leads in a circle. Otherwise it
+/// is too deep: a link to a folder above it, followed again and again.
 fn standing_in_circle<R: Files + AllocGlobal>(
     runtime: &R,
     alloc: Global,
@@ -24,7 +25,8 @@ fn standing_in_circle<R: Files + AllocGlobal>(
     }
 }
 
-/// Returns the metadata of an entry of a folder, links followed, or none if it is a link into a target folder.
+/// Returns the metadata of an entry of a folder, links
+/// followed, or `None` if it is a link into a target folder.
 fn followed<R: Files + AllocGlobal>(
     runtime: &R,
     alloc: Global,
@@ -42,8 +44,8 @@ fn followed<R: Files + AllocGlobal>(
     }
 }
 
-/// Returns what stands at an entry of a folder, links followed. A link that leads nowhere, in a circle, or into a target
-/// folder, is nothing.
+/// Returns what is at an entry of a folder, links followed. A link that
+/// leads nowhere, in a circle, or into a target folder is nothing.
 pub(crate) fn standing_in<R: Files + AllocGlobal>(
     runtime: &R,
     alloc: Global,

@@ -25,28 +25,32 @@ use std::alloc::{AllocError, Global};
 use std::process::{Child, Processes};
 use std::rt::{Env, Files};
 
-/// A place of real files, variables and children, over a runtime. It does not tell its maps, since no contract can say
-/// what a disk holds. It counts its calls as every place does.
+/// A place of real files, variables and children, over a runtime. It does not tell its maps,
+/// since no contract can say what a disk contains. It counts its calls as every place does.
 ///
-/// It follows links. The rest is our own choice, as for the limits of the other formats:
-/// - A path is absent if nothing is there, if its link leads nowhere, or if it is neither a file nor a folder.
-/// - It is a failure to read a file of more than 4,294,967,296 bytes, or a variable whose value is not UTF-8.
-/// - It is a failure to list a folder that contains a name that is not UTF-8. `list_directly` and `list_folders` pass
-///   over such a name.
-/// - `list_folders` returns also folders without files.
+/// It follows links. The rest is our own choice, as are the limits of the other formats:
+/// - A path is absent if nothing is there, if its link leads
+///   nowhere, or if it is neither a file nor a folder.
+/// - It is a failure to read a file of more than 4,294,967,296
+///   bytes, or a variable whose value is not UTF-8.
+/// - It is a failure to list a folder that contains a name that is
+///   not UTF-8. `list_directly` and `list_folders` skip such a name.
+/// - `list_folders` also returns folders without files.
 /// - It is a failure to list a folder with folders more than 128 levels below it.
-/// - A folder below a listed one counts as absent if it has the tag that this builder writes in target folders.
+/// - A folder below a listed one counts as absent if it has the
+///   tag that this builder writes in target folders.
 /// - A removal that is refused is tried once more, after the folders there were made writable.
 /// - A removal removes a link itself, and not what it leads to.
 ///
-/// A child inherits the variables of this process under those of its command. It starts in the folder of the command,
-/// with an empty standard input. A program without a slash in its name is looked for by the `PATH` of this process. No
-/// contract says what a child changes on the disk. Children in flight run side by side; if one writes more than a pipe
-/// holds, it waits for its `finish`. They stay in the process group of this program. A child whose place is dropped
-/// before its `finish` is neither waited for nor ended.
+/// A child inherits the variables of this process, over which those of its command are set.
+/// It starts in the folder of the command, with an empty standard input. A program without
+/// a slash in its name is looked for by the `PATH` of this process. No contract says what a
+/// child changes on the disk. Children in flight run side by side; if one writes more than
+/// a pipe holds, it waits for its `finish`. They stay in the process group of this program.
+/// A child whose place is dropped before its `finish` is neither waited for nor ended.
 ///
-/// What a child read has moved if it has changed since the child's output folder was made, just before the spawn: by
-/// the change times of files and folders (`ctime`), to which no program can set another.
+/// What a child read has moved if it has changed since the child's output folder was made, just
+/// before the spawn: by the change times of files and folders (`ctime`), which no program can set.
 #[derive(Drop)]
 pub struct HostPlace<'a, R: Processes> {
     runtime: &'a R,
@@ -59,7 +63,7 @@ pub struct HostPlace<'a, R: Processes> {
 }
 
 impl<'a, R: Files + Env + Processes + AllocGlobal> HostPlace<'a, R> {
-    /// Returns the place over a runtime, of which no call was made. It takes no memory.
+    /// Returns the place over a runtime, with no calls made yet. It uses no memory.
     pub fn new(alloc: Global, runtime: &'a R) -> HostPlace<'a, R>
         ensures counts { (⟦<HostPlace<'a, R> as Place>⟧.at result).counts ≡ no_calls }
         ensures most { (⟦<HostPlace<'a, R> as Place>⟧.at result).most ≡ 0 }
@@ -74,7 +78,8 @@ impl<'a, R: Files + Env + Processes + AllocGlobal> HostPlace<'a, R> {
         }
     }
 
-    /// Returns whether a child of this ticket is in flight. It is no call of the place and takes no memory.
+    /// Returns whether a child of this ticket is in flight. It is
+    /// no call of the place and uses no memory.
     pub fn flies(&self, ticket: u64) -> bool
         ensures { result ≡ is_flying ticket
             (⟦<HostPlace<'a, R> as Place>⟧.at self.now).counts.starts.flying }
@@ -82,8 +87,8 @@ impl<'a, R: Files + Env + Processes + AllocGlobal> HostPlace<'a, R> {
         flies(self.flying.as_slice(), ticket)
     }
 
-    /// Begins the child of a command, and returns its ticket. It makes room for the child among those in flight first, so
-    /// no child that was begun is lost if memory is refused.
+    /// Begins the child of a command, and returns its ticket. It first reserves space among
+    /// the children in flight, so no child that was begun is lost if memory runs out.
     fn begin(&mut self, alloc: Global, command: &Command) -> Result<u64, StartFault>
         ensures fresh { IfOk result
             (λ ticket. is_flying ticket (children_in self.old.flying.items) ≡ false) }
@@ -98,7 +103,7 @@ impl<'a, R: Files + Env + Processes + AllocGlobal> HostPlace<'a, R> {
         let Some(ticket) = free_ticket(self.flying.as_slice()) else {
             return Err(StartFault::OutOfMemory);
         };
-        // Room before the process: one that runs is always known.
+        // Space before the process: one that runs is always known.
         self.flying.reserve(1)?;
         let child = child_in_flight(alloc, command, ticket)?;
         let (child, kept) = with_next(child, begun(self.runtime, alloc, command))?;
@@ -124,7 +129,8 @@ impl<'a, R: Files + Env + Processes + AllocGlobal> HostPlace<'a, R> {
         finish(alloc, process)
     }
 
-    /// Returns when the child of this output folder was spawned, if it is the one that ended last and that can be told.
+    /// Returns when the child of this output folder was spawned, if
+    /// it is the one that ended last and the time is known.
     fn since(&self, out: &PathText) -> Option<Moment> {
         match &self.ended {
             Some(spawned) if &spawned.out == out => spawned.since,
@@ -137,8 +143,8 @@ impl<'a, R: Files + Env + Processes + AllocGlobal> HostPlace<'a, R> {
         self.moved.iter().any(|moved| &moved.out == out)
     }
 
-    /// Remembers what has moved for the child of an output folder at or below a path, if something has. What cannot be
-    /// told has moved.
+    /// Remembers what has moved for the child of an output folder at or below
+    /// a path, if something has. If it cannot be found out, it has moved.
     fn look_for(
         &mut self,
         alloc: Global,
@@ -165,7 +171,7 @@ impl<'a, R: Files + Env + Processes + AllocGlobal> HostPlace<'a, R> {
     }
 }
 
-/// Returns what a view answered. Its failure becomes the call's own fault; out of memory stays.
+/// Returns what a view answered. Its failure becomes the call's own fault; out of memory stays so.
 fn told<T>(answer: Result<T, ViewFault>, own: PlaceFault) -> Result<T, PlaceFault>
     ensures own { IfErr result (λ e. e ≢ PlaceFault.OutOfMemory → e ≡ own) }
     ensures memory { answer ≡ Err ViewFault.OutOfMemory → result ≡ Err PlaceFault.OutOfMemory }

@@ -6,19 +6,21 @@ use pb_place::{PathText, View, ViewFault};
 use std::alloc::Global;
 use std::rt::{Env, Files};
 
-/// A view of real files and variables, by a runtime. It does not tell what it shows, since no contract can say
-/// what a disk holds; that nothing changes while the child answers is its user's premise.
+/// A view of real files and variables, by a runtime. It does not promise
+/// what it shows, since no contract can say what a disk contains; its
+/// user assumes that nothing changes while the child answers.
 ///
-/// Links are followed. A path at which nothing stands, one whose link leads nowhere, and one at which no file
-/// stands, as a folder, has no file. A file past 4,294,967,296 bytes, one that cannot be read, and a variable whose
-/// value is not UTF-8 are failures. Our own choice, as for the limits of the other formats.
+/// Links are followed. A path has no file if nothing is there, if its link leads
+/// nowhere, or if something else is there, as a folder. These are failures: a file of
+/// more than 4,294,967,296 bytes, a file that cannot be read, and a variable whose
+/// value is not UTF-8. This is our own choice, as are the limits of the other formats.
 #[derive(Drop)]
 pub struct HostView<'a, R> {
     runtime: &'a R,
 }
 
 impl<'a, R> HostView<'a, R> {
-    /// The view that a runtime gives.
+    /// Returns the view of a runtime.
     pub fn new(runtime: &'a R) -> HostView<'a, R> {
         HostView { runtime }
     }

@@ -15,10 +15,10 @@ use std::alloc::{AllocError, Global};
 use std::rt::Files;
 use std::{fs, io};
 
-/// How many folders a folder may lie below the one that is listed.
+/// How many levels a folder may be below the one that is listed.
 const DEEPEST: u8 = 128;
 
-/// Whether a path lies at or below what is left out.
+/// Returns whether a path is at or below the one that is left out.
 fn is_left_out(left_out: Option<&PathText>, path: &PathText) -> bool
     ensures { result ≡ is_left_out (option_copied left_out.entry) path.now }
 {
@@ -28,25 +28,27 @@ fn is_left_out(left_out: Option<&PathText>, path: &PathText) -> bool
     }
 }
 
-/// A folder that is not yet listed.
+/// A folder that has not been listed yet.
 #[derive(Drop)]
 pub(crate) struct Waiting {
     /// Its path.
     pub(crate) folder: PathText,
-    /// How many folders it lies below the one that is listed.
+    /// How many levels it is below the one that is listed.
     depth: u8,
 }
 
-/// What was found so far.
+/// What has been found so far.
 #[derive(Drop)]
 pub(crate) struct Found {
     /// The files.
     pub(crate) files: Vec<PathText>,
-    /// The folders that are not yet listed.
+    /// The folders that have not been listed yet.
     pub(crate) waiting: Vec<Waiting>,
 }
 
-/// The path of an entry of a folder. List where the entry's name is none.
+/// Returns the path of an entry of a folder.
+///
+/// Errors: `List`, if the entry's name is not a name of a path; `OutOfMemory`.
 fn path_of(alloc: Global, folder: &PathText, name: &str) -> Result<PathText, PlaceFault>
     ensures below { IfOk result (λ path. is_below folder.now path ≡ true) }
     ensures fault { IfErr result (λ e. e ≢ PlaceFault.OutOfMemory → e ≡ PlaceFault.List) }
@@ -57,7 +59,7 @@ fn path_of(alloc: Global, folder: &PathText, name: &str) -> Result<PathText, Pla
     }
 }
 
-/// Finds a file.
+/// Adds a file to those found.
 fn add_file(found: &mut Found, path: PathText) -> Result<(), PlaceFault>
     ensures files { OnOk result (found.new.files.items ≡ found.old.files.items ++ path ∷ []) }
     ensures waiting { found.new.waiting ≡ found.old.waiting }
@@ -67,7 +69,9 @@ fn add_file(found: &mut Found, path: PathText) -> Result<(), PlaceFault>
     Ok(())
 }
 
-/// Lets a folder wait. List where it lies too deep.
+/// Adds a folder to those that wait.
+///
+/// Errors: `List`, if it is too deep.
 fn add_folder(found: &mut Found, path: PathText, above: u8) -> Result<(), PlaceFault>
     ensures waiting { OnOk result (found.new.waiting.items ≡ found.old.waiting.items
         ++ record { folder = path; depth = above + 1 } ∷ []) }
@@ -84,10 +88,10 @@ fn add_folder(found: &mut Found, path: PathText, above: u8) -> Result<(), PlaceF
     Ok(())
 }
 
-/// Files an entry of a folder: a file is found, and a folder waits.
+/// Adds an entry of a folder: a file to those found, a folder to those that wait.
 ///
-/// Errors: `List` if its name is none, if it cannot be told what stands there, or if it is a folder that lies too deep;
-/// `OutOfMemory`.
+/// Errors: `List`, if its name is not a name of a path, if it cannot be found
+/// out what it is, or if it is a folder that is too deep; `OutOfMemory`.
 fn take_entry<R: Files + AllocGlobal>(
     runtime: &R,
     alloc: Global,
@@ -114,12 +118,14 @@ fn take_entry<R: Files + AllocGlobal>(
     Ok(())
 }
 
-/// Whether an error says that there is no such folder, and the folder is the one that is listed: it need not be there.
+/// Returns whether an error says that there is no such folder,
+/// and the folder is the one that is listed: it need not exist.
 fn may_be_absent(here: &Waiting, error: &io::Error) -> bool {
     here.depth == 0 && says_absent(error)
 }
 
-/// Returns whether a folder is passed over: a target folder, by its tag, below the folder that is listed.
+/// Returns whether a folder is skipped: a target folder, by its
+/// tag, below the folder that is listed.
 fn is_passed_over<R: Files + AllocGlobal>(
     runtime: &R,
     alloc: Global,
@@ -131,8 +137,8 @@ fn is_passed_over<R: Files + AllocGlobal>(
     is_tagged(runtime, alloc, &here.folder)
 }
 
-/// Returns the entries of a folder. There are none if it is the one that is listed and is not there, or if it is passed
-/// over.
+/// Returns the entries of a folder. There are none if it is
+/// skipped, or if it is the one that is listed and does not exist.
 fn entries_of<'a, R: Files + AllocGlobal>(
     runtime: &'a R,
     alloc: Global,
@@ -150,7 +156,9 @@ fn entries_of<'a, R: Files + AllocGlobal>(
     }
 }
 
-/// Files an entry that a folder tells. List where it tells a failure.
+/// Adds an entry that a folder reports.
+///
+/// Errors: `List`, if the folder reports a failure.
 fn take_told<R: Files + AllocGlobal>(
     runtime: &R,
     alloc: Global,
@@ -170,7 +178,7 @@ fn take_told<R: Files + AllocGlobal>(
     }
 }
 
-/// Files the entries of a folder. Where the one that is listed is not there, it has none.
+/// Adds the entries of a folder. If it is the one that is listed and does not exist, it has none.
 fn take_folder<R: Files + AllocGlobal>(
     runtime: &R,
     alloc: Global,
@@ -192,8 +200,8 @@ fn take_folder<R: Files + AllocGlobal>(
     Ok(())
 }
 
-/// All files below a folder that are not left out, as they come. One folder after another is taken, the one found last
-/// first.
+/// Returns all files below a folder that are not left out, as they
+/// come. It takes one folder after another, the one found last first.
 fn files_found<R: Files + AllocGlobal>(
     runtime: &R,
     alloc: Global,
@@ -221,7 +229,7 @@ fn files_found<R: Files + AllocGlobal>(
     Err(PlaceFault::List)
 }
 
-/// Whether an entry's name is not UTF-8.
+/// Returns whether an entry's name is not UTF-8.
 fn has_no_text<R: Files + AllocGlobal>(entry: &io::Result<fs::DirEntry<&R>>) -> bool {
     match entry {
         Ok(_) => false,
@@ -229,8 +237,8 @@ fn has_no_text<R: Files + AllocGlobal>(entry: &io::Result<fs::DirEntry<&R>>) -> 
     }
 }
 
-/// Files the entries of a folder that are not left out and whose names are UTF-8. Where the one that is listed is not
-/// there, it has none.
+/// Adds the entries of a folder that are not left out and whose names are
+/// UTF-8. If it is the one that is listed and does not exist, it has none.
 fn take_named<R: Files + AllocGlobal>(
     runtime: &R,
     alloc: Global,
@@ -252,7 +260,8 @@ fn take_named<R: Files + AllocGlobal>(
     Ok(())
 }
 
-/// What is directly in a folder and is not left out, as it comes. What its folders hold is not looked at.
+/// Returns what is directly in a folder and is not left out, as
+/// it comes. It does not look into the folders there.
 pub(crate) fn found_here<R: Files + AllocGlobal>(
     runtime: &R,
     alloc: Global,
@@ -274,7 +283,8 @@ pub(crate) fn found_here<R: Files + AllocGlobal>(
     Ok(found)
 }
 
-/// The paths of all files below a folder that are not left out, in byte order; none where no folder stands at the path.
+/// Returns the paths of all files below a folder that are not
+/// left out, in byte order; none if no folder is at the path.
 fn files_listed<R: Files + AllocGlobal>(
     runtime: &R,
     alloc: Global,
@@ -291,11 +301,13 @@ fn files_listed<R: Files + AllocGlobal>(
     Ok(Items::from_vec(files))
 }
 
-/// The paths of all files below a folder, in byte order; none where no folder stands at the path. Links are followed,
-/// a link that leads nowhere is passed over, and so is what is neither file nor folder.
+/// Returns the paths of all files below a folder, in byte order; none
+/// if no folder is at the path. Links are followed. A link that leads
+/// nowhere is skipped, and so is what is neither a file nor a folder.
 ///
-/// List where a folder cannot be read, where a name is not UTF-8, and where a folder lies more than 128 folders below
-/// the one that is listed. A link to a folder above it is such a case, since it is gone through again and again.
+/// Errors: `List`, if a folder cannot be read, if a name is not UTF-8, or if
+/// a folder is more than 128 levels below the one that is listed. A link to
+/// a folder above it is such a case, since it is followed again and again.
 pub(crate) fn files_below<R: Files + AllocGlobal>(
     runtime: &R,
     alloc: Global,
@@ -308,7 +320,8 @@ pub(crate) fn files_below<R: Files + AllocGlobal>(
     files_listed(runtime, alloc, None, folder)
 }
 
-/// The same, but for what lies at or below another path: there nothing is looked at, so nothing there is a failure.
+/// Returns the same, without what is at or below another path:
+/// it looks at nothing there, so nothing there is a failure.
 pub(crate) fn files_outside<R: Files + AllocGlobal>(
     runtime: &R,
     alloc: Global,
@@ -326,9 +339,9 @@ pub(crate) fn files_outside<R: Files + AllocGlobal>(
     files_listed(runtime, alloc, Some(left_out), folder)
 }
 
-/// The paths of the files directly in a folder, in byte order; none where no folder stands at the path. What the
-/// folders there hold is not looked at, so nothing in them is a failure. A name that is not UTF-8 is passed over: it is
-/// none that anything asks for.
+/// Returns the paths of the files directly in a folder, in byte order; none if no
+/// folder is at the path. It does not look into the folders there, so nothing in them
+/// is a failure. It skips a name that is not UTF-8, since nothing requests such a name.
 pub(crate) fn files_directly<R: Files + AllocGlobal>(
     runtime: &R,
     alloc: Global,
@@ -343,7 +356,7 @@ pub(crate) fn files_directly<R: Files + AllocGlobal>(
     Ok(Items::from_vec(found.files))
 }
 
-/// The paths of some folders that wait.
+/// Returns the paths of some folders that wait.
 fn folders_of(alloc: Global, waiting: Vec<Waiting>) -> Result<Vec<PathText>, PlaceFault>
     ensures folders { IfOk result
         (λ folders. folders.items ≡ map (λ here. here.folder) waiting.items) }
@@ -356,8 +369,9 @@ fn folders_of(alloc: Global, waiting: Vec<Waiting>) -> Result<Vec<PathText>, Pla
     Ok(folders)
 }
 
-/// The paths of the folders directly in a folder that are not left out, in byte order; none where no folder stands at
-/// the path. What they hold is not looked at, so nothing in them is a failure. A name that is not UTF-8 is passed over.
+/// Returns the paths of the folders directly in a folder that are not left
+/// out, in byte order; none if no folder is at the path. It does not look into
+/// them, so nothing in them is a failure. It skips a name that is not UTF-8.
 pub(crate) fn folders_directly<R: Files + AllocGlobal>(
     runtime: &R,
     alloc: Global,

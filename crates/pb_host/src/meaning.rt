@@ -5,7 +5,7 @@ use std::alloc::{AllocError, Global};
 use std::fs;
 use std::rt::Files;
 
-/// Returns whether a link stands at a path.
+/// Returns whether a link is at a path.
 fn is_link<R: Files>(runtime: &R, path: &PathText) -> bool {
     match fs::symlink_metadata(runtime, path.as_str()) {
         Ok(metadata) => metadata.is_symlink(),
@@ -13,7 +13,8 @@ fn is_link<R: Files>(runtime: &R, path: &PathText) -> bool {
     }
 }
 
-/// Returns the path to which the system leads, or none if it leads nowhere, or to no path of ours.
+/// Returns the path to which the system leads, or `None` if it
+/// leads nowhere, or to no path of ours.
 pub(crate) fn led_to<R: Files + AllocGlobal>(
     runtime: &R,
     alloc: Global,
@@ -30,7 +31,8 @@ pub(crate) fn led_to<R: Files + AllocGlobal>(
     }
 }
 
-/// Returns the folder to which `..` leads from a path. From a link it is the one in which the link's goal lies.
+/// Returns the folder to which `..` leads from a path. From a
+/// link it is the folder that contains the link's goal.
 fn above<R: Files + AllocGlobal>(
     runtime: &R,
     alloc: Global,
@@ -62,9 +64,9 @@ fn leads_up(text: &str) -> bool {
     text.split('/').any(|part| part == "..")
 }
 
-/// Returns the path that a text means from a folder. It is the normalised one (`PathText::join`), unless a `..` stands
-/// behind a link: from there it leads to the folder in which the link's goal lies, as the system does. A link that leads
-/// nowhere is taken for a folder.
+/// Returns the path that a text means from a folder. It is the normalised one
+/// (`PathText::join`), unless a `..` comes after a link: then it leads to the folder that
+/// contains the link's goal, as in the system. A link that leads nowhere is treated as a folder.
 ///
 /// Errors: those of `PathText::join`.
 pub(crate) fn path_from<R: Files + AllocGlobal>(

@@ -30,8 +30,8 @@ enum Sight {
     Absent,
 }
 
-/// Returns when a file or folder was changed last: its bytes, its name or its attributes (`ctime`, which no program
-/// sets). Of a folder it is also when a name in it came or went.
+/// Returns when a file or folder was last changed: its bytes, its name or its attributes
+/// (`ctime`, which no program sets). For a folder this includes when a name in it came or went.
 fn changed_at(metadata: &fs::Metadata) -> Moment {
     Moment {
         seconds: metadata.ctime(),
@@ -39,7 +39,7 @@ fn changed_at(metadata: &fs::Metadata) -> Moment {
     }
 }
 
-/// Returns when a folder was changed last, or none if that cannot be told.
+/// Returns when a folder was last changed, or `None` if that cannot be found out.
 pub(crate) fn moment_of<R: Files>(runtime: &R, folder: &PathText) -> Option<Moment> {
     match fs::metadata(runtime, folder.as_str()) {
         Ok(metadata) => Some(changed_at(&metadata)),
@@ -47,7 +47,8 @@ pub(crate) fn moment_of<R: Files>(runtime: &R, folder: &PathText) -> Option<Mome
     }
 }
 
-/// Looks at what a link leads to that has not changed itself. A link that leads nowhere stands still.
+/// Looks at what a link leads to, if the link has not changed
+/// itself. A link that leads nowhere has not moved.
 fn look_behind<R: Files>(runtime: &R, since: Moment, path: &str) -> Sight {
     match fs::metadata(runtime, path) {
         Ok(metadata) => look_of(&metadata, since),
@@ -56,7 +57,7 @@ fn look_behind<R: Files>(runtime: &R, since: Moment, path: &str) -> Sight {
     }
 }
 
-/// Returns what metadata show.
+/// Returns what metadata shows.
 fn look_of(metadata: &fs::Metadata, since: Moment) -> Sight {
     if changed_at(metadata) > since {
         return Sight::Moved;
@@ -67,7 +68,8 @@ fn look_of(metadata: &fs::Metadata, since: Moment) -> Sight {
     Sight::Still
 }
 
-/// Looks at a path. A link has moved if it was changed itself, or if what it leads to was. What cannot be told has moved.
+/// Looks at a path. A link has moved if it was changed itself, or if
+/// what it leads to was. If it cannot be found out, it has moved.
 fn look<R: Files>(runtime: &R, since: Moment, path: &str) -> Sight {
     let metadata = match fs::symlink_metadata(runtime, path) {
         Ok(metadata) => metadata,
@@ -80,8 +82,8 @@ fn look<R: Files>(runtime: &R, since: Moment, path: &str) -> Sight {
     }
 }
 
-/// Returns whether something may have stood at a path that is absent now: whether the nearest folder above it that
-/// stands has changed since.
+/// Returns whether something may have been at a path that is absent
+/// now: whether the nearest existing folder above it has changed since.
 fn is_gone<R: Files>(
     runtime: &R,
     alloc: Global,
@@ -99,7 +101,8 @@ fn is_gone<R: Files>(
     Ok(true)
 }
 
-/// Lets the files and folders of a folder wait but what is left out. Returns whether the folder could be listed.
+/// Adds the files and folders of a folder to those that wait, without
+/// what is left out. Returns whether the folder could be listed.
 fn add_entries<R: Files + AllocGlobal>(
     runtime: &R,
     alloc: Global,
@@ -121,7 +124,8 @@ fn add_entries<R: Files + AllocGlobal>(
     Ok(true)
 }
 
-/// Returns whether a path itself has moved. If it is a folder, what is in it waits.
+/// Returns whether a path itself has moved. If it is a folder,
+/// its contents are added to what waits.
 fn has_moved<R: Files + AllocGlobal>(
     runtime: &R,
     alloc: Global,
@@ -138,7 +142,7 @@ fn has_moved<R: Files + AllocGlobal>(
     }
 }
 
-/// Returns whether a path below the one that is watched is passed over: a target folder, by its tag.
+/// Returns whether a path below the watched one is skipped: a target folder, by its tag.
 fn is_passed_over<R: Files + AllocGlobal>(
     runtime: &R,
     alloc: Global,
@@ -151,10 +155,11 @@ fn is_passed_over<R: Files + AllocGlobal>(
     is_tagged(runtime, alloc, path)
 }
 
-/// Returns the first path found at or below a path that has changed after a moment, or none if all stood still. It does
-/// not look at or below the path that is left out, nor below other target folders. What cannot be told has moved.
+/// Returns the first path found at or below a path that has changed after a moment,
+/// or `None` if nothing moved. It does not look at or below the path that is left
+/// out, nor below other target folders. If it cannot be found out, a path has moved.
 ///
-/// Errors: out of memory only.
+/// Errors: out of memory.
 pub(crate) fn first_moved<R: Files + AllocGlobal>(
     runtime: &R,
     alloc: Global,

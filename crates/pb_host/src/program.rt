@@ -10,13 +10,13 @@ use std::os::unix::fs::MetadataExt;
 use std::rt::{Env, Files};
 use std::{env, fs};
 
-/// Where programs are looked for if `PATH` is not set, as by the system.
+/// Where programs are looked for if `PATH` is not set, as in the system.
 const WITHOUT_PATH: &str = "/bin:/usr/bin";
 
 /// The bits of a file's mode that let somebody run it.
 const MAY_RUN: u32 = 0o111;
 
-/// Returns whether a file that may be run stands at a path, links followed.
+/// Returns whether a file that may be run is at a path, links followed.
 fn is_program<R: Files>(runtime: &R, path: &str) -> bool {
     match fs::metadata(runtime, path) {
         Ok(metadata) => metadata.is_file() && metadata.mode() & MAY_RUN != 0,
@@ -71,10 +71,11 @@ fn found_in<R: Files + Env + AllocGlobal>(
     }
 }
 
-/// Returns the path of a program. A name with a slash is a path. Any other is looked for in the folders of this program's
-/// own `PATH`, so a `PATH` that a command sets for its child does not choose which program the child is.
+/// Returns the path of a program. A name with a slash is a path. Any other name
+/// is looked for in the folders of this program's own `PATH`, so a `PATH` that
+/// a command sets for its child does not choose which program the child is.
 ///
-/// Errors: `CannotStart` if no folder has it; `OutOfMemory`.
+/// Errors: `CannotStart`, if no folder has it; `OutOfMemory`.
 pub(crate) fn program_of<R: Files + Env + AllocGlobal>(
     runtime: &R,
     alloc: Global,
@@ -89,7 +90,7 @@ pub(crate) fn program_of<R: Files + Env + AllocGlobal>(
         Ok(folders) => found_in(runtime, alloc, folders.as_str(), name),
         Err(VarError::NotPresent) => found_in(runtime, alloc, WITHOUT_PATH, name),
         Err(VarError::OutOfMemory) => Err(StartFault::OutOfMemory),
-        // No path of ours is in it.
+        // It contains no path of ours.
         Err(VarError::NotUnicode) => Err(StartFault::CannotStart),
     }
 }

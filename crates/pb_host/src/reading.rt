@@ -14,18 +14,18 @@ use std::{env, fs, io};
 /// How many bytes a file may have.
 pub(crate) const MOST_BYTES: u64 = 4_294_967_296;
 
-/// What stands at a path, links followed.
+/// What is at a path, links followed.
 #[derive(Clone, Copy, Debug, PartialEq, Eq)]
 pub(crate) enum Standing {
-    /// A file, of so many bytes.
+    /// A file, with its number of bytes.
     File(u64),
     /// A folder.
     Folder,
-    /// Nothing, or what is neither file nor folder.
+    /// Nothing, or what is neither a file nor a folder.
     Nothing,
 }
 
-/// Why reading failed: want of memory, or a failure of the outside.
+/// Returns why reading failed: out of memory, or a failure of the outside.
 fn fault_of(error: io::Error) -> ViewFault
     ensures memory { error_kind error ≡ ErrorKind.OutOfMemory → result ≡ view_fault.OutOfMemory }
     ensures failed { error_kind error ≢ ErrorKind.OutOfMemory → result ≡ view_fault.Failed }
@@ -36,8 +36,8 @@ fn fault_of(error: io::Error) -> ViewFault
     ViewFault::Failed
 }
 
-/// Whether an error says that nothing stands at a path: there is no such name, a file stands where a folder should,
-/// or the links lead in a circle.
+/// Returns whether an error says that nothing is at a path: there is no such
+/// name, a file is in the position of a folder, or the links lead in a circle.
 pub(crate) fn says_absent(error: &io::Error) -> bool
     ensures { IsTrue result
         ↔ ((error_kind error.now ≡ ErrorKind.NotFound)
@@ -50,7 +50,7 @@ pub(crate) fn says_absent(error: &io::Error) -> bool
     )
 }
 
-/// What stands at a path, as its metadata say.
+/// Returns what is at a path, by its metadata.
 pub(crate) fn standing_of(metadata: &fs::Metadata) -> Standing {
     if metadata.is_file() {
         return Standing::File(metadata.len());
@@ -61,8 +61,10 @@ pub(crate) fn standing_of(metadata: &fs::Metadata) -> Standing {
     Standing::Nothing
 }
 
-/// What stands at a path, links followed. A link that leads nowhere, or in a circle, is nothing. Failed where it
-/// cannot be told.
+/// Returns what is at a path, links followed. A link that leads
+/// nowhere, or in a circle, is nothing.
+///
+/// Errors: `Failed`, if it cannot be found out.
 pub(crate) fn standing_at<R: Files>(runtime: &R, path: &str) -> Result<Standing, ViewFault> {
     match fs::metadata(runtime, path) {
         Ok(metadata) => Ok(standing_of(&metadata)),
@@ -71,7 +73,9 @@ pub(crate) fn standing_at<R: Files>(runtime: &R, path: &str) -> Result<Standing,
     }
 }
 
-/// Whether a file stands at a path, links followed. Failed where it cannot be told.
+/// Returns whether a file is at a path, links followed.
+///
+/// Errors: `Failed`, if it cannot be found out.
 pub(crate) fn is_file<R: Files>(runtime: &R, path: &str) -> Result<bool, ViewFault> {
     match standing_at(runtime, path)? {
         Standing::File(_) => Ok(true),
@@ -79,7 +83,7 @@ pub(crate) fn is_file<R: Files>(runtime: &R, path: &str) -> Result<bool, ViewFau
     }
 }
 
-/// Reads the first bytes of a file, and says how many; none if the call was interrupted.
+/// Reads the first bytes of a file, and returns how many; none if the call was interrupted.
 fn read_first<F: Read>(file: &mut F, bytes: &mut [u8]) -> io::Result<usize> {
     match file.read(bytes) {
         Err(error) if error.kind() == ErrorKind::Interrupted => Ok(0),
@@ -87,8 +91,9 @@ fn read_first<F: Read>(file: &mut F, bytes: &mut [u8]) -> io::Result<usize> {
     }
 }
 
-/// The bytes of a file that had so many a moment ago. One call asks for these and one more: if it gives just these, the
-/// file has ended there. Else the rest is read until a call gives nothing.
+/// Returns the bytes of a file that had this length a moment ago. One call
+/// requests these bytes and one more: if it returns exactly these, the file
+/// has ended there. Otherwise the rest is read until a call returns nothing.
 pub(crate) fn bytes_at<R: Files + AllocGlobal>(
     runtime: &R,
     path: &str,
@@ -105,8 +110,9 @@ pub(crate) fn bytes_at<R: Files + AllocGlobal>(
     Ok(bytes)
 }
 
-/// The bytes of a file, or none where no file stands at the path. Failed where it cannot be read, and where it is
-/// too long.
+/// Returns the bytes of a file, or `None` if no file is at the path.
+///
+/// Errors: `Failed`, if it cannot be read, or is too long.
 pub(crate) fn file_at<R: Files + AllocGlobal>(
     runtime: &R,
     path: &str,
@@ -133,8 +139,9 @@ fn first_bytes_at<R: Files + AllocGlobal>(
     Ok(bytes)
 }
 
-/// Returns the first bytes of a file, at most `most`, or none if no file is at the path. Fails with `Failed` if it
-/// cannot be read.
+/// Returns the first bytes of a file, at most `most`, or `None` if no file is at the path.
+///
+/// Errors: `Failed`, if it cannot be read.
 pub(crate) fn first_of<R: Files + AllocGlobal>(
     runtime: &R,
     path: &str,
@@ -150,7 +157,7 @@ pub(crate) fn first_of<R: Files + AllocGlobal>(
     }
 }
 
-/// What is told of a variable that has no value to give: none where it is not set, and else the fault.
+/// Returns the answer for a variable without a value: `None` if it is not set, otherwise the fault.
 fn unread(error: VarError) -> Result<Option<Text>, ViewFault>
     ensures absent { error ≡ VarError.NotPresent → result ≡ Ok None }
     ensures failed { error ≡ VarError.NotUnicode → result ≡ Err view_fault.Failed }
@@ -163,7 +170,9 @@ fn unread(error: VarError) -> Result<Option<Text>, ViewFault>
     }
 }
 
-/// The value of a variable, or none where it is not set. Failed where the value is not UTF-8.
+/// Returns the value of a variable, or `None` if it is not set.
+///
+/// Errors: `Failed`, if the value is not UTF-8.
 pub(crate) fn variable_of<R: Env + AllocGlobal>(
     runtime: &R,
     name: &str,

@@ -17,7 +17,7 @@ use std::process::{Child, OpenProcess, Output, Processes, Stdio};
 use std::rt::{Env, Files};
 use std::{fs, io, process};
 
-/// The fault of a start for an error: want of memory, or this one.
+/// Returns the fault of a start for an error: out of memory, or this one.
 fn fault_of(error: io::Error, own: StartFault) -> StartFault
     ensures memory { error_kind error ≡ ErrorKind.OutOfMemory → result ≡ start_fault.OutOfMemory }
     ensures own { error_kind error ≢ ErrorKind.OutOfMemory → result ≡ own }
@@ -28,7 +28,7 @@ fn fault_of(error: io::Error, own: StartFault) -> StartFault
     own
 }
 
-/// Adds words to those of a process.
+/// Adds arguments to those of a process.
 fn add_words(made: &mut process::Command, words: &[Text]) -> Result<(), AllocError>
     ensures words { OnOk result (command_args made.new ≡ command_args made.old ++ words.now) }
     ensures program { OnOk result (command_program made.new ≡ command_program made.old) }
@@ -70,7 +70,7 @@ fn add_pairs(made: &mut process::Command, pairs: &[(Text, Text)]) -> Result<(), 
     Ok(())
 }
 
-/// Gives a process what a command says past its program.
+/// Gives a process all that a command says besides its program.
 fn fill(made: &mut process::Command, command: &Command) -> Result<(), AllocError>
     ensures program { OnOk result (command_program made.new ≡ command_program made.old) }
     ensures words { OnOk result
@@ -86,8 +86,8 @@ fn fill(made: &mut process::Command, command: &Command) -> Result<(), AllocError
     Ok(())
 }
 
-/// Returns the process of a command: this program with the command's words, in its folder, with its pairs over the
-/// inherited variables.
+/// Returns the process of a command: this program with the command's
+/// arguments, in its folder, with its environment over the inherited one.
 fn process_of(
     alloc: Global,
     program: &str,
@@ -101,7 +101,7 @@ fn process_of(
     Ok(made)
 }
 
-/// Starts a process with an empty standard input, whose output is taken in later.
+/// Starts a process with an empty standard input, whose output is read later.
 fn begin<R: Processes>(
     runtime: &R,
     mut made: process::Command,
@@ -119,10 +119,10 @@ fn begin<R: Processes>(
     }
 }
 
-/// Makes the output folder of a command, and returns when that was, by the clock of its file system; none if the command
-/// has no output folder, or that cannot be told.
+/// Makes the output folder of a command, and returns when that was, by the clock of its file
+/// system; `None` if the command has no output folder, or the time cannot be found out.
 ///
-/// Errors: `CannotStart` if the folder cannot be made; `OutOfMemory`.
+/// Errors: `CannotStart`, if the folder cannot be made; `OutOfMemory`.
 fn make_out<R: Files>(runtime: &R, command: &Command) -> Result<Option<Moment>, StartFault>
     ensures fault { IfErr result (λ e. e ≢ StartFault.OutOfMemory → e ≡ StartFault.CannotStart) }
 {
@@ -135,11 +135,11 @@ fn make_out<R: Files>(runtime: &R, command: &Command) -> Result<Option<Moment>, 
     }
 }
 
-/// Starts the child of a command, once its output folder is made. Returns it with the moment at which that was: what
-/// changes later changes while the child is at work.
+/// Starts the child of a command, after making its output folder. Returns the child with the
+/// moment at which the folder was made: what changes later changes while the child is at work.
 ///
-/// Errors: `CannotStart` if the output folder cannot be made, or the program is not found or cannot be started;
-/// `OutOfMemory`.
+/// Errors: `CannotStart`, if the output folder cannot be made, or
+/// the program is not found or cannot be started; `OutOfMemory`.
 pub(crate) fn spawn<R: Files + Env + Processes + AllocGlobal>(
     runtime: &R,
     alloc: Global,
@@ -155,9 +155,10 @@ pub(crate) fn spawn<R: Files + Env + Processes + AllocGlobal>(
     Ok((child, since))
 }
 
-/// Waits for the end of a child and takes in what it writes until then.
+/// Waits for the end of a child, and reads what it writes until then.
 ///
-/// Capture where what the child writes cannot be taken in, Died where it ends without a status code.
+/// Errors: `Capture`, if what the child writes cannot be read;
+/// `Died`, if it ends without a status code.
 pub(crate) fn finish<S: OpenProcess + Drop>(
     alloc: Global,
     child: Child<S>,
@@ -171,7 +172,9 @@ pub(crate) fn finish<S: OpenProcess + Drop>(
     }
 }
 
-/// How a child ended: with its status code and both its streams, as they were written. Died where it has no status code.
+/// Returns how a child ended: its status code and both its streams, as they were written.
+///
+/// Errors: `Died`, if it has no status code.
 fn ended(output: Output) -> Result<Ended, StartFault>
     ensures ended { IfOk result (λ e. (exit_code output.status ≡ Some e.status)
         × (e.stdout ≡ output.stdout.items) × (e.stderr ≡ output.stderr.items)) }

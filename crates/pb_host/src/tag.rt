@@ -7,7 +7,8 @@ use std::alloc::{AllocError, Global};
 use std::fs;
 use std::rt::Files;
 
-/// The name of the file that marks a folder as one that can be made again (Cache Directory Tagging Specification).
+/// The name of the file that marks a folder as one that can be
+/// made again (Cache Directory Tagging Specification).
 pub const TAG_NAME: &str = "CACHEDIR.TAG";
 
 /// The line by which that file marks a target folder of this builder.
@@ -19,7 +20,7 @@ pub const TAG_TEXT: &str = "Signature: 8a477f597d28d172789f06886806bc55
 # For information about cache directory tags see https://bford.info/cachedir/
 ";
 
-/// The most bytes of such a file. A longer one is none.
+/// The most bytes that such a file may have. A longer one does not count.
 const MOST_BYTES: u64 = 4096;
 
 /// Returns whether one of the lines of a text is that of this builder.
@@ -28,7 +29,8 @@ pub fn has_tag_line(text: &[u8]) -> bool {
         .any(|line| line == TAG_LINE.as_bytes())
 }
 
-/// Returns whether the file at a path marks a target folder of this builder. A file that cannot be read does not.
+/// Returns whether the file at a path marks a target folder of
+/// this builder. A file that cannot be read does not.
 fn is_tag<R: Files + AllocGlobal>(runtime: &R, path: &str) -> bool {
     let length = match fs::metadata(runtime, path) {
         Ok(metadata) if metadata.is_file() => metadata.len(),
@@ -45,7 +47,7 @@ fn is_tag<R: Files + AllocGlobal>(runtime: &R, path: &str) -> bool {
 
 /// Returns whether a folder is a target folder of this builder, by its tag.
 ///
-/// Errors: out of memory only.
+/// Errors: out of memory.
 pub(crate) fn is_tagged<R: Files + AllocGlobal>(
     runtime: &R,
     alloc: Global,
@@ -55,10 +57,11 @@ pub(crate) fn is_tagged<R: Files + AllocGlobal>(
     Ok(is_tag(runtime, path.as_str()))
 }
 
-/// Returns whether a link leads into a target folder of this builder that the link itself is not in: whether the link's
-/// goal, or a folder above the goal, is such a folder, and `folder`, which holds the link, is not at or below it.
+/// Returns whether a link leads into a target folder of this builder that does not
+/// contain the link itself: whether the link's goal, or a folder above the goal,
+/// is such a folder, and `folder`, which contains the link, is not at or below it.
 ///
-/// Errors: out of memory only.
+/// Errors: out of memory.
 pub(crate) fn leads_into_target<R: Files + AllocGlobal>(
     runtime: &R,
     alloc: Global,
@@ -72,7 +75,7 @@ pub(crate) fn leads_into_target<R: Files + AllocGlobal>(
         return Ok(false);
     };
     for _ in 0..u64::MAX {
-        // What is above the link as well ends the walk, and `/` is above all.
+        // A folder that is also above the link ends the walk, and `/` is above all.
         if own.starts_with(&here) {
             return Ok(false);
         }

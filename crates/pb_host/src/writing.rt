@@ -16,7 +16,7 @@ use std::{fs, io};
 /// The mode of a folder that its owner may read, write and go through.
 const OWNED: u32 = 0o700;
 
-/// The fault of a call on files for an error: want of memory, or the call's own.
+/// Returns the fault of a call on files for an error: out of memory, or the call's own fault.
 pub(crate) fn fault_of(error: io::Error, own: PlaceFault) -> PlaceFault
     ensures memory { error_kind error ≡ ErrorKind.OutOfMemory → result ≡ place_fault.OutOfMemory }
     ensures own { error_kind error ≢ ErrorKind.OutOfMemory → result ≡ own }
@@ -27,7 +27,8 @@ pub(crate) fn fault_of(error: io::Error, own: PlaceFault) -> PlaceFault
     own
 }
 
-/// Writes a file and makes the folders above it. Nothing is done where the bytes are more than a file may have.
+/// Writes a file, and makes the folders above it. It does
+/// nothing if there are more bytes than a file may have.
 pub(crate) fn write_file<R: Files>(
     runtime: &R,
     alloc: Global,
@@ -49,7 +50,8 @@ pub(crate) fn write_file<R: Files>(
     }
 }
 
-/// Removes what stands at a path itself: a folder with all that it holds, or anything else, as a link, alone.
+/// Removes what is at a path itself: a folder with its
+/// contents, or anything else, as a link, alone.
 fn remove_standing<R: Files + AllocGlobal>(
     runtime: &R,
     path: &str,
@@ -61,7 +63,8 @@ fn remove_standing<R: Files + AllocGlobal>(
     fs::remove_file(runtime, path)
 }
 
-/// Adds the folders directly in a folder to those that wait. A link is none. What cannot be read has none.
+/// Adds the folders directly in a folder to those that wait. A link
+/// does not count as a folder. A folder that cannot be read has none.
 fn add_folders<R: Files + AllocGlobal>(
     runtime: &R,
     folder: &str,
@@ -82,8 +85,8 @@ fn add_folders<R: Files + AllocGlobal>(
     Ok(())
 }
 
-/// Lets the owner read, write and go through a folder and all folders below it, so that what is in them can be removed.
-/// Links are not followed. What cannot be changed stays as it is.
+/// Lets the owner read, write and go through a folder and all folders below it, so that their
+/// contents can be removed. Links are not followed. What cannot be changed stays as it is.
 fn open_folders<R: Files + AllocGlobal>(runtime: &R, path: &str) -> Result<(), AllocError> {
     let alloc = runtime.alloc();
     let mut waiting = Vec::new(alloc);
@@ -98,8 +101,8 @@ fn open_folders<R: Files + AllocGlobal>(runtime: &R, path: &str) -> Result<(), A
     Ok(())
 }
 
-/// Removes what stands at a path itself. If that is refused for a folder, the folders there are made writable first: a
-/// child may have left some that are not.
+/// Removes what is at a path itself. If that is refused for a folder, the folders
+/// there are made writable first: a child may have left some that are not.
 fn remove_whole<R: Files + AllocGlobal>(
     runtime: &R,
     path: &str,
@@ -116,8 +119,8 @@ fn remove_whole<R: Files + AllocGlobal>(
     }
 }
 
-/// Removes the file or folder at a path, with all that is below it; where nothing is there, nothing is done. A link
-/// is removed itself, and what it leads to stays.
+/// Removes the file or folder at a path, with all that is below it; it does nothing
+/// if nothing is there. A link is removed itself, and what it leads to stays.
 pub(crate) fn remove_tree<R: Files + AllocGlobal>(runtime: &R, path: &str) -> Result<(), PlaceFault>
     ensures fault { IfErr result (λ e. e ≢ PlaceFault.OutOfMemory → e ≡ PlaceFault.Remove) }
 {

@@ -1,4 +1,4 @@
--- JSON texts, in the words of `serde_json`.
+-- JSON texts, as `serde_json` defines them.
 use Rattle.std.specs.Prelude.{ℕ, List}
 use Rattle.serde_json.specs.Data as json
 use Rattle.serde_json.specs.Written.{compact_text}

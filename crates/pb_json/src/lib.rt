@@ -7,8 +7,9 @@ ghost use Rattle.pb_json.specs.Json.{json_string};
 use serde_json::Value;
 use std::alloc::{AllocError, Global};
 
-/// A text as a JSON string, with its quotes and escapes, as `serde_json` writes it. The one fault is want
-/// of memory.
+/// Returns a text as a JSON string, with its quotes and escapes, as `serde_json` writes it.
+///
+/// Errors: out of memory only.
 pub fn json_string(alloc: Global, text: &str) -> Result<String, AllocError>
     ensures { IfOk result (λ json. string_bytes json ≡ json_string text.now) }
 {

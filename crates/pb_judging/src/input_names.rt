@@ -1,4 +1,4 @@
-//! The inputs of a unit: paths and variables, each once.
+//! The inputs of a unit: paths and variables, without repeats.
 
 ghost use Rattle.std.specs.Prelude.{◌≡◌, ◌++◌, ◌∷◌, [], not, IsTrue, IfOk, OnOk, map, filter, option_map, List, ℕ};
 ghost use Rattle.std.specs.List.{flat_map, find};
@@ -15,7 +15,7 @@ use pb_project::UnitFault;
 use pb_record::InputName;
 use std::alloc::{AllocError, Global};
 
-/// Mentions a path. The texts of the paths are those that were seen.
+/// Adds a path, unless it has been seen. `seen` has the texts of these paths.
 fn mention(
     alloc: Global,
     paths: &mut Items<PathText>,
@@ -35,7 +35,7 @@ fn mention(
     Ok(())
 }
 
-/// Mentions paths, one after another.
+/// Adds paths, one after another, unless they have been seen.
 fn mention_all(
     alloc: Global,
     paths: &mut Items<PathText>,
@@ -51,7 +51,7 @@ fn mention_all(
     Ok(())
 }
 
-/// Returns paths, each once, in order of mention.
+/// Returns paths without repeats, in order of first mention.
 #[tactic(auto, using(crate::proofs::Naming::naming_laws))]
 fn paths_once(alloc: Global, said: Items<PathText>) -> Result<Items<PathText>, AllocError>
     ensures { IfOk result (λ paths. paths ≡ once said) }
@@ -62,7 +62,7 @@ fn paths_once(alloc: Global, said: Items<PathText>) -> Result<Items<PathText>, A
     Ok(paths)
 }
 
-/// Adds the path that a text means from a folder, if it means one.
+/// Adds the path of a text relative to a folder, if it has one.
 #[tactic(auto, unfolding(crate::specs::Answers::path_said))]
 fn push_said<M: Meaning>(
     alloc: Global,
@@ -84,7 +84,7 @@ fn push_said<M: Meaning>(
     }
 }
 
-/// Returns the paths that some texts mean from a folder, one after another.
+/// Returns the paths of some texts relative to a folder, one after another.
 fn paths_said<M: Meaning>(
     alloc: Global,
     meaning: &M,
@@ -101,7 +101,8 @@ fn paths_said<M: Meaning>(
     Ok(paths)
 }
 
-/// Returns the paths that some texts mean from a folder, each once, in order of mention.
+/// Returns the paths of some texts relative to a folder, without repeats, in order of first
+/// mention.
 pub(crate) fn paths_from<M: Meaning>(
     alloc: Global,
     meaning: &M,
@@ -114,7 +115,7 @@ pub(crate) fn paths_from<M: Meaning>(
     paths_once(alloc, said)
 }
 
-/// Names, mentioned one after another.
+/// Returns names as mentioned one after another.
 fn all_mentioned(alloc: Global, names: &[Text]) -> Result<Mentions, AllocError>
     ensures { IfOk result (λ made. made ≡ mentioned_all [] names.now) }
 {
@@ -125,7 +126,7 @@ fn all_mentioned(alloc: Global, names: &[Text]) -> Result<Mentions, AllocError>
     Ok(made)
 }
 
-/// Names, each once, in order of mention.
+/// Returns names without repeats, in order of first mention.
 #[tactic(auto, using(crate::proofs::Naming::naming_laws))]
 pub(crate) fn once(alloc: Global, names: &[Text]) -> Result<Items<Text>, AllocError>
     ensures { IfOk result (λ made. made ≡ once names.now) }
@@ -135,7 +136,7 @@ pub(crate) fn once(alloc: Global, names: &[Text]) -> Result<Items<Text>, AllocEr
     Ok(items)
 }
 
-/// Whether a path lies in the folder of a unit that was reached.
+/// Returns whether a path is in the folder of a reached unit.
 #[tactic(auto, unfolding(crate::specs::Answers::is_covered))]
 fn is_covered(command: &Command, path: &PathText) -> bool
     ensures { result ≡ is_covered command.now path.now }
@@ -147,7 +148,7 @@ fn is_covered(command: &Command, path: &PathText) -> bool
         .any(|folder| path.starts_with(folder))
 }
 
-/// Whether a path of the target folder is covered by no unit that was reached.
+/// Returns whether a path is in the target folder, but in no folder of a reached unit.
 #[tactic(auto, unfolding(crate::specs::Answers::is_foreign))]
 fn is_foreign(command: &Command, path: &PathText) -> bool
     ensures { result ≡ is_foreign command.now path.now }
@@ -155,7 +156,7 @@ fn is_foreign(command: &Command, path: &PathText) -> bool
     path.starts_with(&command.target) && !is_covered(command, path)
 }
 
-/// Whether a path is no part of the target folder.
+/// Returns whether a path is outside the target folder.
 #[tactic(auto, unfolding(crate::specs::Answers::is_source))]
 fn is_source(command: &Command, path: &PathText) -> bool
     ensures { result ≡ is_source command.now path.now }
@@ -163,14 +164,15 @@ fn is_source(command: &Command, path: &PathText) -> bool
     !path.starts_with(&command.target)
 }
 
-/// The first path that no unit covers.
+/// Returns the first path that is in the target folder but in no folder of a reached unit, if there
+/// is one.
 fn first_foreign<'a>(command: &Command, paths: &'a [PathText]) -> Option<&'a PathText>
     ensures { option_map (λ path. path.now) result ≡ find (is_foreign command.now) paths.now }
 {
     paths.iter().find(|path| is_foreign(command, *path))
 }
 
-/// Adds the paths that are no part of the target folder.
+/// Adds the paths outside the target folder.
 fn push_sources(
     inputs: &mut Items<InputName>,
     command: &Command,
@@ -196,8 +198,10 @@ fn push_variables(inputs: &mut Items<InputName>, names: Items<Text>) -> Result<(
     Ok(())
 }
 
-/// The inputs: the paths that are no part of the target folder, and the variables. ForeignInput where a path
-/// of the target folder is covered by no unit.
+/// Returns the inputs: the paths outside the target folder, and the variables.
+///
+/// Errors: `ForeignInput`, if a path is in the target folder but in no folder of a reached unit;
+/// `OutOfMemory`.
 pub(crate) fn inputs_of(
     alloc: Global,
     command: &Command,
@@ -215,7 +219,7 @@ pub(crate) fn inputs_of(
     Ok(inputs)
 }
 
-/// The names that pairs set.
+/// Returns the names that pairs set.
 fn names_set(alloc: Global, pairs: &[(Text, Text)]) -> Result<Mentions, AllocError>
     ensures { IfOk result (λ names. names ≡ mentioned_all [] (map (λ pair. pair.0) pairs.now)) }
 {
@@ -226,14 +230,14 @@ fn names_set(alloc: Global, pairs: &[(Text, Text)]) -> Result<Mentions, AllocErr
     Ok(names)
 }
 
-/// The names that a command sets.
+/// Returns the names that a command sets.
 fn names_of(alloc: Global, command: &Command) -> Result<Mentions, AllocError>
     ensures { IfOk result (λ names. names ≡ mentioned_all [] (map (λ (pair : List ℕ × List ℕ). pair.0) command.now.pairs)) }
 {
     names_set(alloc, command.pairs.as_slice())
 }
 
-/// The names that are not among others.
+/// Returns the names that are not among the others.
 fn names_but(alloc: Global, names: &[Text], others: &Mentions) -> Result<Items<Text>, AllocError>
     ensures { IfOk result (λ left. left ≡ filter (λ name. not (is_mentioned others.now name)) names.now) }
 {
@@ -246,7 +250,7 @@ fn names_but(alloc: Global, names: &[Text], others: &Mentions) -> Result<Items<T
     Ok(left)
 }
 
-/// The variables that a command does not set.
+/// Returns the variables that a command does not set.
 pub(crate) fn inherited(
     alloc: Global,
     command: &Command,

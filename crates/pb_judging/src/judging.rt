@@ -1,4 +1,4 @@
-//! The judgement of an answer.
+//! How a reply is judged.
 
 ghost use Rattle.std.specs.Prelude.{◌≡◌, ◌++◌, ◌∷◌, [], IsTrue, IfOk, OnOk, option_map};
 ghost use Rattle.std.specs.List.{flat_map, list_any};
@@ -18,18 +18,18 @@ use pb_record::InputName;
 use pb_unit::{Planned, What};
 use std::alloc::{AllocError, Global};
 
-/// The most bytes that a stream of a child, or dep-info, may have (our own choice).
+/// The greatest length of a child's stream, or of dep-info, in bytes (our own choice).
 const GREATEST_LENGTH: usize = 4_194_304;
 
-/// Whether bytes are more than a stream or dep-info may have.
+/// Returns whether bytes are too long for a stream or dep-info.
 fn is_too_long(bytes: &Bytes) -> bool
     ensures { result ≡ is_too_long bytes.now }
 {
     bytes.as_slice().len() > GREATEST_LENGTH
 }
 
-/// The first fault of how a child ended, or none: OutputTooLong where a stream is over 4,194,304 bytes, else
-/// Status where its status is not 0. It takes no memory.
+/// Returns the first fault of how a child ended, or none: `OutputTooLong`, if a stream has more
+/// than 4,194,304 bytes; else `Status`, if its status is not 0. It takes no memory.
 pub fn ended_fault(ended: &Ended) -> Option<UnitFault>
     ensures { result ≡ ended_fault ended.now }
 {
@@ -42,7 +42,7 @@ pub fn ended_fault(ended: &Ended) -> Option<UnitFault>
     None
 }
 
-/// What dep-info names.
+/// Returns the dep-info in some bytes.
 fn info_in(alloc: Global, bytes: &Bytes) -> Result<DepInfo, UnitFault>
     ensures { Gives unit_fault.OutOfMemory (λ info. info) result (info_in bytes.now) }
 {
@@ -53,7 +53,9 @@ fn info_in(alloc: Global, bytes: &Bytes) -> Result<DepInfo, UnitFault>
     }
 }
 
-/// The dep-info of a compile: it is there, not too long, and it reads.
+/// Returns the dep-info of a compile.
+///
+/// Errors: `NoDepInfo`, if there is none, it is too long, or it cannot be read; `OutOfMemory`.
 fn read_info(alloc: Global, dep_info: Option<&Bytes>) -> Result<DepInfo, UnitFault>
     ensures { Gives unit_fault.OutOfMemory (λ info. info) result (read_info (option_map (λ bytes. bytes.now) dep_info.entry)) }
 {
@@ -68,7 +70,7 @@ fn read_info(alloc: Global, dep_info: Option<&Bytes>) -> Result<DepInfo, UnitFau
     }
 }
 
-/// The inputs that dep-info names.
+/// Returns the inputs that dep-info lists.
 fn info_inputs<M: Meaning>(
     alloc: Global,
     meaning: &M,
@@ -82,7 +84,7 @@ fn info_inputs<M: Meaning>(
     inputs_of(alloc, command, paths, names)
 }
 
-/// What the answer of a compile gives.
+/// Returns what the reply of a compile yields.
 fn compile_answered<M: Meaning>(
     alloc: Global,
     meaning: &M,
@@ -117,7 +119,7 @@ fn push_path(
     }
 }
 
-/// The paths of the lines `rerun-if-changed`.
+/// Returns the paths of the lines `rerun-if-changed`.
 fn changed_paths(alloc: Global, said: &[Directive]) -> Result<Items<Text>, AllocError>
     ensures { IfOk result (λ paths. paths ≡ flat_map changed_path said.now) }
 {
@@ -145,7 +147,7 @@ fn push_variable(
     }
 }
 
-/// The names of the lines `rerun-if-env-changed`.
+/// Returns the names of the lines `rerun-if-env-changed`.
 fn changed_variables(alloc: Global, said: &[Directive]) -> Result<Items<Text>, AllocError>
     ensures { IfOk result (λ names. names ≡ flat_map changed_variable said.now) }
 {
@@ -156,7 +158,7 @@ fn changed_variables(alloc: Global, said: &[Directive]) -> Result<Items<Text>, A
     Ok(names)
 }
 
-/// The inputs of paths and variables that lines name.
+/// Returns the inputs for the paths and variables in lines.
 fn marked_inputs<M: Meaning>(
     alloc: Global,
     meaning: &M,
@@ -172,7 +174,7 @@ fn marked_inputs<M: Meaning>(
     inputs_of(alloc, command, paths, names)
 }
 
-/// The inputs of a whole folder.
+/// Returns the inputs for a whole folder.
 fn folder_inputs(
     alloc: Global,
     command: &Command,
@@ -185,7 +187,8 @@ fn folder_inputs(
     inputs_of(alloc, command, paths, Items::new(alloc))
 }
 
-/// The inputs of paths and variables that lines name, or of the whole folder where none names any.
+/// Returns the inputs for the paths and variables in lines, or for the whole folder if there are
+/// none.
 fn rerun_inputs<M: Meaning>(
     alloc: Global,
     meaning: &M,
@@ -205,7 +208,7 @@ fn rerun_inputs<M: Meaning>(
     }
 }
 
-/// The inputs that the lines of a run name.
+/// Returns the inputs that the lines of a run declare.
 fn said_inputs<M: Meaning>(
     alloc: Global,
     meaning: &M,
@@ -227,14 +230,14 @@ fn said_inputs<M: Meaning>(
     )
 }
 
-/// Whether a line tells of an error.
+/// Returns whether a line reports an error.
 fn is_error(directive: &Directive) -> bool
     ensures { result ≡ is_error directive.now }
 {
     matches!(directive, Directive::Error(_))
 }
 
-/// What the lines of a run give, each by itself.
+/// Returns the directives in the lines of a run.
 fn lines_in(alloc: Global, ended: &Ended) -> Result<Items<Directive>, UnitFault>
     ensures { Gives unit_fault.OutOfMemory (λ said. said) result (lifted unit_fault.Directive (directives_of ended.now.stdout)) }
 {
@@ -245,14 +248,14 @@ fn lines_in(alloc: Global, ended: &Ended) -> Result<Items<Directive>, UnitFault>
     }
 }
 
-/// Whether one of some lines tells of an error.
+/// Returns whether one of these lines reports an error.
 fn tells_error(said: &[Directive]) -> bool
     ensures { result ≡ list_any is_error said.now }
 {
     said.iter().any(is_error)
 }
 
-/// Lines, unless one of them tells of an error.
+/// Returns the lines, unless one of them reports an error.
 fn unless_error(said: Items<Directive>) -> Result<Items<Directive>, UnitFault>
     ensures { result ≡ unless_error said }
 {
@@ -262,7 +265,7 @@ fn unless_error(said: Items<Directive>) -> Result<Items<Directive>, UnitFault>
     Ok(said)
 }
 
-/// What the lines of a run give, unless one tells of an error.
+/// Returns the directives of a run, unless one of them reports an error.
 fn said_in(alloc: Global, ended: &Ended) -> Result<Items<Directive>, UnitFault>
     ensures { Gives unit_fault.OutOfMemory (λ said. said) result (said_in ended.now) }
 {
@@ -270,7 +273,7 @@ fn said_in(alloc: Global, ended: &Ended) -> Result<Items<Directive>, UnitFault>
     unless_error(said)
 }
 
-/// What the answer of a run gives.
+/// Returns what the reply of a run yields.
 fn run_answered<M: Meaning>(
     alloc: Global,
     meaning: &M,
@@ -288,7 +291,7 @@ fn run_answered<M: Meaning>(
     })
 }
 
-/// What an answer gives of which the end is no fault.
+/// Returns what a reply yields if its end is no fault.
 fn answered_by<M: Meaning>(
     alloc: Global,
     meaning: &M,
@@ -306,7 +309,7 @@ fn answered_by<M: Meaning>(
     }
 }
 
-/// What the answer of a unit's child gives, by a meaning of its paths.
+/// Returns what the reply of a unit's child yields, with the paths of this meaning.
 fn answered_with<M: Meaning>(
     alloc: Global,
     meaning: &M,
@@ -330,21 +333,24 @@ fn answered_with<M: Meaning>(
     }
 }
 
-/// Returns what the answer of a unit's child gives. `dep_info` is the content of the file at `dep_info_path` of
-/// `pb_project`, or none if no file is there; for a run it has no effect.
+/// Returns what the reply of a unit's child yields. `dep_info` is the content of the file at
+/// `dep_info_path` of `pb_project`, or none if no file is there; for a run it has no effect.
 ///
-/// The inputs of a compile are the paths and variables of its dep-info (The Cargo Book, Build Cache), without the
-/// variables that the command sets. Those of a run are the paths and variables of its lines `rerun-if-changed` and
-/// `rerun-if-env-changed`, and without any such line the folder of its package (The Cargo Book, Build Scripts). What
-/// lies in the folder of a unit that was reached is left out: that unit covers it. Paths mean what their texts say
-/// (`PathText::join`).
+/// The inputs of a compile are the paths and variables of its dep-info (The Cargo Book, Build
+/// Cache), without the variables that the command sets. Those of a run are the paths and variables
+/// of its lines `rerun-if-changed` and `rerun-if-env-changed`, or the folder of its package if it
+/// has no such line (The Cargo Book, Build Scripts). Paths in the folder of a reached unit are left
+/// out, since that unit covers them. A text means the path of `PathText::join`.
 ///
-/// Errors, the first of these:
+/// Errors, of which the first is returned:
 ///
 /// - `OutputTooLong` and `Status`, by `ended_fault`.
-/// - Of a run: `Directive` if a line of its output has a fault; `ScriptError` if one is `cargo::error`.
-/// - Of a compile: `NoDepInfo` if its dep-info is not there, does not read or is over 4,194,304 bytes.
-/// - `ForeignInput`, of the first input at or below the target folder that is in no folder of a unit that was reached.
+/// - For a run: `Directive`, if a line of its output has a fault; `ScriptError`, if a line is
+///   `cargo::error`.
+/// - For a compile: `NoDepInfo`, if its dep-info does not exist, cannot be read, or has more than
+///   4,194,304 bytes.
+/// - `ForeignInput`, with the first input at or below the target folder that is in no folder of a
+///   reached unit.
 /// - `OutOfMemory`.
 pub fn answered(
     alloc: Global,
@@ -359,8 +365,9 @@ pub fn answered(
     answered_with(alloc, &ByText {}, project, unit, command, ended, dep_info)
 }
 
-/// Returns what the answer of a unit's child gives, as `answered` does, and with its errors. Paths mean what the place
-/// says (`Place::path_from`): on a machine, a `..` behind a link leads to where the link leads.
+/// Returns what the reply of a unit's child yields, as `answered` does, and with its errors. A text
+/// means the path of the place (`Place::path_from`): on a machine, a `..` after a link leads to the
+/// folder that contains the link's target.
 pub fn answered_at<P: Place>(
     alloc: Global,
     place: &P,
@@ -385,7 +392,9 @@ pub fn answered_at<P: Place>(
     )
 }
 
-/// The names of the inputs of a unit, as its child's answer tells them: those of `answered`, with its faults.
+/// Returns the names of the inputs of a unit, from its child's reply.
+///
+/// Errors: those of `answered`.
 pub fn inputs(
     alloc: Global,
     project: &Project,

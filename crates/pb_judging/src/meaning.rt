@@ -1,4 +1,4 @@
-//! Which path a text means from a folder.
+//! The path of a text relative to a folder.
 
 ghost use Rattle.std.specs.Prelude.{Bool, IsTrue};
 ghost use Rattle.pb_data.specs.Gives.{Gives};
@@ -8,13 +8,13 @@ ghost use Rattle.pb_place.specs.declared.path.PathFault.TheVariants as path_faul
 use pb_place::{PathFault, PathText, Place};
 use std::alloc::Global;
 
-/// Says which path a text means from a folder.
+/// Determines the path of a text relative to a folder.
 pub(crate) trait Meaning {
-    /// Whether it is the normalised path, that of `PathText::join`. On a machine with links it may be another one, of
-    /// which contracts say nothing.
+    /// Whether it is the normalised path, that of `PathText::join`. On a machine with links it may
+    /// be another path, about which contracts promise nothing.
     ghost joins: { Bool };
 
-    /// Returns the path that a text means from a folder.
+    /// Returns the path of a text relative to a folder.
     ///
     /// Errors: those of `PathText::join`.
     fn path_from(&self, alloc: Global, folder: &PathText, text: &str) -> Result<PathText, PathFault>
@@ -22,7 +22,7 @@ pub(crate) trait Meaning {
             Gives path_fault.OutOfMemory (λ path. path) result (joined folder.now text.now) };
 }
 
-/// The meaning by the text alone.
+/// The path is determined by the text alone.
 #[derive(Drop)]
 pub(crate) struct ByText {}
 
@@ -41,10 +41,10 @@ impl Meaning for ByText {
     }
 }
 
-/// The meaning at a place.
+/// The path is determined by a place.
 #[derive(Drop)]
 pub(crate) struct ByPlace<'a, P> {
-    /// The place that is asked.
+    /// The place that determines it.
     pub(crate) place: &'a P,
 }
 

@@ -1,9 +1,9 @@
--- Texts that are parted at a byte, as the items of features are (The Cargo Book, Features).
+-- Texts that are split at a byte, as the items of features are (The Cargo Book, Features).
 use Rattle.std.specs.Prelude.{ℕ, ◌==◌, if◌then◌else◌, Option, Some, None, length}
 use Rattle.std.specs.List.{before_first, after_first, position_or_len}
 use Rattle.pb_manifest.specs.Values.{Text}
 
--- what stands before and after the first such byte, where there is one
+-- the texts before and after the first such byte, if there is one
 unfoldable pub parted : ℕ → Text → Option (Text × Text)
 parted mark text =
     if position_or_len (λ b. b == mark) text == length text then None

@@ -1,9 +1,9 @@
--- The keys that a rule names, as a manifest spells them.
+-- The keys that the rules name, as a manifest spells them.
 use Rattle.std.specs.Prelude.{ℕ, List, codes}
 use Rattle.pb_manifest.specs.declared.key.Key.{Key}
 use Rattle.pb_manifest.specs.declared.key.Key.TheVariants as key
 
--- a key as it is written
+-- the spelling of a key in a manifest
 unfoldable pub spelled : Key → List ℕ
 spelled key.Authors = codes "authors"
 spelled key.Autobins = codes "autobins"

@@ -10,7 +10,7 @@ is_alphanumeric b = (nat_le 97 b && nat_le b 122) || (nat_le 65 b && nat_le b 90
 unfoldable pub is_name_byte : ℕ → Bool
 is_name_byte b = is_alphanumeric b || b == 45 || b == 95
 
--- a name of the letters of package names, not empty
+-- a name with the letters of package names, not empty
 unfoldable pub is_name : List ℕ → Bool
 is_name text = not (length text == 0) && list_all is_name_byte text
 
@@ -18,7 +18,7 @@ is_name text = not (length text == 0) && list_all is_name_byte text
 unfoldable pub is_crate_name_byte : ℕ → Bool
 is_crate_name_byte b = is_alphanumeric b || b == 95
 
--- the name of a crate
+-- the name of a crate: such bytes, not empty
 unfoldable pub is_crate_name : List ℕ → Bool
 is_crate_name text = not (length text == 0) && list_all is_crate_name_byte text
 
@@ -26,16 +26,16 @@ is_crate_name text = not (length text == 0) && list_all is_crate_name_byte text
 unfoldable pub is_feature_byte : ℕ → Bool
 is_feature_byte b = is_alphanumeric b || b == 95 || b == 45 || b == 43 || b == 46
 
--- the name of a feature
+-- the name of a feature: a letter, a digit or `_`, followed by such bytes
 unfoldable pub is_feature_name : List ℕ → Bool
 is_feature_name [] = false
 is_feature_name (b ∷ bs) = is_crate_name_byte b && list_all is_feature_byte bs
 
--- the text holds byte 0
+-- the text contains byte 0
 unfoldable pub has_zero : List ℕ → Bool
 has_zero text = list_any (λ b. b == 0) text
 
--- `_` for `-`
+-- a byte, with `_` for `-`
 abbrev pub underscored_byte : ℕ → ℕ
 underscored_byte b = if b == 45 then 95 else b
 

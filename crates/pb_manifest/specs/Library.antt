@@ -12,7 +12,7 @@ crate_type_text Lib = codes "lib"
 crate_type_text Rlib = codes "rlib"
 crate_type_text Bin = codes "bin"
 
--- the crate types of a library, in the manifest's order; `lib` where none is written
+-- the crate types of a library, in the manifest's order; `lib` if none is written
 abbrev pub crate_type_texts : List CrateType → List (List ℕ)
 crate_type_texts [] = codes "lib" ∷ []
 crate_type_texts (t ∷ ts) = map crate_type_text (t ∷ ts)

@@ -1,4 +1,4 @@
--- What a reading answers: the value, or the first fault.
+-- What a reading returns: the value, or the first fault.
 use Rattle.std.specs.Prelude.{ℕ, List, Result}
 use Rattle.pb_data.specs.Gives as answers
 use Rattle.pb_manifest.specs.declared.fault.ManifestFault.{ManifestFault}

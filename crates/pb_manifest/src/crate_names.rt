@@ -9,7 +9,7 @@ use crate::target::Library;
 use pb_data::{Text, TryCopy};
 use std::alloc::{AllocError, Global};
 
-/// What stands before and after the first `-`.
+/// Returns the texts before and after the first `-`, if there is one.
 #[tactic(auto, unfolding(crate::specs::Features::parted))]
 fn parted_at_dash(text: &str) -> Option<(&str, &str)>
     ensures { option_map (λ x. (x.0.now, x.1.now)) result ≡ parted 45 text.now }
@@ -17,8 +17,10 @@ fn parted_at_dash(text: &str) -> Option<(&str, &str)>
     text.split_once('-')
 }
 
-/// The name of a package or of a binary as its crate's: `_` for each `-` (The Cargo Book, Cargo
-/// Targets). The one fault is want of memory.
+/// Returns the crate name of a package or of a binary, with `_` for each `-` (The Cargo Book, Cargo
+/// Targets).
+///
+/// Errors: out of memory only.
 pub fn crate_name(alloc: Global, name: &str) -> Result<Text, AllocError>
     ensures { IfOk result (λ made. made ≡ underscored name.now) }
 {
@@ -33,8 +35,10 @@ pub fn crate_name(alloc: Global, name: &str) -> Result<Text, AllocError>
     Ok(Text::new(made))
 }
 
-/// The name of a package's library, which is its crate's name too: the one that `[lib]` writes, else
-/// the package's as a crate's (The Cargo Book, Cargo Targets). The one fault is want of memory.
+/// Returns the name of a package's library, which is also its crate's name: the one that `[lib]`
+/// writes, else the package's name as a crate name (The Cargo Book, Cargo Targets).
+///
+/// Errors: out of memory only.
 pub fn library_name(
     alloc: Global,
     package: &str,

@@ -1,21 +1,22 @@
-//! What the tables of dependencies say (The Cargo Book, Specifying Dependencies and Workspaces).
+//! The tables of dependencies (The Cargo Book, Specifying Dependencies and Workspaces).
 
 use crate::version::Requirement;
 use crate::written_path::WrittenPath;
 use pb_data::{Items, Text, TryCopy};
 use std::alloc::{AllocError, Global};
 
-/// The package that an entry with a path asks for.
+/// The package that an entry with a path requests.
 #[derive(Drop)]
 pub struct PathSource {
-    /// The package's folder: from the folder of the manifest, and in `[workspace.dependencies]`
-    /// that of the workspace's root.
+    /// The package's folder, relative to the manifest's folder, or in `[workspace.dependencies]`
+    /// relative to the workspace's root.
     pub path: WrittenPath,
-    /// The package's name. None: it is the entry's key.
+    /// The package's name. None means the entry's key.
     pub package: Option<Text>,
-    /// What the package's version has to match. None: any version serves.
+    /// The requirement on the package's version. None means any version.
     pub version: Option<Requirement>,
-    /// Whether the package's feature `default` is asked for: unless `default-features = false`.
+    /// Whether the package's feature `default` is requested. True unless `default-features =
+    /// false`.
     pub default_features: bool,
 }
 
@@ -33,17 +34,17 @@ impl TryCopy for PathSource {
     }
 }
 
-/// Where a package's own dependency comes from.
+/// The source of a package's own dependency.
 #[derive(Drop)]
 pub enum Source {
     /// A folder.
     Path(PathSource),
-    /// `workspace = true`: the entry of this key in `[workspace.dependencies]`. The entry's
-    /// `path`, `package` and `version` have no effect beside it.
+    /// `workspace = true`: the entry with this key in `[workspace.dependencies]`. The entry's
+    /// `path`, `package` and `version` have no effect next to it.
     Workspace {
-        /// Whether `default-features = true` stands beside it, which asks for the package's feature
-        /// `default` where that entry does not. `default-features = false` has no effect beside
-        /// it: our own choice.
+        /// Whether `default-features = true` is written next to it, which requests the package's
+        /// feature `default` even if that entry does not. `default-features = false` has no effect:
+        /// our own choice.
         default_features: bool,
     },
 }
@@ -51,33 +52,33 @@ pub enum Source {
 /// An entry of `[dependencies]` or `[build-dependencies]`.
 #[derive(Drop)]
 pub struct Dependency {
-    /// The name by which the manifest knows it: the letters of a package's name.
+    /// The name that the manifest uses for it, with the letters of package names.
     pub key: Text,
-    /// Where it comes from.
+    /// The source of the dependency.
     pub source: Source,
-    /// False where it is not written.
+    /// False if it is not written.
     pub optional: bool,
-    /// The features that it asks for, in the manifest's order. Beside `workspace = true` they are
+    /// The features that it requests, in the manifest's order. With `workspace = true` they are
     /// added to those of the workspace's entry.
     pub features: Items<Text>,
 }
 
-/// Where an entry of `[workspace.dependencies]` comes from.
+/// The source of an entry of `[workspace.dependencies]`.
 #[derive(Drop)]
 pub enum WorkspaceSource {
     /// A folder.
     Path(PathSource),
-    /// `git`, `registry` or no path. It is refused only where a package takes the entry.
+    /// `git`, `registry` or no path. It is refused only if a package inherits the entry.
     Unsupported,
 }
 
 /// An entry of `[workspace.dependencies]`. Its `optional` has no effect.
 #[derive(Drop)]
 pub struct WorkspaceDependency {
-    /// The name by which packages take it: the letters of a package's name.
+    /// The name by which packages inherit it, with the letters of package names.
     pub key: Text,
-    /// Where it comes from.
+    /// The source of the dependency.
     pub source: WorkspaceSource,
-    /// The features that it asks for, in the manifest's order.
+    /// The features that it requests, in the manifest's order.
     pub features: Items<Text>,
 }

@@ -1,9 +1,9 @@
-//! What a package may take from its workspace (The Cargo Book, Workspaces).
+//! Values that a package may inherit from its workspace (The Cargo Book, Workspaces).
 
-/// A value that is there: written in the manifest, or taken from the workspace.
+/// A required value: written in the manifest, or inherited from the workspace.
 #[derive(Drop)]
 pub enum Inherited<T> {
-    /// The value stands here.
+    /// The value is written.
     Written(T),
     /// `{ workspace = true }`.
     Workspace,
@@ -12,7 +12,7 @@ pub enum Inherited<T> {
 /// A value that may be left out.
 #[derive(Drop)]
 pub enum Inheritable<T> {
-    /// The value stands here.
+    /// The value is written.
     Written(T),
     /// `{ workspace = true }`.
     Workspace,

@@ -1,9 +1,9 @@
-//! The keys that a rule names.
+//! The keys that the rules name.
 
 ghost use Rattle.std.specs.Prelude.{◌≡◌};
 ghost use Rattle.pb_manifest.specs.Keys.{spelled};
 
-/// A key that a rule of the reader names. A key that is not here is read by no rule.
+/// A key that a rule of the reader names. No rule reads any other key.
 #[derive(Clone, Copy, Debug, PartialEq, Eq)]
 pub enum Key {
     /// `authors`.
@@ -107,7 +107,7 @@ pub enum Key {
 }
 
 impl Key {
-    /// The key as a manifest spells it, as `default-features`.
+    /// Returns the key as a manifest spells it, such as `default-features`.
     #[tactic(auto, unfolding(crate::specs::Keys::spelled))]
     pub fn name(self) -> &'static str
         ensures { result.now ≡ spelled self }

@@ -1,8 +1,8 @@
-//! A law of the definitions. The function does nothing: it states what its contract says.
+//! A law about the definitions. The function does nothing; its contract is the law.
 
 ghost use Rattle.pb_manifest.specs.Laws.{DefaultLibraryName};
 
-/// A library without a name of its own has its package's, with `_` for each `-`.
+/// A library without a name of its own has its package's name, with `_` for each `-`.
 #[tactic(auto, unfolding(crate::specs::Letters::underscored))]
 pub fn default_library_name()
     ensures { DefaultLibraryName }

@@ -4,7 +4,7 @@ ghost use Rattle.std.specs.Prelude.{◌≡◌};
 ghost use Rattle.std.specs.List.{list_all};
 ghost use Rattle.pb_manifest.specs.Letters.{is_name_byte, is_name, is_crate_name_byte, is_crate_name, is_feature_byte, is_feature_name, has_zero};
 
-/// Whether a byte may stand in a package's name.
+/// Returns whether a byte is allowed in a package's name.
 #[tactic(auto, unfolding(crate::specs::Letters::is_name_byte))]
 fn is_name_byte(byte: u8) -> bool
     ensures { result ≡ is_name_byte byte }
@@ -12,7 +12,7 @@ fn is_name_byte(byte: u8) -> bool
     byte.is_ascii_alphanumeric() || byte == b'-' || byte == b'_'
 }
 
-/// Whether a byte may stand in a crate's name.
+/// Returns whether a byte is allowed in a crate's name.
 #[tactic(auto, unfolding(crate::specs::Letters::is_crate_name_byte))]
 fn is_crate_name_byte(byte: u8) -> bool
     ensures { result ≡ is_crate_name_byte byte }
@@ -20,7 +20,7 @@ fn is_crate_name_byte(byte: u8) -> bool
     byte.is_ascii_alphanumeric() || byte == b'_'
 }
 
-/// Whether a byte may stand in a feature's name after the first byte.
+/// Returns whether a byte is allowed in a feature's name after the first byte.
 #[tactic(auto, unfolding(crate::specs::Letters::is_feature_byte))]
 fn is_feature_byte(byte: u8) -> bool
     ensures { result ≡ is_feature_byte byte }
@@ -46,8 +46,8 @@ fn are_feature_bytes(bytes: &[u8]) -> bool
     bytes.iter().all(|byte| is_feature_byte(*byte))
 }
 
-/// Whether a text has the letters of a package's name: ASCII letters, digits, `-` and `_`, and at
-/// least one.
+/// Returns whether a text is a non-empty name of ASCII letters, digits, `-` and `_`, as packages
+/// have.
 #[tactic(auto, unfolding(crate::specs::Letters::is_name))]
 pub fn is_name(text: &str) -> bool
     ensures { result ≡ is_name text.now }
@@ -55,8 +55,7 @@ pub fn is_name(text: &str) -> bool
     !text.is_empty() && are_name_bytes(text.as_bytes())
 }
 
-/// Whether a text has the letters of a crate's name: ASCII letters, digits and `_`, and at least
-/// one.
+/// Returns whether a text is a non-empty name of ASCII letters, digits and `_`, as crates have.
 #[tactic(auto, unfolding(crate::specs::Letters::is_crate_name))]
 pub fn is_crate_name(text: &str) -> bool
     ensures { result ≡ is_crate_name text.now }
@@ -64,8 +63,8 @@ pub fn is_crate_name(text: &str) -> bool
     !text.is_empty() && are_crate_name_bytes(text.as_bytes())
 }
 
-/// Whether a text has the letters of a feature's name: ASCII letters, digits and `_`, after the
-/// first also `-`, `+` and `.`, and at least one.
+/// Returns whether a text is a non-empty name of ASCII letters, digits and `_`, after the first
+/// byte also `-`, `+` and `.`, as features have.
 #[tactic(auto, unfolding(crate::specs::Letters::is_feature_name))]
 pub fn is_feature_name(text: &str) -> bool
     ensures { result ≡ is_feature_name text.now }
@@ -76,7 +75,7 @@ pub fn is_feature_name(text: &str) -> bool
     }
 }
 
-/// Whether a text holds byte 0.
+/// Returns whether a text contains byte 0.
 #[tactic(auto, unfolding(crate::specs::Letters::has_zero))]
 pub fn has_zero(text: &str) -> bool
     ensures { result ≡ has_zero text.now }

@@ -1,7 +1,7 @@
-//! What a manifest says, by The Cargo Book: its types, and why one is refused.
+//! The contents of a manifest, by The Cargo Book: its types, and why a manifest is refused.
 //!
-//! `pb_manifest_reader` reads one. What a type's values may be, its fields say; a version, a
-//! requirement and a path are kept by their types.
+//! `pb_manifest_reader` reads a manifest. The fields of each type describe their possible values.
+//! The types of versions, requirements and paths guarantee that these are valid.
 #![tactic(auto)]
 
 mod crate_names;

@@ -1,4 +1,4 @@
-//! What a manifest says.
+//! The contents of a manifest.
 
 use crate::dependency::{Dependency, WorkspaceDependency};
 use crate::feature::Feature;
@@ -13,25 +13,25 @@ use pb_data::{Items, Text};
 /// relative to the workspace's root.
 #[derive(Drop)]
 pub struct WorkspacePackage {
-    /// `authors`. None where it is not written.
+    /// `authors`. None if it is not written.
     pub authors: Option<Items<Text>>,
-    /// `description`. None where it is not written.
+    /// `description`. None if it is not written.
     pub description: Option<Text>,
-    /// `edition`. None where it is not written.
+    /// `edition`. None if it is not written.
     pub edition: Option<Edition>,
-    /// `homepage`. None where it is not written.
+    /// `homepage`. None if it is not written.
     pub homepage: Option<Text>,
-    /// `license`. None where it is not written.
+    /// `license`. None if it is not written.
     pub license: Option<Text>,
-    /// `license-file`. None where it is not written.
+    /// `license-file`. None if it is not written.
     pub license_file: Option<Text>,
-    /// `readme`. None where it is not written.
+    /// `readme`. None if it is not written.
     pub readme: Option<Readme>,
-    /// `repository`. None where it is not written.
+    /// `repository`. None if it is not written.
     pub repository: Option<Text>,
-    /// `rust-version`. None where it is not written.
+    /// `rust-version`. None if it is not written.
     pub rust_version: Option<Text>,
-    /// `version`. None where it is not written.
+    /// `version`. None if it is not written.
     pub version: Option<Version>,
 }
 
@@ -40,11 +40,11 @@ pub struct WorkspacePackage {
 pub struct WorkspaceTable {
     /// Paths and globs, in the manifest's order.
     pub members: Items<WrittenPath>,
-    /// Paths and globs, in the manifest's order. None where it is not written.
+    /// Paths and globs, in the manifest's order. None if it is not written.
     pub default_members: Option<Items<WrittenPath>>,
     /// Paths, in the manifest's order.
     pub exclude: Items<WrittenPath>,
-    /// None where it is not written.
+    /// None if it is not written.
     pub package: Option<WorkspacePackage>,
     /// `[workspace.dependencies]`, in byte order of their keys.
     pub dependencies: Items<WorkspaceDependency>,
@@ -53,9 +53,9 @@ pub struct WorkspaceTable {
 /// A manifest. A table that is not written has no entries.
 #[derive(Drop)]
 pub struct Manifest {
-    /// None in a manifest that has `[workspace]` alone.
+    /// None if the manifest has only `[workspace]`.
     pub package: Option<Package>,
-    /// `[lib]`, where it is written.
+    /// `[lib]`, if it is written.
     pub library: Option<Library>,
     /// `[[bin]]`, in the manifest's order.
     pub binaries: Items<Binary>,
@@ -63,14 +63,13 @@ pub struct Manifest {
     pub dependencies: Items<Dependency>,
     /// In byte order of their keys.
     pub build_dependencies: Items<Dependency>,
-    /// The keys of `[dev-dependencies]` in byte order, of any letters: a feature may name one, and
-    /// then does nothing by it. Of the table nothing else is read, and where it is no table there
-    /// are none.
+    /// The keys of `[dev-dependencies]` in byte order, with any letters. A feature may name one of
+    /// them, without effect. Nothing else of this table is read; if it is no table, there are none.
     pub dev_dependencies: Items<Text>,
     /// In byte order of their names.
     pub features: Items<Feature>,
     /// In byte order of their names.
     pub profiles: Items<Profile>,
-    /// `[workspace]`, where it is written.
+    /// `[workspace]`, if it is written.
     pub workspace: Option<WorkspaceTable>,
 }

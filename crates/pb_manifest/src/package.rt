@@ -1,4 +1,4 @@
-//! What `[package]` says.
+//! The table `[package]`.
 
 use crate::inherited::{Inheritable, Inherited};
 use crate::version::Version;
@@ -19,23 +19,23 @@ pub enum Edition {
     E2024,
 }
 
-/// What `build` says of the build script (The Cargo Book, Manifest Format).
+/// The value at `build`, for the build script (The Cargo Book, Manifest Format).
 #[derive(Drop)]
 pub enum Build {
-    /// Nothing is written: `build.rs` is the script where that file is there.
+    /// Nothing is written: `build.rs` is the script if that file exists.
     Discovered,
     /// `build = true`: `build.rs` is the script.
     Standard,
     /// `build = false`: there is no script.
     Never,
-    /// The script's path, from the package's folder.
+    /// The script's path, relative to the package's folder.
     At(WrittenPath),
 }
 
-/// What `readme` says.
+/// The value at `readme`.
 #[derive(Drop)]
 pub enum Readme {
-    /// `readme = true`, which stands for `README.md`.
+    /// `readme = true`, which means `README.md`.
     Standard,
     /// `readme = false`: there is none.
     Never,
@@ -56,19 +56,20 @@ impl TryCopy for Readme {
     }
 }
 
-/// The table `[package]`: the keys of The Cargo Book's chapter Manifest Format that a build uses.
+/// The table `[package]`: its keys in The Cargo Book, chapter Manifest Format, as far as a build
+/// uses them.
 #[derive(Drop)]
 pub struct Package {
     /// In the manifest's order.
     pub authors: Inheritable<Items<Text>>,
-    /// Whether binaries are discovered. True where it is not written: our own choice, in every
+    /// Whether binaries are discovered. True if it is not written: our own choice, in every
     /// edition.
     pub autobins: bool,
-    /// What `build` says.
+    /// The value at `build`.
     pub build: Build,
     /// `description`.
     pub description: Inheritable<Text>,
-    /// 2015 where it is not written.
+    /// 2015 if it is not written.
     pub edition: Inherited<Edition>,
     /// `homepage`.
     pub homepage: Inheritable<Text>,
@@ -76,16 +77,16 @@ pub struct Package {
     pub license: Inheritable<Text>,
     /// Any text.
     pub license_file: Inheritable<Text>,
-    /// Any text, also an empty one. None where it is not written.
+    /// Any text, also an empty one. None if it is not written.
     pub links: Option<Text>,
     /// ASCII letters, digits, `-` and `_`, not empty.
     pub name: Text,
-    /// Where it is not written, it is discovered.
+    /// If it is not written, the README is discovered.
     pub readme: Inheritable<Readme>,
     /// `repository`.
     pub repository: Inheritable<Text>,
     /// Any text.
     pub rust_version: Inheritable<Text>,
-    /// 0.0.0 where it is not written.
+    /// 0.0.0 if it is not written.
     pub version: Inherited<Version>,
 }

@@ -1,4 +1,4 @@
-//! What `[profile]` says (The Cargo Book, Profiles).
+//! The table `[profile]` (The Cargo Book, Profiles).
 
 use pb_data::{Items, Text};
 
@@ -67,7 +67,7 @@ pub enum Strip {
     Symbols,
 }
 
-/// The keys that a profile or an override sets. None where one is not written.
+/// The keys that a profile or an override sets. A key that is not written is none.
 #[derive(Clone, Copy, PartialEq, Eq)]
 pub struct ProfileKeys {
     /// From 1 to 65,536.
@@ -76,15 +76,15 @@ pub struct ProfileKeys {
     pub debug: Option<DebugInfo>,
     /// `debug-assertions`.
     pub debug_assertions: Option<bool>,
-    /// An override may not set it: this is told where the profile is used.
+    /// An override may not set it, which is reported when the profile is used.
     pub lto: Option<Lto>,
     /// `opt-level`.
     pub opt_level: Option<OptLevel>,
     /// `overflow-checks`.
     pub overflow_checks: Option<bool>,
-    /// An override may not set it: this is told where the profile is used.
+    /// An override may not set it, which is reported when the profile is used.
     pub panic: Option<Panic>,
-    /// An override may not set it: this is told where the profile is used.
+    /// An override may not set it, which is reported when the profile is used.
     pub rpath: Option<bool>,
     /// `strip`.
     pub strip: Option<Strip>,
@@ -95,23 +95,23 @@ pub struct ProfileKeys {
 pub struct ProfileOverride {
     /// A package's name, or `*` for every package that is no member.
     pub name: Text,
-    /// What it sets.
+    /// The keys that it sets.
     pub keys: ProfileKeys,
 }
 
 /// A table of `[profile]`.
 #[derive(Drop)]
 pub struct Profile {
-    /// `dev`, `release`, `test`, `bench`, or a custom profile's: the letters of a package's name,
-    /// not `debug`.
+    /// `dev`, `release`, `test`, `bench`, or a custom profile's name, which has the letters of
+    /// package names and is not `debug`.
     pub name: Text,
-    /// What it sets.
+    /// The keys that it sets.
     pub keys: ProfileKeys,
-    /// There for each custom profile. No effect in a built-in one: our own choice.
+    /// Present in each custom profile. It has no effect in a built-in one: our own choice.
     pub inherits: Option<Text>,
     /// In byte order of their names.
     pub packages: Items<ProfileOverride>,
-    /// What `build-override` sets, for build scripts and what they depend on. None where it is not
-    /// written.
+    /// The keys that `build-override` sets, for build scripts and what they depend on. None if it
+    /// is not written.
     pub build_override: Option<ProfileKeys>,
 }

@@ -1,4 +1,4 @@
-//! How editions and crate types are spelled, in manifests and as words of the compiler.
+//! How editions and crate types are spelled, in manifests and in arguments of the compiler.
 
 ghost use Rattle.std.specs.Prelude.{◌≡◌, IfOk, map};
 ghost use Rattle.pb_manifest.specs.Package.{edition_text};
@@ -9,7 +9,7 @@ use crate::target::CrateType;
 use std::alloc::{AllocError, Global};
 
 impl Edition {
-    /// The edition as a manifest and `--edition` spell it, as `2021`.
+    /// Returns the edition as a manifest and `--edition` spell it, such as `2021`.
     pub fn text(self) -> &'static str
         ensures { result.now ≡ edition_text self }
     {
@@ -23,7 +23,7 @@ impl Edition {
 }
 
 impl CrateType {
-    /// The crate type as a manifest and `--crate-type` spell it, as `rlib`.
+    /// Returns the crate type as a manifest and `--crate-type` spell it, such as `rlib`.
     pub fn text(self) -> &'static str
         ensures { result.now ≡ crate_type_text self }
     {
@@ -35,7 +35,7 @@ impl CrateType {
     }
 }
 
-/// Crate types as they are spelled.
+/// Returns the spellings of crate types.
 fn texts_of(alloc: Global, crate_types: &[CrateType]) -> Result<Vec<&'static str>, AllocError>
     ensures { IfOk result (λ texts. map (λ t. t.now) texts.items ≡ map crate_type_text crate_types.now) }
 {
@@ -46,8 +46,10 @@ fn texts_of(alloc: Global, crate_types: &[CrateType]) -> Result<Vec<&'static str
     Ok(texts)
 }
 
-/// The crate types of a library as they are spelled, in the manifest's order: `lib` alone where
-/// none is written (The Cargo Book, Cargo Targets). The one fault is want of memory.
+/// Returns the spellings of a library's crate types, in the manifest's order; only `lib` if none is
+/// written (The Cargo Book, Cargo Targets).
+///
+/// Errors: out of memory only.
 pub fn crate_type_texts(
     alloc: Global,
     crate_types: &[CrateType],

@@ -1,9 +1,9 @@
-//! What `[lib]` and `[[bin]]` say.
+//! The tables `[lib]` and `[[bin]]`.
 
 use crate::written_path::WrittenPath;
 use pb_data::{Items, Text};
 
-/// A crate type that is served.
+/// A supported crate type.
 #[derive(Clone, Copy, Debug, PartialEq, Eq)]
 pub enum CrateType {
     /// `"lib"`.
@@ -17,12 +17,12 @@ pub enum CrateType {
 /// The table `[lib]`.
 #[derive(Drop)]
 pub struct Library {
-    /// In the manifest's order. Empty where none is written, which stands for `lib`.
+    /// In the manifest's order. Empty if none is written, which means `lib`.
     pub crate_types: Items<CrateType>,
-    /// The crate's name: ASCII letters, digits and `_`, not empty. None: the package's name with
-    /// `-` as `_`.
+    /// The crate's name: ASCII letters, digits and `_`, not empty. None means the package's name
+    /// with `_` for each `-`.
     pub name: Option<Text>,
-    /// From the package's folder. None: `src/lib.rs`.
+    /// Relative to the package's folder. None means `src/lib.rs`.
     pub path: Option<WrittenPath>,
 }
 
@@ -31,8 +31,8 @@ pub struct Library {
 pub struct Binary {
     /// ASCII letters, digits, `-` and `_`, not empty.
     pub name: Text,
-    /// From the package's folder. None: it is looked for.
+    /// Relative to the package's folder. None means that the file is looked for.
     pub path: Option<WrittenPath>,
-    /// The features without which the binary is not built.
+    /// The features that the binary requires.
     pub required_features: Items<Text>,
 }

@@ -11,8 +11,7 @@ use pb_data::{Text, TryCopy};
 use std::alloc::{AllocError, Global};
 use std::marker::Model;
 
-/// A version of Semantic Versioning 2.0.0. Contracts see its text, which is one that `semver`
-/// reads.
+/// A version of Semantic Versioning 2.0.0. Contracts see its text, which `semver` accepts.
 #[derive(Drop)]
 pub struct Version {
     text: Text,
@@ -32,7 +31,9 @@ impl Model for Version {
 }
 
 impl Version {
-    /// Reads a version. `BadVersion` comes exactly where `semver` refuses the text.
+    /// Returns the version of a text.
+    ///
+    /// Errors: `BadVersion`, if and only if `semver` refuses the text; `OutOfMemory`.
     #[tactic(auto, unfolding(crate::specs::Versions::is_version))]
     pub fn read(alloc: Global, text: Text) -> Result<Version, ManifestFault>
         ensures { Gives result (version_in text) }
@@ -49,14 +50,15 @@ impl Version {
         }
     }
 
-    /// The version as the manifest spells it.
+    /// Returns the version as the manifest spells it.
     pub fn text(&self) -> &Text
         ensures { result.now ≡ self.now }
     {
         &self.text
     }
 
-    /// What `semver` reads in it: the numbers, the pre-release and the build metadata.
+    /// Returns the version as `semver` reads it: the numbers, the pre-release and the build
+    /// metadata.
     pub fn number(&self) -> &semver::Version
         ensures { ∥ version_parts self.now ≡ Ok (parts_of result.now) ∥₁ }
     {
@@ -72,7 +74,7 @@ impl TryCopy for Version {
     }
 }
 
-/// A version requirement. Contracts see its text, which is one that `semver` reads.
+/// A version requirement. Contracts see its text, which `semver` accepts.
 #[derive(Drop)]
 pub struct Requirement {
     text: Text,
@@ -92,7 +94,9 @@ impl Model for Requirement {
 }
 
 impl Requirement {
-    /// Reads a requirement. `BadVersion` comes exactly where `semver` refuses the text.
+    /// Returns the requirement of a text.
+    ///
+    /// Errors: `BadVersion`, if and only if `semver` refuses the text; `OutOfMemory`.
     #[tactic(auto, unfolding(crate::specs::Versions::is_requirement))]
     pub fn read(alloc: Global, text: Text) -> Result<Requirement, ManifestFault>
         ensures { Gives result (requirement_in text) }
@@ -109,21 +113,22 @@ impl Requirement {
         }
     }
 
-    /// The requirement as the manifest spells it.
+    /// Returns the requirement as the manifest spells it.
     pub fn text(&self) -> &Text
         ensures { result.now ≡ self.now }
     {
         &self.text
     }
 
-    /// What `semver` reads in it: the comparators, which a version has to match.
+    /// Returns the requirement as `semver` reads it: the comparators, all of which a version must
+    /// match.
     pub fn parsed(&self) -> &semver::VersionReq
         ensures { ∥ req_of self.now ≡ Ok (map comparator_view result.now.comparators.items) ∥₁ }
     {
         &self.parsed
     }
 
-    /// Whether a version matches the requirement, as `semver` decides it (The Cargo Book,
+    /// Returns whether a version matches the requirement, as `semver` decides it (The Cargo Book,
     /// Specifying Dependencies).
     pub fn matches(&self, version: &Version) -> bool
         ensures { result ≡ matches self.now version.now }
@@ -134,7 +139,7 @@ impl Requirement {
 
 impl TryCopy for Requirement {
     fn copy(&self, alloc: Global) -> Result<Requirement, AllocError> {
-        // The text was read once, so only want of memory can keep it from being read again.
+        // This text has been read before, so reading it again can only run out of memory.
         match Requirement::read(alloc, self.text.copy(alloc)?) {
             Ok(made) => Ok(made),
             Err(_) => Err(AllocError),

@@ -8,7 +8,7 @@ use pb_data::{Text, TryCopy};
 use std::alloc::{AllocError, Global};
 use std::marker::Model;
 
-/// A path as a manifest writes it: any text without byte 0, also an empty one. Contracts see the
+/// A path as a manifest writes it: any text without byte 0, even an empty one. Contracts see the
 /// text.
 #[derive(Drop)]
 pub struct WrittenPath {
@@ -27,7 +27,8 @@ impl Model for WrittenPath {
 }
 
 impl WrittenPath {
-    /// The path of a text, which takes no memory. None exactly where the text holds byte 0.
+    /// Returns the path of a text, or none if and only if the text contains byte 0. It takes no
+    /// memory.
     pub fn new(text: Text) -> Option<WrittenPath>
         ensures { result ≡ (if has_zero text then None else Some text) }
     {
@@ -38,7 +39,7 @@ impl WrittenPath {
         }
     }
 
-    /// The path as the manifest writes it.
+    /// Returns the path as the manifest writes it.
     pub fn as_str(&self) -> &str
         ensures text { result.now ≡ self.now }
         ensures whole { has_zero self.now ≡ false }

@@ -1,4 +1,5 @@
--- What the entries of `[dependencies]`, `[build-dependencies]` and `[workspace.dependencies]` say, key by key (The Cargo Book, Specifying Dependencies, Workspaces).
+-- The meaning of the entries of `[dependencies]`, `[build-dependencies]` and `[workspace.dependencies]`, key by key
+-- (The Cargo Book, Specifying Dependencies, Workspaces).
 use Rattle.std.specs.Prelude.{◌≡◌, ◌⊎◌, ℕ, Bool, true, false, List, [], ◌∷◌, codes, Option, Some, None}
 use Rattle.std.specs.List.{AllByRecursion}
 use Rattle.toml.specs.Data.{Data, string, boolean, Members, get_member}
@@ -13,7 +14,7 @@ use Rattle.pb_manifest.specs.declared.dependency.WorkspaceSource.{WorkspaceSourc
 use Rattle.pb_manifest.specs.declared.dependency.WorkspaceSource.TheVariants as shared
 use Rattle.pb_manifest_laws.specs.Values.{IsPath, Holds, HoldsValid, HoldsOr, Lists, OfTable}
 
--- the package at a path, whose feature `default` is asked for unless `default-features = false`
+-- the package at a path, whose feature `default` is requested unless `default-features = false`
 pub record IsPathSource (ms : Members) (s : PathSource) : Type 0 where
   pub path : get_member (codes "path") ms ≡ Some (string s.path)
   pub path_is : IsPath s.path
@@ -21,12 +22,13 @@ pub record IsPathSource (ms : Members) (s : PathSource) : Type 0 where
   pub version : HoldsValid (λ text. is_requirement text ≡ true) string (get_member (codes "version") ms) s.version
   pub default_features : HoldsOr true boolean (get_member (codes "default-features") ms) s.default_features
 
--- keys that have to be of their kind, with a requirement for `version`, and have no effect
+-- the keys `path`, `package` and `version` are of their kind (`version` is a requirement) but have no effect
 abbrev pub HasIdleKeys : Members → Type 0
 HasIdleKeys ms = ((path : Option (List ℕ)) × HoldsValid IsPath string (get_member (codes "path") ms) path) × ((name : Option (List ℕ)) × Holds string (get_member (codes "package") ms) name)
     × ((version : Option (List ℕ)) × HoldsValid (λ text. is_requirement text ≡ true) string (get_member (codes "version") ms) version)
 
--- where an entry of a package comes from: `workspace = true`, beside which `default-features = true` may ask for the feature `default`; or a path
+-- the source of a package's entry:
+-- `workspace = true`, with which `default-features = true` requests the feature `default`; or a path
 abbrev pub IsSource : Members → Source → Type 0
 IsSource ms (own.Workspace default) = (get_member (codes "workspace") ms ≡ Some (boolean true)) × HoldsOr false boolean (get_member (codes "default-features") ms) default × HasIdleKeys ms
 IsSource ms (own.Path s) = (get_member (codes "workspace") ms ≡ None) × IsPathSource ms s
@@ -40,13 +42,14 @@ pub record IsDependencyEntry (name : List ℕ) (ms : Members) (x : Dependency) :
   pub features : Lists string (get_member (codes "features") ms) x.features
   pub unsupported : AllByRecursion (λ key. get_member key ms ≡ None) (codes "git" ∷ codes "registry" ∷ [])
 
--- where an entry of `[workspace.dependencies]` comes from: a path; one without a path, or with `git` or `registry`, is kept, and refused where it is taken
+-- The source of an entry of `[workspace.dependencies]`: a path, or unsupported.
+-- An entry without a path, or with `git` or `registry`, is unsupported, and is refused only if a package inherits it.
 abbrev pub IsSharedSource : Members → WorkspaceSource → Type 0
 IsSharedSource ms (shared.Path s) = IsPathSource ms s × (get_member (codes "git") ms ≡ None) × (get_member (codes "registry") ms ≡ None)
 IsSharedSource ms shared.Unsupported =
     HasIdleKeys ms × ((default : Option Bool) × Holds boolean (get_member (codes "default-features") ms) default) × (get_member (codes "git") ms ≡ None → get_member (codes "registry") ms ≡ None → get_member (codes "path") ms ≡ None)
 
--- such an entry that is a table
+-- an entry of `[workspace.dependencies]` that is a table
 pub record IsSharedTable (name : List ℕ) (ms : Members) (x : WorkspaceDependency) : Type 0 where
   pub key : x.key ≡ name
   pub letters : is_name name ≡ true
@@ -55,7 +58,7 @@ pub record IsSharedTable (name : List ℕ) (ms : Members) (x : WorkspaceDependen
   pub optional : (optional : Option Bool) × Holds boolean (get_member (codes "optional") ms) optional
   pub taken : (get_member (codes "workspace") ms ≡ None) ⊎ (get_member (codes "workspace") ms ≡ Some (boolean true))
 
--- or one that is a version alone, which has no path
+-- an entry of `[workspace.dependencies]` that is only a version, and therefore has no path
 abbrev pub IsSharedVersion : List ℕ → Data → WorkspaceDependency → Type 0
 IsSharedVersion name d x = (is_name name ≡ true) × ((text : List ℕ) × (d ≡ string text) × (is_requirement text ≡ true)) × (x ≡ record { key = name; source = shared.Unsupported; features = [] })
 

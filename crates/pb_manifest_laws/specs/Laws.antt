@@ -1,4 +1,4 @@
--- The laws: what is read of a table is what the table says, and nothing else.
+-- The laws: a reading returns what the table means, and nothing else.
 use Rattle.std.specs.Prelude.{◌≡◌, ◌↔◌, ◌≤◌, ℕ, Bool, true, List, length, Ok}
 use Rattle.std.specs.Str.{is_utf8}
 use Rattle.toml.specs.Data.{Members}
@@ -22,7 +22,7 @@ use Rattle.pb_manifest_laws.specs.Workspaces.{IsWorkspaceTable}
 use Rattle.pb_manifest_laws.specs.Packages.{IsPackageTable, IsLibraryTable, IsBinaryTable, IsFeatureEntry}
 use Rattle.pb_manifest_laws.specs.Written.{written}
 
--- a reading gives just what is said
+-- a reading returns a value if and only if the table means that value
 abbrev pub Reads : {M A : Type 0} → (M → Read A) → (M → A → Type 0) → Type 0
 Reads {M} {A} read Says = (ms : M) (x : A) → (read ms ≡ Ok x) ↔ Says ms x
 
@@ -38,7 +38,7 @@ ReadsBinaries = Reads binary_keys IsBinaryTable
 abbrev pub ReadsFeatures : Type 0
 ReadsFeatures = (name : List ℕ) → Reads (feature_of name) (IsFeatureEntry name)
 
--- of whichever of the two tables
+-- this is so for both tables of dependencies
 abbrev pub ReadsDependencies : Type 0
 ReadsDependencies = (k : Key) (name : List ℕ) → Reads (dependency_of k name) (OfTable (IsDependencyEntry name))
 
@@ -54,21 +54,21 @@ ReadsSharedDependencies = (name : List ℕ) → Reads (shared_dependency_of name
 abbrev pub ReadsWorkspaces : Type 0
 ReadsWorkspaces = Reads workspace_of IsWorkspaceTable
 
--- the whole document, and the bytes
+-- this is so for the whole document, and for the bytes
 abbrev pub ReadsDocuments : Type 0
 ReadsDocuments = Reads document_of IsDocument
 
 abbrev pub ReadsManifests : Type 0
 ReadsManifests = (bytes : List ℕ) (m : Manifest) → (manifest_of bytes ≡ Ok m) ↔ AreManifest bytes m
 
--- so a document says one manifest
+-- a document means at most one manifest
 abbrev pub DocumentsSayOne : Type 0
 DocumentsSayOne = (ms : Members) (m n : Manifest) → IsDocument ms m → IsDocument ms n → m ≡ n
 
--- what is written of a manifest that was read is read as that manifest
+-- the written form of a manifest that was read is read as the same manifest
 abbrev pub ReadsWhatIsWritten : Type 0
 ReadsWhatIsWritten = (ms : Members) (m : Manifest) → document_of ms ≡ Ok m → document_of (written m) ≡ Ok m
 
--- so is a text that prints it as `toml` does, where it is no longer than a manifest may be
+-- a text that prints the written form as `toml` does is read as the same manifest, if it is within the size limit
 abbrev pub ReadsWhatIsPrinted : Type 0
 ReadsWhatIsPrinted = (bytes : List ℕ) (m : Manifest) → manifest_of bytes ≡ Ok m → (pretty : Bool) (text : List ℕ) → IsDocumentText pretty (written m) text → is_utf8 text ≡ true → length text ≤ 1048576 → manifest_of text ≡ Ok m

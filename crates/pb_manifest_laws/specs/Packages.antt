@@ -1,4 +1,5 @@
--- What `[package]`, `[lib]`, `[[bin]]` and `[features]` say, key by key (The Cargo Book, Manifest Format, Cargo Targets, Features).
+-- The meaning of `[package]`, `[lib]`, `[[bin]]` and `[features]`, key by key
+-- (The Cargo Book, Manifest Format, Cargo Targets, Features).
 use Rattle.std.specs.Prelude.{◌≡◌, ℕ, true, false, List, [], ◌∷◌, map, codes, Option, Some, None, Contains}
 use Rattle.std.specs.List.{AllByRecursion}
 use Rattle.toml.specs.Data.{Data, string, boolean, array, Members, get_member}
@@ -39,16 +40,16 @@ readme_value readme.Standard = boolean true
 readme_value readme.Never = boolean false
 readme_value (readme.At path) = string path
 
--- a version that is written is one of Semantic Versioning
+-- a written version is one of Semantic Versioning
 abbrev pub IsVersion : Inherited (List ℕ) → Type 0
 IsVersion (Written text) = is_version text ≡ true
 IsVersion Workspace = Unit {0}
 
--- `"2"` or `"3"`, where one is written
+-- a resolver, if one is written, is `"2"` or `"3"`
 abbrev pub IsResolver : Option Data → Type 0
 IsResolver found = Contains (None ∷ Some (string (codes "2")) ∷ Some (string (codes "3")) ∷ []) found
 
--- the texts that a package says of itself to people, by their keys
+-- the texts in which a package describes itself to people, by their keys
 abbrev pub own_texts : Package → List (List ℕ × Inheritable (List ℕ))
 own_texts p = (codes "description", p.description) ∷ (codes "homepage", p.homepage) ∷ (codes "license", p.license) ∷ (codes "license-file", p.license_file)
     ∷ (codes "repository", p.repository) ∷ (codes "rust-version", p.rust_version) ∷ []

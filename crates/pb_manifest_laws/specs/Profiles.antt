@@ -1,4 +1,4 @@
--- What `[profile.*]` says, key by key (The Cargo Book, Profiles).
+-- The meaning of `[profile.*]`, key by key (The Cargo Book, Profiles).
 use Rattle.std.specs.Prelude.{◌≡◌, ◌≤◌, ℕ, pos, true, false, List, [], ◌∷◌, codes, Option, Contains}
 use Rattle.std.specs.List.{AllZip, position}
 use Rattle.std.specs.Option.{option_map_or, option_to_list}
@@ -20,9 +20,9 @@ use Rattle.pb_manifest.specs.declared.profile.Profile.{Profile}
 use Rattle.pb_profile.specs.Words.{opt_level_text}
 use Rattle.pb_manifest_laws.specs.Values.{Holds, HoldsValid, OfTable, IsTableAt, AreEntriesAt}
 
--- how each value may be written
+-- The forms in which each value may be written:
 
--- the compiler's own word for a level, as a number where it is one
+-- the compiler's own word for a level, as a number if it is one
 abbrev pub opt_levels : OptLevel → List Data
 opt_levels l = option_map_or (λ n. integer (pos n)) (position (bytes_eq (opt_level_text l)) (codes "0" ∷ codes "1" ∷ codes "2" ∷ codes "3" ∷ [])) (string (opt_level_text l)) ∷ []
 
@@ -48,11 +48,11 @@ abbrev pub panics : Panic → List Data
 panics Unwind = string (codes "unwind") ∷ []
 panics Abort = string (codes "abort") ∷ []
 
--- a key holds a value in one of its forms; nothing is read just where it is left out
+-- a key has a value in one of its forms; no value is read if and only if the key is missing
 abbrev pub HoldsOne : {A : Type 0} → (A → List Data) → Option Data → Option A → Type 0
 HoldsOne forms found value = AllZip (λ d x. Contains (forms x) d) (option_to_list found) (option_to_list value)
 
--- what a profile or an override sets; `codegen-units` is from 1 to 65,536
+-- the settings of a profile or an override; `codegen-units` is from 1 to 65,536
 pub record AreSettings (ms : Members) (keys : ProfileKeys) : Type 0 where
   pub codegen_units : HoldsValid (λ n. (1 ≤ n) × (n ≤ 65536)) (λ n. integer (pos n)) (get_member (codes "codegen-units") ms) keys.codegen_units
   pub debug_is : HoldsOne debug_infos (get_member (codes "debug") ms) keys.debug
@@ -64,12 +64,12 @@ pub record AreSettings (ms : Members) (keys : ProfileKeys) : Type 0 where
   pub rpath : Holds boolean (get_member (codes "rpath") ms) keys.rpath
   pub strip_is : HoldsOne strips (get_member (codes "strip") ms) keys.strip
 
--- an override, by the name of a package
+-- an override for a package, by its name
 pub record IsOverrideEntry (name : List ℕ) (ms : Members) (o : ProfileOverride) : Type 0 where
   pub name_is : o.name ≡ name
   pub keys : AreSettings ms o.keys
 
--- a profile; one that is not built in has a name that may be its own, and `inherits`
+-- a profile; one that is not built in has an allowed name, and `inherits`
 pub record IsProfileEntry (name : List ℕ) (ms : Members) (p : Profile) : Type 0 where
   pub name_is : p.name ≡ name
   pub keys : AreSettings ms p.keys

@@ -1,4 +1,4 @@
--- What `[workspace]` and `[workspace.package]` say, key by key (The Cargo Book, Workspaces).
+-- The meaning of `[workspace]` and `[workspace.package]`, key by key (The Cargo Book, Workspaces).
 use Rattle.std.specs.Prelude.{◌≡◌, ℕ, true, codes, List, [], ◌∷◌, Option}
 use Rattle.std.specs.List.{AllByRecursion}
 use Rattle.toml.specs.Data.{string, Members, get_member}
@@ -9,7 +9,7 @@ use Rattle.pb_manifest_laws.specs.Dependencies.{IsSharedEntry}
 use Rattle.pb_manifest_laws.specs.Packages.{edition, readme_value, IsResolver}
 use Rattle.pb_manifest_laws.specs.Values.{texts, IsPath, Holds, HoldsValid, Lists, IsTableAt, AreEntriesAt}
 
--- the texts that members may take, by their keys
+-- the texts that members may inherit, by their keys
 abbrev pub shared_texts : WorkspacePackage → List (List ℕ × Option (List ℕ))
 shared_texts w = (codes "description", w.description) ∷ (codes "homepage", w.homepage) ∷ (codes "license", w.license) ∷ (codes "license-file", w.license_file)
     ∷ (codes "repository", w.repository) ∷ (codes "rust-version", w.rust_version) ∷ []

@@ -1,4 +1,5 @@
--- A written form of a manifest, table by table: each key with its value, in byte order; what was left out stays so.
+-- The written form of a manifest, table by table: each key with its value, in byte order;
+-- keys that were left out stay left out.
 use Rattle.std.specs.Prelude.{ℕ, Bool, pos, true, false, List, [], ◌∷◌, map, codes, Option, Some, None}
 use Rattle.std.specs.List.{slice_get}
 use Rattle.std.specs.Option.{option_and_then, option_map}
@@ -32,7 +33,7 @@ use Rattle.pb_manifest_laws.specs.Packages.{edition, readme_value}
 use Rattle.pb_manifest_laws.specs.Profiles.{opt_levels, debug_infos, ltos, strips, panics}
 use Rattle.pb_manifest_laws.specs.Values.{texts, members_of}
 
--- the keys of a table, each with its value where it has one
+-- the keys of a table, each with its value if it has one
 abbrev pub Rows : Type 0
 Rows = List (List ℕ × Option Data)
 
@@ -47,7 +48,7 @@ members_with (row ∷ rows) = with_key row.0 row.1 (members_with rows)
 abbrev pub table_with : Rows → Data
 table_with rows = table (members_with rows)
 
--- a list; a table of entries by their keys
+-- a list, or a table of entries by their keys
 abbrev pub list : {A : Type 0} → (A → Data) → List A → Option Data
 list write xs = Some (array (items_of (map write xs)))
 
@@ -99,7 +100,7 @@ dependency_rows (own.Path s) features optional =
 abbrev pub dependency_entry : Dependency → Data
 dependency_entry d = table_with (dependency_rows d.source d.features d.optional)
 
--- without a path there is none that can be taken
+-- an entry without a supported path is written without one
 abbrev pub shared_rows : WorkspaceSource → List (List ℕ) → Rows
 shared_rows shared.Unsupported features = (codes "features", list string features) ∷ []
 shared_rows (shared.Path s) features =
@@ -109,11 +110,11 @@ shared_rows (shared.Path s) features =
 abbrev pub shared_entry : WorkspaceDependency → Data
 shared_entry d = table_with (shared_rows d.source d.features)
 
--- the first of the forms of a value
+-- the first of the forms of a value, if there is a value
 abbrev pub first_form : {A : Type 0} → (A → List Data) → Option A → Option Data
 first_form forms value = option_and_then (λ x. slice_get (forms x) 0) value
 
--- what a profile sets, between what else may stand there; and what an override sets, alone
+-- the rows of a profile's settings, merged with its other keys; the rows of an override are the settings only
 abbrev pub profile_rows : Option Data → Option (List ℕ) → Option Data → ProfileKeys → Rows
 profile_rows override inherits packages keys =
     (codes "build-override", override) ∷ (codes "codegen-units", option_map (λ n. integer (pos n)) keys.codegen_units) ∷ (codes "debug", first_form debug_infos keys.debug)
@@ -141,7 +142,7 @@ workspace_rows w =
 abbrev pub dependencies : List Dependency → Option Data
 dependencies ds = entries (λ (d : Dependency). d.key) dependency_entry ds
 
--- of `[dev-dependencies]` a manifest that was read has the keys
+-- `[dev-dependencies]` is written with only its keys, since only these are read
 abbrev pub document_rows : Manifest → Rows
 document_rows m =
     (codes "bin", list (λ b. table_with (binary_rows b)) m.binaries) ∷ (codes "build-dependencies", dependencies m.build_dependencies) ∷ (codes "dependencies", dependencies m.dependencies)

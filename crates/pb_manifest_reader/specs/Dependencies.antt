@@ -20,12 +20,12 @@ use Rattle.pb_manifest.specs.declared.dependency.WorkspaceDependency.{WorkspaceD
 use Rattle.pb_manifest_reader.specs.declared.entry.FirstKeys.{FirstKeys}
 use Rattle.pb_manifest_reader.specs.declared.entry.LastKeys.{LastKeys}
 
--- a source that is not supported is refused here
+-- an unsupported source is an error
 abbrev pub refused_where : Bool → Read (Unit {0})
 refused_where true = Err UnsupportedSource
 refused_where false = Ok tt
 
--- `workspace = true`, and nothing else where the key is there
+-- if the key is present, its value must be `true`
 abbrev pub workspace_in : Option Data → Bool → Read (Unit {0})
 workspace_in None taken = Ok tt
 workspace_in (Some d) taken = if taken then Ok tt else Err (BadKind key.Workspace)
@@ -33,7 +33,7 @@ workspace_in (Some d) taken = if taken then Ok tt else Err (BadKind key.Workspac
 abbrev pub workspace_at : Members → Read (Unit {0})
 workspace_at ms = workspace_in (value_at key.Workspace ms) (takes_workspace ms)
 
--- `default-features`, `features`, `git`, `optional`, `package`; `git` is refused or kept
+-- `default-features`, `features`, `git`, `optional`, `package`; `git` is an error or kept
 abbrev pub first_keys : Bool → Members → Read FirstKeys
 first_keys keeps ms =
     truth_at key.DefaultFeatures ms >>= (λ default_features.
@@ -50,7 +50,7 @@ version_and_workspace ms =
     workspace_at ms >>= (λ inherited.
     Ok version))
 
--- the path of an entry that takes nothing from the workspace, which has to be there; beside `workspace = true` a path has no effect
+-- the path of an entry; without `workspace = true` a path is required, and with it a path has no effect
 abbrev pub own_path : Bool → Option Text → Read (Option Text)
 own_path true path = Ok None
 own_path false None = Err UnsupportedSource
@@ -65,7 +65,7 @@ last_keys ms =
     version_and_workspace ms >>= (λ version.
     Ok record { path = path; version = version }))))
 
--- the same of an entry of `[workspace.dependencies]`: a path may be missing, and beside `git` or `registry` it has no effect
+-- the path of an entry of `[workspace.dependencies]`: it may be missing, and has no effect next to `git` or `registry`
 abbrev pub supported_path : Members → Option Text → Option Text
 supported_path ms path = if has key.Git ms || has key.Registry ms then None else path
 
@@ -75,34 +75,34 @@ shared_keys ms =
     version_and_workspace ms >>= (λ version.
     Ok record { path = supported_path ms path; version = version }))
 
--- the package at a path; its feature `default` is asked for unless `default-features = false`
+-- the package at a path; its feature `default` is requested unless `default-features = false`
 abbrev pub at_path : Option Bool → Option Text → Option Text → Text → PathSource
 at_path default_features renamed version path = record { path = path; «package» = renamed; version = version; default_features = unwrap_or default_features true }
 
--- where a package's own entry comes from: without a path from the workspace
+-- the source of a package's own entry: its path, or the workspace if it has none
 abbrev pub source_of : Option Bool → Option Text → Option Text → Option Text → Source
 source_of default_features renamed version None = own.Workspace (is_true default_features)
 source_of default_features renamed version (Some path) = own.Path (at_path default_features renamed version path)
 
--- and one of the workspace's: without a path it is kept as it is
+-- the source of an entry of `[workspace.dependencies]`: its path, or unsupported if it has none
 abbrev pub shared_source_of : Option Bool → Option Text → Option Text → Option Text → WorkspaceSource
 shared_source_of default_features renamed version None = shared.Unsupported
 shared_source_of default_features renamed version (Some path) = shared.Path (at_path default_features renamed version path)
 
--- an entry that is a table, its keys in byte order
+-- an entry that is a table, read with its keys in byte order
 abbrev pub dependency_keys : Text → Members → Read Dependency
 dependency_keys name ms =
     first_keys false ms >>= (λ a.
     last_keys ms >>= (λ b.
     Ok record { key = name; source = source_of a.default_features a.package b.version b.path; optional = a.optional; features = a.features }))
 
--- an entry that is a version has no path
+-- an entry that is a version is refused, because it has no path
 abbrev pub dependency_from : Key → Text → Option Text → Option Members → Read Dependency
 dependency_from k name (Some version) found = Err UnsupportedSource
 dependency_from k name None (Some ms) = dependency_keys name ms
 dependency_from k name None None = Err (BadKind k)
 
--- an entry of the table at a key: first its own key, then what it says
+-- an entry of the table at a key: first its own key is checked, then its content
 unfoldable pub dependency_of : Key → Text → Data → Read Dependency
 dependency_of k name d = if is_name name then dependency_from k name (as_str d) (as_table d) else Err BadName
 
@@ -117,7 +117,7 @@ shared_dependency_keys name ms =
     shared_keys ms >>= (λ b.
     Ok record { key = name; source = shared_source_of a.default_features a.package b.version b.path; features = a.features }))
 
--- one that is a version
+-- an entry of `[workspace.dependencies]` that is a version
 abbrev pub shared_version : Text → Text → Read WorkspaceDependency
 shared_version name version = requirement_in version >>= (λ requirement. Ok record { key = name; source = shared.Unsupported; features = [] })
 
@@ -126,7 +126,7 @@ shared_dependency_from name (Some version) found = shared_version name version
 shared_dependency_from name None (Some ms) = shared_dependency_keys name ms
 shared_dependency_from name None None = Err (BadKind key.Dependencies)
 
--- an entry: first its key, then what it says
+-- an entry of `[workspace.dependencies]`: first its key is checked, then its content
 unfoldable pub shared_dependency_of : Text → Data → Read WorkspaceDependency
 shared_dependency_of name d = if is_name name then shared_dependency_from name (as_str d) (as_table d) else Err BadName
 

@@ -1,4 +1,4 @@
--- What the bytes of a manifest say, or why they are refused.
+-- The manifest in some bytes, or why they are refused.
 use Rattle.std.specs.Prelude.{ℕ, List, Bool, false, ◌||◌, if◌then◌else◌, nat_lt, length, Option, Some, None, Ok, Err, codes}
 use Rattle.std.specs.Str.{bytes_eq, is_utf8}
 use Rattle.toml.specs.Data.{Data, Members, as_str}
@@ -23,7 +23,7 @@ use Rattle.pb_manifest_reader.specs.declared.document.Tables.{Tables}
 use Rattle.pb_manifest.specs.declared.package.Package.{Package}
 use Rattle.pb_manifest.specs.declared.target.Library.{Library}
 
--- no table is there that is not supported
+-- no unsupported table is present
 abbrev pub supported : Members → Read (Unit {0})
 supported ms = if has key.Patch ms || has key.Replace ms || has key.Target ms then Err UnsupportedTable else Ok tt
 
@@ -39,15 +39,15 @@ abbrev pub says_one : Option Members → Bool
 says_one None = false
 says_one (Some ms) = is_one (text_in (value_at key.Resolver ms))
 
--- the table asks for resolver 1
+-- the table requests resolver 1
 abbrev pub asks_old_resolver : Key → Members → Bool
 asks_old_resolver k ms = says_one (table_in (value_at k ms))
 
--- resolver 1 is asked for nowhere
+-- neither `[package]` nor `[workspace]` requests resolver 1
 abbrev pub not_old : Members → Read (Unit {0})
 not_old ms = if asks_old_resolver key.Package ms || asks_old_resolver key.Workspace ms then Err OldResolver else Ok tt
 
--- a manifest without `[workspace]` has `[package]`
+-- a manifest without `[workspace]` must have `[package]`
 abbrev pub package_in : Bool → Option Members → Read (Option Package)
 package_in workspace None = if workspace then Ok None else Err (BadKind key.Package)
 package_in workspace (Some ms) = package_of ms >>= (λ found. Ok (Some found))
@@ -113,14 +113,14 @@ document_of ms =
       workspace = b.workspace;
     }))))
 
--- the document that some bytes are: UTF-8, and what `toml` reads
+-- the document in some bytes, if they are UTF-8 that `toml` reads
 unfoldable pub document_in : List ℕ → Read Members
 document_in bytes = if is_utf8 bytes then some_or NotToml (parse_document bytes) else Err NotToml
 
--- the most bytes that a manifest may have
+-- the greatest length of a manifest, in bytes
 abbrev pub greatest_length : ℕ
 greatest_length = 1048576
 
--- what the bytes of a manifest say
+-- the manifest in some bytes, or why they are refused
 abbrev pub manifest_of : List ℕ → Read Manifest
 manifest_of bytes = if nat_lt greatest_length (length bytes) then Err TooLarge else (document_in bytes >>= document_of)

@@ -29,7 +29,7 @@ whole_item text (Some parts) = dependency_item parts.0 parts.1
 abbrev pub item_of : Text → Text → Read FeatureItem
 item_of name feature = if is_name name && is_feature_name feature then Ok (item.Of name feature) else Err BadFeature
 
--- `N?/F`, where nothing stands between `?` and `/`
+-- `N?/F`, with nothing between `?` and `/`
 abbrev pub item_of_enabled : Text → Text → Text → Read FeatureItem
 item_of_enabled name between feature =
     if length between == 0 && is_name name && is_feature_name feature then Ok (item.OfEnabled name feature) else Err BadFeature
@@ -42,7 +42,7 @@ abbrev pub item_from : Text → Option (Text × Text) → Read FeatureItem
 item_from text None = whole_item text (parted 58 text)
 item_from text (Some parts) = parted_item parts.0 (parted 63 parts.0) parts.1
 
--- an item: parted at `/`, and then at `?` or at `:`
+-- an item: split at `/`, and then at `?` or at `:`
 abbrev pub item_in : Text → Read FeatureItem
 item_in text = item_from text (parted 47 text)
 
@@ -53,7 +53,7 @@ feature_item_of d = text_of key.Features d >>= item_in
 abbrev pub feature_items_of : Data → Read (List FeatureItem)
 feature_items_of d = array_of key.Features d >>= each feature_item_of
 
--- a feature: first its name, then what it lists
+-- a feature: first its name is checked, then its list is read
 unfoldable pub feature_of : Text → Data → Read Feature
 feature_of name d = if is_feature_name name then (feature_items_of d >>= (λ items. Ok record { name = name; items = items })) else Err BadFeature
 

@@ -1,4 +1,6 @@
--- Of the faults in one table the one of the lowest key is told: for each table with fixed keys, its keys in byte order, each with what its own reading tells; for one whose keys the user chooses, the entry that tells it.
+-- If one table has several faults, the fault of the lowest key is reported.
+-- For each table with fixed keys this lists the keys in byte order, each with the fault of its own reading.
+-- For a table whose keys the user chooses it names the entry whose fault is reported.
 use Rattle.std.specs.Prelude.{◌≡◌, List, Bool, true, ◌&&◌, [], ◌∷◌, map, Option, Some, None, Ok, Err}
 use Rattle.std.specs.Option.{option_or}
 use Rattle.std.specs.Ordering.{nat_cmp, is_lt}
@@ -18,27 +20,27 @@ use Rattle.pb_manifest.specs.declared.fault.ManifestFault.{ManifestFault}
 use Rattle.pb_manifest.specs.declared.key.Key.{Key}
 use Rattle.pb_manifest.specs.declared.key.Key.TheVariants as key
 
--- the fault that a reading tells, where it tells one
+-- the fault that a reading returns, if it returns one
 abbrev pub told : {A : Type 0} → Read A → Option ManifestFault
 told (Ok x) = None
 told (Err fault) = Some fault
 
--- a key of a table, and the fault that its own reading tells
+-- a key of a table, and the fault of its own reading
 abbrev pub KeyFault : Type 0
 KeyFault = Key × Option ManifestFault
 
--- the first fault of some keys
+-- the first fault of some keys, if there is one
 abbrev pub first_fault : List KeyFault → Option ManifestFault
 first_fault [] = None
 first_fault (k ∷ ks) = option_or k.1 (first_fault ks)
 
--- texts in byte order, each once
+-- the texts are in byte order without repeats
 abbrev pub are_ascending : List Text → Bool
 are_ascending [] = true
 are_ascending (a ∷ []) = true
 are_ascending (a ∷ b ∷ rest) = is_lt (slice_cmp nat_cmp a b) && are_ascending (b ∷ rest)
 
--- a table tells the first fault of its keys, which stand in byte order
+-- a table reports the first fault of its keys, which are in byte order
 pub record TellsLowest {A : Type 0} (keys : Members → List KeyFault) (read : Members → Read A) : Type 0 where
   pub order : (ms : Members) → are_ascending (map (λ k. spelled k.0) (keys ms)) ≡ true
   pub first : (ms : Members) → told (read ms) ≡ first_fault (keys ms)
@@ -94,7 +96,7 @@ faults_of_dependency ms =
     ∷ (key.Workspace, told (workspace_at ms))
     ∷ []
 
--- an entry of `[workspace.dependencies]`, where `git` and `registry` are kept
+-- an entry of `[workspace.dependencies]`, in which `git` and `registry` are kept
 abbrev pub faults_of_shared_dependency : Members → List KeyFault
 faults_of_shared_dependency ms =
     (key.DefaultFeatures, told (truth_at key.DefaultFeatures ms))
@@ -132,12 +134,12 @@ faults_of_workspace ms =
     ∷ (key.Resolver, told (resolver_at ms))
     ∷ []
 
--- an entry stands in a table
+-- a table has an entry
 pub data HasEntry (name : Text) (value : Data) : Members → Type 0 where
   here : (ms : Members) → HasEntry name value (member name value ms)
   further : (other : Text) (d : Data) (ms : Members) (rest : HasEntry name value ms) → HasEntry name value (member other d ms)
 
--- an entry tells the fault, and none of a lower key tells one
+-- the fault is that of an entry, and no entry with a lower key has a fault
 pub record IsOfLowestEntry {A : Type 0} (read : Text → Data → Read A) (ms : Members) (fault : ManifestFault) : Type 0 where
   pub name : Text
   pub value : Data
@@ -145,7 +147,7 @@ pub record IsOfLowestEntry {A : Type 0} (read : Text → Data → Read A) (ms : 
   pub tells : told (read name value) ≡ Some fault
   pub lower : (other : Text) (d : Data) → HasEntry other d ms → is_lt (slice_cmp nat_cmp other name) ≡ true → told (read other d) ≡ None
 
--- a table whose keys the user chooses tells the fault of its lowest bad entry, and none only where no entry tells one
+-- a table whose keys the user chooses reports the fault of its lowest bad entry, and none only if no entry has a fault
 pub record TellsLowestEntry {A : Type 0} (read : Text → Data → Read A) : Type 0 where
   pub refused : (ms : Members) (fault : ManifestFault) → Ascend (keys_of ms) → told (each_entry read ms) ≡ Some fault → IsOfLowestEntry read ms fault
   pub taken : (ms : Members) → told (each_entry read ms) ≡ None → (name : Text) (d : Data) → HasEntry name d ms → told (read name d) ≡ None

@@ -12,7 +12,7 @@ use Rattle.pb_manifest.specs.declared.target.CrateType.{CrateType}
 use Rattle.pb_manifest.specs.declared.target.CrateType.TheVariants.{Lib, Rlib, Bin}
 use Rattle.pb_manifest.specs.declared.target.Library.{Library}
 
--- a crate type that is served
+-- a supported crate type
 abbrev pub crate_type_in : Text → Read CrateType
 crate_type_in text =
     if bytes_eq text (codes "lib") then Ok Lib
@@ -26,11 +26,11 @@ crate_type_of d = text_of key.CrateType d >>= crate_type_in
 abbrev pub crate_types_of : Data → Read (List CrateType)
 crate_types_of d = array_of key.CrateType d >>= each crate_type_of
 
--- none where the key is not there
+-- the crate types of `[lib]`, none if the key is missing
 abbrev pub crate_types_at : Members → Read (List CrateType)
 crate_types_at ms = optional crate_types_of (value_at key.CrateType ms) >>= (λ found. Ok (listed found))
 
--- the name of the crate, where one is written
+-- the name of the crate, if one is written
 abbrev pub crate_name_in : Option Text → Read (Option Text)
 crate_name_in None = Ok None
 crate_name_in (Some text) = if is_crate_name text then Ok (Some text) else Err BadName
@@ -38,7 +38,7 @@ crate_name_in (Some text) = if is_crate_name text then Ok (Some text) else Err B
 abbrev pub crate_name_at : Members → Read (Option Text)
 crate_name_at ms = text_at key.Name ms >>= crate_name_in
 
--- `proc-macro = true` asks for a crate type that is not served
+-- `proc-macro = true` is an error, since it requests an unsupported crate type
 abbrev pub proc_macro_in : Option Bool → Read (Unit {0})
 proc_macro_in found = if is_true found then Err UnsupportedCrateType else Ok tt
 

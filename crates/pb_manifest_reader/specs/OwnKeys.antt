@@ -1,4 +1,5 @@
--- The keys that each table's reading looks at (The Cargo Book, Manifest Format, Workspaces, Specifying Dependencies, Profiles).
+-- The keys that the reading of each table looks at
+-- (The Cargo Book, Manifest Format, Workspaces, Specifying Dependencies, Profiles).
 use Rattle.std.specs.Prelude.{◌≡◌, List, [], ◌∷◌}
 use Rattle.std.specs.List.{AllByRecursion}
 use Rattle.toml.specs.Data.{Members}
@@ -7,11 +8,11 @@ use Rattle.pb_manifest_reader.specs.Values.{value_at}
 use Rattle.pb_manifest.specs.declared.key.Key.{Key}
 use Rattle.pb_manifest.specs.declared.key.Key.TheVariants as key
 
--- two tables say the same at these keys
+-- two tables have the same values at these keys
 abbrev pub SameAt : List Key → Members → Members → Type 0
 SameAt keys ms ns = AllByRecursion (λ k. value_at k ms ≡ value_at k ns) keys
 
--- the reading of a table looks at these keys and at no other: it answers the same for two tables that say the same there
+-- the reading of a table looks at these keys only: it returns the same for two tables with the same values at them
 abbrev pub LooksAt : {A : Type 0} → List Key → (Members → Read A) → Type 0
 LooksAt keys read = (ms ns : Members) → SameAt keys ms ns → read ms ≡ read ns
 

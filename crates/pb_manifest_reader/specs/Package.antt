@@ -22,7 +22,7 @@ use Rattle.pb_manifest_reader.specs.declared.package.FirstKeys.{FirstKeys}
 use Rattle.pb_manifest_reader.specs.declared.package.MiddleKeys.{MiddleKeys}
 use Rattle.pb_manifest_reader.specs.declared.package.LastKeys.{LastKeys}
 
--- a name of a package or a binary, which has to be there
+-- the name of a package or a binary, which is required
 abbrev pub name_in : Option Text → Read Text
 name_in None = Err BadName
 name_in (Some text) = if is_name text then Ok text else Err BadName
@@ -44,7 +44,7 @@ edition_of d = text_of key.Edition d >>= edition_in
 abbrev pub edition_at : Members → Read (Option Edition)
 edition_at ms = optional edition_of (value_at key.Edition ms)
 
--- the edition of a package: 2015 where none is written
+-- the edition of a package, 2015 if none is written
 abbrev pub inherited_edition_at : Members → Read (Inherited Edition)
 inherited_edition_at ms = inheritable_at key.Edition edition_of ms >>= (λ found. Ok (or_default E2015 found))
 
@@ -78,12 +78,12 @@ readme_at ms = optional readme_of (value_at key.Readme ms)
 abbrev pub inheritable_readme_at : Members → Read (Inheritable Readme)
 inheritable_readme_at ms = inheritable_at key.Readme readme_of ms
 
--- a resolver other than the first: `"2"`, or `"3"`, which is read as `"2"`
+-- the resolver is `"2"`, or `"3"`, which counts as `"2"`
 abbrev pub resolver_in : Option Text → Read (Unit {0})
 resolver_in None = Ok tt
 resolver_in (Some text) = if bytes_eq text (codes "2") || bytes_eq text (codes "3") then Ok tt else Err (BadKind key.Resolver)
 
--- the resolver, where one is written, is none of another kind
+-- if a resolver is written, it is a supported one
 abbrev pub resolver_at : Members → Read (Unit {0})
 resolver_at ms = text_at key.Resolver ms >>= resolver_in
 
@@ -117,7 +117,7 @@ last_keys ms =
     inherited_version_at ms >>= (λ version.
     Ok record { readme = readme; repository = repository; rust_version = rust_version; version = version })))))
 
--- all of them
+-- the package with all of these keys
 abbrev pub package_from : FirstKeys → MiddleKeys → LastKeys → Package
 package_from a b c = record {
   authors = a.authors;

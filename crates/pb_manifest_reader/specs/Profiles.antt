@@ -47,7 +47,7 @@ opt_level_from None None = None
 unfoldable pub opt_level_in : Data → Option OptLevel
 opt_level_in d = opt_level_from (as_integer d) (as_str d)
 
--- `debug`: a truth value, 0, 1, 2, or a word
+-- `debug`: a truth value, 0, 1, 2, or a name
 abbrev pub debug_number : ℤ → Option DebugInfo
 debug_number n =
     if int_eq n (pos 0) then Some debug.Nothing
@@ -125,7 +125,7 @@ codegen_units_from None = None
 unfoldable pub codegen_units_in : Data → Option ℕ
 codegen_units_in d = codegen_units_from (as_integer d)
 
--- what stands at a key of a profile, where something does
+-- the value at a key of a profile, if there is one
 abbrev pub profile_value : {A : Type 0} → (Data → Option A) → Key → Members → Read (Option A)
 profile_value reads k ms = optional (λ d. some_or BadProfile (reads d)) (value_at k ms)
 
@@ -171,11 +171,11 @@ build_override_in (Some ms) = profile_keys ms >>= (λ keys. Ok (Some keys))
 abbrev pub build_override_at : Members → Read (Option ProfileKeys)
 build_override_at ms = optional profile_table (value_at key.BuildOverride ms) >>= build_override_in
 
--- a profile that is there without being written
+-- a profile that exists without being written
 unfoldable pub is_built_in : Text → Bool
 is_built_in name = bytes_eq name (codes "dev") || bytes_eq name (codes "release") || bytes_eq name (codes "test") || bytes_eq name (codes "bench")
 
--- a custom profile has `inherits` and the letters of a package's name, and is not `debug`
+-- a custom profile has `inherits` and a valid package name as its own name, and is not `debug`
 unfoldable pub may_be_profile : Text → Option Text → Bool
 may_be_profile name inherits = is_built_in name || (is_name name && not (bytes_eq name (codes "debug")) && is_some inherits)
 

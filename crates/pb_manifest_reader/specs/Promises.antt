@@ -1,4 +1,4 @@
--- What a manifest that was read promises.
+-- What each manifest that was read promises.
 use Rattle.std.specs.Prelude.{◌≡◌, ◌≢◌, ◌≤◌, true, false, List, map, codes, IfSome, IsSome}
 use Rattle.std.specs.Cmp.Lexicographic.{slice_cmp}
 use Rattle.std.specs.List.{AllByRecursion}
@@ -27,11 +27,11 @@ use Rattle.pb_manifest.specs.declared.profile.ProfileOverride.{ProfileOverride}
 use Rattle.pb_manifest.specs.declared.target.Binary.{Binary}
 use Rattle.pb_manifest.specs.declared.target.Library.{Library}
 
--- a name of the letters of package names
+-- a name with the letters of package names
 abbrev pub IsName : Text → Type 0
 IsName text = is_name text ≡ true
 
--- a name of the letters of feature names
+-- a name with the letters of feature names
 abbrev pub IsFeatureName : Text → Type 0
 IsFeatureName text = is_feature_name text ≡ true
 
@@ -39,11 +39,11 @@ IsFeatureName text = is_feature_name text ≡ true
 abbrev pub IsPath : Text → Type 0
 IsPath text = has_zero text ≡ false
 
--- keys in byte order, each once
+-- keys in byte order without repeats
 abbrev pub Ascend : List Text → Type 0
 Ascend keys = IsStrictlySortedBy (slice_cmp nat_cmp) keys
 
--- entries by their keys, each of its kind
+-- entries in ascending order of their keys, each of its kind
 pub record AreEntries {A : Type 0} (key : A → Text) (Is : A → Type 0) (entries : List A) : Type 0 where
   pub order : Ascend (map key entries)
   pub each : AllByRecursion Is entries
@@ -90,14 +90,14 @@ pub record IsFeature (f : Feature) : Type 0 where
   pub name : IsFeatureName f.name
   pub items : AllByRecursion IsItem f.items
 
--- `codegen-units` from 1 to 65,536
+-- `codegen-units`, if set, is from 1 to 65,536
 abbrev pub AreProfileKeys : ProfileKeys → Type 0
 AreProfileKeys keys = IfSome keys.codegen_units (λ n. (1 ≤ n) × (n ≤ 65536))
 
 abbrev pub IsOverride : ProfileOverride → Type 0
 IsOverride o = AreProfileKeys o.keys
 
--- a profile that is not built in: its name has the letters of package names, and it inherits
+-- a profile that is not built in: its name has the letters of package names, and it has `inherits`
 pub record IsCustom (p : Profile) : Type 0 where
   pub name : IsName p.name
   pub inherits : IsSome p.inherits
@@ -115,7 +115,8 @@ pub record IsWorkspaceTable (w : WorkspaceTable) : Type 0 where
   pub exclude : AllByRecursion IsPath w.exclude
   pub dependencies : AreEntries (λ (d : WorkspaceDependency). d.key) IsSharedDependency w.dependencies
 
--- a manifest: names have their letters, paths hold no byte 0, profiles are what they may be, and the entries of each table stand in byte order of their keys, each key once
+-- A manifest: its names have valid letters, its paths have no byte 0, and its profiles are allowed.
+-- The entries of each table are in byte order of their keys, without repeats.
 pub record IsManifest (m : Manifest) : Type 0 where
   pub found : IfSome m.package IsPackage
   pub library : IfSome m.library IsLibrary

@@ -1,6 +1,6 @@
--- What stands at a key of a table, and what of it may stand there.
+-- The value at a key of a table, and which values are allowed there.
 --
--- A definition that reads answers the value, or the first fault.
+-- A definition that reads returns the value, or the first fault.
 use Rattle.std.specs.Prelude.{List, [], ◌∷◌, Bool, true, false, if◌then◌else◌, Option, Some, None, Ok, Err, is_some, unwrap_or}
 use Rattle.toml.specs.Data.{Data, Items, no_items, item, Members, no_members, member, get_member, as_str, as_bool, as_table, as_array}
 use Rattle.pb_data.specs.Gives as answers
@@ -24,7 +24,7 @@ GivesAs shows result answer = answers.Gives OutOfMemory shows result answer
 abbrev pub value_at : Key → Members → Option Data
 value_at k ms = get_member (spelled k) ms
 
--- the key is there, whatever it holds
+-- the key is present, whatever its value is
 abbrev pub has : Key → Members → Bool
 has k ms = is_some (value_at k ms)
 
@@ -33,17 +33,17 @@ abbrev pub optional : {A : Type 0} → (Data → Read A) → Option Data → Rea
 optional read None = Ok None
 optional read (Some d) = read d >>= (λ x. Ok (Some x))
 
--- each value in turn, up to the first fault
+-- each value read in turn, up to the first fault
 abbrev pub each : {A : Type 0} → (Data → Read A) → Items → Read (List A)
 each read no_items = Ok []
 each read (item d ds) = read d >>= (λ x. each read ds >>= (λ xs. Ok (x ∷ xs)))
 
--- each entry of a table in turn, in byte order of the keys, up to the first fault
+-- each entry of a table read in turn, in byte order of the keys, up to the first fault
 abbrev pub each_entry : {A : Type 0} → (Text → Data → Read A) → Members → Read (List A)
 each_entry read no_members = Ok []
 each_entry read (member name d ms) = read name d >>= (λ x. each_entry read ms >>= (λ xs. Ok (x ∷ xs)))
 
--- a text, a truth value, a list, a table
+-- a text, a truth value, a list, or a table
 abbrev pub text_of : Key → Data → Read Text
 text_of k d = some_or (BadKind k) (as_str d)
 
@@ -63,14 +63,14 @@ zero_free k text = if has_zero text then Err (BadKind k) else Ok text
 abbrev pub path_of : Key → Data → Read Text
 path_of k d = text_of k d >>= zero_free k
 
--- a list of texts, of paths
+-- a list of texts, or of paths
 abbrev pub texts_of : Key → Data → Read (List Text)
 texts_of k d = array_of k d >>= each (text_of k)
 
 abbrev pub paths_of : Key → Data → Read (List Text)
 paths_of k d = array_of k d >>= each (path_of k)
 
--- what stands at a key, where something does
+-- the value at a key, if there is one
 abbrev pub text_at : Key → Members → Read (Option Text)
 text_at k ms = optional (text_of k) (value_at k ms)
 
@@ -83,7 +83,7 @@ path_at k ms = optional (path_of k) (value_at k ms)
 abbrev pub texts_at : Key → Members → Read (Option (List Text))
 texts_at k ms = optional (texts_of k) (value_at k ms)
 
--- the list, empty where none is written
+-- the list, or the empty list if none is written
 abbrev pub listed : {A : Type 0} → Option (List A) → List A
 listed found = unwrap_or found []
 
@@ -96,7 +96,7 @@ paths_at k ms = optional (paths_of k) (value_at k ms)
 abbrev pub table_at : Key → Members → Read (Option Members)
 table_at k ms = optional (table_of k) (value_at k ms)
 
--- the table at a key, read by entries; empty where there is none
+-- the entries of the table at a key, none if there is no table
 abbrev pub entries_of : {A : Type 0} → (Text → Data → Read A) → Option Members → Read (List A)
 entries_of read None = Ok []
 entries_of read (Some ms) = each_entry read ms
@@ -104,7 +104,7 @@ entries_of read (Some ms) = each_entry read ms
 abbrev pub entries_at : {A : Type 0} → (Text → Data → Read A) → Key → Members → Read (List A)
 entries_at read k ms = table_at k ms >>= entries_of read
 
--- the keys of a table, in its order
+-- the keys of a table, in the table's order
 abbrev pub keys_of : Members → List Text
 keys_of no_members = []
 keys_of (member name d ms) = name ∷ keys_of ms
@@ -117,11 +117,11 @@ abbrev pub keys_in : Option Members → List Text
 keys_in None = []
 keys_in (Some ms) = keys_of ms
 
--- the keys of the table at a key, none where no table is there
+-- the keys of the table at a key, none if there is no table
 abbrev pub keys_at : Key → Members → List Text
 keys_at k ms = keys_in (table_in (value_at k ms))
 
--- true, and nothing else
+-- the value is present and true
 abbrev pub is_true : Option Bool → Bool
 is_true None = false
 is_true (Some b) = b
@@ -130,16 +130,16 @@ abbrev pub truth_in : Option Data → Option Bool
 truth_in None = None
 truth_in (Some d) = as_bool d
 
--- the table says `workspace = true`
+-- the table contains `workspace = true`
 abbrev pub takes_workspace : Members → Bool
 takes_workspace ms = is_true (truth_in (value_at key.Workspace ms))
 
--- whether a value is taken from the workspace: a table has to say so
+-- whether a value is inherited from the workspace: a table must contain `workspace = true`
 abbrev pub is_taken : Key → Option Members → Read Bool
 is_taken k None = Ok false
 is_taken k (Some ms) = if takes_workspace ms then Ok true else Err (BadKind k)
 
--- a value that is written, or `{ workspace = true }` (The Cargo Book, Workspaces)
+-- a written value, or `{ workspace = true }` (The Cargo Book, Workspaces)
 abbrev pub written_or_taken : {A : Type 0} → Key → (Data → Read A) → Data → Read (Inheritable A)
 written_or_taken k read d = is_taken k (as_table d) >>= (λ taken. if taken then Ok Workspace else (read d >>= (λ x. Ok (Written x))))
 
@@ -147,7 +147,7 @@ abbrev pub inheritable_in : {A : Type 0} → Key → (Data → Read A) → Optio
 inheritable_in k read None = Ok Absent
 inheritable_in k read (Some d) = written_or_taken k read d
 
--- what stands at a key whose value may be taken from the workspace
+-- the value at a key whose value may be inherited from the workspace
 abbrev pub inheritable_at : {A : Type 0} → Key → (Data → Read A) → Members → Read (Inheritable A)
 inheritable_at k read ms = inheritable_in k read (value_at k ms)
 
@@ -157,7 +157,7 @@ inheritable_text_at k ms = inheritable_at k (text_of k) ms
 abbrev pub inheritable_texts_at : Key → Members → Read (Inheritable (List Text))
 inheritable_texts_at k ms = inheritable_at k (texts_of k) ms
 
--- this value where nothing is written
+-- this value if none is written
 abbrev pub or_default : {A : Type 0} → A → Inheritable A → Inherited A
 or_default default (Written x) = inherited.Written x
 or_default default Workspace = inherited.Workspace

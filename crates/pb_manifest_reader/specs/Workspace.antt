@@ -59,7 +59,7 @@ workspace_package_in (Some ms) = workspace_package_of ms >>= (λ found. Ok (Some
 abbrev pub workspace_package_at : Members → Read (Option WorkspacePackage)
 workspace_package_at ms = table_at key.Package ms >>= workspace_package_in
 
--- a list of paths, empty where none is written
+-- a list of paths, empty if none is written
 abbrev pub listed_paths_at : Key → Members → Read (List Text)
 listed_paths_at k ms = paths_at k ms >>= (λ found. Ok (listed found))
 

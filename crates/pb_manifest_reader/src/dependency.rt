@@ -16,7 +16,7 @@ use pb_manifest::{Dependency, Key, ManifestFault, Requirement, Source, WrittenPa
 use std::alloc::Global;
 use toml::{Table, Value};
 
-/// The path of an entry: none beside `workspace = true`, and else it has to be there.
+/// Returns the path of an entry: none if `workspace = true` is written, and required otherwise.
 fn own_path(taken: bool, path: Option<WrittenPath>) -> Result<Option<WrittenPath>, ManifestFault>
     ensures { result ≡ own_path taken path }
 {
@@ -29,7 +29,7 @@ fn own_path(taken: bool, path: Option<WrittenPath>) -> Result<Option<WrittenPath
     }
 }
 
-/// The keys of an entry from `path` to `workspace`.
+/// Returns the keys of an entry from `path` to `workspace`.
 fn last_keys(alloc: Global, table: &Table) -> Result<LastKeys, ManifestFault>
     ensures { Gives result (last_keys (table_view table.now)) }
 {
@@ -39,7 +39,7 @@ fn last_keys(alloc: Global, table: &Table) -> Result<LastKeys, ManifestFault>
     Ok(LastKeys { path, version })
 }
 
-/// Where an entry comes from.
+/// Returns the source of an entry.
 fn source_of(
     default_features: Option<bool>,
     package: Option<Text>,
@@ -56,7 +56,7 @@ fn source_of(
     }
 }
 
-/// An entry that is a table.
+/// Returns an entry that is a table.
 fn dependency_keys(alloc: Global, name: &str, table: &Table) -> Result<Dependency, ManifestFault>
     ensures { Gives result (dependency_keys name.now (table_view table.now)) }
 {
@@ -78,7 +78,8 @@ fn dependency_keys(alloc: Global, name: &str, table: &Table) -> Result<Dependenc
     })
 }
 
-/// An entry of the table at a key. One that is a version has no path.
+/// Returns an entry of the table at a key. An entry that is a version is refused, since it has no
+/// path.
 #[tactic(auto, unfolding(crate::specs::Dependencies::dependency_of))]
 fn dependency_of(
     alloc: Global,
@@ -100,7 +101,7 @@ fn dependency_of(
     }
 }
 
-/// The entries of a table, in byte order of their keys.
+/// Returns the entries of a table, in byte order of their keys.
 fn each_dependency(
     alloc: Global,
     key: Key,
@@ -115,7 +116,8 @@ fn each_dependency(
     Ok(dependencies)
 }
 
-/// The entries of `[dependencies]` or `[build-dependencies]`; none where the table is not there.
+/// Returns the entries of `[dependencies]` or `[build-dependencies]`, none if there is no such
+/// table.
 pub(crate) fn dependencies_at(
     alloc: Global,
     key: Key,

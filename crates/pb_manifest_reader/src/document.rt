@@ -21,7 +21,7 @@ use pb_manifest::{
 use std::alloc::Global;
 use toml::Table;
 
-/// The most bytes that a manifest may have. Our own choice.
+/// The greatest length of a manifest, in bytes. Our own choice.
 pub const GREATEST_LENGTH: usize = 1_048_576;
 
 /// The package and its targets.
@@ -43,7 +43,7 @@ struct Tables {
     workspace: Option<WorkspaceTable>,
 }
 
-/// Refuses the tables that are not supported.
+/// Refuses unsupported tables.
 fn supported(table: &Table) -> Result<(), ManifestFault>
     ensures { result ≡ supported (table_view table.now) }
 {
@@ -54,7 +54,7 @@ fn supported(table: &Table) -> Result<(), ManifestFault>
     }
 }
 
-/// Whether a table asks for resolver 1.
+/// Returns whether a table requests resolver 1.
 fn asks_old_resolver(table: &Table, key: Key) -> bool
     ensures { result ≡ asks_old_resolver key (table_view table.now) }
 {
@@ -85,7 +85,7 @@ fn not_old(table: &Table) -> Result<(), ManifestFault>
     }
 }
 
-/// The table `[package]`, which a manifest without `[workspace]` has.
+/// Returns the table `[package]`, which is required if there is no `[workspace]`.
 fn package_at(alloc: Global, table: &Table) -> Result<Option<Package>, ManifestFault>
     ensures { Gives result (package_at (table_view table.now)) }
 {
@@ -104,7 +104,7 @@ fn package_at(alloc: Global, table: &Table) -> Result<Option<Package>, ManifestF
     }
 }
 
-/// The table `[lib]`, where it is there.
+/// Returns the table `[lib]`, if there is one.
 fn library_at(alloc: Global, table: &Table) -> Result<Option<Library>, ManifestFault>
     ensures { Gives result (library_at (table_view table.now)) }
 {
@@ -117,7 +117,7 @@ fn library_at(alloc: Global, table: &Table) -> Result<Option<Library>, ManifestF
     }
 }
 
-/// The table `[workspace]`, where it is there.
+/// Returns the table `[workspace]`, if there is one.
 fn workspace_at(alloc: Global, table: &Table) -> Result<Option<WorkspaceTable>, ManifestFault>
     ensures { Gives result (workspace_at (table_view table.now)) }
 {
@@ -130,7 +130,7 @@ fn workspace_at(alloc: Global, table: &Table) -> Result<Option<WorkspaceTable>, 
     }
 }
 
-/// The package and its targets.
+/// Returns the package and its targets.
 #[tactic(auto, unfolding(crate::specs::Document::targets_of))]
 fn targets_of(alloc: Global, table: &Table) -> Result<Targets, ManifestFault>
     ensures { Gives result (targets_of (table_view table.now)) }
@@ -145,7 +145,7 @@ fn targets_of(alloc: Global, table: &Table) -> Result<Targets, ManifestFault>
     })
 }
 
-/// The tables after those of the targets.
+/// Returns the tables after those of the targets.
 #[tactic(auto, unfolding(crate::specs::Document::tables_of))]
 fn tables_of(alloc: Global, table: &Table) -> Result<Tables, ManifestFault>
     ensures { Gives result (tables_of (table_view table.now)) }
@@ -166,7 +166,7 @@ fn tables_of(alloc: Global, table: &Table) -> Result<Tables, ManifestFault>
     })
 }
 
-/// What a document says.
+/// Returns the manifest of a document.
 #[tactic(auto, unfolding(crate::specs::Document::document_of))]
 fn document_of(alloc: Global, table: &Table) -> Result<Manifest, ManifestFault>
     ensures { Gives result (document_of (table_view table.now)) }
@@ -188,7 +188,7 @@ fn document_of(alloc: Global, table: &Table) -> Result<Manifest, ManifestFault>
     })
 }
 
-/// The document that some bytes are.
+/// Returns the document in some bytes.
 #[tactic(auto, using(crate::proofs::Tables::utf8_laws), unfolding(crate::specs::Document::document_in))]
 fn document_in(alloc: Global, bytes: &[u8]) -> Result<Table, ManifestFault>
     ensures { GivesAs table_view result (document_in bytes.now) }
@@ -209,11 +209,14 @@ fn document_in(alloc: Global, bytes: &[u8]) -> Result<Table, ManifestFault>
     }
 }
 
-/// Reads a manifest: what its bytes say, by The Cargo Book, or why they are refused.
+/// Returns the manifest in some bytes, as The Cargo Book defines it.
 ///
-/// `ManifestFault` says when each fault comes, and which of several is told. A key that no rule
-/// names is accepted and changes nothing, and so are the tables that a build does not use, as
-/// `[lints]` and `[package.metadata]`; of `[dev-dependencies]` the keys alone are read.
+/// Errors: those of `ManifestFault`, which describes when each one occurs, and which of several is
+/// returned.
+///
+/// A key that no rule names is accepted and has no effect. The same is true of tables that a build
+/// does not use, such as `[lints]` and `[package.metadata]`. Only the keys of `[dev-dependencies]`
+/// are read.
 pub fn read_manifest(alloc: Global, bytes: &[u8]) -> Result<Manifest, ManifestFault>
     ensures { Gives result (manifest_of bytes.now) }
 {

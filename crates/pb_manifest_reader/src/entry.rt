@@ -21,14 +21,15 @@ pub(crate) struct FirstKeys {
     pub package: Option<Text>,
 }
 
-/// The keys of an entry from `path` to `workspace`. None: the path has no effect, or is not there.
+/// The keys of an entry from `path` to `workspace`. `path` is none if there is no path, or if it
+/// has no effect.
 #[derive(Drop)]
 pub(crate) struct LastKeys {
     pub path: Option<WrittenPath>,
     pub version: Option<Requirement>,
 }
 
-/// Refuses a source that is not supported, where it is to be refused.
+/// Refuses an unsupported source if `refused` is true.
 pub(crate) fn refused_where(refused: bool) -> Result<(), ManifestFault>
     ensures { result ≡ refused_where refused }
 {
@@ -39,7 +40,7 @@ pub(crate) fn refused_where(refused: bool) -> Result<(), ManifestFault>
     }
 }
 
-/// Refuses a `workspace` that does not say true.
+/// Refuses a `workspace` that is not `true`.
 fn workspace_at(table: &Table) -> Result<(), ManifestFault>
     ensures { result ≡ workspace_at (table_view table.now) }
 {
@@ -55,8 +56,8 @@ fn workspace_at(table: &Table) -> Result<(), ManifestFault>
     }
 }
 
-/// The keys of an entry from `default-features` to `package`. `git` is refused, unless sources that
-/// are not supported are kept.
+/// Returns the keys of an entry from `default-features` to `package`. `git` is refused unless
+/// unsupported sources are kept.
 pub(crate) fn first_keys(
     alloc: Global,
     keeps: bool,
@@ -77,7 +78,7 @@ pub(crate) fn first_keys(
     })
 }
 
-/// The requirement at `version`, in an entry whose `workspace` says true where it is there.
+/// Returns the requirement at `version`, and refuses a `workspace` that is not `true`.
 pub(crate) fn version_and_workspace(
     alloc: Global,
     table: &Table,
@@ -89,7 +90,7 @@ pub(crate) fn version_and_workspace(
     Ok(version)
 }
 
-/// The package at a path.
+/// Returns the package at a path.
 pub(crate) fn at_path(
     default_features: Option<bool>,
     package: Option<Text>,

@@ -14,7 +14,7 @@ use pb_manifest::{Feature, FeatureItem, Key, ManifestFault};
 use std::alloc::Global;
 use toml::{Table, Value};
 
-/// What stands before and after the first `/`.
+/// Returns the texts before and after the first `/`, if there is one.
 #[tactic(auto, unfolding(pb_manifest::specs::Features::parted))]
 fn parted_at_slash(text: &str) -> Option<(&str, &str)>
     ensures { option_map (λ x. (x.0.now, x.1.now)) result ≡ parted 47 text.now }
@@ -22,7 +22,7 @@ fn parted_at_slash(text: &str) -> Option<(&str, &str)>
     text.split_once('/')
 }
 
-/// What stands before and after the first `?`.
+/// Returns the texts before and after the first `?`, if there is one.
 #[tactic(auto, unfolding(pb_manifest::specs::Features::parted))]
 fn parted_at_question_mark(text: &str) -> Option<(&str, &str)>
     ensures { option_map (λ x. (x.0.now, x.1.now)) result ≡ parted 63 text.now }
@@ -30,7 +30,7 @@ fn parted_at_question_mark(text: &str) -> Option<(&str, &str)>
     text.split_once('?')
 }
 
-/// What stands before and after the first `:`.
+/// Returns the texts before and after the first `:`, if there is one.
 #[tactic(auto, unfolding(pb_manifest::specs::Features::parted))]
 fn parted_at_colon(text: &str) -> Option<(&str, &str)>
     ensures { option_map (λ x. (x.0.now, x.1.now)) result ≡ parted 58 text.now }
@@ -38,7 +38,7 @@ fn parted_at_colon(text: &str) -> Option<(&str, &str)>
     text.split_once(':')
 }
 
-/// The item `F`.
+/// Returns the item `F`.
 fn own_item(alloc: Global, text: &str) -> Result<FeatureItem, ManifestFault>
     ensures { Gives result (own_item text.now) }
 {
@@ -49,7 +49,7 @@ fn own_item(alloc: Global, text: &str) -> Result<FeatureItem, ManifestFault>
     Ok(FeatureItem::Own(feature))
 }
 
-/// The item `dep:N`, of the word before the colon and the name after it.
+/// Returns the item `dep:N` of the text before the colon and the name after it.
 fn dependency_item(alloc: Global, word: &str, name: &str) -> Result<FeatureItem, ManifestFault>
     ensures { Gives result (dependency_item word.now name.now) }
 {
@@ -60,7 +60,7 @@ fn dependency_item(alloc: Global, word: &str, name: &str) -> Result<FeatureItem,
     Ok(FeatureItem::Dependency(name))
 }
 
-/// An item without `/`.
+/// Returns an item without `/`.
 fn whole_item(alloc: Global, text: &str) -> Result<FeatureItem, ManifestFault>
     ensures { Gives result (whole_item text.now (parted 58 text.now)) }
 {
@@ -70,7 +70,7 @@ fn whole_item(alloc: Global, text: &str) -> Result<FeatureItem, ManifestFault>
     }
 }
 
-/// The item `N/F`.
+/// Returns the item `N/F`.
 fn item_of(alloc: Global, name: &str, feature: &str) -> Result<FeatureItem, ManifestFault>
     ensures { Gives result (item_of name.now feature.now) }
 {
@@ -85,7 +85,7 @@ fn item_of(alloc: Global, name: &str, feature: &str) -> Result<FeatureItem, Mani
     })
 }
 
-/// The item `N?/F`, where nothing stands between `?` and `/`.
+/// Returns the item `N?/F`, if nothing is between `?` and `/`.
 fn item_of_enabled(
     alloc: Global,
     name: &str,
@@ -105,7 +105,7 @@ fn item_of_enabled(
     })
 }
 
-/// An item with `/`.
+/// Returns an item with `/`.
 fn parted_item(alloc: Global, name: &str, feature: &str) -> Result<FeatureItem, ManifestFault>
     ensures { Gives result (parted_item name.now (parted 63 name.now) feature.now) }
 {
@@ -115,7 +115,7 @@ fn parted_item(alloc: Global, name: &str, feature: &str) -> Result<FeatureItem, 
     }
 }
 
-/// An item of a feature.
+/// Returns an item of a feature.
 fn item_in(alloc: Global, text: &str) -> Result<FeatureItem, ManifestFault>
     ensures { Gives result (item_in text.now) }
 {
@@ -125,7 +125,7 @@ fn item_in(alloc: Global, text: &str) -> Result<FeatureItem, ManifestFault>
     }
 }
 
-/// An item of a feature.
+/// Returns an item of a feature.
 fn feature_item_of(alloc: Global, value: &Value) -> Result<FeatureItem, ManifestFault>
     ensures { Gives result (feature_item_of (view value.now)) }
 {
@@ -135,7 +135,7 @@ fn feature_item_of(alloc: Global, value: &Value) -> Result<FeatureItem, Manifest
     }
 }
 
-/// The items of a list.
+/// Returns the items of a list.
 fn each_feature_item(alloc: Global, values: &[Value]) -> Result<Items<FeatureItem>, ManifestFault>
     ensures { Gives result (each feature_item_of (items_view values.now)) }
 {
@@ -146,7 +146,7 @@ fn each_feature_item(alloc: Global, values: &[Value]) -> Result<Items<FeatureIte
     Ok(items)
 }
 
-/// A feature.
+/// Returns a feature.
 #[tactic(auto, unfolding(crate::specs::Features::feature_of))]
 fn feature_of(alloc: Global, name: &str, value: &Value) -> Result<Feature, ManifestFault>
     ensures { Gives result (feature_of name.now (view value.now)) }
@@ -159,7 +159,7 @@ fn feature_of(alloc: Global, name: &str, value: &Value) -> Result<Feature, Manif
     Ok(Feature { name, items })
 }
 
-/// The features of a table, in byte order of their names.
+/// Returns the features of a table, in byte order of their names.
 fn each_feature(alloc: Global, table: &Table) -> Result<Items<Feature>, ManifestFault>
     ensures { Gives result (each_entry feature_of (table_view table.now)) }
 {
@@ -170,7 +170,7 @@ fn each_feature(alloc: Global, table: &Table) -> Result<Items<Feature>, Manifest
     Ok(features)
 }
 
-/// The table `[features]`; none where it is not there.
+/// Returns the table `[features]`, empty if there is none.
 pub(crate) fn features_at(alloc: Global, table: &Table) -> Result<Items<Feature>, ManifestFault>
     ensures { Gives result (features_at (table_view table.now)) }
 {

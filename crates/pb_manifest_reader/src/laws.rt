@@ -1,5 +1,5 @@
-//! Laws of the reader's definitions, in the words of the rules. None of these functions does
-//! anything: each states what its contract says.
+//! Laws about the reader's definitions, in the terms of the rules. Each function does nothing; its
+//! contract is the law.
 
 ghost use Rattle.std.specs.Prelude.{◌≡◌, ◌<◌, ℕ, List};
 ghost use Rattle.pb_manifest_reader.specs.Binaries.{binary_keys};
@@ -16,8 +16,8 @@ ghost use Rattle.pb_manifest.specs.Values.{Text};
 ghost use Rattle.pb_manifest_reader.specs.Workspace.{workspace_of, workspace_package_of};
 ghost use Rattle.pb_manifest.specs.declared.key.Key.{Key};
 
-/// In each table with fixed keys, a key that no rule names never changes the answer (The Cargo
-/// Book, Manifest Format: unused keys are warned of, and no more).
+/// In each table with fixed keys, a key that no rule names never changes the result (The Cargo
+/// Book, Manifest Format: unused keys cause at most a warning).
 pub fn unnamed_keys_change_nothing()
     ensures package { PassesOver package_of }
     ensures library { PassesOver library_of }
@@ -31,8 +31,8 @@ pub fn unnamed_keys_change_nothing()
     ensures document { PassesOver document_of }
 {}
 
-/// The reading of each table looks at the table's own keys and at no other: it answers the same for two
-/// tables that say the same there.
+/// The reading of each table looks only at the table's own keys: it returns the same for two tables
+/// with the same values at these keys.
 pub fn tables_look_at_their_own_keys()
     ensures package { LooksAt of_package package_of }
     ensures library { LooksAt of_library library_of }
@@ -46,61 +46,65 @@ pub fn tables_look_at_their_own_keys()
     ensures document { LooksAt of_document document_of }
 {}
 
-/// A manifest over the size is refused, whatever it says.
+/// A manifest over the size limit is refused, whatever it contains.
 pub fn large_manifests_are_refused()
     ensures { RefusesLarge }
 {}
 
-/// The keys of each table of a document that `toml` reads ascend in byte order, so each stands there
-/// once: of the document itself, and of the table at a key of a table.
+/// The keys of each table of a document that `toml` reads are in byte order without repeats. This
+/// is so for the document itself, and for the table at a key of a table.
 pub fn documents_are_in_order()
     ensures document { OrdersTables }
     ensures tables { OrdersInnerTables }
     ensures keys { OrdersKeys }
 {}
 
-/// Each manifest that was read keeps the promises of `specs/Promises.antt`: names have their letters,
-/// paths hold no byte 0, `codegen-units` is from 1 to 65,536, a custom profile inherits and none is
-/// called `debug`, and the entries of each table stand in byte order of their keys, each key once.
+/// Each manifest that was read keeps the promises of `specs/Promises.antt`.
+///
+/// - Names have valid letters, and paths contain no byte 0.
+/// - `codegen-units` is from 1 to 65,536.
+/// - A custom profile has `inherits`, and none is called `debug`.
+/// - The entries of each table are in byte order of their keys, without repeats.
 pub fn manifests_keep_promises()
     ensures { KeepsPromises }
 {}
 
-/// A text is read as an item of a feature exactly where it is the item's own spelling: `F`, `dep:N`, `N/F`
-/// or `N?/F`, with N of the letters of package names and F of those of feature names (The Cargo Book,
-/// Features).
+/// A text is read as an item of a feature if and only if it is the item's own spelling: `F`,
+/// `dep:N`, `N/F` or `N?/F`. N has the letters of package names, and F those of feature names (The
+/// Cargo Book, Features).
 pub fn items_have_their_spelling()
     ensures only { SpellsItems }
     ensures each { ReadsSpellings }
 {}
 
-/// The package of a manifest that was read has a name of ASCII letters, digits, `-` and `_`, and
-/// it is not empty (The Cargo Book, Manifest Format).
+/// The package of a manifest that was read has a non-empty name of ASCII letters, digits, `-` and
+/// `_` (The Cargo Book, Manifest Format).
 pub fn packages_have_names()
     ensures { NamesPackages }
 {}
 
-/// A package that writes no edition has 2015.
+/// A package without a written edition has the edition 2015.
 pub fn default_edition()
     ensures { DefaultEdition }
 {}
 
-/// A package that writes no version has 0.0.0.
+/// A package without a written version has the version 0.0.0.
 pub fn default_version()
     ensures { DefaultVersion }
 {}
 
-/// The binaries of `[[bin]]` are those of the list, one for one and in its order.
+/// The binaries of `[[bin]]` are those of the list, one for one and in order.
 pub fn binaries_keep_their_order()
     ensures { KeepsOrder }
 {}
 
-/// Of the faults in a table with fixed keys the one of the lowest key, in byte order, is told: `[package]`,
-/// `[lib]`, a `[[bin]]`, an entry of dependencies, one of `[workspace.dependencies]`, `[workspace.package]`
-/// and `[workspace]`. In `[profile]` all faults are one.
+/// If a table with fixed keys has several faults, that of the lowest key in byte order is reported.
+/// These tables are `[package]`, `[lib]`, a `[[bin]]`, an entry of dependencies, one of
+/// `[workspace.dependencies]`, `[workspace.package]` and `[workspace]`. In `[profile]` all faults
+/// are the same.
 ///
-/// Of the bad entries of a table whose keys the user chooses, in byte order of the keys as each table of a
-/// document is, the one of the lowest key is told.
+/// If a table whose keys the user chooses has several bad entries, that of the lowest key is
+/// reported. The keys of each table of a document are in byte order.
 pub fn lowest_faults_are_told()
     ensures package_table { TellsLowest faults_of_package package_of }
     ensures library { TellsLowest faults_of_library library_of }

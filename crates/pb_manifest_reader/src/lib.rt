@@ -1,7 +1,7 @@
-//! The manifest reader: what the bytes of a `Cargo.toml` say, by The Cargo Book.
+//! The manifest reader: what the bytes of a `Cargo.toml` mean, by The Cargo Book.
 //!
-//! `read_manifest` is the whole of it. Its contract names one definition, `manifest_of` of
-//! `specs/Document.antt`, which is put together of one small definition a table and a key.
+//! `read_manifest` is its only function. Its contract names one definition, `manifest_of` of
+//! `specs/Document.antt`, which is composed of one small definition for each table and key.
 #![tactic(auto)]
 
 mod dependency;

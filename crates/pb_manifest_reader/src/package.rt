@@ -49,7 +49,7 @@ struct LastKeys {
     version: Inherited<Version>,
 }
 
-/// A name of a package or a binary.
+/// Returns a name of a package or a binary.
 fn name_in(text: Option<Text>) -> Result<Text, ManifestFault>
     ensures { result ≡ name_in text }
 {
@@ -65,14 +65,14 @@ fn name_in(text: Option<Text>) -> Result<Text, ManifestFault>
     }
 }
 
-/// The name at `name`, which has to be there.
+/// Returns the name at `name`, which is required.
 pub(crate) fn name_at(alloc: Global, table: &Table) -> Result<Text, ManifestFault>
     ensures { Gives result (name_at (table_view table.now)) }
 {
     name_in(text_at(alloc, table, Key::Name)?)
 }
 
-/// The edition of a text.
+/// Returns the edition of a text.
 fn edition_in(text: &Text) -> Result<Edition, ManifestFault>
     ensures { result ≡ edition_in text.now }
 {
@@ -85,7 +85,7 @@ fn edition_in(text: &Text) -> Result<Edition, ManifestFault>
     }
 }
 
-/// An edition.
+/// Returns an edition.
 fn edition_of(alloc: Global, value: &Value) -> Result<Edition, ManifestFault>
     ensures { Gives result (edition_of (view value.now)) }
 {
@@ -93,7 +93,7 @@ fn edition_of(alloc: Global, value: &Value) -> Result<Edition, ManifestFault>
     edition_in(&text)
 }
 
-/// The edition at `edition`, where it is there.
+/// Returns the edition at `edition`, if there is one.
 pub(crate) fn edition_at(alloc: Global, table: &Table) -> Result<Option<Edition>, ManifestFault>
     ensures { Gives result (edition_at (table_view table.now)) }
 {
@@ -106,7 +106,7 @@ pub(crate) fn edition_at(alloc: Global, table: &Table) -> Result<Option<Edition>
     }
 }
 
-/// An edition, or `{ workspace = true }`.
+/// Returns an edition, or `{ workspace = true }`.
 fn edition_or_taken(alloc: Global, value: &Value) -> Result<Inheritable<Edition>, ManifestFault>
     ensures { Gives result (written_or_taken key.Edition edition_of (view value.now)) }
 {
@@ -117,7 +117,7 @@ fn edition_or_taken(alloc: Global, value: &Value) -> Result<Inheritable<Edition>
     Ok(Inheritable::Written(edition))
 }
 
-/// The edition of a package: 2015 where none is written.
+/// Returns the edition of a package: 2015 if none is written.
 fn inherited_edition_at(alloc: Global, table: &Table) -> Result<Inherited<Edition>, ManifestFault>
     ensures { Gives result (inherited_edition_at (table_view table.now)) }
 {
@@ -132,7 +132,7 @@ fn inherited_edition_at(alloc: Global, table: &Table) -> Result<Inherited<Editio
     }
 }
 
-/// What `build` says.
+/// Returns the value at `build`.
 fn build_at(alloc: Global, table: &Table) -> Result<Build, ManifestFault>
     ensures { Gives result (build_at (table_view table.now)) }
 {
@@ -151,7 +151,7 @@ fn build_at(alloc: Global, table: &Table) -> Result<Build, ManifestFault>
     }
 }
 
-/// A text or a truth value.
+/// Returns a README setting, which is a text or a truth value.
 fn readme_of(alloc: Global, value: &Value) -> Result<Readme, ManifestFault>
     ensures { Gives result (readme_of (view value.now)) }
 {
@@ -166,7 +166,7 @@ fn readme_of(alloc: Global, value: &Value) -> Result<Readme, ManifestFault>
     }
 }
 
-/// What `readme` says, where it is there.
+/// Returns the value at `readme`, if there is one.
 pub(crate) fn readme_at(alloc: Global, table: &Table) -> Result<Option<Readme>, ManifestFault>
     ensures { Gives result (readme_at (table_view table.now)) }
 {
@@ -179,7 +179,7 @@ pub(crate) fn readme_at(alloc: Global, table: &Table) -> Result<Option<Readme>, 
     }
 }
 
-/// A readme, or `{ workspace = true }`.
+/// Returns a README setting, or `{ workspace = true }`.
 fn readme_or_taken(alloc: Global, value: &Value) -> Result<Inheritable<Readme>, ManifestFault>
     ensures { Gives result (written_or_taken key.Readme readme_of (view value.now)) }
 {
@@ -190,7 +190,7 @@ fn readme_or_taken(alloc: Global, value: &Value) -> Result<Inheritable<Readme>, 
     Ok(Inheritable::Written(readme))
 }
 
-/// What `readme` says, or that it is taken from the workspace.
+/// Returns the value at `readme`, which may be inherited from the workspace.
 fn inheritable_readme_at(alloc: Global, table: &Table) -> Result<Inheritable<Readme>, ManifestFault>
     ensures { Gives result (inheritable_readme_at (table_view table.now)) }
 {
@@ -213,7 +213,7 @@ pub(crate) fn resolver_at(alloc: Global, table: &Table) -> Result<(), ManifestFa
     }
 }
 
-/// The keys of `[package]` from `authors` to `edition`.
+/// Returns the keys of `[package]` from `authors` to `edition`.
 fn first_keys(alloc: Global, table: &Table) -> Result<FirstKeys, ManifestFault>
     ensures { Gives result (first_keys (table_view table.now)) }
 {
@@ -231,7 +231,7 @@ fn first_keys(alloc: Global, table: &Table) -> Result<FirstKeys, ManifestFault>
     })
 }
 
-/// The keys of `[package]` from `homepage` to `name`.
+/// Returns the keys of `[package]` from `homepage` to `name`.
 fn middle_keys(alloc: Global, table: &Table) -> Result<MiddleKeys, ManifestFault>
     ensures { Gives result (middle_keys (table_view table.now)) }
 {
@@ -249,7 +249,7 @@ fn middle_keys(alloc: Global, table: &Table) -> Result<MiddleKeys, ManifestFault
     })
 }
 
-/// The keys of `[package]` from `readme` to `version`.
+/// Returns the keys of `[package]` from `readme` to `version`.
 fn last_keys(alloc: Global, table: &Table) -> Result<LastKeys, ManifestFault>
     ensures { Gives result (last_keys (table_view table.now)) }
 {
@@ -266,7 +266,7 @@ fn last_keys(alloc: Global, table: &Table) -> Result<LastKeys, ManifestFault>
     })
 }
 
-/// The table `[package]`.
+/// Returns the table `[package]`.
 pub(crate) fn package_of(alloc: Global, table: &Table) -> Result<Package, ManifestFault>
     ensures { Gives result (package_of (table_view table.now)) }
 {

@@ -18,7 +18,7 @@ use pb_manifest::{Key, ManifestFault, Profile, ProfileKeys, ProfileOverride};
 use std::alloc::Global;
 use toml::{Table, Value};
 
-/// What `inherits` says, where it is there.
+/// Returns the value at `inherits`, if there is one.
 fn inherits_at(alloc: Global, table: &Table) -> Result<Option<Text>, ManifestFault>
     ensures { Gives result (profile_value as_str key.Inherits (table_view table.now)) }
 {
@@ -34,7 +34,7 @@ fn inherits_at(alloc: Global, table: &Table) -> Result<Option<Text>, ManifestFau
     }
 }
 
-/// The keys that a profile or an override sets.
+/// Returns the keys that a profile or an override sets.
 fn profile_keys(table: &Table) -> Result<ProfileKeys, ManifestFault>
     ensures { result ≡ profile_keys (table_view table.now) }
 {
@@ -60,7 +60,7 @@ fn profile_keys(table: &Table) -> Result<ProfileKeys, ManifestFault>
     })
 }
 
-/// A table.
+/// Returns the table of a profile or an override.
 fn profile_table<'a>(value: &'a Value) -> Result<&'a Table, ManifestFault>
     ensures ok { IfOk result (λ t. profile_table (view value.now) ≡ Ok (table_view t.now)) }
     ensures err { IfErr result (λ e. profile_table (view value.now) ≡ Err e) }
@@ -71,7 +71,7 @@ fn profile_table<'a>(value: &'a Value) -> Result<&'a Table, ManifestFault>
     }
 }
 
-/// An override by a package's name.
+/// Returns an override by a package's name.
 #[tactic(auto, unfolding(crate::specs::Profiles::override_of))]
 fn override_of(alloc: Global, name: &str, value: &Value) -> Result<ProfileOverride, ManifestFault>
     ensures { Gives result (override_of name.now (view value.now)) }
@@ -81,7 +81,7 @@ fn override_of(alloc: Global, name: &str, value: &Value) -> Result<ProfileOverri
     Ok(ProfileOverride { name, keys })
 }
 
-/// The overrides of a table, in byte order of their names.
+/// Returns the overrides of a table, in byte order of their names.
 fn each_override(alloc: Global, table: &Table) -> Result<Items<ProfileOverride>, ManifestFault>
     ensures { Gives result (each_entry override_of (table_view table.now)) }
 {
@@ -92,7 +92,7 @@ fn each_override(alloc: Global, table: &Table) -> Result<Items<ProfileOverride>,
     Ok(overrides)
 }
 
-/// The overrides by packages' names; none where there is no table of them.
+/// Returns the overrides by packages' names, none if there is no table of them.
 fn overrides_at(alloc: Global, table: &Table) -> Result<Items<ProfileOverride>, ManifestFault>
     ensures { Gives result (overrides_at (table_view table.now)) }
 {
@@ -102,7 +102,7 @@ fn overrides_at(alloc: Global, table: &Table) -> Result<Items<ProfileOverride>, 
     }
 }
 
-/// The override for build scripts and what they depend on, where it is there.
+/// Returns the override for build scripts and what they depend on, if there is one.
 fn build_override_at(table: &Table) -> Result<Option<ProfileKeys>, ManifestFault>
     ensures { result ≡ build_override_at (table_view table.now) }
 {
@@ -115,7 +115,7 @@ fn build_override_at(table: &Table) -> Result<Option<ProfileKeys>, ManifestFault
     }
 }
 
-/// Whether a profile is there without being written.
+/// Returns whether a profile exists without being written.
 #[tactic(auto, unfolding(crate::specs::Profiles::is_built_in))]
 fn is_built_in(name: &str) -> bool
     ensures { result ≡ is_built_in name.now }
@@ -123,7 +123,7 @@ fn is_built_in(name: &str) -> bool
     name == "dev" || name == "release" || name == "test" || name == "bench"
 }
 
-/// Whether a profile of this name may be written, given what `inherits` says.
+/// Returns whether a profile with this name may be written, with this `inherits`.
 #[tactic(auto, unfolding(crate::specs::Profiles::may_be_profile))]
 fn may_be_profile(name: &str, inherits: &Option<Text>) -> bool
     ensures { result ≡ may_be_profile name.now inherits.now }
@@ -131,7 +131,7 @@ fn may_be_profile(name: &str, inherits: &Option<Text>) -> bool
     is_built_in(name) || (is_name(name) && name != "debug" && inherits.is_some())
 }
 
-/// A profile that is a table.
+/// Returns a profile that is a table.
 fn profile_of_table(alloc: Global, name: &str, table: &Table) -> Result<Profile, ManifestFault>
     ensures { Gives result (profile_of_table name.now (table_view table.now)) }
 {
@@ -152,7 +152,7 @@ fn profile_of_table(alloc: Global, name: &str, table: &Table) -> Result<Profile,
     })
 }
 
-/// A profile.
+/// Returns a profile.
 #[tactic(auto, unfolding(crate::specs::Profiles::profile_of))]
 fn profile_of(alloc: Global, name: &str, value: &Value) -> Result<Profile, ManifestFault>
     ensures { Gives result (profile_of name.now (view value.now)) }
@@ -160,7 +160,7 @@ fn profile_of(alloc: Global, name: &str, value: &Value) -> Result<Profile, Manif
     profile_of_table(alloc, name, profile_table(value)?)
 }
 
-/// The profiles of a table, in byte order of their names.
+/// Returns the profiles of a table, in byte order of their names.
 fn each_profile(alloc: Global, table: &Table) -> Result<Items<Profile>, ManifestFault>
     ensures { Gives result (each_entry profile_of (table_view table.now)) }
 {
@@ -171,7 +171,7 @@ fn each_profile(alloc: Global, table: &Table) -> Result<Items<Profile>, Manifest
     Ok(profiles)
 }
 
-/// The table `[profile]`; none where it is not there.
+/// Returns the table `[profile]`, empty if there is none.
 pub(crate) fn profiles_at(alloc: Global, table: &Table) -> Result<Items<Profile>, ManifestFault>
     ensures { Gives result (profiles_at (table_view table.now)) }
 {

@@ -10,7 +10,7 @@ use crate::values::value_at;
 use pb_manifest::{DebugInfo, Key, Lto, ManifestFault, OptLevel, Panic, Strip};
 use toml::{Table, Value};
 
-/// `opt-level`: 0 to 3, `"s"`, `"z"`.
+/// Returns a value of `opt-level`: 0 to 3, `"s"`, or `"z"`.
 #[tactic(auto, unfolding(crate::specs::Profiles::opt_level_in))]
 fn opt_level_in(value: &Value) -> Option<OptLevel>
     ensures { result ≡ opt_level_in (view value.now) }
@@ -31,7 +31,7 @@ fn opt_level_in(value: &Value) -> Option<OptLevel>
     }
 }
 
-/// `debug`: a truth value, 0, 1, 2, or a word.
+/// Returns a value of `debug`: a truth value, 0, 1, 2, or a name.
 #[tactic(auto, unfolding(crate::specs::Profiles::debug_in))]
 fn debug_in(value: &Value) -> Option<DebugInfo>
     ensures { result ≡ debug_in (view value.now) }
@@ -61,7 +61,7 @@ fn debug_in(value: &Value) -> Option<DebugInfo>
     }
 }
 
-/// `lto`: a truth value, `"fat"`, `"thin"`, `"off"`.
+/// Returns a value of `lto`: a truth value, `"fat"`, `"thin"`, or `"off"`.
 #[tactic(auto, unfolding(crate::specs::Profiles::lto_in))]
 fn lto_in(value: &Value) -> Option<Lto>
     ensures { result ≡ lto_in (view value.now) }
@@ -77,7 +77,7 @@ fn lto_in(value: &Value) -> Option<Lto>
     }
 }
 
-/// `strip`: a truth value, `"none"`, `"debuginfo"`, `"symbols"`.
+/// Returns a value of `strip`: a truth value, `"none"`, `"debuginfo"`, or `"symbols"`.
 #[tactic(auto, unfolding(crate::specs::Profiles::strip_in))]
 fn strip_in(value: &Value) -> Option<Strip>
     ensures { result ≡ strip_in (view value.now) }
@@ -97,7 +97,7 @@ fn strip_in(value: &Value) -> Option<Strip>
     }
 }
 
-/// `panic`: `"unwind"`, `"abort"`.
+/// Returns a value of `panic`: `"unwind"` or `"abort"`.
 #[tactic(auto, unfolding(crate::specs::Profiles::panic_in))]
 fn panic_in(value: &Value) -> Option<Panic>
     ensures { result ≡ panic_in (view value.now) }
@@ -109,7 +109,7 @@ fn panic_in(value: &Value) -> Option<Panic>
     }
 }
 
-/// `codegen-units`: from 1 to 65,536.
+/// Returns a value of `codegen-units`, from 1 to 65,536.
 #[tactic(auto, unfolding(crate::specs::Profiles::codegen_units_in))]
 fn codegen_units_in(value: &Value) -> Option<u32>
     ensures { result ≡ codegen_units_in (view value.now) }
@@ -126,7 +126,7 @@ fn codegen_units_in(value: &Value) -> Option<u32>
     }
 }
 
-/// What `opt-level` says, where it is there.
+/// Returns the value at `opt-level`, if there is one.
 pub(crate) fn opt_level_at(table: &Table) -> Result<Option<OptLevel>, ManifestFault>
     ensures { result ≡ profile_value opt_level_in key.OptLevel (table_view table.now) }
 {
@@ -139,7 +139,7 @@ pub(crate) fn opt_level_at(table: &Table) -> Result<Option<OptLevel>, ManifestFa
     }
 }
 
-/// What `debug` says, where it is there.
+/// Returns the value at `debug`, if there is one.
 pub(crate) fn debug_at(table: &Table) -> Result<Option<DebugInfo>, ManifestFault>
     ensures { result ≡ profile_value debug_in key.Debug (table_view table.now) }
 {
@@ -152,7 +152,7 @@ pub(crate) fn debug_at(table: &Table) -> Result<Option<DebugInfo>, ManifestFault
     }
 }
 
-/// What `lto` says, where it is there.
+/// Returns the value at `lto`, if there is one.
 pub(crate) fn lto_at(table: &Table) -> Result<Option<Lto>, ManifestFault>
     ensures { result ≡ profile_value lto_in key.Lto (table_view table.now) }
 {
@@ -165,7 +165,7 @@ pub(crate) fn lto_at(table: &Table) -> Result<Option<Lto>, ManifestFault>
     }
 }
 
-/// What `strip` says, where it is there.
+/// Returns the value at `strip`, if there is one.
 pub(crate) fn strip_at(table: &Table) -> Result<Option<Strip>, ManifestFault>
     ensures { result ≡ profile_value strip_in key.Strip (table_view table.now) }
 {
@@ -178,7 +178,7 @@ pub(crate) fn strip_at(table: &Table) -> Result<Option<Strip>, ManifestFault>
     }
 }
 
-/// What `panic` says, where it is there.
+/// Returns the value at `panic`, if there is one.
 pub(crate) fn panic_at(table: &Table) -> Result<Option<Panic>, ManifestFault>
     ensures { result ≡ profile_value panic_in key.Panic (table_view table.now) }
 {
@@ -191,7 +191,7 @@ pub(crate) fn panic_at(table: &Table) -> Result<Option<Panic>, ManifestFault>
     }
 }
 
-/// What `codegen-units` says, where it is there.
+/// Returns the value at `codegen-units`, if there is one.
 pub(crate) fn codegen_units_at(table: &Table) -> Result<Option<u32>, ManifestFault>
     ensures { result ≡ profile_value codegen_units_in key.CodegenUnits (table_view table.now) }
 {
@@ -204,7 +204,7 @@ pub(crate) fn codegen_units_at(table: &Table) -> Result<Option<u32>, ManifestFau
     }
 }
 
-/// The truth value at a key, where it is there.
+/// Returns the truth value at a key, if there is one.
 pub(crate) fn truth_at(table: &Table, key: Key) -> Result<Option<bool>, ManifestFault>
     ensures { result ≡ profile_value as_bool key (table_view table.now) }
 {

@@ -16,7 +16,7 @@ use pb_manifest::{
 use std::alloc::Global;
 use toml::{Table, Value};
 
-/// The path of an entry: none beside `git` or `registry`.
+/// Returns the path of an entry: none next to `git` or `registry`.
 fn supported_path(table: &Table, path: Option<WrittenPath>) -> Option<WrittenPath>
     ensures { result ≡ supported_path (table_view table.now) path }
 {
@@ -27,7 +27,7 @@ fn supported_path(table: &Table, path: Option<WrittenPath>) -> Option<WrittenPat
     }
 }
 
-/// The keys of an entry from `path` to `workspace`.
+/// Returns the keys of an entry from `path` to `workspace`.
 fn shared_keys(alloc: Global, table: &Table) -> Result<LastKeys, ManifestFault>
     ensures { Gives result (shared_keys (table_view table.now)) }
 {
@@ -39,7 +39,7 @@ fn shared_keys(alloc: Global, table: &Table) -> Result<LastKeys, ManifestFault>
     })
 }
 
-/// Where an entry comes from.
+/// Returns the source of an entry.
 fn shared_source_of(
     default_features: Option<bool>,
     package: Option<Text>,
@@ -54,7 +54,7 @@ fn shared_source_of(
     }
 }
 
-/// An entry that is a table.
+/// Returns an entry that is a table.
 fn shared_dependency_keys(
     alloc: Global,
     name: &str,
@@ -79,7 +79,7 @@ fn shared_dependency_keys(
     })
 }
 
-/// An entry that is a version, and so has no path.
+/// Returns an entry that is a version, and therefore has no path.
 fn shared_version(
     alloc: Global,
     name: &str,
@@ -96,7 +96,7 @@ fn shared_version(
     })
 }
 
-/// An entry.
+/// Returns an entry.
 #[tactic(auto, unfolding(crate::specs::Dependencies::shared_dependency_of))]
 fn shared_dependency_of(
     alloc: Global,
@@ -117,7 +117,7 @@ fn shared_dependency_of(
     }
 }
 
-/// The entries of a table, in byte order of their keys.
+/// Returns the entries of a table, in byte order of their keys.
 fn each_shared_dependency(
     alloc: Global,
     table: &Table,
@@ -131,7 +131,7 @@ fn each_shared_dependency(
     Ok(dependencies)
 }
 
-/// The entries of `[workspace.dependencies]`; none where the table is not there.
+/// Returns the entries of `[workspace.dependencies]`, none if there is no such table.
 pub(crate) fn shared_dependencies_at(
     alloc: Global,
     table: &Table,

@@ -17,7 +17,7 @@ use pb_manifest::{Binary, CrateType, Key, Library, ManifestFault};
 use std::alloc::Global;
 use toml::{Table, Value};
 
-/// The crate type of a text.
+/// Returns the crate type of a text.
 fn crate_type_in(text: &Text) -> Result<CrateType, ManifestFault>
     ensures { result ≡ crate_type_in text.now }
 {
@@ -29,7 +29,7 @@ fn crate_type_in(text: &Text) -> Result<CrateType, ManifestFault>
     }
 }
 
-/// A crate type.
+/// Returns a crate type.
 fn crate_type_of(alloc: Global, value: &Value) -> Result<CrateType, ManifestFault>
     ensures { Gives result (crate_type_of (view value.now)) }
 {
@@ -37,7 +37,7 @@ fn crate_type_of(alloc: Global, value: &Value) -> Result<CrateType, ManifestFaul
     crate_type_in(&text)
 }
 
-/// The crate types of a list.
+/// Returns the crate types of a list.
 fn each_crate_type(alloc: Global, values: &[Value]) -> Result<Items<CrateType>, ManifestFault>
     ensures { Gives result (each crate_type_of (items_view values.now)) }
 {
@@ -48,7 +48,7 @@ fn each_crate_type(alloc: Global, values: &[Value]) -> Result<Items<CrateType>, 
     Ok(crate_types)
 }
 
-/// The crate types at `crate-type`: none where it is not there.
+/// Returns the crate types at `crate-type`, none if the key is missing.
 fn crate_types_at(alloc: Global, table: &Table) -> Result<Items<CrateType>, ManifestFault>
     ensures { Gives result (crate_types_at (table_view table.now)) }
 {
@@ -58,7 +58,7 @@ fn crate_types_at(alloc: Global, table: &Table) -> Result<Items<CrateType>, Mani
     }
 }
 
-/// The name of the crate, where one is written.
+/// Returns the name of the crate, if one is written.
 fn crate_name_at(alloc: Global, table: &Table) -> Result<Option<Text>, ManifestFault>
     ensures { Gives result (crate_name_at (table_view table.now)) }
 {
@@ -84,7 +84,7 @@ fn proc_macro_at(table: &Table) -> Result<(), ManifestFault>
     }
 }
 
-/// The table `[lib]`.
+/// Returns the table `[lib]`.
 pub(crate) fn library_of(alloc: Global, table: &Table) -> Result<Library, ManifestFault>
     ensures { Gives result (library_of (table_view table.now)) }
 {
@@ -99,7 +99,7 @@ pub(crate) fn library_of(alloc: Global, table: &Table) -> Result<Library, Manife
     })
 }
 
-/// The keys of a `[[bin]]`.
+/// Returns the keys of a `[[bin]]`.
 fn binary_keys(alloc: Global, table: &Table) -> Result<Binary, ManifestFault>
     ensures { Gives result (binary_keys (table_view table.now)) }
 {
@@ -113,14 +113,14 @@ fn binary_keys(alloc: Global, table: &Table) -> Result<Binary, ManifestFault>
     })
 }
 
-/// A table of `[[bin]]`.
+/// Returns a table of `[[bin]]`.
 fn binary_of(alloc: Global, value: &Value) -> Result<Binary, ManifestFault>
     ensures { Gives result (binary_of (view value.now)) }
 {
     binary_keys(alloc, table_of(value, Key::Bin)?)
 }
 
-/// The binaries of a list, in its order.
+/// Returns the binaries of a list, in its order.
 fn each_binary(alloc: Global, values: &[Value]) -> Result<Items<Binary>, ManifestFault>
     ensures { Gives result (each binary_of (items_view values.now)) }
 {
@@ -131,7 +131,7 @@ fn each_binary(alloc: Global, values: &[Value]) -> Result<Items<Binary>, Manifes
     Ok(binaries)
 }
 
-/// The tables of `[[bin]]`, in the manifest's order.
+/// Returns the tables of `[[bin]]`, in the manifest's order.
 pub(crate) fn binaries_at(alloc: Global, table: &Table) -> Result<Items<Binary>, ManifestFault>
     ensures { Gives result (binaries_at (table_view table.now)) }
 {

@@ -1,4 +1,4 @@
-//! Reads what stands at a key of a table.
+//! Reads the value at a key of a table.
 
 ghost use Rattle.std.specs.Prelude.{◌≡◌, option_map, IfOk, IfErr, is_some};
 ghost use Rattle.toml.specs.Data.{get_member, as_table};
@@ -11,7 +11,7 @@ use pb_manifest::{Inheritable, Key, ManifestFault, WrittenPath};
 use std::alloc::{AllocError, Global};
 use toml::{Table, Value};
 
-/// The value of a name.
+/// Returns the value of a name.
 #[tactic(auto, using(crate::proofs::Tables::found_laws))]
 fn value_named<'a>(table: &'a Table, name: &str) -> Option<&'a Value>
     ensures { option_map (λ v. view v.now) result ≡ get_member name.now (table_view table.now) }
@@ -19,14 +19,14 @@ fn value_named<'a>(table: &'a Table, name: &str) -> Option<&'a Value>
     table.get(name)
 }
 
-/// The value at a key.
+/// Returns the value at a key.
 pub(crate) fn value_at<'a>(table: &'a Table, key: Key) -> Option<&'a Value>
     ensures { option_map (λ v. view v.now) result ≡ value_at key (table_view table.now) }
 {
     value_named(table, key.name())
 }
 
-/// Whether a key is there, whatever it holds.
+/// Returns whether a key is present, whatever its value is.
 pub(crate) fn has(table: &Table, key: Key) -> bool
     ensures { result ≡ has key (table_view table.now) }
 {
@@ -36,7 +36,7 @@ pub(crate) fn has(table: &Table, key: Key) -> bool
     }
 }
 
-/// A text.
+/// Returns a value as a text.
 pub(crate) fn text_of(alloc: Global, value: &Value, key: Key) -> Result<Text, ManifestFault>
     ensures { Gives result (text_of key (view value.now)) }
 {
@@ -49,7 +49,7 @@ pub(crate) fn text_of(alloc: Global, value: &Value, key: Key) -> Result<Text, Ma
     }
 }
 
-/// The path of a text.
+/// Returns a text as a path.
 pub(crate) fn path_in(text: Text, key: Key) -> Result<WrittenPath, ManifestFault>
     ensures { result ≡ zero_free key text }
 {
@@ -59,14 +59,14 @@ pub(crate) fn path_in(text: Text, key: Key) -> Result<WrittenPath, ManifestFault
     }
 }
 
-/// A text without byte 0.
+/// Returns a value as a path, which is a text without byte 0.
 pub(crate) fn path_of(alloc: Global, value: &Value, key: Key) -> Result<WrittenPath, ManifestFault>
     ensures { Gives result (path_of key (view value.now)) }
 {
     path_in(text_of(alloc, value, key)?, key)
 }
 
-/// A truth value.
+/// Returns a value as a truth value.
 pub(crate) fn truth_of(value: &Value, key: Key) -> Result<bool, ManifestFault>
     ensures { result ≡ truth_of key (view value.now) }
 {
@@ -76,7 +76,7 @@ pub(crate) fn truth_of(value: &Value, key: Key) -> Result<bool, ManifestFault>
     }
 }
 
-/// A table.
+/// Returns a value as a table.
 pub(crate) fn table_of<'a>(value: &'a Value, key: Key) -> Result<&'a Table, ManifestFault>
     ensures ok { IfOk result (λ t. table_of key (view value.now) ≡ Ok (table_view t.now)) }
     ensures err { IfErr result (λ e. table_of key (view value.now) ≡ Err e) }
@@ -87,7 +87,7 @@ pub(crate) fn table_of<'a>(value: &'a Value, key: Key) -> Result<&'a Table, Mani
     }
 }
 
-/// A list.
+/// Returns a value as a list.
 pub(crate) fn array_of<'a>(value: &'a Value, key: Key) -> Result<&'a [Value], ManifestFault>
     ensures ok { IfOk result (λ a. array_of key (view value.now) ≡ Ok (items_view a.now)) }
     ensures err { IfErr result (λ e. array_of key (view value.now) ≡ Err e) }
@@ -98,7 +98,7 @@ pub(crate) fn array_of<'a>(value: &'a Value, key: Key) -> Result<&'a [Value], Ma
     }
 }
 
-/// The texts of a list.
+/// Returns the texts of a list.
 fn each_text(alloc: Global, values: &[Value], key: Key) -> Result<Items<Text>, ManifestFault>
     ensures { Gives result (each (text_of key) (items_view values.now)) }
 {
@@ -109,7 +109,7 @@ fn each_text(alloc: Global, values: &[Value], key: Key) -> Result<Items<Text>, M
     Ok(texts)
 }
 
-/// The paths of a list.
+/// Returns the paths of a list.
 fn each_path(alloc: Global, values: &[Value], key: Key) -> Result<Items<WrittenPath>, ManifestFault>
     ensures { Gives result (each (path_of key) (items_view values.now)) }
 {
@@ -120,14 +120,14 @@ fn each_path(alloc: Global, values: &[Value], key: Key) -> Result<Items<WrittenP
     Ok(paths)
 }
 
-/// A list of texts.
+/// Returns a value as a list of texts.
 pub(crate) fn texts_of(alloc: Global, value: &Value, key: Key) -> Result<Items<Text>, ManifestFault>
     ensures { Gives result (texts_of key (view value.now)) }
 {
     each_text(alloc, array_of(value, key)?, key)
 }
 
-/// A list of paths.
+/// Returns a value as a list of paths.
 pub(crate) fn paths_of(
     alloc: Global,
     value: &Value,
@@ -138,7 +138,7 @@ pub(crate) fn paths_of(
     each_path(alloc, array_of(value, key)?, key)
 }
 
-/// The text at a key, where the key is there.
+/// Returns the text at a key, if there is one.
 pub(crate) fn text_at(alloc: Global, table: &Table, key: Key) -> Result<Option<Text>, ManifestFault>
     ensures { Gives result (text_at key (table_view table.now)) }
 {
@@ -151,7 +151,7 @@ pub(crate) fn text_at(alloc: Global, table: &Table, key: Key) -> Result<Option<T
     }
 }
 
-/// The truth value at a key, where the key is there.
+/// Returns the truth value at a key, if there is one.
 pub(crate) fn truth_at(table: &Table, key: Key) -> Result<Option<bool>, ManifestFault>
     ensures { result ≡ truth_at key (table_view table.now) }
 {
@@ -164,7 +164,7 @@ pub(crate) fn truth_at(table: &Table, key: Key) -> Result<Option<bool>, Manifest
     }
 }
 
-/// The path at a key, where the key is there.
+/// Returns the path at a key, if there is one.
 pub(crate) fn path_at(
     alloc: Global,
     table: &Table,
@@ -181,7 +181,7 @@ pub(crate) fn path_at(
     }
 }
 
-/// The list of texts at a key, where the key is there.
+/// Returns the list of texts at a key, if there is one.
 pub(crate) fn texts_at(
     alloc: Global,
     table: &Table,
@@ -198,7 +198,7 @@ pub(crate) fn texts_at(
     }
 }
 
-/// The list of texts at a key, none where the key is not there.
+/// Returns the list of texts at a key, empty if the key is missing.
 pub(crate) fn listed_texts_at(
     alloc: Global,
     table: &Table,
@@ -212,7 +212,7 @@ pub(crate) fn listed_texts_at(
     }
 }
 
-/// The list of paths at a key, where the key is there.
+/// Returns the list of paths at a key, if there is one.
 pub(crate) fn paths_at(
     alloc: Global,
     table: &Table,
@@ -229,7 +229,7 @@ pub(crate) fn paths_at(
     }
 }
 
-/// The table at a key, where the key is there.
+/// Returns the table at a key, if there is one.
 pub(crate) fn table_at<'a>(table: &'a Table, key: Key) -> Result<Option<&'a Table>, ManifestFault>
     ensures ok { IfOk result (λ t. table_at key (table_view table.now) ≡ Ok (option_map (λ m. table_view m.now) t)) }
     ensures err { IfErr result (λ e. table_at key (table_view table.now) ≡ Err e) }
@@ -243,7 +243,7 @@ pub(crate) fn table_at<'a>(table: &'a Table, key: Key) -> Result<Option<&'a Tabl
     }
 }
 
-/// Whether a table says `workspace = true`.
+/// Returns whether a table contains `workspace = true`.
 pub(crate) fn takes_workspace(table: &Table) -> bool
     ensures { result ≡ takes_workspace (table_view table.now) }
 {
@@ -256,7 +256,8 @@ pub(crate) fn takes_workspace(table: &Table) -> bool
     }
 }
 
-/// Whether a value is taken from the workspace: a table has to say so.
+/// Returns whether a value is inherited from the workspace: a table must contain `workspace =
+/// true`.
 pub(crate) fn is_taken(value: &Value, key: Key) -> Result<bool, ManifestFault>
     ensures { result ≡ is_taken key (as_table (view value.now)) }
 {
@@ -272,7 +273,7 @@ pub(crate) fn is_taken(value: &Value, key: Key) -> Result<bool, ManifestFault>
     }
 }
 
-/// A text, or `{ workspace = true }`.
+/// Returns a text, or `{ workspace = true }`.
 fn text_or_taken(alloc: Global, value: &Value, key: Key) -> Result<Inheritable<Text>, ManifestFault>
     ensures { Gives result (written_or_taken key (text_of key) (view value.now)) }
 {
@@ -283,7 +284,7 @@ fn text_or_taken(alloc: Global, value: &Value, key: Key) -> Result<Inheritable<T
     Ok(Inheritable::Written(text))
 }
 
-/// A list of texts, or `{ workspace = true }`.
+/// Returns a list of texts, or `{ workspace = true }`.
 fn texts_or_taken(
     alloc: Global,
     value: &Value,
@@ -298,7 +299,7 @@ fn texts_or_taken(
     Ok(Inheritable::Written(texts))
 }
 
-/// The text at a key, or that it is taken from the workspace.
+/// Returns the text at a key, which may be inherited from the workspace.
 pub(crate) fn inheritable_text_at(
     alloc: Global,
     table: &Table,
@@ -312,7 +313,7 @@ pub(crate) fn inheritable_text_at(
     }
 }
 
-/// The list of texts at a key, or that it is taken from the workspace.
+/// Returns the list of texts at a key, which may be inherited from the workspace.
 pub(crate) fn inheritable_texts_at(
     alloc: Global,
     table: &Table,
@@ -326,7 +327,7 @@ pub(crate) fn inheritable_texts_at(
     }
 }
 
-/// The keys of a table, in byte order.
+/// Returns the keys of a table, in byte order.
 fn keys_of(alloc: Global, table: &Table) -> Result<Items<Text>, AllocError>
     ensures { IfOk result (λ keys. keys ≡ keys_of (table_view table.now)) }
 {
@@ -337,7 +338,7 @@ fn keys_of(alloc: Global, table: &Table) -> Result<Items<Text>, AllocError>
     Ok(keys)
 }
 
-/// The keys of the table at a key; none where there is no table.
+/// Returns the keys of the table at a key, none if there is no table.
 pub(crate) fn keys_at(alloc: Global, table: &Table, key: Key) -> Result<Items<Text>, AllocError>
     ensures { IfOk result (λ keys. keys ≡ keys_at key (table_view table.now)) }
 {

@@ -1,4 +1,4 @@
-//! Reads the key `version`: of a package, of a workspace, of a dependency.
+//! Reads the key `version` of a package, of a workspace, and of a dependency.
 
 ghost use Rattle.std.specs.Prelude.{◌≡◌, IfOk, Ok, map};
 ghost use Rattle.toml.specs.View.{view, table_view};
@@ -13,7 +13,7 @@ use pb_manifest::{Inheritable, Inherited, Key, ManifestFault, Requirement, Versi
 use std::alloc::Global;
 use toml::{Table, Value};
 
-/// A version.
+/// Returns a version.
 fn version_of(alloc: Global, value: &Value) -> Result<Version, ManifestFault>
     ensures { Gives result (version_of (view value.now)) }
 {
@@ -22,7 +22,7 @@ fn version_of(alloc: Global, value: &Value) -> Result<Version, ManifestFault>
     Ok(version)
 }
 
-/// The version at `version`, where it is there.
+/// Returns the version at `version`, if there is one.
 pub(crate) fn version_at(alloc: Global, table: &Table) -> Result<Option<Version>, ManifestFault>
     ensures { Gives result (version_at (table_view table.now)) }
 {
@@ -35,7 +35,7 @@ pub(crate) fn version_at(alloc: Global, table: &Table) -> Result<Option<Version>
     }
 }
 
-/// A requirement.
+/// Returns a requirement.
 pub(crate) fn requirement_of(alloc: Global, value: &Value) -> Result<Requirement, ManifestFault>
     ensures { Gives result (requirement_of (view value.now)) }
 {
@@ -44,7 +44,7 @@ pub(crate) fn requirement_of(alloc: Global, value: &Value) -> Result<Requirement
     Ok(requirement)
 }
 
-/// The requirement at `version`, where it is there.
+/// Returns the requirement at `version`, if there is one.
 pub(crate) fn requirement_at(
     alloc: Global,
     table: &Table,
@@ -60,7 +60,7 @@ pub(crate) fn requirement_at(
     }
 }
 
-/// A version, or `{ workspace = true }`.
+/// Returns a version, or `{ workspace = true }`.
 fn version_or_taken(alloc: Global, value: &Value) -> Result<Inheritable<Version>, ManifestFault>
     ensures { Gives result (written_or_taken key.Version version_of (view value.now)) }
 {
@@ -71,7 +71,7 @@ fn version_or_taken(alloc: Global, value: &Value) -> Result<Inheritable<Version>
     Ok(Inheritable::Written(version))
 }
 
-/// The version at `version`, or that it is taken from the workspace.
+/// Returns the version at `version`, which may be inherited from the workspace.
 fn inheritable_version_at(
     alloc: Global,
     table: &Table,
@@ -84,7 +84,7 @@ fn inheritable_version_at(
     }
 }
 
-/// The version that a package has where none is written.
+/// Returns the version of a package without a written one: 0.0.0.
 #[tactic(auto, using(crate::proofs::Zero::zero_is_version))]
 fn zero(alloc: Global) -> Result<Version, ManifestFault>
     ensures { Gives result (Ok zero) }
@@ -94,7 +94,7 @@ fn zero(alloc: Global) -> Result<Version, ManifestFault>
     Ok(version)
 }
 
-/// The version of a package: 0.0.0 where none is written.
+/// Returns the version of a package: 0.0.0 if none is written.
 pub(crate) fn inherited_version_at(
     alloc: Global,
     table: &Table,

@@ -36,7 +36,7 @@ struct LastKeys {
     version: Option<Version>,
 }
 
-/// The keys of `[workspace.package]` from `authors` to `license`.
+/// Returns the keys of `[workspace.package]` from `authors` to `license`.
 fn first_keys(alloc: Global, table: &Table) -> Result<FirstKeys, ManifestFault>
     ensures { Gives result (first_keys (table_view table.now)) }
 {
@@ -54,7 +54,7 @@ fn first_keys(alloc: Global, table: &Table) -> Result<FirstKeys, ManifestFault>
     })
 }
 
-/// The keys of `[workspace.package]` from `license-file` to `version`.
+/// Returns the keys of `[workspace.package]` from `license-file` to `version`.
 fn last_keys(alloc: Global, table: &Table) -> Result<LastKeys, ManifestFault>
     ensures { Gives result (last_keys (table_view table.now)) }
 {
@@ -72,7 +72,7 @@ fn last_keys(alloc: Global, table: &Table) -> Result<LastKeys, ManifestFault>
     })
 }
 
-/// The table `[workspace.package]`.
+/// Returns the table `[workspace.package]`.
 fn workspace_package_of(alloc: Global, table: &Table) -> Result<WorkspacePackage, ManifestFault>
     ensures { Gives result (workspace_package_of (table_view table.now)) }
 {
@@ -92,7 +92,7 @@ fn workspace_package_of(alloc: Global, table: &Table) -> Result<WorkspacePackage
     })
 }
 
-/// The table `[workspace.package]`, where it is there.
+/// Returns the table `[workspace.package]`, if there is one.
 fn workspace_package_at(
     alloc: Global,
     table: &Table,
@@ -108,7 +108,7 @@ fn workspace_package_at(
     }
 }
 
-/// The list of paths at a key, none where the key is not there.
+/// Returns the list of paths at a key, empty if the key is missing.
 fn listed_paths_at(
     alloc: Global,
     table: &Table,
@@ -122,7 +122,7 @@ fn listed_paths_at(
     }
 }
 
-/// The table `[workspace]`.
+/// Returns the table `[workspace]`.
 pub(crate) fn workspace_of(alloc: Global, table: &Table) -> Result<WorkspaceTable, ManifestFault>
     ensures { Gives result (workspace_of (table_view table.now)) }
 {

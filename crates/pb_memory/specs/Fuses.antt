@@ -1,4 +1,5 @@
--- What a failing call leaves of a place in memory, and what it uses up of what was set to fail. Want of memory is no failure, and uses up neither a fuse nor a death.
+-- What a failing call leaves of a place in memory, and how much it uses up of fuses and deaths.
+-- Running out of memory is no failure, and uses up neither a fuse nor a death.
 use Rattle.std.specs.Prelude.{◌≡◌, ◌≢◌, ◌⊎◌, ℕ, ◌+◌, ◌-◌, ◌/◌, ◌==◌, max, List, length, take, Option, Result, Ok, Err, IfOk, IfErr, if◌then◌else◌}
 use Rattle.pb_place.specs.World.{World, written, removed}
 use Rattle.pb_place.specs.CallsInTurn.{own_fault}
@@ -13,7 +14,7 @@ use Rattle.pb_place.specs.declared.place.PlaceFault.TheVariants.{OutOfMemory}
 use Rattle.pb_place.specs.declared.place.StartFault.{StartFault}
 use Rattle.pb_place.specs.declared.place.StartFault.TheVariants as start
 
--- the fuse after a call: one less; where the call that was to fail was refused memory, the next one is to fail
+-- the fuse after a call: one less; if the call that was to fail ran out of memory, the next one is to fail
 abbrev pub fuse_past : PlaceFault → ℕ → ℕ
 fuse_past OutOfMemory fuse = if fuse == 1 then 1 else fuse - 1
 fuse_past e fuse = fuse - 1
@@ -22,17 +23,19 @@ abbrev pub fuse_after : {T : Type 0} → Result T PlaceFault → ℕ → ℕ
 fuse_after (Ok x) fuse = fuse - 1
 fuse_after (Err e) fuse = fuse_past e fuse
 
--- a call on files or variables fails exactly if the fuse is 1, with the fault of that call. Memory may be refused to any
+-- a call on files or variables fails if and only if the fuse is 1, with the call's own fault;
+-- any call may run out of memory
 pub record FailsByFuse {T : Type 0} (call : Call) (result : Result T PlaceFault) (old : Held) : Type 0 where
   pub burns : old.fuse ≡ 1 → IfOk result (λ _. ⊥)
   pub fault : IfErr result (λ e. e ≢ OutOfMemory → e ≡ own_fault call)
   pub fails : IfErr result (λ e. e ≢ OutOfMemory → old.fuse ≡ 1)
 
--- what a place holds after a call on files or variables, apart from what the call does to files
+-- the state of a place after a call on files or variables, apart from what the call does to files
 abbrev pub called : {T : Type 0} → Call → Result T PlaceFault → Held → Held
 called call result old = record old { tally = counted call result old.tally; fuse = fuse_after result old.fuse }
 
--- after a write that answered this fault: the first half of the bytes, rounded down; where memory was refused, all as it was
+-- the world after a write with this fault:
+-- the file has the first half of the bytes, rounded down, or is as it was if memory ran out
 abbrev pub torn_by : PlaceFault → List ℕ → List ℕ → World → World
 torn_by OutOfMemory path bytes w = w
 torn_by e path bytes w = written path (take (length bytes / 2) bytes) w
@@ -41,7 +44,8 @@ abbrev pub after_write : {T : Type 0} → Result T PlaceFault → List ℕ → L
 after_write (Ok x) path bytes w = written path bytes w
 after_write (Err e) path bytes w = torn_by e path bytes w
 
--- after a removal that answered this fault: without the first half of the files, rounded down and in byte order; where memory was refused, all as it was
+-- The world after a removal with this fault: without the first half of the files, rounded down and in byte order.
+-- If memory ran out, all files are as they were.
 abbrev pub halved_by : PlaceFault → List ℕ → World → World
 halved_by OutOfMemory path w = w
 halved_by e path w = record w { files = half_removed path w.files }
@@ -50,7 +54,8 @@ abbrev pub after_removal : {T : Type 0} → Result T PlaceFault → List ℕ →
 after_removal (Ok x) path w = removed path w
 after_removal (Err e) path w = halved_by e path w
 
--- the deaths after a spawn for this folder: one less for a child that flies, or that its death kept from flying; where the fuse let the call fail, they stay for the next
+-- The deaths after a spawn for this folder: one less if the child was spawned or its death prevented the spawn.
+-- If the fuse let the call fail, the deaths stay for the next one.
 abbrev pub deaths_past : StartFault → Option (List ℕ) → ℕ → List Death → List Death
 deaths_past start.OutOfMemory out fuse ds = ds
 deaths_past e out fuse ds = if fuse == 1 then ds else other_deaths out ds
@@ -59,19 +64,19 @@ abbrev pub deaths_after : {T : Type 0} → Option (List ℕ) → ℕ → Result 
 deaths_after out fuse (Ok x) ds = other_deaths out ds
 deaths_after out fuse (Err e) ds = deaths_past e out fuse ds
 
--- what a start used up whose spawn failed so: one call, and no child flew
+-- what a start uses up if its spawn fails with this fault: one call, and no child was in flight
 pub record SpawnFailed (e : StartFault) (out : Option (List ℕ)) (old new : Held) : Type 0 where
   pub fuse : new.fuse ≡ old.fuse - 1
   pub deaths : new.deaths ≡ deaths_past e out old.fuse old.deaths
   pub most : new.most ≡ old.most
 
--- what a start used up whose child flew, however it ended: two calls, the spawn and the end
+-- what a start uses up if its child was spawned, however it ended: two calls, the spawn and the end
 pub record ChildFlew (out : Option (List ℕ)) (old new : Held) : Type 0 where
   pub fuse : new.fuse ≡ old.fuse - 2
   pub deaths : new.deaths ≡ other_deaths out old.deaths
   pub most : new.most ≡ max old.most (length (children_in old.flying) + 1)
 
--- which of the two a start is, by its answer; where memory was refused, it was refused to the spawn or to the end
+-- which of the two a start used up, by its fault; memory may run out in the spawn or in the end
 abbrev pub UsedByFault : StartFault → Option (List ℕ) → Held → Held → Type 0
 UsedByFault start.CannotStart out old new = SpawnFailed start.CannotStart out old new
 UsedByFault start.OutOfMemory out old new = SpawnFailed start.OutOfMemory out old new ⊎ ChildFlew out old new
@@ -81,6 +86,6 @@ abbrev pub UsedByStart : {T : Type 0} → Result T StartFault → Option (List �
 UsedByStart (Ok x) out old new = ChildFlew out old new
 UsedByStart (Err e) out old new = UsedByFault e out old new
 
--- memory was refused to the spawn of a start
+-- memory ran out in the spawn of a start
 abbrev pub SpawnRefused : {T : Type 0} → Result T StartFault → Option (List ℕ) → Held → Held → Type 0
 SpawnRefused result out old new = (result ≡ Err start.OutOfMemory) × SpawnFailed start.OutOfMemory out old new

@@ -1,4 +1,4 @@
--- The table of children in flight at a place, each with what the place keeps of it beside.
+-- The table of children in flight at a place, each with what the place stores about it.
 use Rattle.std.specs.Prelude.{ℕ, ◌==◌, List, [], ◌∷◌, Option, Some, None, if◌then◌else◌}
 use Rattle.pb_place.specs.declared.child_in_flight.ChildInFlight.{ChildInFlight}
 use Rattle.pb_memory.specs.declared.in_flight.Flying.{Flying}
@@ -8,7 +8,7 @@ abbrev pub children_in : {K : Type 0} → List (Flying K) → List ChildInFlight
 children_in [] = []
 children_in (f ∷ fs) = f.child ∷ children_in fs
 
--- the first entry of a ticket, and the others
+-- the first entry with a ticket, and the other entries
 abbrev pub entry_at : {K : Type 0} → ℕ → List (Flying K) → Option (Flying K)
 entry_at ticket [] = None
 entry_at ticket (f ∷ fs) = if f.child.ticket == ticket then Some f else entry_at ticket fs

@@ -1,4 +1,5 @@
--- What a place in memory tells: its maps, its counters and its last fault, its children in flight, and which calls will fail.
+-- The state of a place in memory:
+-- its maps, its counters, its last fault, its children in flight, and which calls will fail.
 use Rattle.std.specs.Prelude.{ℕ, ◌==◌, ◌||◌, Bool, true, false, not, List, [], ◌∷◌, Option, Some, None, refl, if◌then◌else◌}
 use Rattle.std.specs.List.{list_any}
 use Rattle.std.specs.FinMap as map
@@ -16,17 +17,17 @@ use Rattle.pb_memory.specs.declared.in_flight.Flying.{Flying}
 use Rattle.pb_memory.specs.declared.in_flight.Death.{Death}
 use Rattle.pb_place.specs.declared.place.StartFault.{StartFault}
 
--- What a place in memory holds.
+-- The state of a place in memory.
 pub record Held : Type 0 where
   -- its files and variables
   pub world : World
   -- its counters, without the children in flight
   pub tally : Counts
-  -- the children in flight, each with the fault with which its end will be answered, if it has one
+  -- the children in flight, each with the fault that its end will return, if any
   pub flying : List (Flying (Option StartFault))
   -- the most children that were ever in flight
   pub most : ℕ
-  -- the number of calls to the one that is to fail, or 0 if none is
+  -- the number of calls up to and including the one that is to fail, or 0 if none is
   pub fuse : ℕ
   -- the starts that will fail
   pub deaths : List Death
@@ -35,15 +36,15 @@ pub record Held : Type 0 where
 abbrev pub counts_in : Held → Counts
 counts_in h = with_children (children_in h.flying) h.tally
 
--- what clauses see of it as a place
+-- what clauses see of the place
 abbrev pub at_in : Held → At
 at_in h = record { world = h.world; counts = counts_in h; most = h.most; still = λ _. Unit {0}; moved = [] }
 
--- a place in memory that holds nothing, of which no call was made
+-- the state of an empty place in memory before any call
 abbrev pub no_held : Held
 no_held = record { world = record { files = map.empty; variables = map.empty }; tally = no_calls; flying = []; most = 0; fuse = 0; deaths = [] }
 
--- whether a call may fail: a fuse is set, a death waits, or a child in flight will not answer
+-- a call may fail: a fuse is set, a death waits, or a child in flight will not reply
 abbrev pub is_doomed : Flying (Option StartFault) → Bool
 is_doomed f = not (is_none f.kept)
   where
@@ -58,7 +59,7 @@ may_fail h = not (h.fuse == 0) || (has_some h.deaths || list_any is_doomed h.fly
     has_some [] = false
     has_some (d ∷ ds) = true
 
--- the fault with which the end of a ticket will be answered, if one will
+-- the fault that the end of a ticket's child will return, if any
 abbrev pub fate_in : Option (Flying (Option StartFault)) → Option StartFault
 fate_in None = None
 fate_in (Some f) = f.kept
@@ -66,7 +67,7 @@ fate_in (Some f) = f.kept
 abbrev pub fate_at : ℕ → List (Flying (Option StartFault)) → Option StartFault
 fate_at ticket flying = fate_in (entry_at ticket flying)
 
--- the first death that waits for a child with this folder, and the others
+-- the first death that waits for a child with this folder, and the other deaths
 abbrev pub is_for : Option (List ℕ) → Death → Bool
 is_for None d = false
 is_for (Some out) d = bytes_eq d.key (last_part out)
@@ -90,7 +91,7 @@ held_code = code_by _ (coded× world_code (coded× counts_code (coded× (coded_l
     (λ h. (h.world, (h.tally, (h.flying, (h.most, (h.fuse, h.deaths))))))
     (λ t. record { world = t.0; tally = t.1.0; flying = t.1.1.0; most = t.1.1.1.0; fuse = t.1.1.1.1.0; deaths = t.1.1.1.1.1 }) (λ _. refl)
 
--- the world with a variable set, and with one taken away
+-- the world with a variable set, and with a variable removed
 abbrev pub set : List ℕ → List ℕ → World → World
 set name value w = record w { variables = map.insert w.variables name value }
 

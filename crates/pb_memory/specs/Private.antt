@@ -1,4 +1,4 @@
--- Words that serve private functions and models alone; nobody needs to believe them.
+-- Definitions for private functions and models only; nobody needs to believe them.
 use Rattle.std.specs.Prelude.{◌≡◌, ◌⊎◌, ◌==◌, ℕ, List, [], if◌then◌else◌, refl}
 use Rattle.std.specs.Coded.{Coded, code_by, coded×, coded⊎, coded_list, coded_ℕ}
 use Rattle.std.proofs.Common.{inl, inr, ap}
@@ -14,7 +14,7 @@ use Rattle.pb_place.specs.declared.place.StartFault.TheVariants as start
 abbrev pub text_code : Coded (List ℕ)
 text_code = coded_list coded_ℕ
 
--- each call as a number and what it is given
+-- each call as a number and its arguments
 abbrev pub call_parts : Call → ℕ × (List ℕ × List ℕ)
 call_parts (call.Read path) = (0, (path, []))
 call_parts (call.List folder) = (1, (folder, []))

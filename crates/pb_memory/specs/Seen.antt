@@ -1,4 +1,4 @@
--- How the calls that come after a failing one are counted.
+-- How the calls after a failing call are counted.
 use Rattle.std.specs.Prelude.{ℕ, Bool, true, false, ◌||◌, Result, Ok, Err, if◌then◌else◌}
 use Rattle.pb_place.specs.Counts.{up}
 use Rattle.pb_place.specs.declared.place.PlaceFault.{PlaceFault}
@@ -6,7 +6,7 @@ use Rattle.pb_place.specs.declared.place.PlaceFault.TheVariants as place
 use Rattle.pb_place.specs.declared.place.StartFault.{StartFault}
 use Rattle.pb_place.specs.declared.place.StartFault.TheVariants as start
 
--- whether a call failed; want of memory is no failure of the outside
+-- whether a call failed; running out of memory is no failure of the outside
 abbrev pub call_failed : {T : Type 0} → Result T PlaceFault → Bool
 call_failed (Ok x) = false
 call_failed (Err place.OutOfMemory) = false
@@ -17,10 +17,10 @@ start_failed (Ok x) = false
 start_failed (Err start.OutOfMemory) = false
 start_failed (Err e) = true
 
--- whether a call has failed so far, and how many came after the first that did: after one call more, which failed or not
+-- whether a call has failed, and how many calls came after the first failure, updated for one more call
 abbrev pub seen : Bool → Bool × ℕ → Bool × ℕ
 seen failed (faulted, after) = (faulted || failed, if faulted then up after else after)
 
--- after a `finish`, which is not counted
+-- the same, updated for a `finish`, which is not counted
 abbrev pub seen_end : Bool → Bool × ℕ → Bool × ℕ
 seen_end failed (faulted, after) = (faulted || failed, after)

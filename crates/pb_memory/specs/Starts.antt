@@ -11,14 +11,16 @@ use Rattle.pb_memory.specs.Fuses.{SpawnRefused, UsedByStart, deaths_after}
 use Rattle.pb_memory.specs.InFlight.{children_in, other_entries}
 use Rattle.pb_memory.specs.Memory.{Held, fate_at, fate_of}
 
--- A spawn for this folder fails exactly if the fuse is 1, or the first death for the folder is `CannotStart`. Memory may be refused to any other.
+-- A spawn for this folder fails if and only if the fuse is 1 or the first death for the folder is `CannotStart`.
+-- Any other spawn may run out of memory.
 pub record SpawnFails (out : Option (List ℕ)) (result : Result ℕ StartFault) (old : Held) : Type 0 where
   pub burns : old.fuse ≡ 1 → result ≡ Err start.CannotStart
   pub stillborn : old.fuse ≢ 1 → fate_of out old.deaths ≡ Some start.CannotStart → result ≡ Err start.CannotStart
   pub quiet : old.fuse ≢ 1 → fate_of out old.deaths ≢ Some start.CannotStart → IfErr result (λ e. e ≡ start.OutOfMemory)
   pub fault : IfErr result (λ e. e ≢ start.OutOfMemory → e ≡ start.CannotStart)
 
--- What a spawn leaves of the place: the new child is the last in flight, and half of its files are written; or none is, and no file is.
+-- What a spawn leaves of the place: the new child is the last in flight and half of its files are written,
+-- or no child is added. If the child could not be started, no file changed.
 pub record SpawnsIn (child : Answers) (command : Command) (result : Result ℕ StartFault) (old new : Held) : Type 0 where
   pub fresh : IfOk result (λ ticket. is_flying ticket (children_in old.flying) ≡ false)
   pub flying : IfOk result (λ ticket. new.flying ≡ old.flying ++ record { child = child_spawned (child command) command old.world ticket; kept = fate_of command.out old.deaths } ∷ [])
@@ -30,14 +32,16 @@ pub record SpawnsIn (child : Answers) (command : Command) (result : Result ℕ S
   pub fuse : new.fuse ≡ old.fuse - 1
   pub most : new.most ≡ most_after result (length (children_in old.flying) + 1) old.most
 
--- The end of a child fails exactly if the fuse is 1, or if the child has a fault of its own. Memory may be refused to any other.
+-- The end of a child fails if and only if the fuse is 1 or the child has a fault of its own.
+-- Any other end may run out of memory.
 pub record EndFails (ticket : ℕ) (result : Result Ended StartFault) (old : Held) : Type 0 where
   pub burns : old.fuse ≡ 1 → result ≡ Err start.Died
   pub fated : old.fuse ≢ 1 → IfSome (fate_at ticket old.flying) (λ e. e ≢ start.CannotStart → result ≡ Err e)
   pub quiet : old.fuse ≢ 1 → fate_at ticket old.flying ≡ None → IfErr result (λ e. e ≡ start.OutOfMemory)
   pub fault : IfErr result (λ e. e ≢ start.OutOfMemory → (e ≡ start.Died) ⊎ (e ≡ start.Capture))
 
--- What the end of a child leaves of the place: its files, or what was there if it gave no answer. The child is in flight no more.
+-- What the end of a child leaves of the place: the child's files, or no change of files if it gave no reply.
+-- The child is no longer in flight.
 pub record EndsIn (ticket : ℕ) (result : Result Ended StartFault) (old new : Held) : Type 0 where
   pub lands : IfOk result (λ ended. IfSome (child_at ticket (children_in old.flying)) (λ spawned. LandsAs spawned old.world ended new.world))
   pub stands : IfErr result (λ e. e ≢ start.OutOfMemory → new.world ≡ old.world)
@@ -47,7 +51,7 @@ pub record EndsIn (ticket : ℕ) (result : Result Ended StartFault) (old new : H
   pub fuse : new.fuse ≡ old.fuse - 1
   pub most : new.most ≡ old.most
 
--- A start fails exactly if its spawn or its end does: the fuse is 1 for the spawn, and 2 for the end.
+-- A start fails if and only if its spawn or its end does: the fuse is 1 for the spawn, and 2 for the end.
 pub record StartFails (out : Option (List ℕ)) (result : Result Ended StartFault) (old new : Held) : Type 0 where
   pub burns : old.fuse ≡ 1 → result ≡ Err start.CannotStart
   pub stillborn : old.fuse ≢ 1 → fate_of out old.deaths ≡ Some start.CannotStart → result ≡ Err start.CannotStart
@@ -55,7 +59,9 @@ pub record StartFails (out : Option (List ℕ)) (result : Result Ended StartFaul
   pub fated : old.fuse ≢ 1 → old.fuse ≢ 2 → IfSome (fate_of out old.deaths) (λ e. e ≢ start.CannotStart → (result ≡ Err e) ⊎ SpawnRefused result out old new)
   pub quiet : old.fuse ≢ 1 → old.fuse ≢ 2 → fate_of out old.deaths ≡ None → IfErr result (λ e. e ≡ start.OutOfMemory)
 
--- What a start leaves of the place: no child in flight more; and no file if it could not be started, half of the files if the child gave no answer.
+-- What a start leaves of the place: no more children in flight than before.
+-- If the child could not be started, no file changed.
+-- If the child gave no reply, half of its files are there.
 pub record StartsIn (child : Answers) (command : Command) (result : Result Ended StartFault) (old new : Held) : Type 0 where
   pub nothing : IfErr result (λ e. e ≡ start.CannotStart → new.world ≡ old.world)
   pub half : IfErr result (λ e. e ≢ start.CannotStart → e ≢ start.OutOfMemory → new.world ≡ put_half command.out (child command (seen_by command old.world)).files old.world)

@@ -1,4 +1,4 @@
-//! The children in flight at a place, and the starts that will fail at one in memory.
+//! The children in flight at a place, and the starts that will fail at a place in memory.
 
 ghost use Rattle.std.specs.Prelude.{◌≡◌, ℕ, true, false, IfSome, IfNone, Some, None, ◌<◌, ◌≤◌, ◌+◌, ◌==◌, length, take};
 ghost use Rattle.std.specs.List.{list_any};
@@ -10,33 +10,33 @@ ghost use Rattle.pb_memory.specs.Memory.{is_for, fate_of, other_deaths};
 use pb_data::Text;
 use pb_place::{ChildInFlight, PathText, StartFault};
 
-/// A child in flight, and what a place keeps of it beside: a place in memory, the fault with which its end will be
-/// answered, if one will; a real one, the running child.
+/// A child in flight, and what a place stores with it: a place in memory the fault that its end
+/// will return, if any; a real place the running child.
 #[derive(Drop)]
 pub struct Flying<K> {
     /// The child.
     pub child: ChildInFlight,
-    /// What the place keeps.
+    /// What the place stores with the child.
     pub kept: K,
 }
 
-/// A start that will fail: the next whose folder has this name.
+/// A start that will fail: the next one whose folder has this name.
 #[derive(Debug, Drop)]
 pub struct Death {
-    /// The last part of the folder.
+    /// The name of the folder.
     pub key: Text,
-    /// How it fails.
+    /// The fault with which it fails.
     pub kind: StartFault,
 }
 
-/// Whether one of the entries has this ticket.
+/// Returns whether one of the entries has this ticket.
 fn has_ticket<K>(flying: &[Flying<K>], ticket: u64) -> bool
     ensures { result ≡ list_any (λ f. f.child.ticket == ticket) flying.now }
 {
     flying.iter().any(|f| f.child.ticket == ticket)
 }
 
-/// Whether a child of this ticket is in flight.
+/// Returns whether a child with this ticket is in flight.
 #[tactic(auto, using(crate::proofs::InFlight::flying_laws))]
 pub fn flies<K>(flying: &[Flying<K>], ticket: u64) -> bool
     ensures { result ≡ is_flying ticket (children_in flying.now) }
@@ -44,8 +44,9 @@ pub fn flies<K>(flying: &[Flying<K>], ticket: u64) -> bool
     has_ticket(flying, ticket)
 }
 
-/// The lowest number that no child in flight has. There is one at or below their number, so none is never the answer;
-/// proved is that it is only where each of these numbers is taken.
+/// Returns the lowest number that no child in flight has. One such number is at most the number of
+/// children, so it is never none. The contract promises only that it is none if all these numbers
+/// are taken.
 #[tactic(auto, using(crate::proofs::InFlight::flying_laws))]
 pub fn free_ticket<K>(flying: &[Flying<K>]) -> Option<u64>
     ensures free { IfSome result (λ ticket. is_flying ticket (children_in flying.now) ≡ false) }
@@ -62,7 +63,7 @@ pub fn free_ticket<K>(flying: &[Flying<K>]) -> Option<u64>
     None
 }
 
-/// The place of the first child of this ticket.
+/// Returns the index of the first child with this ticket.
 fn place_of_ticket<K>(flying: &[Flying<K>], ticket: u64) -> Option<usize>
     ensures some { IfSome result (λ i. (i < length flying.now)
         × (list_any (λ f. f.child.ticket == ticket) (take i flying.now) ≡ false)
@@ -77,7 +78,7 @@ fn place_of_ticket<K>(flying: &[Flying<K>], ticket: u64) -> Option<usize>
     None
 }
 
-/// Takes out the first child of this ticket. Where there is none, all stay.
+/// Removes and returns the first child with this ticket. If there is none, all stay.
 pub fn take_out<K: Drop>(flying: &mut Vec<Flying<K>>, ticket: u64) -> Option<Flying<K>>
     ensures entry { IfSome result (λ f. (entry_at ticket flying.old.items ≡ Some f)
         × (flying.new.items ≡ other_entries ticket flying.old.items)) }
@@ -93,7 +94,7 @@ pub fn take_out<K: Drop>(flying: &mut Vec<Flying<K>>, ticket: u64) -> Option<Fly
     }
 }
 
-/// Whether a death waits for a child with this folder.
+/// Returns whether a death waits for a child with this folder.
 fn is_for(out: &Option<PathText>, death: &Death) -> bool
     ensures { result ≡ is_for out.now death.now }
 {
@@ -103,7 +104,7 @@ fn is_for(out: &Option<PathText>, death: &Death) -> bool
     }
 }
 
-/// The place of the first death that waits for a child with this folder.
+/// Returns the index of the first death that waits for a child with this folder.
 fn place_of(deaths: &[Death], out: &Option<PathText>) -> Option<usize>
     ensures some { IfSome result (λ i. (i < length deaths.now)
         × (list_any (is_for out.now) (take i deaths.now) ≡ false)
@@ -118,7 +119,7 @@ fn place_of(deaths: &[Death], out: &Option<PathText>) -> Option<usize>
     None
 }
 
-/// How the next start with this folder will fail, if a death waits for it.
+/// Returns the fault with which the next start with this folder will fail, if a death waits for it.
 pub(crate) fn fate(deaths: &[Death], out: &Option<PathText>) -> Option<StartFault>
     ensures { result ≡ fate_of out.now deaths.now }
 {
@@ -128,7 +129,7 @@ pub(crate) fn fate(deaths: &[Death], out: &Option<PathText>) -> Option<StartFaul
     }
 }
 
-/// Takes away the first death that waits for this folder.
+/// Removes the first death that waits for this folder.
 pub(crate) fn drop_death(deaths: &mut Vec<Death>, out: &Option<PathText>)
     ensures { deaths.new.items ≡ other_deaths out.now deaths.old.items }
 {

@@ -1,4 +1,4 @@
-//! What a child leaves in its folder: all files of its reply, or half of them, over what stood there.
+//! What a child leaves in its folder: all files of its reply, or half of them, over the old files.
 
 ghost use Rattle.std.specs.Prelude.{◌≡◌, IfOk, OnOk};
 ghost use Rattle.std.specs.FinMap as map;
@@ -12,7 +12,8 @@ use pb_data::Bytes;
 use pb_place::{FileMap, PathText, RelativePath};
 use std::alloc::{AllocError, Global};
 
-/// Puts the files of a reply in a folder. Only files below that folder change, also where memory is refused.
+/// Puts the files of a reply in a folder. Only files below that folder change, even if memory runs
+/// out.
 fn put_all(
     alloc: Global,
     files: &mut FileMap,
@@ -29,7 +30,7 @@ fn put_all(
     Ok(())
 }
 
-/// The files of a reply in its folder.
+/// Returns a map with the files of a reply in its folder.
 fn made_in(
     alloc: Global,
     out: &PathText,
@@ -43,7 +44,7 @@ fn made_in(
     Ok(files)
 }
 
-/// Puts the first half of a reply's files, in byte order, where the command says.
+/// Puts the first half of a reply's files, in byte order, in the command's folder, if it has one.
 pub(crate) fn leave_half(
     alloc: Global,
     files: &mut FileMap,
@@ -62,7 +63,7 @@ pub(crate) fn leave_half(
     files.put_from(alloc, &reply, &paths[..paths.len() / 2])
 }
 
-/// The files inside a child's folder.
+/// Returns the files inside a child's folder.
 #[tactic(auto, using(pb_place::proofs::Copies::copied_laws))]
 pub(crate) fn inside_out(
     alloc: Global,
@@ -79,7 +80,7 @@ pub(crate) fn inside_out(
     Ok(inside)
 }
 
-/// Puts back what a child's folder held.
+/// Restores the old files of a child's folder.
 #[tactic(auto, using(pb_place::proofs::Copies::landing_laws))]
 fn restore(
     alloc: Global,
@@ -96,7 +97,7 @@ fn restore(
     files.put_from(alloc, before, paths.as_slice())
 }
 
-/// The files of a map inside a folder.
+/// Returns the files of a map inside a folder.
 #[tactic(auto, using(pb_place::proofs::Copies::copied_laws))]
 fn inner(alloc: Global, files: &FileMap, out: &PathText) -> Result<FileMap, AllocError>
     ensures { IfOk result (λ inside. inside ≡ files_in out.now files.now) }
@@ -107,7 +108,7 @@ fn inner(alloc: Global, files: &FileMap, out: &PathText) -> Result<FileMap, Allo
     Ok(inside)
 }
 
-/// Puts back what a child's folder held, and the reply's files over it.
+/// Restores the old files of a child's folder, and puts the reply's files over them.
 #[tactic(auto, using(pb_place::proofs::Copies::alone_laws))]
 pub(crate) fn land(
     alloc: Global,

@@ -1,4 +1,4 @@
-//! Places in memory, and what places are made of: counters, and tables of children in flight.
+//! Places in memory, and parts of places: counters, and tables of children in flight.
 #![tactic(auto)]
 
 pub mod in_flight;

@@ -1,4 +1,4 @@
-//! A place of maps, for tests and sessions in memory: what it holds, and its own calls.
+//! A place of maps, for tests and sessions in memory: its state, and its own functions.
 
 ghost use Rattle.std.specs.Prelude.{◌≡◌, ◌≢◌, ◌++◌, ◌∷◌, [], IsTrue, true, false, IfOk, OnOk, OnErr};
 ghost use Rattle.std.specs.FinMap as map;
@@ -20,11 +20,12 @@ use std::alloc::{AllocError, Global};
 use std::marker::Model;
 use std::mem;
 
-/// A place of maps over a child. Contracts see what it holds: its world and its counters.
+/// A place of maps over a child. Contracts see its state: its world and its counters.
 ///
-/// A call fails only if memory is refused, or as `fuse` and `die` set it, which serve tests. The contract of each call
-/// says when it fails, and what it leaves then. The calls below are no calls of a place. They are not counted, except
-/// how often `fuse` and `die` set something. A read or a write takes time logarithmic in the number of files.
+/// A call fails only if memory runs out, or as `fuse` and `die` set it, which serve tests. The
+/// contract of each call describes when it fails, and what it leaves then. The functions below are
+/// no calls of a place. They are not counted, except that a counter has how often `fuse` and `die`
+/// set something. A read or a write takes time logarithmic in the number of files.
 #[derive(Drop)]
 pub struct Memory<C> {
     files: FileMap,
@@ -73,7 +74,7 @@ impl<C> Memory<C> {
 
     /// Puts a file.
     ///
-    /// Errors: memory is refused, and nothing changes.
+    /// Errors: out of memory only. Nothing changes then.
     pub fn put(&mut self, alloc: Global, path: &PathText, bytes: &[u8]) -> Result<(), AllocError>
         ensures ok { OnOk result
             (self.new ≡ record self.old { world = written path.now bytes.now self.old.world }) }
@@ -84,7 +85,7 @@ impl<C> Memory<C> {
 
     /// Removes the file at a path and all files below it.
     ///
-    /// Errors: memory is refused, and nothing changes.
+    /// Errors: out of memory only. Nothing changes then.
     pub fn remove(&mut self, alloc: Global, path: &PathText) -> Result<(), AllocError>
         ensures ok { OnOk result
             (self.new ≡ record self.old { world = removed path.now self.old.world }) }
@@ -93,9 +94,9 @@ impl<C> Memory<C> {
         self.files.remove(alloc, path)
     }
 
-    /// Sets a variable to any value, under any name.
+    /// Sets a variable with any name to any value.
     ///
-    /// Errors: memory is refused, and nothing changes.
+    /// Errors: out of memory only. Nothing changes then.
     pub fn set(&mut self, alloc: Global, name: &str, value: &str) -> Result<(), AllocError>
         ensures ok { OnOk result
             (self.new ≡ record self.old { world = set name.now value.now self.old.world }) }
@@ -106,7 +107,7 @@ impl<C> Memory<C> {
 
     /// Unsets a variable.
     ///
-    /// Errors: memory is refused, and nothing changes.
+    /// Errors: out of memory only. Nothing changes then.
     pub fn unset(&mut self, alloc: Global, name: &str) -> Result<(), AllocError>
         ensures ok { OnOk result
             (self.new ≡ record self.old { world = unset name.now self.old.world }) }
@@ -117,22 +118,23 @@ impl<C> Memory<C> {
 
     /// Returns the bytes of a file, or none if no file is there.
     ///
-    /// Errors: memory is refused.
+    /// Errors: out of memory only.
     pub fn file(&self, alloc: Global, path: &PathText) -> Result<Option<Bytes>, AllocError>
         ensures { IfOk result (λ found. found ≡ map.get self.now.world.files path.now) }
     {
         file_in(alloc, &self.files, path)
     }
 
-    /// Returns whether a child of this ticket is in flight. It is no call of the place and takes no memory.
+    /// Returns whether a child with this ticket is in flight. It is no call of the place and takes
+    /// no memory.
     pub fn flies(&self, ticket: u64) -> bool
         ensures { result ≡ is_flying ticket (children_in self.now.flying) }
     {
         flies(self.flying.as_slice(), ticket)
     }
 
-    /// Returns whether no call has failed, and none can fail unless memory is refused: the fuse is out, no death waits,
-    /// and no child is in flight. It is no call of the place and takes no memory.
+    /// Returns whether no call has failed, and none can fail unless memory runs out: the fuse is 0,
+    /// no death waits, and no child is in flight. It is no call of the place and takes no memory.
     pub fn is_unfailing(&self) -> bool
         ensures quiet { IsTrue result → (may_fail self.now ≡ false)
             × ((counts_in self.now).failures ≡ 0) }
@@ -145,15 +147,16 @@ impl<C> Memory<C> {
             && self.tally.failures() == 0
     }
 
-    /// Sets the number of the call that is to fail, counted from 1; 0 lets none fail. It replaces what was set before.
-    /// `spawn` and `finish` are calls, and `start` is both. `failures`, `starts`, `late` and `most` are none.
+    /// Sets which call is to fail, counted from 1; with 0 none does. It replaces the earlier
+    /// setting. `spawn` and `finish` count as one call each, and `start` as two. `failures`,
+    /// `starts`, `late` and `most` do not count.
     ///
     /// The call that fails returns its own fault. What it leaves is our own choice:
     /// - A write leaves the first half of the bytes, rounded down.
     /// - A removal removes the first half of the files in byte order, rounded down.
-    /// - A spawn is `CannotStart` and changes nothing.
-    /// - A finish is `Died` and changes no file.
-    /// - If memory is refused to it, the next call is to fail.
+    /// - A spawn returns `CannotStart` and changes nothing.
+    /// - A finish returns `Died` and changes no file.
+    /// - If the call runs out of memory, the next call is to fail.
     pub fn fuse(&mut self, number: u64)
         ensures { self.new ≡ record self.old { tally = one_setting self.old.tally; fuse = number } }
     {
@@ -161,15 +164,16 @@ impl<C> Memory<C> {
         self.fuse = number;
     }
 
-    /// Sets that the next start whose folder has this name fails with this fault. Of two for one name the earlier comes
-    /// first. A start that the fuse lets fail, or to which memory is refused, leaves it for the next.
+    /// Sets that the next start whose folder has this name fails with this fault. Of two settings
+    /// for the same name, the earlier one is used first. A start that fails by the fuse, or runs
+    /// out of memory, leaves the setting for the next start.
     ///
-    /// `CannotStart` comes at the spawn, which changes nothing. Any other fault comes at the end, and leaves the first
-    /// half of the reply's files in byte order, rounded down.
+    /// `CannotStart` occurs at the spawn, which changes nothing. Any other fault occurs at the end,
+    /// and leaves the first half of the reply's files in byte order, rounded down.
     ///
-    /// Requires: a fault of the outside, which out of memory is not.
+    /// Requires: the fault is one of the outside, and not `OutOfMemory`.
     ///
-    /// Errors: memory is refused, and nothing changes.
+    /// Errors: out of memory only. Nothing changes then.
     pub fn die(&mut self, alloc: Global, key: &str, kind: StartFault) -> Result<(), AllocError>
         requires real { kind ≢ StartFault.OutOfMemory }
         ensures ok { OnOk result (self.new ≡ record self.old {
@@ -186,7 +190,7 @@ impl<C> Memory<C> {
 }
 
 impl<C: Copy> Memory<C> {
-    /// Returns the place as it is, and leaves an empty one over the same child.
+    /// Takes the place out, and leaves an empty one over the same child.
     pub fn take(&mut self, alloc: Global) -> Memory<C>
         ensures taken { result ≡ self.old }
         ensures left { self.new ≡ no_held }

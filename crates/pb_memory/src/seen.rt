@@ -1,4 +1,4 @@
-//! A place that counts what comes after the first call that failed.
+//! A place that counts the calls after the first failing one.
 
 ghost use Rattle.std.specs.Prelude.{◌≡◌, ◌≢◌, ℕ, Bool, true, false, IfOk, IfErr, OnOk, OnErr, IsTrue, IfSome, take};
 ghost use Rattle.std.specs.FinMap as map;
@@ -14,15 +14,16 @@ use pb_data::{Bytes, Items, Text};
 use pb_place::{Command, Ended, Moved, PathFault, PathText, Place, PlaceFault, StartFault};
 use std::alloc::{AllocError, Global};
 
-/// A place that passes every call on to another, and counts the calls that come after the first that failed. It does not
-/// count `finish`, since what is in flight when a call fails has to be waited for. Out of memory is no failure.
+/// A place that passes every call on to another, and counts the calls after the first one that
+/// failed. It does not count `finish`, because children in flight must be waited for after a
+/// failure. Out of memory is no failure.
 #[derive(Drop)]
 pub struct Seen<P> {
-    /// The place whose calls these are.
+    /// The place to which the calls are passed.
     pub place: P,
     /// Whether a call has failed.
     pub faulted: bool,
-    /// How many calls but `finish` came after the first that failed, at most `u64::MAX`.
+    /// The number of calls other than `finish` after the first that failed, at most `u64::MAX`.
     pub after: u64,
 }
 
@@ -36,7 +37,7 @@ fn call_failed<T>(answer: &Result<T, PlaceFault>) -> bool
     }
 }
 
-/// Returns whether a child could not be started, or gave no answer.
+/// Returns whether a child could not be started, or gave no reply.
 fn start_failed<T>(answer: &Result<T, StartFault>) -> bool
     ensures { result ≡ start_failed answer.now }
 {
@@ -47,7 +48,7 @@ fn start_failed<T>(answer: &Result<T, StartFault>) -> bool
 }
 
 impl<P> Seen<P> {
-    /// Returns a place over another, of which no call has failed yet.
+    /// Returns a place over another one, before any call has failed.
     pub fn new(place: P) -> Seen<P>
         ensures { result ≡ record { place = place; faulted = false; after = 0 } }
     {
@@ -58,7 +59,7 @@ impl<P> Seen<P> {
         }
     }
 
-    /// Counts a call that failed or not.
+    /// Counts a call, which failed or not.
     fn note(&mut self, failed: bool)
         ensures seen { (self.new.faulted, self.new.after)
             ≡ seen failed (self.old.faulted, self.old.after) }
@@ -70,7 +71,7 @@ impl<P> Seen<P> {
         self.faulted = self.faulted || failed;
     }
 
-    /// Takes note of a `finish` that failed or not.
+    /// Records a `finish`, which failed or not.
     fn note_end(&mut self, failed: bool)
         ensures seen { (self.new.faulted, self.new.after)
             ≡ seen_end failed (self.old.faulted, self.old.after) }

@@ -10,14 +10,14 @@ use pb_data::{Bytes, Text, TryCopy};
 use pb_place::{Command, FileMap, PathText, TextMap, View, ViewFault};
 use std::alloc::{AllocError, Global};
 
-/// Whether one of some folders is above a path.
+/// Returns whether one of some folders is above a path.
 fn is_below_any(folders: &[PathText], path: &PathText) -> bool
     ensures { result ≡ list_any (λ folder. is_below folder path.now) folders.now }
 {
     folders.iter().any(|folder| path.is_below(folder))
 }
 
-/// Whether a child sees a path.
+/// Returns whether a child sees a path.
 #[tactic(auto, unfolding(pb_place::specs::World::is_shown))]
 fn shows(command: &Command, path: &PathText) -> bool
     ensures { result ≡ is_shown command.now path.now }
@@ -25,7 +25,7 @@ fn shows(command: &Command, path: &PathText) -> bool
     !path.starts_with(&command.target) || is_below_any(command.reads.as_slice(), path)
 }
 
-/// What a child sees of a place in memory. It fails for want of memory alone.
+/// What a child sees of a place in memory. It fails only if memory runs out.
 #[derive(Drop)]
 pub(crate) struct Sight<'a> {
     pub(crate) files: &'a FileMap,
@@ -56,7 +56,7 @@ impl<'a> View for Sight<'a> {
     }
 }
 
-/// A copy of a file, if it is there.
+/// Returns a copy of a file, if there is one.
 pub(crate) fn file_in(
     alloc: Global,
     files: &FileMap,

@@ -9,9 +9,9 @@ use pb_place::{Call, Failure, PlaceFault, StartFault};
 use std::alloc::AllocError;
 use std::marker::Model;
 
-/// The counters of a place, the fault of the last call that failed, and the last failing call on files or variables.
-/// Contracts see the counters of a place at which no child flies:
-/// what flies is for the place to say.
+/// The counters of a place, the fault of the last call that failed, and the last failing call on
+/// files or variables. Contracts see the counters without children in flight, since the place
+/// itself reports those.
 #[derive(Debug, Drop)]
 pub struct Tally {
     calls: u64,
@@ -43,7 +43,7 @@ impl Model for Tally {
 }
 
 impl Tally {
-    /// The counters where no call was made. It takes no memory.
+    /// Returns the counters before any call. It takes no memory.
     pub fn new() -> Tally
         ensures { result ≡ no_calls }
     {
@@ -58,28 +58,28 @@ impl Tally {
         }
     }
 
-    /// How many calls failed.
+    /// Returns the number of calls that failed.
     pub fn failures(&self) -> u64
         ensures { result ≡ self.now.failures }
     {
         self.failures
     }
 
-    /// How many times a child was asked for.
+    /// Returns the number of children that were requested.
     pub fn starts(&self) -> u64
         ensures { result ≡ self.now.starts.count }
     {
         self.starts
     }
 
-    /// How many calls came since the last that failed.
+    /// Returns the number of calls since the last failure.
     pub fn late(&self) -> u64
         ensures { result ≡ self.now.late }
     {
         self.late
     }
 
-    /// Counts that it was set which calls are to fail.
+    /// Counts a setting of which calls are to fail.
     #[tactic(auto, unfolding(crate::specs::Tallies::next_setting))]
     pub fn set(&mut self)
         ensures { self.new ≡ one_setting self.old }
@@ -99,7 +99,7 @@ impl Tally {
         }
     }
 
-    /// Counts a fault of the outside. Which call it came from is counted beside it.
+    /// Counts a fault of the outside. The call itself is counted separately.
     pub fn fail(&mut self, failure: Failure)
         ensures { self.new ≡ past_fault failure self.old }
     {
@@ -108,7 +108,8 @@ impl Tally {
         self.last = Some(failure);
     }
 
-    /// A call that was kept before it is made. Where memory was refused for it nothing failed, and it is counted so.
+    /// Returns a call that is made next, as a value. If memory ran out for it, counts a call that
+    /// did not fail.
     pub fn kept(&mut self, call: Result<Call, AllocError>) -> Result<Call, PlaceFault>
         ensures same { IfOk result (λ it. call ≡ Ok it) }
         ensures keeps { IfOk call (λ it. result ≡ Ok it) }
@@ -125,7 +126,7 @@ impl Tally {
         }
     }
 
-    /// Counts a call on files or variables by what it answered, and hands the answer on.
+    /// Counts a call on files or variables by its result, and returns the result.
     pub fn count<T>(&mut self, call: Call, answer: Result<T, PlaceFault>) -> Result<T, PlaceFault>
         ensures same { result ≡ answer }
         ensures counts { self.new ≡ counted call answer self.old }
@@ -148,7 +149,7 @@ impl Tally {
         }
     }
 
-    /// Counts a call that asks for a child by what it answered, and hands the answer on.
+    /// Counts a call that requests a child by its result, and returns the result.
     pub fn count_start<T>(&mut self, answer: Result<T, StartFault>) -> Result<T, StartFault>
         ensures same { result ≡ answer }
         ensures counts { self.new ≡ counted_start answer self.old }
@@ -171,7 +172,8 @@ impl Tally {
         }
     }
 
-    /// Counts a call of `finish` by what it answered, and hands the answer on. A call that did not fail is not counted.
+    /// Counts a call of `finish` by its result, and returns the result. A call that did not fail is
+    /// not counted.
     pub fn count_finish<T>(&mut self, answer: Result<T, StartFault>) -> Result<T, StartFault>
         ensures same { result ≡ answer }
         ensures counts { self.new ≡ past_finish answer self.old }

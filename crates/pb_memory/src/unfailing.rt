@@ -1,4 +1,4 @@
-//! A place in memory of which no call fails.
+//! A place in memory whose calls do not fail.
 
 use crate::memory::Memory;
 use pb_data::{Bytes, Items, Text};
@@ -6,8 +6,8 @@ use pb_place::{Child, Command, Ended, Moved, PathText, Place, PlaceFault, StartF
 use std::alloc::Global;
 use std::marker::Model;
 
-/// A place in memory of which no call has failed, and none fails unless memory is refused. So what is built over it ends
-/// without a failing call. Contracts see the place in memory.
+/// A place in memory of which no call has failed, and none fails unless memory runs out. Therefore
+/// a build over it ends without a failing call. Contracts see the place in memory.
 #[derive(Drop)]
 pub struct Unfailing<C> {
     inside: Memory<C>,
@@ -30,7 +30,7 @@ impl<C> Unfailing<C> {
     ghost use Rattle.std.specs.Prelude.{◌≡◌, false};
     ghost use Rattle.pb_memory.specs.Memory.{counts_in, may_fail};
 
-    /// Returns the place in memory as one of which no call fails.
+    /// Returns the place in memory as one whose calls do not fail.
     ///
     /// Requires: nothing is set to fail, and nothing has failed.
     pub fn new(inside: Memory<C>) -> Unfailing<C>
@@ -41,7 +41,7 @@ impl<C> Unfailing<C> {
         Unfailing { inside }
     }
 
-    /// Returns the place in memory itself.
+    /// Returns the inner place in memory.
     pub fn into_memory(self) -> Memory<C>
         ensures same { result ≡ self }
         ensures quiet { may_fail result ≡ false }

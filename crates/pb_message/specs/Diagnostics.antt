@@ -1,4 +1,5 @@
--- The diagnostics of a compiler (The Cargo Book, External Tools): the lines of its standard error that read as JSON objects, byte for byte.
+-- The diagnostics of a compiler (The Cargo Book, External Tools):
+-- the lines of its standard error that are JSON objects, byte for byte.
 use Rattle.std.specs.Prelude.{ℕ, Bool, true, false, if◌then◌else◌, List, [], ◌∷◌, ◌++◌, Option, Some, None}
 use Rattle.serde_json.specs.Data as json
 use Rattle.serde_json.specs.Read.{read}
@@ -12,12 +13,12 @@ abbrev pub reads_as_object : Option json.Data → Bool
 reads_as_object None = false
 reads_as_object (Some d) = is_object d
 
--- a text, where it reads as a JSON object
+-- a text, if it is a JSON object
 abbrev pub object_text : Option (List ℕ) → Option (List ℕ)
 object_text None = None
 object_text (Some text) = if reads_as_object (read text) then Some text else None
 
--- the diagnostic in a line: without the blanks at its ends
+-- the diagnostic in a line, without the blanks at its ends, if there is one
 abbrev pub diagnostic_in : List ℕ → Option (List ℕ)
 diagnostic_in line = object_text (text_of (trimmed line))
 
@@ -25,7 +26,7 @@ abbrev pub and_more : Option (List ℕ) → List (List ℕ) → List (List ℕ)
 and_more None texts = texts
 and_more (Some text) texts = text ∷ texts
 
--- those of lines, in their order
+-- the diagnostics in these lines, in order
 abbrev pub diagnostics_in : List (List ℕ) → List (List ℕ)
 diagnostics_in [] = []
 diagnostics_in (line ∷ lines) = and_more (diagnostic_in line) (diagnostics_in lines)
@@ -34,7 +35,7 @@ diagnostics_in (line ∷ lines) = and_more (diagnostic_in line) (diagnostics_in 
 abbrev pub diagnostics_of : List ℕ → List (List ℕ)
 diagnostics_of stderr = diagnostics_in (lines_of stderr)
 
--- a line with a line feed behind it, where it is neither blank nor a diagnostic
+-- a line with a line feed, or nothing if the line is blank or a diagnostic
 abbrev pub plain_by : List ℕ → Option (List ℕ) → List ℕ → List ℕ
 plain_by [] found line = []
 plain_by (b ∷ bytes) (Some text) line = []
@@ -47,6 +48,6 @@ abbrev pub plain_lines_in : List (List ℕ) → List ℕ
 plain_lines_in [] = []
 plain_lines_in (line ∷ lines) = plain_in line ++ plain_lines_in lines
 
--- what a standard error says that is no diagnostic
+-- the lines of a standard error that are neither blank nor diagnostics
 abbrev pub plain_lines_of : List ℕ → List ℕ
 plain_lines_of stderr = plain_lines_in (lines_of stderr)

@@ -6,12 +6,12 @@ abbrev pub truth_text : Bool → List ℕ
 truth_text true = codes "true"
 truth_text false = codes "false"
 
--- texts with a comma before each
+-- the texts, each after a comma
 abbrev pub after_commas : List (List ℕ) → List ℕ
 after_commas [] = []
 after_commas (x ∷ xs) = 44 ∷ x ++ after_commas xs
 
--- values in brackets, with a comma between each and the next
+-- values in brackets, separated by commas
 abbrev pub listed : List (List ℕ) → List ℕ
 listed [] = codes "[]"
 listed (x ∷ xs) = 91 ∷ x ++ after_commas xs ++ codes "]"

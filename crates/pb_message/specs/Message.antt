@@ -1,4 +1,5 @@
--- The message lines of a build (The Cargo Book, External Tools). No spaces outside strings; the keys in this order.
+-- The message lines of a build (The Cargo Book, External Tools),
+-- without spaces outside strings and with the keys in this order.
 use Rattle.std.specs.Prelude.{ℕ, Bool, true, false, if◌then◌else◌, codes, List, [], ◌∷◌, ◌++◌, nat_eq}
 use Rattle.std.specs.List.{ends_with, concat}
 use Rattle.pb_json.specs.Json.{json_string}
@@ -17,44 +18,45 @@ use Rattle.pb_message.specs.declared.message.Level.TheVariants.{Warning, Error}
 use Rattle.pb_message.specs.declared.message.Message.{Message}
 use Rattle.pb_message.specs.declared.message.Message.TheVariants as message
 
--- the package is named by its folder where that ends in its name, and by both else; nothing is escaped
+-- a package is identified by its folder if that ends in its name,
+-- and else by its folder and its name; nothing is escaped
 abbrev pub package_id : Subject → List ℕ
 package_id s =
     if ends_with nat_eq s.folder (codes "/" ++ s.name) then concat (codes "path+file://" ∷ s.folder ∷ codes "#" ∷ s.version ∷ [])
     else concat (codes "path+file://" ∷ s.folder ∷ codes "#" ∷ s.name ∷ codes "@" ∷ s.version ∷ [])
 
--- the features without which a target is not built
+-- the features that a target requires
 unfoldable pub required_list : List (List ℕ) → List ℕ
 required_list features = concat (codes ",\"required-features\":" ∷ json_texts features ∷ [])
 
--- nothing is said of them where there are none
+-- the member for required features, omitted if there are none
 abbrev pub required_text : List (List ℕ) → List ℕ
 required_text [] = []
 required_text (feature ∷ features) = required_list (feature ∷ features)
 
--- an object of these values in JSON, and what is said of features that are required
+-- the target object with these values in JSON, and the member for required features
 unfoldable pub target_object : List ℕ → List ℕ → List ℕ → List ℕ → List ℕ → List ℕ → List ℕ
 target_object kinds crate_types name source edition required = concat (
     codes "{\"kind\":" ∷ kinds ∷ codes ",\"crate_types\":" ∷ crate_types ∷ codes ",\"name\":" ∷ name
     ∷ codes ",\"src_path\":" ∷ source ∷ codes ",\"edition\":" ∷ edition ∷ required ∷ codes "}" ∷ [])
 
--- the target object
+-- the object of a target
 abbrev pub target_text : Target → List ℕ
 target_text t = target_object (json_texts t.kinds) (json_texts t.crate_types) (json_string t.name) (json_string t.source) (json_string (edition_text t.edition)) (required_text t.required_features)
 
--- the package of a line
+-- the member for the package of a line
 unfoldable pub id_text : Subject → List ℕ
 id_text s = concat (codes "\"package_id\":" ∷ json_string (package_id s) ∷ [])
 
--- the package, a manifest and a target in JSON
+-- the members for a package, a manifest and a target, in JSON
 unfoldable pub subject_object : List ℕ → List ℕ → List ℕ → List ℕ
 subject_object id manifest target = concat (id ∷ codes ",\"manifest_path\":" ∷ manifest ∷ codes ",\"target\":" ∷ target ∷ [])
 
--- what the lines of a compiled unit begin with, after their reason
+-- the members with which the lines of a compiled unit begin, after their reason
 abbrev pub subject_text : Subject → List ℕ
 subject_text s = subject_object (id_text s) (json_string s.manifest) (target_text s.target)
 
--- what is kept for debuggers: a number, or a name as a string
+-- the debug information setting: a number, or a name as a string
 abbrev pub debug_info_json : DebugInfo → List ℕ
 debug_info_json Nothing = codes "0"
 debug_info_json Limited = codes "1"
@@ -62,28 +64,28 @@ debug_info_json Full = codes "2"
 debug_info_json LineTablesOnly = codes "\"line-tables-only\""
 debug_info_json LineDirectivesOnly = codes "\"line-directives-only\""
 
--- the profile object
+-- the object of a profile
 abbrev pub profile_text : Settings → List ℕ
 profile_text s = concat (
     codes "{\"opt_level\":\"" ∷ opt_level_text s.opt_level ∷ codes "\",\"debuginfo\":" ∷ debug_info_json s.debug ∷ codes ",\"debug_assertions\":" ∷ truth_text s.debug_assertions
     ∷ codes ",\"overflow_checks\":" ∷ truth_text s.overflow_checks ∷ codes ",\"test\":false}" ∷ [])
 
--- the file that can be run, if it is one
+-- the file if it is executable, else null
 abbrev pub executable_text : Bool → List ℕ → List ℕ
 executable_text true file = json_string file
 executable_text false file = codes "null"
 
--- a line of the compiler's, byte for byte
+-- the line of a diagnostic, which is copied byte for byte
 abbrev pub diagnostic_line : List ℕ → List ℕ → List ℕ
 diagnostic_line subject text = concat (codes "{\"reason\":\"compiler-message\"," ∷ subject ∷ codes ",\"message\":" ∷ text ∷ codes "}\n" ∷ [])
 
--- a line of these values in JSON
+-- the line of an artifact with these values in JSON
 unfoldable pub artifact_object : List ℕ → List ℕ → List ℕ → List ℕ → List ℕ → List ℕ → List ℕ
 artifact_object subject profile features file executable fresh = concat (
     codes "{\"reason\":\"compiler-artifact\"," ∷ subject ∷ codes ",\"profile\":" ∷ profile ∷ codes ",\"features\":" ∷ features
     ∷ codes ",\"filenames\":[" ∷ file ∷ codes "],\"executable\":" ∷ executable ∷ codes ",\"fresh\":" ∷ fresh ∷ codes "}\n" ∷ [])
 
--- what was made; `fresh` where nothing was started for it
+-- the line of an artifact; `fresh` is true if no child was started for it
 abbrev pub artifact_line : List ℕ → Artifact → Bool → List ℕ
 artifact_line subject a fresh = artifact_object subject (profile_text a.settings) (json_texts a.features) (json_string a.file) (executable_text a.is_executable a.file) (truth_text fresh)
 
@@ -91,25 +93,25 @@ abbrev pub level_text : Level → List ℕ
 level_text Warning = codes "warning"
 level_text Error = codes "error"
 
--- a line of a level and of a text in JSON
+-- the line of a note with this level, and this text in JSON
 unfoldable pub note_object : List ℕ → List ℕ → List ℕ → List ℕ
 note_object id level text = concat (codes "{\"reason\":\"build-script-note\"," ∷ id ∷ codes ",\"level\":\"" ∷ level ∷ codes "\",\"text\":" ∷ text ∷ codes "}\n" ∷ [])
 
--- what a script tells its user
+-- the line of a note that a script prints for its user
 abbrev pub note_line : List ℕ → Level → List ℕ → List ℕ
 note_line id level text = note_object id (level_text level) (json_string text)
 
--- a line of these values in JSON
+-- the line of an executed script with these values in JSON
 unfoldable pub executed_object : List ℕ → List ℕ → List ℕ → List ℕ → List ℕ → List ℕ → List ℕ
 executed_object id libraries paths conditions variables folder = concat (
     codes "{\"reason\":\"build-script-executed\"," ∷ id ∷ codes ",\"linked_libs\":" ∷ libraries ∷ codes ",\"linked_paths\":" ∷ paths
     ∷ codes ",\"cfgs\":" ∷ conditions ∷ codes ",\"env\":" ∷ variables ∷ codes ",\"out_dir\":" ∷ folder ∷ codes "}\n" ∷ [])
 
--- what a script gives the compiler, in printed order
+-- the line of an executed script: what it passes to the compiler, in printed order
 abbrev pub executed_line : List ℕ → Executed → List ℕ
 executed_line id e = executed_object id (json_texts e.linked_libraries) (json_texts e.linked_paths) (json_texts e.conditions) (json_pairs e.variables) (json_string e.out_folder)
 
--- the line of a message behind what the lines of its unit begin with; `fresh` says whether nothing was started for the unit
+-- the line of a message after its unit's first members; `fresh` is true if no child was started for the unit
 abbrev pub line_from : List ℕ → List ℕ → Bool → Message → List ℕ
 line_from id subject fresh (message.CompilerMessage text) = diagnostic_line subject text
 line_from id subject fresh (message.CompilerArtifact artifact) = artifact_line subject artifact fresh
@@ -121,11 +123,11 @@ abbrev pub lines_from : List ℕ → List ℕ → Bool → List Message → List
 lines_from id subject fresh [] = []
 lines_from id subject fresh (m ∷ ms) = line_from id subject fresh m ++ lines_from id subject fresh ms
 
--- the line of a message of this subject
+-- the line of a message with this subject
 abbrev pub line_of : Subject → Bool → Message → List ℕ
 line_of s fresh m = line_from (id_text s) (subject_text s) fresh m
 
--- the lines of messages of this subject
+-- the lines of messages with this subject
 abbrev pub lines_of : Subject → Bool → List Message → List ℕ
 lines_of s fresh ms = lines_from (id_text s) (subject_text s) fresh ms
 

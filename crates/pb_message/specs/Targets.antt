@@ -1,17 +1,17 @@
--- The targets of a package as lines show them (The Cargo Book, External Tools).
+-- The targets of a package as message lines describe them (The Cargo Book, External Tools).
 use Rattle.std.specs.Prelude.{ℕ, codes, List, [], ◌∷◌}
 use Rattle.pb_manifest.specs.Library.{crate_type_texts}
 use Rattle.pb_manifest.specs.declared.package.Edition.{Edition}
 use Rattle.pb_manifest.specs.declared.target.CrateType.{CrateType}
 use Rattle.pb_message.specs.declared.subject.Target.{Target}
 
--- a library is what it is compiled to
+-- the target of a library, whose kinds are its crate types
 abbrev pub library_target : List CrateType → List ℕ → List ℕ → Edition → Target
 library_target types name source edition = record { kinds = crate_type_texts types; crate_types = crate_type_texts types; name = name; source = source; edition = edition; required_features = [] }
 
 abbrev pub binary_target : List ℕ → List ℕ → Edition → List (List ℕ) → Target
 binary_target name source edition required = record { kinds = codes "bin" ∷ []; crate_types = codes "bin" ∷ []; name = name; source = source; edition = edition; required_features = required }
 
--- a build script, which is compiled to a binary
+-- the target of a build script, which is compiled to a binary
 abbrev pub script_target : List ℕ → Edition → Target
 script_target source edition = record { kinds = codes "custom-build" ∷ []; crate_types = codes "bin" ∷ []; name = codes "build-script-build"; source = source; edition = edition; required_features = [] }

@@ -11,7 +11,7 @@ use pb_directive::texts::text_of;
 use serde_json::Value;
 use std::alloc::{AllocError, Global};
 
-/// Whether a text reads as a JSON object. The empty text does not, which needs no reader.
+/// Returns whether a text is a JSON object. The empty text is none, which needs no reader.
 fn reads_as_object(alloc: Global, text: &str) -> Result<bool, AllocError>
     ensures { IfOk result (λ answer. answer ≡ reads_as_object (read text.now)) }
 {
@@ -30,7 +30,7 @@ fn reads_as_object(alloc: Global, text: &str) -> Result<bool, AllocError>
     }
 }
 
-/// A line of standard error as a diagnostic, or none where it reads as no JSON object.
+/// Returns a line of standard error as a diagnostic, or none if it is no JSON object.
 fn diagnostic_in(alloc: Global, line: &[u8]) -> Result<Option<&str>, AllocError>
     ensures { IfOk result (λ found. option_map (λ text. text.now) found ≡ diagnostic_in line.now) }
 {
@@ -56,9 +56,11 @@ fn add_diagnostic(alloc: Global, found: &mut Items<Text>, line: &[u8]) -> Result
     Ok(())
 }
 
-/// The diagnostics of a compiler: the lines of its standard error that read as JSON objects, each byte for
-/// byte but for spaces, tabs and carriage returns at its ends, which are taken away (The Cargo Book,
-/// External Tools). Other lines are dropped. The one fault is want of memory.
+/// Returns the diagnostics of a compiler: the lines of its standard error that are JSON objects
+/// (The Cargo Book, External Tools). They are unchanged, except that spaces, tabs and carriage
+/// returns at both ends are removed. Other lines are ignored.
+///
+/// Errors: out of memory only.
 pub fn diagnostics(alloc: Global, stderr: &[u8]) -> Result<Items<Text>, AllocError>
     ensures { IfOk result (λ found. found ≡ diagnostics_of stderr.now) }
 {
@@ -69,7 +71,7 @@ pub fn diagnostics(alloc: Global, stderr: &[u8]) -> Result<Items<Text>, AllocErr
     Ok(found)
 }
 
-/// Adds a line with a line feed behind it, where it is neither blank nor a diagnostic.
+/// Adds a line and a line feed, unless the line is blank or a diagnostic.
 fn add_plain(alloc: Global, plain: &mut Vec<u8>, line: &[u8]) -> Result<(), AllocError>
     ensures { OnOk result (plain.new.items ≡ plain.old.items ++ plain_in line.now) }
 {
@@ -87,8 +89,10 @@ fn add_plain(alloc: Global, plain: &mut Vec<u8>, line: &[u8]) -> Result<(), Allo
     }
 }
 
-/// What a compiler's standard error says beside its diagnostics: the lines that are neither blank nor diagnostics, each
-/// with a line feed behind it. The one fault is want of memory.
+/// Returns the lines of a compiler's standard error that are neither blank nor diagnostics, each
+/// with a line feed.
+///
+/// Errors: out of memory only.
 pub fn plain_lines(alloc: Global, stderr: &[u8]) -> Result<Bytes, AllocError>
     ensures { IfOk result (λ plain. plain ≡ plain_lines_of stderr.now) }
 {

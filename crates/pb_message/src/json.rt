@@ -1,4 +1,4 @@
-//! Values in JSON, with no spaces outside strings, added to a text.
+//! Values in JSON, without spaces outside strings, appended to a text.
 
 ghost use Rattle.std.specs.Prelude.{◌≡◌, ◌++◌, IfOk, OnOk, map, string_bytes};
 ghost use Rattle.std.specs.List.{concat};
@@ -9,7 +9,7 @@ use pb_data::Text;
 use pb_json::json_string;
 use std::alloc::{AllocError, Global};
 
-/// `true` or `false`.
+/// Returns `true` or `false`.
 pub(crate) fn truth_text(truth: bool) -> &'static str
     ensures { result.now ≡ truth_text truth }
 {
@@ -26,7 +26,7 @@ pub(crate) fn push_all(out: &mut String, parts: &[&str]) -> Result<(), AllocErro
     Ok(())
 }
 
-/// Texts one after another.
+/// Returns the texts one after another.
 pub(crate) fn joined(alloc: Global, parts: &[&str]) -> Result<String, AllocError>
     ensures { IfOk result (λ text. string_bytes text ≡ concat (map (λ part. part.now) parts.now)) }
 {
@@ -43,7 +43,7 @@ fn push_text(alloc: Global, out: &mut String, text: &str) -> Result<(), AllocErr
     Ok(())
 }
 
-/// Adds strings with a comma before each.
+/// Adds strings, each after a comma.
 fn push_more_texts(alloc: Global, out: &mut String, texts: &[Text]) -> Result<(), AllocError>
     ensures { OnOk result (string_bytes out.new ≡ string_bytes out.old ++ after_commas (map json_string texts.now)) }
 {
@@ -54,7 +54,7 @@ fn push_more_texts(alloc: Global, out: &mut String, texts: &[Text]) -> Result<()
     Ok(())
 }
 
-/// A list of strings.
+/// Returns a list of strings.
 pub(crate) fn json_texts(alloc: Global, texts: &[Text]) -> Result<String, AllocError>
     ensures { IfOk result (λ json. string_bytes json ≡ json_texts texts.now) }
 {
@@ -81,7 +81,7 @@ fn push_pair(alloc: Global, out: &mut String, pair: &(Text, Text)) -> Result<(),
     Ok(())
 }
 
-/// Adds pairs with a comma before each.
+/// Adds pairs, each after a comma.
 fn push_more_pairs(
     alloc: Global,
     out: &mut String,
@@ -96,7 +96,7 @@ fn push_more_pairs(
     Ok(())
 }
 
-/// A list of pairs.
+/// Returns a list of pairs.
 pub(crate) fn json_pairs(alloc: Global, pairs: &[(Text, Text)]) -> Result<String, AllocError>
     ensures { IfOk result (λ json. string_bytes json ≡ json_pairs pairs.now) }
 {

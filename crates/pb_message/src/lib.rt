@@ -1,4 +1,5 @@
-//! The message lines of a build (The Cargo Book, External Tools): messages as values, and their lines.
+//! The message lines of a build (The Cargo Book, External Tools): messages as values, and their
+//! lines.
 #![tactic(auto)]
 
 mod diagnostic;

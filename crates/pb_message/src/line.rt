@@ -14,7 +14,7 @@ use pb_place::PathText;
 use pb_profile::{Settings, opt_level_text};
 use std::alloc::{AllocError, Global};
 
-/// Whether a folder's path ends in a name.
+/// Returns whether a folder's path ends in a name.
 fn ends_in(alloc: Global, folder: &PathText, name: &str) -> Result<bool, AllocError>
     ensures { IfOk result (λ answer. answer ≡ ends_with nat_eq folder.now (codes "/" ++ name.now)) }
 {
@@ -23,7 +23,7 @@ fn ends_in(alloc: Global, folder: &PathText, name: &str) -> Result<bool, AllocEr
     Ok(folder.as_str().as_bytes().ends_with(part.as_bytes()))
 }
 
-/// The id of a package. Nothing is escaped (our own choice).
+/// Returns the id of a package. Nothing is escaped (our own choice).
 fn package_id(alloc: Global, subject: &Subject) -> Result<String, AllocError>
     ensures { IfOk result (λ id. string_bytes id ≡ package_id subject.now) }
 {
@@ -36,7 +36,7 @@ fn package_id(alloc: Global, subject: &Subject) -> Result<String, AllocError>
     joined(alloc, &["path+file://", folder, "#", name, "@", version])
 }
 
-/// The package of a line.
+/// Returns the member for the package of a line.
 #[tactic(auto, unfolding(crate::specs::Message::id_text))]
 fn id_text(alloc: Global, subject: &Subject) -> Result<String, AllocError>
     ensures { IfOk result (λ text. string_bytes text ≡ id_text subject.now) }
@@ -46,7 +46,7 @@ fn id_text(alloc: Global, subject: &Subject) -> Result<String, AllocError>
     joined(alloc, &["\"package_id\":", id.as_str()])
 }
 
-/// The features without which a target is not built.
+/// Returns the member for required features.
 #[tactic(auto, unfolding(crate::specs::Message::required_list))]
 fn required_list(alloc: Global, features: &[Text]) -> Result<String, AllocError>
     ensures { IfOk result (λ text. string_bytes text ≡ required_list features.now) }
@@ -55,7 +55,7 @@ fn required_list(alloc: Global, features: &[Text]) -> Result<String, AllocError>
     joined(alloc, &[",\"required-features\":", list.as_str()])
 }
 
-/// The features without which a target is not built, where there are some.
+/// Returns the member for required features, or nothing if there are none.
 fn required_text(alloc: Global, features: &[Text]) -> Result<String, AllocError>
     ensures { IfOk result (λ text. string_bytes text ≡ required_text features.now) }
 {
@@ -65,7 +65,7 @@ fn required_text(alloc: Global, features: &[Text]) -> Result<String, AllocError>
     }
 }
 
-/// The target object of these values in JSON, and of what is said of features that are required.
+/// Returns the target object with these values in JSON, and the member for required features.
 #[tactic(auto, unfolding(crate::specs::Message::target_object))]
 fn target_object(
     alloc: Global,
@@ -97,7 +97,7 @@ fn target_object(
     )
 }
 
-/// The target object.
+/// Returns the object of a target.
 fn target_text(alloc: Global, target: &Target) -> Result<String, AllocError>
     ensures { IfOk result (λ text. string_bytes text ≡ target_text target.now) }
 {
@@ -118,7 +118,8 @@ fn target_text(alloc: Global, target: &Target) -> Result<String, AllocError>
     )
 }
 
-/// What the lines of a compiled unit begin with, from its package and, in JSON, its manifest and target.
+/// Returns the members with which the lines of a compiled unit begin, from its package and, in
+/// JSON, its manifest and target.
 #[tactic(auto, unfolding(crate::specs::Message::subject_object))]
 fn subject_object(
     alloc: Global,
@@ -134,7 +135,7 @@ fn subject_object(
     )
 }
 
-/// What the lines of a compiled unit begin with, after their reason.
+/// Returns the members with which the lines of a compiled unit begin, after their reason.
 fn subject_text(alloc: Global, subject: &Subject) -> Result<String, AllocError>
     ensures { IfOk result (λ text. string_bytes text ≡ subject_text subject.now) }
 {
@@ -144,7 +145,7 @@ fn subject_text(alloc: Global, subject: &Subject) -> Result<String, AllocError>
     subject_object(alloc, id.as_str(), manifest.as_str(), target.as_str())
 }
 
-/// What is kept for debuggers in JSON: a number, or a name as a string.
+/// Returns the debug information setting in JSON: a number, or a name as a string.
 fn debug_info_json(debug: DebugInfo) -> &'static str
     ensures { result.now ≡ debug_info_json debug }
 {
@@ -157,7 +158,7 @@ fn debug_info_json(debug: DebugInfo) -> &'static str
     }
 }
 
-/// The profile object.
+/// Returns the object of a profile.
 fn profile_text(alloc: Global, settings: &Settings) -> Result<String, AllocError>
     ensures { IfOk result (λ text. string_bytes text ≡ profile_text settings.now) }
 {
@@ -193,7 +194,7 @@ fn push_diagnostic(out: &mut String, subject: &str, text: &str) -> Result<(), Al
     )
 }
 
-/// The file that can be run, if it is one.
+/// Returns the file if it is executable, else null.
 fn executable_text(alloc: Global, artifact: &Artifact) -> Result<String, AllocError>
     ensures { IfOk result (λ text. string_bytes text ≡ executable_text artifact.now.is_executable artifact.now.file) }
 {
@@ -204,7 +205,7 @@ fn executable_text(alloc: Global, artifact: &Artifact) -> Result<String, AllocEr
     }
 }
 
-/// Adds the line of what was made, of these values in JSON.
+/// Adds the line of an artifact with these values in JSON.
 #[tactic(auto, unfolding(crate::specs::Message::artifact_object))]
 fn push_artifact_object(
     out: &mut String,
@@ -237,7 +238,7 @@ fn push_artifact_object(
     )
 }
 
-/// Adds the line of what was made.
+/// Adds the line of an artifact.
 fn push_artifact(
     alloc: Global,
     out: &mut String,
@@ -262,7 +263,7 @@ fn push_artifact(
     )
 }
 
-/// How much a note says, in a word.
+/// Returns the name of a note's level.
 fn level_text(level: Level) -> &'static str
     ensures { result.now ≡ level_text level }
 {
@@ -272,7 +273,7 @@ fn level_text(level: Level) -> &'static str
     }
 }
 
-/// Adds the line of a note, of its level and its text in JSON.
+/// Adds the line of a note with this level, and this text in JSON.
 #[tactic(auto, unfolding(crate::specs::Message::note_object))]
 fn push_note_object(out: &mut String, id: &str, level: &str, text: &str) -> Result<(), AllocError>
     ensures { OnOk result (string_bytes out.new ≡ string_bytes out.old ++ note_object id.now level.now text.now) }
@@ -305,7 +306,7 @@ fn push_note(
     push_note_object(out, id, level_text(level), json.as_str())
 }
 
-/// Adds the line of what a script gave, of these values in JSON.
+/// Adds the line of an executed script with these values in JSON.
 #[tactic(auto, unfolding(crate::specs::Message::executed_object))]
 fn push_executed_object(
     out: &mut String,
@@ -338,7 +339,7 @@ fn push_executed_object(
     )
 }
 
-/// Adds the line of what a script gave.
+/// Adds the line of an executed script.
 fn push_executed(
     alloc: Global,
     out: &mut String,
@@ -363,7 +364,7 @@ fn push_executed(
     )
 }
 
-/// Adds the line of a message, from what the lines of its unit begin with.
+/// Adds the line of a message after its unit's first members.
 fn push_line(
     alloc: Global,
     out: &mut String,
@@ -382,7 +383,7 @@ fn push_line(
     }
 }
 
-/// Adds the lines of messages, from what the lines of their unit begin with.
+/// Adds the lines of messages after their unit's first members.
 fn push_lines(
     alloc: Global,
     out: &mut String,
@@ -399,8 +400,10 @@ fn push_lines(
     Ok(())
 }
 
-/// The line of a message, with its line feed. `fresh` says whether nothing was started for its unit. The
-/// one fault is want of memory.
+/// Returns the line of a message, with its line feed. `fresh` is true if no child was started for
+/// its unit.
+///
+/// Errors: out of memory only.
 pub fn line_of(
     alloc: Global,
     subject: &Subject,
@@ -423,8 +426,10 @@ pub fn line_of(
     Ok(Text::new(line))
 }
 
-/// The lines of messages, one after another. `fresh` says whether nothing was started for their unit. The
-/// one fault is want of memory.
+/// Returns the lines of messages, one after another. `fresh` is true if no child was started for
+/// their unit.
+///
+/// Errors: out of memory only.
 pub fn lines_of(
     alloc: Global,
     subject: &Subject,
@@ -447,7 +452,7 @@ pub fn lines_of(
     Ok(Text::new(lines))
 }
 
-/// The last line of a build, with its line feed. It takes no memory.
+/// Returns the last line of a build, with its line feed. It takes no memory.
 pub fn finish_line(success: bool) -> &'static str
     ensures { result.now ≡ finish_line success }
 {

@@ -1,10 +1,10 @@
-//! Messages as values. Whether anything was started for their unit is no part of them.
+//! Messages as values. They do not contain whether a child was started for their unit.
 
 use pb_data::{Items, Text};
 use pb_place::PathText;
 use pb_profile::Settings;
 
-/// How much a note says.
+/// The level of a note.
 #[derive(Clone, Copy, Debug, PartialEq, Eq)]
 pub enum Level {
     /// A warning.
@@ -22,34 +22,34 @@ pub struct Artifact {
     pub features: Items<Text>,
     /// The file.
     pub file: PathText,
-    /// Whether the file can be run: it is that of a binary.
+    /// Whether the file is executable: whether it is a binary's.
     pub is_executable: bool,
 }
 
-/// What a build script gives the compiler, each list in printed order.
+/// What a build script passes to the compiler, each list in printed order.
 #[derive(Drop)]
 pub struct Executed {
     /// Libraries to link.
     pub linked_libraries: Items<Text>,
-    /// Folders in which libraries are looked for.
+    /// Folders in which the linker looks for libraries.
     pub linked_paths: Items<Text>,
     /// Conditions that are on.
     pub conditions: Items<Text>,
     /// Variables, each a name and a value.
     pub variables: Items<(Text, Text)>,
-    /// The folder in which the script has left its files.
+    /// The folder in which the script left its files.
     pub out_folder: PathText,
 }
 
-/// What a unit has to tell (The Cargo Book, External Tools).
+/// A message about a unit (The Cargo Book, External Tools).
 #[derive(Drop)]
 pub enum Message {
-    /// A line of the compiler's standard error that reads as a JSON object.
+    /// A line of the compiler's standard error that is a JSON object.
     CompilerMessage(Text),
-    /// A compile was good, and this was made.
+    /// A compile succeeded and made this artifact.
     CompilerArtifact(Artifact),
-    /// A build script told its user something. Our own choice of a reason.
+    /// A build script printed a note for its user. This reason is our own choice.
     BuildScriptNote(Level, Text),
-    /// A build script was good, and gave this.
+    /// A build script succeeded and passed this to the compiler.
     BuildScriptExecuted(Executed),
 }

@@ -1,4 +1,4 @@
-//! Whose lines they are: a package, and one of its targets.
+//! The subject of message lines: a package, and one of its targets.
 
 ghost use Rattle.std.specs.Prelude.{◌≡◌, IfOk, map};
 ghost use Rattle.pb_manifest.specs.Library.{crate_type_texts};
@@ -9,12 +9,12 @@ use pb_manifest::{CrateType, Edition, crate_type_texts};
 use pb_place::PathText;
 use std::alloc::{AllocError, Global};
 
-/// A target of a package, as lines show it (The Cargo Book, External Tools).
+/// A target of a package, as message lines describe it (The Cargo Book, External Tools).
 #[derive(Drop)]
 pub struct Target {
-    /// What it is: a library's crate types, `bin`, or `custom-build` for a script.
+    /// Its kinds: a library's crate types, `bin`, or `custom-build` for a script.
     pub kinds: Items<Text>,
-    /// What it is compiled to: a library's crate types, else `bin`.
+    /// The crate types to which it is compiled: a library's, else `bin`.
     pub crate_types: Items<Text>,
     /// A library's crate name, a binary's name, or `build-script-build`.
     pub name: Text,
@@ -22,8 +22,7 @@ pub struct Target {
     pub source: PathText,
     /// The edition.
     pub edition: Edition,
-    /// The features without which a binary is not built. Where there are none the line says nothing of
-    /// them.
+    /// The features that a binary requires. If there are none, the line has no member for them.
     pub required_features: Items<Text>,
 }
 
@@ -42,7 +41,7 @@ pub struct Subject {
     pub target: Target,
 }
 
-/// Texts of their own.
+/// Returns owned copies of texts.
 fn owned(alloc: Global, texts: &[&str]) -> Result<Items<Text>, AllocError>
     ensures { IfOk result (λ made. made ≡ map (λ t. t.now) texts.now) }
 {
@@ -53,7 +52,7 @@ fn owned(alloc: Global, texts: &[&str]) -> Result<Items<Text>, AllocError>
     Ok(made)
 }
 
-/// The crate types of a library.
+/// Returns the crate types of a library.
 fn library_types(alloc: Global, crate_types: &[CrateType]) -> Result<Items<Text>, AllocError>
     ensures { IfOk result (λ made. made ≡ crate_type_texts crate_types.now) }
 {
@@ -62,8 +61,10 @@ fn library_types(alloc: Global, crate_types: &[CrateType]) -> Result<Items<Text>
 }
 
 impl Target {
-    /// The target of a library, by its crate types, in the manifest's order, and its crate's name. The one
-    /// fault is want of memory.
+    /// Returns the target of a library, from its crate types in the manifest's order and its crate
+    /// name.
+    ///
+    /// Errors: out of memory only.
     pub fn library(
         alloc: Global,
         crate_types: &[CrateType],
@@ -85,8 +86,9 @@ impl Target {
         })
     }
 
-    /// The target of a binary of this name, with the features that it requires. The one fault is want of
-    /// memory.
+    /// Returns the target of a binary with this name and these required features.
+    ///
+    /// Errors: out of memory only.
     pub fn binary(
         alloc: Global,
         name: Text,
@@ -108,7 +110,9 @@ impl Target {
         })
     }
 
-    /// The target of a build script. The one fault is want of memory.
+    /// Returns the target of a build script.
+    ///
+    /// Errors: out of memory only.
     pub fn script(alloc: Global, source: PathText, edition: Edition) -> Result<Target, AllocError>
         ensures { IfOk result (λ made. made ≡ script_target source edition) }
     {

@@ -1,4 +1,4 @@
-//! Lines into a sink.
+//! Writing lines into a sink.
 
 ghost use Rattle.std.specs.Prelude.{◌≡◌, OnOk, OnErr};
 ghost use Rattle.std.specs.Io.KnownBytes.{Appends};
@@ -7,12 +7,14 @@ ghost use Rattle.pb_place.specs.Sinks.{TakesPart};
 
 use pb_place::{Out, write_all};
 
-/// The sink did not take all that it was given.
+/// The sink did not take all of the bytes.
 #[derive(Clone, Copy, Debug, PartialEq, Eq)]
 pub struct SinkFault;
 
-/// Writes lines into a sink, all bytes of them or a first part, not all. SinkFault where the sink fails or takes none
-/// of some bytes; its failures have risen then, and nothing is written after.
+/// Writes lines into a sink: all of their bytes, or the first n but not all.
+///
+/// Errors: `SinkFault`, if the sink fails or takes none of some bytes. Its failures have risen
+/// then, and nothing is written after that.
 pub fn write_lines<O: Out>(out: &mut O, lines: &str) -> Result<(), SinkFault>
     ensures all { OnOk result (Appends (O.heard out.old).taken (O.heard out.new).taken lines.now) }
     ensures whole { OnOk result ((O.heard out.new).faults ≡ (O.heard out.old).faults) }

@@ -8,31 +8,31 @@ use Rattle.pb_message.specs.declared.subject.Subject.{Subject}
 use Rattle.pb_message.specs.declared.message.Message.{Message}
 use Rattle.pb_message.specs.declared.message.Message.TheVariants.{CompilerMessage, CompilerArtifact, BuildScriptNote, BuildScriptExecuted}
 
--- one line feed, and it is the last byte
+-- a line has one line feed, which is its last byte
 abbrev pub is_line : List ℕ → Bool
 is_line [] = false
 is_line (b ∷ []) = b == 10
 is_line (b ∷ c ∷ bytes) = not (b == 10) && is_line (c ∷ bytes)
 
--- no line feed
+-- the text has no line feed
 abbrev pub IsOfOneLine : List ℕ → Type 0
 IsOfOneLine text = has_byte 10 text ≡ false
 
--- the one thing that is told byte for byte, a compiler's diagnostic, is of one line
+-- if the message is a diagnostic, the one kind that is copied byte for byte, it has no line feed
 abbrev pub TellsOneLine : Message → Type 0
 TellsOneLine (CompilerMessage text) = IsOfOneLine text
 TellsOneLine (CompilerArtifact artifact) = Unit {0}
 TellsOneLine (BuildScriptNote level text) = Unit {0}
 TellsOneLine (BuildScriptExecuted executed) = Unit {0}
 
--- the line of each such message, of whatever package and target, is a line
+-- the line of each such message is a line, for any package and target
 abbrev pub MessagesAreLines : Type 0
 MessagesAreLines = (subject : Subject) (fresh : Bool) (message : Message) → TellsOneLine message → is_line (line_of subject fresh message) ≡ true
 
--- and so is the last line of a build
+-- the last line of a build is a line
 abbrev pub BuildsEndInLine : Type 0
 BuildsEndInLine = (success : Bool) → is_line (finish_line success) ≡ true
 
--- the diagnostics that are found in what a compiler writes are of one line each
+-- the diagnostics found in what a compiler writes have no line feed
 abbrev pub DiagnosticsAreLines : Type 0
 DiagnosticsAreLines = (stderr : List ℕ) → AllByRecursion IsOfOneLine (diagnostics_of stderr)

@@ -1,11 +1,11 @@
--- What message lines tell.
+-- What message lines determine.
 use Rattle.std.specs.Prelude.{◌≡◌, Bool}
 use Rattle.pb_message.specs.Message.{line_of}
 use Rattle.pb_message.specs.declared.subject.Subject.{Subject}
 use Rattle.pb_message.specs.declared.message.Message.{Message}
 use Rattle.pb_message.specs.declared.message.Message.TheVariants.{CompilerMessage, CompilerArtifact, BuildScriptNote, BuildScriptExecuted}
 
--- two messages are of one kind; two diagnostics are one, and two notes
+-- two messages are of the same kind; if they are diagnostics or notes, they are equal
 abbrev pub TellOne : Message → Message → Type 0
 TellOne (CompilerMessage text) (CompilerMessage other) = text ≡ other
 TellOne (CompilerMessage text) _ = ⊥
@@ -16,6 +16,6 @@ TellOne (BuildScriptNote level text) _ = ⊥
 TellOne (BuildScriptExecuted executed) (BuildScriptExecuted other) = Unit {0}
 TellOne (BuildScriptExecuted executed) _ = ⊥
 
--- messages of one package and target whose lines are one
+-- messages of one package and target with the same line are the same in the sense of `TellOne`
 abbrev pub LinesTellMessages : Type 0
 LinesTellMessages = (subject : Subject) (fresh : Bool) (message other : Message) → line_of subject fresh message ≡ line_of subject fresh other → TellOne message other

@@ -6,17 +6,20 @@ use Rattle.pb_message.specs.Diagnostics.{diagnostics_of, plain_lines_of}
 use Rattle.serde_json.specs.Data.{Members, object}
 use Rattle.serde_json.specs.Read.{read}
 
--- a text reads as a JSON object
+-- a text is a JSON object
 abbrev pub IsObject : List ℕ → Type 0
 IsObject text = (is_utf8 text ≡ true) × ((members : Members) × (read text ≡ Some (object members)))
 
--- lines, the diagnostics among them, and what else is said: a line is a diagnostic where it reads as an object without the blanks at its ends; a blank one says nothing; any other is told as it stands
+-- these lines contain these diagnostics and this plain text:
+-- - a line is a diagnostic if it is an object once the blanks at its ends are removed
+-- - a blank line is ignored
+-- - any other line is plain text, unchanged
 pub data AreSaid : List (List ℕ) → List (List ℕ) → List ℕ → Type 0 where
   nothing : AreSaid [] [] []
   diagnostic : (line : List ℕ) (lines texts : List (List ℕ)) (plain : List ℕ) (is : IsObject (trimmed line)) (more : AreSaid lines texts plain) → AreSaid (line ∷ lines) (trimmed line ∷ texts) plain
   blank : (line : List ℕ) (lines texts : List (List ℕ)) (plain : List ℕ) (is : trimmed line ≡ []) (more : AreSaid lines texts plain) → AreSaid (line ∷ lines) texts plain
   other : (line : List ℕ) (lines texts : List (List ℕ)) (plain : List ℕ) (some : trimmed line ≢ []) (no : IsObject (trimmed line) → ⊥) (more : AreSaid lines texts plain) → AreSaid (line ∷ lines) texts (line ++ 10 ∷ plain)
 
--- what is found in a standard error is just that
+-- the diagnostics and the plain lines that are found in a standard error are as this relation defines
 abbrev pub CompilersSay : Type 0
 CompilersSay = (stderr : List ℕ) → AreSaid (lines_of stderr) (diagnostics_of stderr) (plain_lines_of stderr)

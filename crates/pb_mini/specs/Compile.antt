@@ -19,29 +19,29 @@ use Rattle.pb_mini.specs.declared.dep_info.Names.{Names}
 use Rattle.pb_mini.specs.declared.diagnostic.Level.TheVariants.{Error}
 use Rattle.pb_mini.specs.declared.effects.Effects.{Effects}
 
--- the text that bytes are, if they are one
+-- the text of some bytes, if they are UTF-8
 abbrev pub text_of : List ℕ → Option (List ℕ)
 text_of bytes = if is_utf8 bytes then Some bytes else None
 
--- the text of the file at a path, if there is a path and a file, and it is UTF-8
+-- the text of the file at a path, if there is a path and a file, and the file is UTF-8
 abbrev pub text_at : World → Option (List ℕ) → Option (List ℕ)
 text_at w path = option_and_then text_of (file_at w path)
 
--- the source of a compile: its path, and its text
+-- the path and the text of the source of a compile
 abbrev pub source_of : CommandLine → World → Source
 source_of line w = record { path = path_of line.source; text = text_at w (path_of line.source) }
 
--- a source that has no path, is not there or is no text is told of line 0
+-- a source without a path or a file, or which is no text, is reported at line 0
 abbrev pub no_source : Effects
 no_source = diagnosed Error (codes "no source") 0
 
--- what the lines of a source with this path and this text do
+-- the effects of the lines of a source with this path and this text
 abbrev pub source_effects : CommandLine → List (List ℕ × List ℕ) → World → Option (List ℕ) → Option (List ℕ) → Effects
 source_effects line pairs w None text = no_source
 source_effects line pairs w (Some source) None = no_source
 source_effects line pairs w (Some source) (Some text) = effects_from (scope_of line pairs source) w 0 (lines_of text)
 
--- all that a compile does: it reads the source, and does its lines
+-- all effects of a compile: it reads the source, and carries out its lines
 abbrev pub effects_of : CommandLine → List (List ℕ × List ℕ) → World → Effects
 effects_of line pairs w = joined (reads (path_of line.source)) (source_effects line pairs w (path_of line.source) (text_at w (path_of line.source)))
 
@@ -49,11 +49,11 @@ abbrev pub title : CrateType → List ℕ
 title Bin = codes "mini bin "
 title Lib = codes "mini lib "
 
--- `mini bin NAME` or `mini lib NAME`, and then the lines
+-- the image: `mini bin NAME` or `mini lib NAME`, and then the lines
 abbrev pub image_text : CommandLine → List ℕ → List ℕ
 image_text line lines = ended (title line.crate_type ++ line.crate_name) ++ lines
 
--- with an error the status is 1, and there is no image
+-- the status is 1 if there is an error, and then there is no image
 abbrev pub status_of : Bool → ℤ
 status_of is_bad = if is_bad then pos 1 else pos 0
 
@@ -71,6 +71,6 @@ replied line effects = record {
   files = files_of line (has_error effects.diagnostics) effects.image effects.names;
 }
 
--- each name that was read stands once in the dep-info
+-- the reply to a compile, whose dep-info lists each name that was read once
 abbrev pub compiled : CommandLine → List (List ℕ × List ℕ) → World → Reply
 compiled line pairs w = replied line (names_once (effects_of line pairs w))

@@ -1,4 +1,4 @@
--- The dep-info file: what a compile read, spelled.
+-- The dep-info file, which lists what a compile read.
 use Rattle.std.specs.Prelude.{ℕ, ◌==◌, if◌then◌else◌, codes, List, [], ◌∷◌, ◌++◌, Option, Some, None}
 use Rattle.pb_mini.specs.declared.dep_info.Names.{Names}
 
@@ -7,12 +7,12 @@ abbrev pub spelled : List ℕ → List ℕ
 spelled [] = []
 spelled (b ∷ bs) = if b == 32 then 92 ∷ 32 ∷ spelled bs else b ∷ spelled bs
 
--- each path after a space
+-- the paths, each after a space
 abbrev pub paths_text : List (List ℕ) → List ℕ
 paths_text [] = []
 paths_text (path ∷ paths) = 32 ∷ spelled path ++ paths_text paths
 
--- a value after an equals sign, and nothing for a variable that is not set
+-- a value after an equals sign, or nothing for a variable that is not set
 abbrev pub value_text : Option (List ℕ) → List ℕ
 value_text None = []
 value_text (Some value) = 61 ∷ value

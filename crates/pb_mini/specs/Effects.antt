@@ -1,4 +1,4 @@
--- What lines do: they put bytes in the image, give diagnostics, and name what they read.
+-- The effects of lines: they add bytes to the image, report diagnostics, and name what they read.
 use Rattle.std.specs.Prelude.{◌≡◌, ℕ, List, [], ◌∷◌, ◌++◌, Option, Some, None}
 use Rattle.pb_data.specs.Mentions.{mentioned_all}
 use Rattle.pb_data.specs.Table.{with_entries}
@@ -13,49 +13,49 @@ no_names = record { paths = []; variables = [] }
 abbrev pub no_effects : Effects
 no_effects = record { image = []; diagnostics = []; names = no_names }
 
--- bytes stand in the image
+-- the effect of adding bytes to the image
 abbrev pub in_image : List ℕ → Effects
 in_image bytes = record no_effects { image = bytes }
 
--- a line stands in the image as it is
+-- the effect of adding a line to the image as it is
 abbrev pub copied : List ℕ → Effects
 copied line = in_image (ended line)
 
--- each line of a file stands in the image, after a mark
+-- the effect of adding each line of a file to the image, after a mark
 abbrev pub copied_file : List ℕ → List ℕ → Effects
 copied_file mark bytes = in_image (quoted mark bytes)
 
--- a diagnostic is given
+-- the effect of reporting a diagnostic
 abbrev pub diagnosed : Level → List ℕ → ℕ → Effects
 diagnosed level message number = record no_effects { diagnostics = record { level = level; message = message; line = number } ∷ [] }
 
--- a file is read, if there is a path for it
+-- the effect of reading a file, if there is a path for it
 abbrev pub reads : Option (List ℕ) → Effects
 reads None = no_effects
 reads (Some path) = record no_effects { names = record no_names { paths = path ∷ [] } }
 
--- a variable is read, with the value that it has
+-- the effect of reading a variable, with its value
 abbrev pub asks : List ℕ → Option (List ℕ) → Effects
 asks name value = record no_effects { names = record no_names { variables = (name, value) ∷ [] } }
 
--- first the one, then the other
+-- the names of one, and then those of the other
 abbrev pub joined_names : Names → Names → Names
 joined_names a b = record { paths = a.paths ++ b.paths; variables = a.variables ++ b.variables }
 
 abbrev pub joined : Effects → Effects → Effects
 joined a b = record { image = a.image ++ b.image; diagnostics = a.diagnostics ++ b.diagnostics; names = joined_names a.names b.names }
 
--- The same, where each name is kept once: a name that is there already is not written again.
+-- The same, with each name kept once: a name that is already there is not added again.
 abbrev pub with_names : Names → Names → Names
 with_names kept more = record { paths = mentioned_all kept.paths more.paths; variables = with_entries kept.variables more.variables }
 
 abbrev pub followed_by : Effects → Effects → Effects
 followed_by kept more = record { image = kept.image ++ more.image; diagnostics = kept.diagnostics ++ more.diagnostics; names = with_names kept.names more.names }
 
--- what was done, each name once, in order of first mention
+-- the effects with each name once, in order of first mention
 abbrev pub names_once : Effects → Effects
 names_once done = followed_by no_effects done
 
--- one thing was done after another, whatever comes later
+-- the new effects are the old ones followed by one more, whatever comes later
 abbrev pub Does : Effects → Effects → Effects → Type 0
 Does new old effect = (later : Effects) → followed_by new later ≡ followed_by old (joined effect later)

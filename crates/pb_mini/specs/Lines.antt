@@ -1,21 +1,21 @@
--- The lines of a text, and the words in front of a line.
+-- The lines of a text, and the words at the front of a line.
 use Rattle.std.specs.Prelude.{ℕ, ◌==◌, ◌-◌, if◌then◌else◌, List, [], ◌∷◌, ◌++◌, length, take, slice_index}
 use Rattle.std.specs.List.{onto_first, before_first, after_first}
 
--- A text is cut at line feeds alone. Each line feed ends a line; what follows the last one is a line, unless it is empty.
+-- The lines of a text, which is split at line feeds only. Text after the last line feed is a line unless it is empty.
 abbrev pub lines_of : List ℕ → List (List ℕ)
 lines_of [] = []
 lines_of (b ∷ bytes) = if b == 10 then [] ∷ lines_of bytes else onto_first b (lines_of bytes)
 
--- what stands before the first space, or all where there is none
+-- the text before the first space, or all of it if there is none
 abbrev pub word_in : List ℕ → List ℕ
 word_in line = before_first (λ b. b == 32) line
 
--- what stands after the first space, if anything does
+-- the text after the first space, empty if there is none
 abbrev pub rest_of : List ℕ → List ℕ
 rest_of line = after_first (λ b. b == 32) line
 
--- what stands before and after the first `=`
+-- the texts before and after the first `=`
 abbrev pub name_in : List ℕ → List ℕ
 name_in text = before_first (λ b. b == 61) text
 
@@ -37,6 +37,6 @@ quoted mark bytes = marked mark (lines_of bytes)
 
 -- ---- for private functions
 
--- bytes without the line feed at their end, where there is one
+-- the bytes without the line feed at their end, if there is one
 abbrev pub without_feed : List ℕ → List ℕ
 without_feed bytes = if slice_index bytes (length bytes - 1) == 10 then take (length bytes - 1) bytes else bytes

@@ -1,4 +1,4 @@
--- What the lines of a source may name: libraries, conditions and variables, and the folder at which paths begin.
+-- What the lines of a source can name: libraries, conditions and variables, and the folder at which paths begin.
 use Rattle.std.specs.Prelude.{ℕ, List, [], ◌∷◌, if◌then◌else◌, map}
 use Rattle.std.specs.Option.{is_some}
 use Rattle.pb_data.specs.Mentions.{once}
@@ -8,11 +8,11 @@ use Rattle.pb_mini.specs.Lines.{name_in, value_in}
 use Rattle.pb_mini.specs.declared.command_line.CommandLine.{CommandLine}
 use Rattle.pb_mini.specs.declared.scope.Scope.{Scope}
 
--- a library with its file, from `NAME=PATH`
+-- a library and its file, from `NAME=PATH`
 abbrev pub library_of : List ℕ → List ℕ × List ℕ
 library_of written = (name_in written, value_in written)
 
--- with one more entry, unless there is one of this name
+-- the entries with one more, unless there already is one with this name
 abbrev pub with_first : List (List ℕ × List ℕ) → List ℕ × List ℕ → List (List ℕ × List ℕ)
 with_first entries entry = if is_some (value_at entry.0 entries) then entries else with_entry entries entry.0 entry.1
 
@@ -20,7 +20,7 @@ abbrev pub with_firsts : List (List ℕ × List ℕ) → List (List ℕ × List 
 with_firsts entries [] = entries
 with_firsts entries (entry ∷ more) = with_firsts (with_first entries entry) more
 
--- the libraries: of several with one name the first counts
+-- the libraries; the first counts if several have the same name
 abbrev pub libraries_of : List (List ℕ) → List (List ℕ × List ℕ)
 libraries_of externs = with_firsts [] (map library_of externs)
 

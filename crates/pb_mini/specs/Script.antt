@@ -12,18 +12,18 @@ use Rattle.pb_mini.specs.declared.script.Deed.{Deed}
 use Rattle.pb_mini.specs.declared.script.Deed.TheVariants.{Print, Show, Read, Put, Exit, Skip}
 use Rattle.pb_mini.specs.declared.output.Output.{Output}
 
--- a reply of this status alone
+-- a reply with this status and nothing else
 abbrev pub ending : ℕ → Reply
 ending status = record { status = pos status; stdout = []; stderr = []; files = [] }
 
 abbrev pub no_output : Output
 no_output = record { stdout = []; files = [] }
 
--- what was written before, and then a reply
+-- a reply after this output
 abbrev pub before : Output → Reply → Reply
 before output reply = record reply { stdout = output.stdout ++ reply.stdout; files = output.files ++ reply.files }
 
--- ---- what a line does: it writes something and the script goes on, or the script ends with a status
+-- ---- the step of a line: it writes something and the script continues, or the script ends with a status
 
 pub data Step : Type 0 where
   Writes : (output : Output) → Step
@@ -36,7 +36,7 @@ prints text = Writes (record no_output { stdout = text })
 abbrev pub printed : List ℕ → Step
 printed text = prints (ended text)
 
--- `show NAME`: the variable is declared, and SHOW_NAME is set to its value, which is empty where it is not set
+-- `show NAME`: the variable is declared, and SHOW_NAME is set to its value, which is empty if it is not set
 abbrev pub shown_text : List ℕ → List ℕ → List ℕ
 shown_text name value = ended (codes "cargo::rerun-if-env-changed=" ++ name) ++ ended (codes "cargo::rustc-env=SHOW_" ++ name ++ codes "=" ++ value)
 
@@ -47,7 +47,7 @@ shown name value = prints (shown_text name (unwrap_or value []))
 abbrev pub first_line : List ℕ → List ℕ
 first_line text = before_first (λ b. b == 10) text
 
--- `read PATH`: the path is declared, and READ is set to the first line of the file, where it is there and a text
+-- `read PATH`: the path is declared, and READ is set to the first line of the file, if there is one and it is a text
 abbrev pub first_line_set : Option (List ℕ) → List ℕ
 first_line_set None = []
 first_line_set (Some text) = ended (codes "cargo::rustc-env=READ=" ++ first_line text)
@@ -58,7 +58,7 @@ read_text path text = ended (codes "cargo::rerun-if-changed=" ++ path) ++ first_
 abbrev pub was_read : List ℕ → Option (List ℕ) → Step
 was_read path text = prints (read_text path text)
 
--- a relative path begins at CARGO_MANIFEST_DIR, which is empty where it is not set
+-- a relative path begins at CARGO_MANIFEST_DIR, which is empty if it is not set
 abbrev pub below_text : Option (List ℕ) → List ℕ → List ℕ
 below_text folder path = unwrap_or folder [] ++ 47 ∷ path
 
@@ -68,21 +68,21 @@ full_path pairs w path = if is_absolute path then path else below_text (value_of
 abbrev pub text_read : List (List ℕ × List ℕ) → World → List ℕ → Option (List ℕ)
 text_read pairs w path = text_at w (path_of (full_path pairs w path))
 
--- `put NAME TEXT`: a file of that name, which is one part of a relative path
+-- `put NAME TEXT`: a file with that name, which is one part of a relative path
 abbrev pub is_file_name : List ℕ → Bool
 is_file_name name = not (list_any (λ b. b == 47) name) && is_relative name
 
 abbrev pub was_put : List ℕ → List ℕ → Step
 was_put name text = if is_file_name name then Writes (record no_output { files = (name, ended text) ∷ [] }) else Ends 2
 
--- `exit N`: a number from 0 to 255, in decimal and without zeros in front; 2 for anything else
+-- `exit N`: a decimal number from 0 to 255 without leading zeros; any other text is 2
 abbrev pub is_digit : ℕ → Bool
 is_digit b = not (nat_lt b 48) && nat_lt b 58
 
 abbrev pub is_leading : ℕ → Bool
 is_leading b = is_digit b && not (b == 48)
 
--- the digit's number
+-- the value of a digit
 abbrev pub digit : ℕ → ℕ
 digit b = b - 48
 
@@ -118,7 +118,7 @@ step_by Put pairs w rest = was_put (word_in rest) (rest_of rest)
 step_by Exit pairs w rest = Ends (status_in rest)
 step_by Skip pairs w rest = Writes no_output
 
--- a line that is no text is passed over
+-- a line that is no text does nothing
 abbrev pub step_in : List (List ℕ × List ℕ) → World → Option (List ℕ) → Step
 step_in pairs w None = Writes no_output
 step_in pairs w (Some line) = step_by (deed_of (word_in line)) pairs w (rest_of line)
@@ -128,12 +128,12 @@ step_of pairs w line = step_in pairs w (text_of line)
 
 -- ---- a script
 
--- a step, and the reply of what comes after it, if anything does
+-- the reply after a step and, if the script continues, the rest
 abbrev pub after_step : Step → Reply → Reply
 after_step (Writes output) reply = before output reply
 after_step (Ends status) reply = ending status
 
--- the lines in turn; a script that comes to its end is good
+-- the reply to the lines in turn; a script that reaches its end succeeds
 abbrev pub lines_run : List (List ℕ × List ℕ) → World → List (List ℕ) → Reply
 lines_run pairs w [] = ending 0
 lines_run pairs w (line ∷ lines) = after_step (step_of pairs w line) (lines_run pairs w lines)
@@ -149,7 +149,7 @@ image_run pairs w (Some bytes) = lines_run pairs w (lines_of bytes)
 abbrev pub ran : List ℕ → List (List ℕ × List ℕ) → World → Reply
 ran path pairs w = image_run pairs w (file_at w (path_of path))
 
--- ---- for private functions: output after a step, where a status says that the script ended
+-- ---- for private functions: output after a step, in which a status means that the script ended
 
 abbrev pub goes_on : Option ℕ → Reply → Reply
 goes_on None reply = reply

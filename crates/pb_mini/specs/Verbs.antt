@@ -1,4 +1,4 @@
--- What each line of a source does.
+-- The effect of each line of a source.
 use Rattle.std.specs.Prelude.{ℕ, ◌==◌, ◌+◌, Bool, true, ◌||◌, if◌then◌else◌, codes, List, [], ◌∷◌, ◌++◌, Option, Some, None, unwrap_or}
 use Rattle.std.specs.List.{before_first, slice_split}
 use Rattle.std.specs.Option.{option_map, option_and_then}
@@ -19,7 +19,7 @@ use Rattle.pb_mini.specs.declared.verbs.Verb.TheVariants.{Use, Include, Env, War
 
 -- ---- `when COND LINE`
 
--- The words of a line, without each `when COND` in front whose condition is given; where one is not given, nothing is left.
+-- The words of a line after each leading `when COND`, or no words if one of these conditions is not given.
 abbrev pub without_conditions : List (List ℕ) → List (List ℕ) → List (List ℕ)
 without_conditions given [] = []
 without_conditions given (word ∷ []) = if bytes_eq word (codes "when") then [] else word ∷ []
@@ -27,18 +27,18 @@ without_conditions given (word ∷ condition ∷ words) =
     if bytes_eq word (codes "when") then (if is_mentioned given condition then without_conditions given words else [])
     else word ∷ condition ∷ words
 
--- the line that a line stands for where these conditions are given
+-- the line that remains of a line under these conditions
 abbrev pub line_meant : List (List ℕ) → List ℕ → List ℕ
 line_meant given line = join_with_byte 32 (without_conditions given (slice_split (λ b. b == 32) line))
 
--- the line meant by a line that is `when` with this condition and this rest, or by another
+-- the line that remains of a line: of `when` with this condition and rest, or of any other line
 abbrev pub meant_at : List (List ℕ) → List ℕ → Option (List ℕ × List ℕ) → List ℕ
 meant_at given line None = line
 meant_at given line (Some found) = if is_mentioned given found.0 then line_meant given found.1 else []
 
 -- ---- `use NAME`
 
--- the path of a library's file, as the command line says it
+-- the path of a library's file, from the command line
 abbrev pub library_path : Scope → List ℕ → Option (List ℕ)
 library_path scope name = option_and_then path_of (value_at name scope.libraries)
 
@@ -52,12 +52,12 @@ use_effect scope w number line name = used number line name (file_at w (library_
 
 -- ---- `include PATH`
 
--- what stands from the first slash on
+-- the text from the first slash on
 abbrev pub from_slash : List ℕ → List ℕ
 from_slash [] = []
 from_slash (b ∷ bytes) = if b == 47 then b ∷ bytes else from_slash bytes
 
--- the variable that stands for the first part of a path, as in `$NAME/x`
+-- the variable in the first part of a path, as in `$NAME/x`
 abbrev pub variable_in : List ℕ → Option (List ℕ)
 variable_in [] = None
 variable_in (b ∷ path) = if b == 36 then Some (before_first (λ c. c == 47) path) else None
@@ -69,12 +69,12 @@ variable_at pairs w name = (name, value_of pairs w name)
 abbrev pub variable_of : List (List ℕ × List ℕ) → World → List ℕ → Option (List ℕ × Option (List ℕ))
 variable_of pairs w path = option_map (variable_at pairs w) (variable_in path)
 
--- the path with the value in place of its first part; a variable that is not set is empty
+-- the path with the value instead of its first part; a variable that is not set is empty
 abbrev pub expanded : List ℕ → Option (List ℕ × Option (List ℕ)) → List ℕ
 expanded path None = path
 expanded path (Some variable) = unwrap_or variable.1 [] ++ from_slash path
 
--- where an included file lies, if its path has no byte 0
+-- the path of an included file, if it has no byte 0
 abbrev pub include_path : Scope → World → List ℕ → Option (List ℕ)
 include_path scope w path = path_from scope.folder (expanded path (variable_of scope.pairs w path))
 
@@ -82,12 +82,12 @@ abbrev pub asks_for : Option (List ℕ × Option (List ℕ)) → Effects
 asks_for None = no_effects
 asks_for (Some variable) = asks variable.0 variable.1
 
--- each line of the file; where there is none, the path is told as it was written
+-- each line of the included file; if there is no file, the path is reported as it was written
 abbrev pub included_lines : ℕ → List ℕ → Option (List ℕ) → Effects
 included_lines number path None = diagnosed Error (codes "no file " ++ path) number
 included_lines number path (Some bytes) = copied_file (codes "| ") bytes
 
--- the variable and the file are read, and the file's lines are put in
+-- the variable and the file are read, and the file's lines are added
 abbrev pub included : ℕ → List ℕ → Option (List ℕ × Option (List ℕ)) → Option (List ℕ) → Option (List ℕ) → Effects
 included number written variable path found = joined (asks_for variable) (joined (reads path) (included_lines number written found))
 
@@ -96,11 +96,11 @@ include_effect scope w number path = included number path (variable_of scope.pai
 
 -- ---- `env NAME`
 
--- `env NAME=VALUE`, or `env NAME` where it is not set
+-- `env NAME=VALUE`, or `env NAME` if it is not set
 abbrev pub env_line : List ℕ → Option (List ℕ) → List ℕ
 env_line name value = codes "env " ++ name ++ value_text value
 
--- the variable is read, and its line put in
+-- the variable is read, and its line is added
 abbrev pub told : List ℕ → Option (List ℕ) → Effects
 told name value = joined (asks name value) (copied (env_line name value))
 
@@ -119,12 +119,12 @@ verb_of word =
     else if bytes_eq word (codes "print") || bytes_eq word (codes "show") || bytes_eq word (codes "read") || bytes_eq word (codes "put") || bytes_eq word (codes "exit") then Copied
     else Unknown
 
--- a line that does nothing: it is empty, or begins with `#`
+-- a line does nothing if it is empty or begins with `#`
 abbrev pub is_passed_over : List ℕ → Bool
 is_passed_over [] = true
 is_passed_over (b ∷ bytes) = b == 35
 
--- what a line of this number does, by its verb, which is its first word, and by the rest of it
+-- the effect of a line with this number, by its verb, which is its first word, and by its rest
 abbrev pub effect_by : Verb → Scope → World → ℕ → List ℕ → List ℕ → Effects
 effect_by Use scope w number line rest = use_effect scope w number line rest
 effect_by Include scope w number line rest = include_effect scope w number rest
@@ -140,7 +140,7 @@ effect_meant scope w number line = if is_passed_over line then no_effects else e
 abbrev pub effect_of : Scope → World → ℕ → List ℕ → Effects
 effect_of scope w number line = effect_meant scope w number (line_meant scope.conditions line)
 
--- what lines do in turn, after a number of other lines
+-- the effects of lines in turn, after the given number of other lines
 abbrev pub effects_from : Scope → World → ℕ → List (List ℕ) → Effects
 effects_from scope w before [] = no_effects
 effects_from scope w before (line ∷ lines) = joined (effect_of scope w (before + 1) line) (effects_from scope w (before + 1) lines)

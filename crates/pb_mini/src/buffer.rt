@@ -6,7 +6,7 @@ use pb_data::Bytes;
 use std::alloc::{AllocError, Global};
 use std::marker::Model;
 
-/// Bytes that grow at their end. Contracts see the list of them.
+/// Bytes that grow at their end. Contracts see them as a list.
 #[derive(Drop)]
 pub struct Buffer {
     inside: Vec<u8>,
@@ -21,7 +21,7 @@ impl Model for Buffer {
 }
 
 impl Buffer {
-    /// No bytes, which takes no memory.
+    /// Returns an empty buffer. It takes no memory.
     pub(crate) fn new(alloc: Global) -> Buffer
         ensures { result ≡ [] }
     {
@@ -30,7 +30,7 @@ impl Buffer {
         }
     }
 
-    /// Adds bytes at the end.
+    /// Appends bytes.
     pub(crate) fn push(&mut self, bytes: &[u8]) -> Result<(), AllocError>
         ensures { OnOk result (self.new ≡ self.old ++ bytes.now) }
     {
@@ -38,14 +38,14 @@ impl Buffer {
         Ok(())
     }
 
-    /// The bytes themselves.
+    /// Returns the bytes as a slice.
     pub(crate) fn as_slice(&self) -> &[u8]
         ensures { result.now ≡ self.now }
     {
         self.inside.as_slice()
     }
 
-    /// The bytes, which takes no memory.
+    /// Returns the bytes. It takes no memory.
     pub(crate) fn into_bytes(self) -> Bytes
         ensures { result ≡ self }
     {

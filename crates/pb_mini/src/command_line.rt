@@ -1,4 +1,4 @@
-//! The words of a compile.
+//! The arguments of a compile.
 
 ghost use Rattle.std.specs.Prelude.{◌≡◌, ◌||◌, codes, Ok, None, IfOk, OnOk, List, [], ◌∷◌, ℕ};
 ghost use Rattle.std.specs.Str.{bytes_eq};
@@ -13,13 +13,13 @@ use pb_place::{PathFault, PathText, RelativePath};
 use std::alloc::{AllocError, AllocFailed, Global};
 use thiserror::Error;
 
-/// Why words are no compile.
+/// Why arguments are no compile.
 #[derive(Clone, Copy, Debug, PartialEq, Eq, Error)]
 pub enum CommandLineFault {
-    /// The words are none that the small compiler knows.
+    /// The small compiler does not know these arguments.
     #[error("bad command line")]
     Bad,
-    /// Memory was refused.
+    /// Out of memory.
     #[error("out of memory")]
     OutOfMemory,
 }
@@ -40,22 +40,22 @@ impl<T: Drop> From<AllocFailed<T>> for CommandLineFault {
     }
 }
 
-/// What a word of the command line is for.
+/// The role of an argument.
 #[derive(Clone, Copy)]
 pub enum Role {
     /// The name of the crate.
     CrateName,
     /// A type of the crate.
     CrateType,
-    /// The folder into which files are written.
+    /// The folder in which files are written.
     OutDir,
     /// The file that is compiled.
     Source,
-    /// A library with its file, as `NAME=PATH`.
+    /// A library and its file, as `NAME=PATH`.
     Extern,
-    /// A condition that holds.
+    /// A condition that is given.
     Condition,
-    /// Nothing: the small compiler passes it over.
+    /// None: the small compiler ignores it.
     Unused,
 }
 
@@ -64,50 +64,50 @@ pub enum Role {
 pub enum CrateType {
     /// A program.
     Bin,
-    /// A library, of whatever type.
+    /// A library of any type.
     Lib,
 }
 
-/// The values of a command line by what they are for, each list in the order of the words.
+/// The values of a command line by their roles, each list in the order of the arguments.
 #[derive(Drop)]
 pub struct Arguments {
-    /// Those after `--crate-name`.
+    /// The values of `--crate-name`.
     pub crate_names: Items<Text>,
-    /// Those after `--crate-type`.
+    /// The values of `--crate-type`.
     pub crate_types: Items<Text>,
-    /// Those after `--out-dir`.
+    /// The values of `--out-dir`.
     pub out_dirs: Items<Text>,
-    /// The words that are no option and no value of one.
+    /// The arguments that are neither an option nor an option's value.
     pub sources: Items<Text>,
-    /// Those after `--extern`.
+    /// The values of `--extern`.
     pub externs: Items<Text>,
-    /// Those after `--cfg`.
+    /// The values of `--cfg`.
     pub conditions: Items<Text>,
 }
 
-/// A compile, as its words say it.
+/// A compile, from its arguments.
 #[derive(Drop)]
 pub struct CommandLine {
-    /// What is made, as the first crate type says.
+    /// What is made, from the first crate type.
     pub crate_type: CrateType,
     /// The name of the crate.
     pub crate_name: Text,
-    /// The file of the image inside `out_dir`: the crate name for a program, else `libNAME.rlib`. Our own choice,
-    /// after the names of a real compiler.
+    /// The file of the image inside `out_dir`: the crate name for a program, else `libNAME.rlib`.
+    /// This is our own choice, like the names of a real compiler.
     pub image: RelativePath,
     /// The file of the dep-info inside `out_dir`: `NAME.d`.
     pub dep_info: RelativePath,
-    /// The folder into which files are written.
+    /// The folder in which files are written.
     pub out_dir: PathText,
     /// The source, as written.
     pub source: Text,
-    /// The libraries with their files, each as `NAME=PATH`.
+    /// The libraries and their files, each as `NAME=PATH`.
     pub externs: Items<Text>,
     /// The conditions that are given.
     pub conditions: Items<Text>,
 }
 
-/// What of a compile stands once, or follows from what does.
+/// The values of a compile that occur once, or follow from these.
 #[derive(Drop)]
 pub struct Settled {
     /// What is made.
@@ -118,41 +118,41 @@ pub struct Settled {
     pub image: RelativePath,
     /// The file of the dep-info inside `out_dir`.
     pub dep_info: RelativePath,
-    /// The folder into which files are written.
+    /// The folder in which files are written.
     pub out_dir: PathText,
     /// The source, as written.
     pub source: Text,
 }
 
-/// Whether the next word says what is made, or where.
+/// Returns whether the next argument determines what is made, or where.
 fn is_for_crate(word: &str) -> bool
     ensures { result ≡ (bytes_eq word.now (codes "--crate-name") || bytes_eq word.now (codes "--crate-type") || bytes_eq word.now (codes "--out-dir")) }
 {
     word == "--crate-name" || word == "--crate-type" || word == "--out-dir"
 }
 
-/// Whether the next word is a setting or a condition.
+/// Returns whether the next argument is a setting or a condition.
 fn is_for_setting(word: &str) -> bool
     ensures { result ≡ (bytes_eq word.now (codes "-C") || bytes_eq word.now (codes "--cfg") || bytes_eq word.now (codes "--check-cfg")) }
 {
     word == "-C" || word == "--cfg" || word == "--check-cfg"
 }
 
-/// Whether the next word is a library, or where libraries are.
+/// Returns whether the next argument is a library, or where libraries are.
 fn is_for_library(word: &str) -> bool
     ensures { result ≡ (bytes_eq word.now (codes "--extern") || bytes_eq word.now (codes "-L") || bytes_eq word.now (codes "-l")) }
 {
     word == "--extern" || word == "-L" || word == "-l"
 }
 
-/// Whether the next word is the value of this one.
+/// Returns whether the next argument is the value of this one.
 fn takes_value(word: &str) -> bool
     ensures { result ≡ takes_value word.now }
 {
     is_for_crate(word) || is_for_setting(word) || is_for_library(word)
 }
 
-/// What the value of an option is for.
+/// Returns the role of the value of an option.
 fn role_of(option: &str) -> Role
     ensures { result ≡ role_of option.now }
 {
@@ -174,7 +174,7 @@ fn role_of(option: &str) -> Role
     Role::Unused
 }
 
-/// What a word is for that neither takes a value nor is one.
+/// Returns the role of an argument that is no option with a value, and no such value.
 fn role_alone(word: &str) -> Role
     ensures { result ≡ role_alone word.now }
 {
@@ -187,7 +187,7 @@ fn role_alone(word: &str) -> Role
     Role::Source
 }
 
-/// Files one value more by what it is for.
+/// Adds one more value to the list of its role.
 fn add_value(said: &mut Arguments, role: Role, value: Text) -> Result<(), AllocError>
     ensures { OnOk result ((rest : Arguments) → joined said.new rest ≡ joined said.old (with_value role value rest)) }
 {
@@ -203,8 +203,8 @@ fn add_value(said: &mut Arguments, role: Role, value: Text) -> Result<(), AllocE
     Ok(())
 }
 
-/// Takes one word: the value of an option that waits for one, an option, or a word alone. What comes back is
-/// what the next word's value is for, where this one waits for it.
+/// Processes one argument: the value of an option that waits for one, an option, or an argument on
+/// its own. Returns the role of the next argument, if this one waits for a value.
 fn take_word(
     alloc: Global,
     said: &mut Arguments,
@@ -224,7 +224,7 @@ fn take_word(
     Ok(None)
 }
 
-/// Files the values of the words. What comes back is what an option that stands last waits for.
+/// Adds the values of the arguments. Returns the role for which the last option waits, if it does.
 fn add_words(
     alloc: Global,
     said: &mut Arguments,
@@ -239,7 +239,7 @@ fn add_words(
     Ok(waiting)
 }
 
-/// Bad where an option waits for its value.
+/// Fails with `Bad` if an option waits for its value.
 fn ended(waiting: Option<Role>) -> Result<(), CommandLineFault>
     ensures { Gives fault.OutOfMemory (λ _. no_arguments) result (arguments_after waiting []) }
 {
@@ -249,7 +249,9 @@ fn ended(waiting: Option<Role>) -> Result<(), CommandLineFault>
     Ok(())
 }
 
-/// The values of the words. Bad where an option stands last, without its value.
+/// Returns the values of the arguments.
+///
+/// Errors: `Bad`, if the last argument is an option without its value; `OutOfMemory`.
 #[tactic(auto, using(crate::proofs::Words::after_nothing))]
 fn arguments_of(alloc: Global, words: &[Text]) -> Result<Arguments, CommandLineFault>
     ensures { Gives fault.OutOfMemory (λ said. said) result (arguments_after None words.now) }
@@ -268,7 +270,9 @@ fn arguments_of(alloc: Global, words: &[Text]) -> Result<Arguments, CommandLineF
     Ok(said)
 }
 
-/// What stands once. Bad where it stands not at all, or again.
+/// Returns the only value.
+///
+/// Errors: `Bad`, if there is no value, or more than one; `OutOfMemory`.
 fn only(alloc: Global, values: &[Text]) -> Result<Text, CommandLineFault>
     ensures { Gives fault.OutOfMemory (λ value. value) result (only values.now) }
 {
@@ -281,7 +285,9 @@ fn only(alloc: Global, values: &[Text]) -> Result<Text, CommandLineFault>
     }
 }
 
-/// The first of what stands at least once. Bad where it does not stand.
+/// Returns the first value.
+///
+/// Errors: `Bad`, if there is none.
 fn first(values: &[Text]) -> Result<&Text, CommandLineFault>
     ensures { Gives fault.OutOfMemory (λ value. value.now) result (first values.now) }
 {
@@ -291,7 +297,7 @@ fn first(values: &[Text]) -> Result<&Text, CommandLineFault>
     }
 }
 
-/// What is made, as a crate type says.
+/// Returns what is made, from a crate type.
 fn crate_type_of(text: &str) -> CrateType
     ensures { result ≡ crate_type_of text.now }
 {
@@ -302,7 +308,7 @@ fn crate_type_of(text: &str) -> CrateType
     }
 }
 
-/// The name of the image's file.
+/// Returns the file name of the image.
 fn image_name(alloc: Global, crate_type: CrateType, name: &str) -> Result<Text, AllocError>
     ensures { IfOk result (λ file. file ≡ image_name crate_type name.now) }
 {
@@ -313,7 +319,7 @@ fn image_name(alloc: Global, crate_type: CrateType, name: &str) -> Result<Text, 
     Ok(Text::new(text))
 }
 
-/// The name of the dep-info's file.
+/// Returns the file name of the dep-info.
 fn dep_info_name(alloc: Global, name: &str) -> Result<Text, AllocError>
     ensures { IfOk result (λ file. file ≡ dep_info_name name.now) }
 {
@@ -321,7 +327,9 @@ fn dep_info_name(alloc: Global, name: &str) -> Result<Text, AllocError>
     Ok(Text::new(text))
 }
 
-/// A file inside the out folder. Bad where the text names none there.
+/// Returns a name as a file inside the output folder.
+///
+/// Errors: `Bad`, if the name is no such file; `OutOfMemory`.
 fn file_named(alloc: Global, name: Text) -> Result<RelativePath, CommandLineFault>
     ensures { Gives fault.OutOfMemory (λ file. file) result (file_named name) }
 {
@@ -331,7 +339,9 @@ fn file_named(alloc: Global, name: Text) -> Result<RelativePath, CommandLineFaul
     }
 }
 
-/// The out folder. Bad where the text is no absolute path.
+/// Returns the output folder.
+///
+/// Errors: `Bad`, if the text is no absolute path; `OutOfMemory`.
 fn folder_of(alloc: Global, text: &str) -> Result<PathText, CommandLineFault>
     ensures { Gives fault.OutOfMemory (λ folder. folder) result (folder_of text.now) }
 {
@@ -342,7 +352,7 @@ fn folder_of(alloc: Global, text: &str) -> Result<PathText, CommandLineFault>
     }
 }
 
-/// What stands once.
+/// The values that occur once.
 #[derive(Drop)]
 struct Once {
     crate_type: CrateType,
@@ -351,7 +361,7 @@ struct Once {
     source: Text,
 }
 
-/// The files inside the out folder, and that folder.
+/// The files inside the output folder, and that folder.
 #[derive(Drop)]
 struct Outputs {
     image: RelativePath,
@@ -359,7 +369,9 @@ struct Outputs {
     out_dir: PathText,
 }
 
-/// What of the values stands once. Bad where one that must does not.
+/// Returns the values that occur once.
+///
+/// Errors: `Bad`, if one of them does not; `OutOfMemory`.
 fn once_in(alloc: Global, said: &Arguments) -> Result<Once, CommandLineFault>
     ensures { Gives fault.OutOfMemory (λ once. once) result (once_in said.now) }
 {
@@ -375,7 +387,9 @@ fn once_in(alloc: Global, said: &Arguments) -> Result<Once, CommandLineFault>
     })
 }
 
-/// The file of the image. Bad where the crate's name names none.
+/// Returns the file of the image.
+///
+/// Errors: `Bad`, if the crate's name is no file name; `OutOfMemory`.
 fn image_named(alloc: Global, once: &Once) -> Result<RelativePath, CommandLineFault>
     ensures { Gives fault.OutOfMemory (λ file. file) result (file_named (image_name once.now.crate_type once.now.crate_name)) }
 {
@@ -383,7 +397,9 @@ fn image_named(alloc: Global, once: &Once) -> Result<RelativePath, CommandLineFa
     file_named(alloc, name)
 }
 
-/// The file of the dep-info. Bad where the crate's name names none.
+/// Returns the file of the dep-info.
+///
+/// Errors: `Bad`, if the crate's name is no file name; `OutOfMemory`.
 fn dep_info_named(alloc: Global, once: &Once) -> Result<RelativePath, CommandLineFault>
     ensures { Gives fault.OutOfMemory (λ file. file) result (file_named (dep_info_name once.now.crate_name)) }
 {
@@ -391,7 +407,9 @@ fn dep_info_named(alloc: Global, once: &Once) -> Result<RelativePath, CommandLin
     file_named(alloc, name)
 }
 
-/// What a compile writes, and where. Bad where a name or the folder is none.
+/// Returns which files a compile writes, and where.
+///
+/// Errors: `Bad`, if the name or the folder is invalid; `OutOfMemory`.
 fn outputs_of(alloc: Global, once: &Once) -> Result<Outputs, CommandLineFault>
     ensures { Gives fault.OutOfMemory (λ outputs. outputs) result (outputs_of once.now) }
 {
@@ -405,7 +423,10 @@ fn outputs_of(alloc: Global, once: &Once) -> Result<Outputs, CommandLineFault>
     })
 }
 
-/// What the values settle. Bad where one that must stand once does not, or where a name or a folder is none.
+/// Returns what the values settle.
+///
+/// Errors: `Bad`, if one that must occur once does not, or if a name or a folder is invalid;
+/// `OutOfMemory`.
 fn settled_by(alloc: Global, said: &Arguments) -> Result<Settled, CommandLineFault>
     ensures { Gives fault.OutOfMemory (λ settled. settled) result (settled_by said.now) }
 {
@@ -422,10 +443,12 @@ fn settled_by(alloc: Global, said: &Arguments) -> Result<Settled, CommandLineFau
     })
 }
 
-/// The compile that words say: `--crate-name` and `--out-dir` once, `--crate-type` at least once, any of the
-/// other options with their values, settings in one word, and one word more, the source. Bad for anything else,
-/// and, by our own choice, for an out folder that is no absolute path and for a crate name that names no files
-/// inside it.
+/// Returns the compile of these arguments: `--crate-name` and `--out-dir` once, `--crate-type` at
+/// least once, any of the other options with their values, settings in one argument, and one more
+/// argument, the source.
+///
+/// Errors: `Bad`, for anything else; `OutOfMemory`. By our own choice, `Bad` includes an output
+/// folder that is no absolute path, and a crate name that is no file name.
 pub(crate) fn command_line_of(
     alloc: Global,
     words: &[Text],

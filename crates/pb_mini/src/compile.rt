@@ -23,7 +23,7 @@ use pb_data::{Bytes, Items, Table, Text, TryCopy, with_next};
 use pb_place::{PathText, RelativePath, Reply, View, ViewFault};
 use std::alloc::{AllocError, Global};
 
-/// The text that bytes are, or none where they are not UTF-8.
+/// Returns the text of some bytes, or none if they are not UTF-8.
 #[tactic(auto, using(crate::proofs::Texts::text_laws))]
 pub(crate) fn text_of(alloc: Global, bytes: &[u8]) -> Result<Option<Text>, AllocError>
     ensures { IfOk result (λ text. text ≡ text_of bytes.now) }
@@ -37,7 +37,8 @@ pub(crate) fn text_of(alloc: Global, bytes: &[u8]) -> Result<Option<Text>, Alloc
     }
 }
 
-/// The text of the file at a path, or none where there is no path or no file, or it is not UTF-8.
+/// Returns the text of the file at a path, or none if there is no path or no file, or it is not
+/// UTF-8.
 pub(crate) fn text_at<V: View>(
     alloc: Global,
     view: &V,
@@ -53,7 +54,7 @@ pub(crate) fn text_at<V: View>(
     Ok(text)
 }
 
-/// Says that there is no source.
+/// Reports that there is no source.
 fn add_no_source(alloc: Global, effects: &mut Effects) -> Result<(), AllocError>
     ensures { OnOk result (effects.new ≡ followed_by effects.old no_source) }
 {
@@ -61,7 +62,7 @@ fn add_no_source(alloc: Global, effects: &mut Effects) -> Result<(), AllocError>
     Ok(())
 }
 
-/// Does the lines of a source with this text.
+/// Carries out the lines of a source with this text.
 fn add_text<V: View>(
     alloc: Global,
     effects: &mut Effects,
@@ -77,7 +78,7 @@ fn add_text<V: View>(
     Ok(())
 }
 
-/// Does the lines of a source with this path and this text, or says that there is none.
+/// Carries out the lines of a source with this path and this text, or reports that there is none.
 fn add_source<V: View>(
     alloc: Global,
     effects: &mut Effects,
@@ -108,13 +109,13 @@ fn add_source<V: View>(
 /// The path of a source, and its text.
 #[derive(Drop)]
 pub struct Source {
-    /// None where the words name no absolute path.
+    /// None if the argument is no absolute path.
     pub path: Option<PathText>,
-    /// None where no file is there, or it is not UTF-8.
+    /// None if no file is there, or it is not UTF-8.
     pub text: Option<Text>,
 }
 
-/// The source of a compile.
+/// Returns the source of a compile.
 fn source_of<V: View>(alloc: Global, line: &CommandLine, view: &V) -> Result<Source, ViewFault>
     ensures source { IsTrue V.tells → IfOk result (λ source. source ≡ source_of line.now (V.shown view.now)) }
     ensures failed { IfErr result (λ e. e ≡ ViewFault.Failed → V.fails view.now) }
@@ -124,7 +125,7 @@ fn source_of<V: View>(alloc: Global, line: &CommandLine, view: &V) -> Result<Sou
     Ok(Source { path, text })
 }
 
-/// That a source was read.
+/// Returns the effects of reading a source.
 fn read_effects(alloc: Global, source: &Option<PathText>) -> Result<Effects, AllocError>
     ensures { IfOk result (λ effects. Does effects no_effects (reads source.now)) }
 {
@@ -135,7 +136,7 @@ fn read_effects(alloc: Global, source: &Option<PathText>) -> Result<Effects, All
     Ok(effects)
 }
 
-/// All that a compile of this source does, each name once.
+/// Returns all effects of compiling this source, with each name once.
 fn effects_with<V: View>(
     alloc: Global,
     line: &CommandLine,
@@ -161,7 +162,7 @@ fn effects_with<V: View>(
     Ok(effects)
 }
 
-/// All that a compile does, each name once.
+/// Returns all effects of a compile, with each name once.
 fn effects_of<V: View>(
     alloc: Global,
     line: &CommandLine,
@@ -176,7 +177,7 @@ fn effects_of<V: View>(
     effects_with(alloc, line, pairs, view, &source)
 }
 
-/// The first line of an image, without its name.
+/// Returns the first line of an image, up to its name.
 fn title(crate_type: CrateType) -> &'static str
     ensures { result.now ≡ title crate_type }
 {
@@ -186,7 +187,7 @@ fn title(crate_type: CrateType) -> &'static str
     }
 }
 
-/// The image: what it is and the crate's name, and then its lines.
+/// Returns the image: its kind and the crate's name, and then its lines.
 fn image_text(alloc: Global, line: &CommandLine, lines: &[u8]) -> Result<Bytes, AllocError>
     ensures { IfOk result (λ text. text ≡ image_text line.now lines.now) }
 {
@@ -197,7 +198,7 @@ fn image_text(alloc: Global, line: &CommandLine, lines: &[u8]) -> Result<Bytes, 
     Ok(text.into_bytes())
 }
 
-/// The image as a file.
+/// Returns the image as a file.
 fn image_file(
     alloc: Global,
     line: &CommandLine,
@@ -210,7 +211,7 @@ fn image_file(
     Ok((path, text))
 }
 
-/// The dep-info as a file.
+/// Returns the dep-info as a file.
 fn dep_info_file(
     alloc: Global,
     line: &CommandLine,
@@ -224,7 +225,7 @@ fn dep_info_file(
     Ok((path, Bytes::new(text)))
 }
 
-/// The files of a compile: the image where it is good, and the dep-info.
+/// Returns the files of a compile: the dep-info and, if it succeeded, the image.
 fn files_of(
     alloc: Global,
     line: &CommandLine,
@@ -243,7 +244,7 @@ fn files_of(
     Ok(files)
 }
 
-/// The bytes that say diagnostics.
+/// Returns the lines of diagnostics.
 fn said_by(alloc: Global, diagnostics: &[Diagnostic]) -> Result<Bytes, AllocError>
     ensures { IfOk result (λ bytes. bytes ≡ diagnostics_text diagnostics.now) }
 {
@@ -251,7 +252,7 @@ fn said_by(alloc: Global, diagnostics: &[Diagnostic]) -> Result<Bytes, AllocErro
     Bytes::from_slice(alloc, text.as_bytes())
 }
 
-/// The files of a compile that does this.
+/// Returns the files of a compile with these effects.
 fn files_by(
     alloc: Global,
     line: &CommandLine,
@@ -264,7 +265,7 @@ fn files_by(
     files_of(alloc, line, is_bad, image.as_slice(), names)
 }
 
-/// The reply of a compile that does this.
+/// Returns the reply to a compile with these effects.
 fn replied(alloc: Global, line: &CommandLine, effects: Effects) -> Result<Reply, AllocError>
     ensures { IfOk result (λ reply. reply ≡ replied line.now effects) }
 {
@@ -282,9 +283,10 @@ fn replied(alloc: Global, line: &CommandLine, effects: Effects) -> Result<Reply,
     })
 }
 
-/// Compiles. With an error the status is 1 and there is no image; else it is 0. The diagnostics stand on
-/// standard error, and the dep-info is written in both cases. A source that is missing, that is not UTF-8 or, by
-/// our own choice, that is no absolute path is the error `no source` of line 0.
+/// Returns the reply to a compile. If there is an error, the status is 1 and there is no image;
+/// else the status is 0. In both cases standard error has the diagnostics, and there is dep-info. A
+/// source that is missing, that is not UTF-8 or, by our own choice, that is no absolute path, is
+/// the error `no source` at line 0.
 pub(crate) fn compile<V: View>(
     alloc: Global,
     line: &CommandLine,

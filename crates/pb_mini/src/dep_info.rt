@@ -1,4 +1,4 @@
-//! The dep-info file: what a compile read.
+//! The dep-info file, which lists what a compile read.
 
 ghost use Rattle.std.specs.Prelude.{◌≡◌, ◌++◌, IfOk, OnOk, ℕ, List};
 ghost use Rattle.pb_mini.specs.DepInfo.{rule_text, spelled, paths_text, value_text, variable_text, variables_text, dep_info_text};
@@ -7,17 +7,17 @@ use pb_data::{Items, Mentions, Table, Text, with_next};
 use pb_place::PathText;
 use std::alloc::{AllocError, Global};
 
-/// The names of all that a compile read, each once, in order of first mention. The small compiler's reply rests on
-/// nothing else that may change, but for the files of other units.
+/// The names of all that a compile read, without repeats, in order of first mention. The small
+/// compiler's reply depends on nothing else that may change, except the files of other units.
 #[derive(Drop)]
 pub struct Names {
-    /// Files, also those that were not there.
+    /// Files, including those that do not exist.
     pub paths: Mentions,
-    /// Variables, each with the value that the compile saw, or none where it was not set.
+    /// Variables, each with the value that the compile saw, or none if it was not set.
     pub variables: Table<Option<Text>>,
 }
 
-/// Adds a path at the end, with `\ ` for each space.
+/// Appends a path, with `\ ` for each space.
 fn push_spelled(text: &mut Vec<u8>, path: &str) -> Result<(), AllocError>
     ensures { OnOk result (text.new.items ≡ text.old.items ++ spelled path.now) }
 {
@@ -30,7 +30,7 @@ fn push_spelled(text: &mut Vec<u8>, path: &str) -> Result<(), AllocError>
     Ok(())
 }
 
-/// Adds each path at the end, after a space.
+/// Appends paths, each after a space.
 fn push_paths(text: &mut Vec<u8>, paths: &[Text]) -> Result<(), AllocError>
     ensures { OnOk result (text.new.items ≡ text.old.items ++ paths_text paths.now) }
 {
@@ -41,7 +41,7 @@ fn push_paths(text: &mut Vec<u8>, paths: &[Text]) -> Result<(), AllocError>
     Ok(())
 }
 
-/// Adds the line of a variable at the end.
+/// Appends the line of a variable.
 fn push_variable(text: &mut Vec<u8>, variable: &(Text, Option<Text>)) -> Result<(), AllocError>
     ensures { OnOk result (text.new.items ≡ text.old.items ++ variable_text variable.now) }
 {
@@ -55,7 +55,7 @@ fn push_variable(text: &mut Vec<u8>, variable: &(Text, Option<Text>)) -> Result<
     Ok(())
 }
 
-/// Adds the lines of variables at the end.
+/// Appends the lines of variables.
 fn push_variables(text: &mut Vec<u8>, variables: &[(Text, Option<Text>)]) -> Result<(), AllocError>
     ensures { OnOk result (text.new.items ≡ text.old.items ++ variables_text variables.now) }
 {
@@ -65,7 +65,7 @@ fn push_variables(text: &mut Vec<u8>, variables: &[(Text, Option<Text>)]) -> Res
     Ok(())
 }
 
-/// The rule: the output, a colon, and the paths.
+/// Returns the rule: the output, a colon, and the paths.
 fn rule_text(alloc: Global, output: &PathText, paths: &[Text]) -> Result<Vec<u8>, AllocError>
     ensures { IfOk result (λ text. text.items ≡ rule_text output.now paths.now) }
 {
@@ -77,14 +77,14 @@ fn rule_text(alloc: Global, output: &PathText, paths: &[Text]) -> Result<Vec<u8>
     Ok(text)
 }
 
-/// The variables among names.
+/// Returns the variables among names.
 fn variables_of(alloc: Global, names: Names) -> Result<Items<(Text, Option<Text>)>, AllocError>
     ensures { IfOk result (λ variables. variables ≡ names.variables) }
 {
     names.variables.into_items(alloc)
 }
 
-/// A text, and then the lines of the variables among names.
+/// Returns a text, and then the lines of the variables among names.
 fn with_variables(alloc: Global, text: Vec<u8>, names: Names) -> Result<Vec<u8>, AllocError>
     ensures { IfOk result (λ whole. whole.items ≡ text.items ++ variables_text names.variables) }
 {
@@ -94,9 +94,9 @@ fn with_variables(alloc: Global, text: Vec<u8>, names: Names) -> Result<Vec<u8>,
     Ok(text)
 }
 
-/// The dep-info of a compile, in the form that The Cargo Book, in "Build Cache", says is like a makefile's: the output,
-/// a colon, and the paths, with `\ ` for each space. Then a line `# env-dep:NAME=VALUE` for each variable, without
-/// `=VALUE` where it is not set, as real compilers add them.
+/// Returns the dep-info of a compile, which The Cargo Book ("Build Cache") compares to a makefile:
+/// the output, a colon, and the paths, with `\ ` for each space. Then, as real compilers write it,
+/// a line `# env-dep:NAME=VALUE` for each variable, without `=VALUE` if it is not set.
 pub(crate) fn dep_info_text(
     alloc: Global,
     output: &PathText,

@@ -7,27 +7,27 @@ use pb_data::{Items, Text};
 use pb_json::json_string;
 use std::alloc::{AllocError, Global};
 
-/// How bad a diagnostic is.
+/// The level of a diagnostic.
 #[derive(Clone, Copy)]
 pub enum Level {
-    /// The compile goes on, and is good if nothing else is wrong.
+    /// The compile continues, and succeeds if nothing else is wrong.
     Warning,
     /// The compile fails.
     Error,
 }
 
-/// What the compiler says of a line.
+/// A message of the compiler about a line.
 #[derive(Drop)]
 pub struct Diagnostic {
-    /// How bad it is.
+    /// Its level.
     pub level: Level,
-    /// What is said.
+    /// Its message.
     pub message: Text,
-    /// The line of the source, from 1; 0 where it is of the whole source.
+    /// The line of the source, counted from 1; 0 for the whole source.
     pub line: u64,
 }
 
-/// The name of a level.
+/// Returns the name of a level.
 fn level_name(level: Level) -> &'static str
     ensures { result.now ≡ level_name level }
 {
@@ -37,7 +37,7 @@ fn level_name(level: Level) -> &'static str
     }
 }
 
-/// Whether this level fails a compile.
+/// Returns whether this level makes a compile fail.
 fn is_error(level: Level) -> bool
     ensures { result ≡ is_error level }
 {
@@ -47,8 +47,8 @@ fn is_error(level: Level) -> bool
     }
 }
 
-/// A diagnostic as a line of JSON: an object with the keys `level`, `message` and `line`, in this order and
-/// without spaces, and a line feed.
+/// Returns a diagnostic as a line of JSON: an object with the keys `level`, `message` and `line`,
+/// in this order and without spaces, and a line feed.
 pub(crate) fn diagnostic_text(alloc: Global, diagnostic: &Diagnostic) -> Result<String, AllocError>
     ensures { IfOk result (λ text. string_bytes text ≡ diagnostic_text diagnostic.now) }
 {
@@ -61,7 +61,7 @@ pub(crate) fn diagnostic_text(alloc: Global, diagnostic: &Diagnostic) -> Result<
     Ok(text)
 }
 
-/// Diagnostics in turn, a line each.
+/// Returns diagnostics in turn, each as a line.
 pub(crate) fn diagnostics_text(
     alloc: Global,
     diagnostics: &[Diagnostic],
@@ -75,7 +75,7 @@ pub(crate) fn diagnostics_text(
     Ok(text)
 }
 
-/// Whether there is an error among the diagnostics.
+/// Returns whether one of the diagnostics is an error.
 pub(crate) fn has_error(diagnostics: &[Diagnostic]) -> bool
     ensures { result ≡ has_error diagnostics.now }
 {

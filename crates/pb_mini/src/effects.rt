@@ -1,4 +1,4 @@
-//! What lines do: they put bytes in the image, give diagnostics, and name what they read.
+//! The effects of lines: they add bytes to the image, report diagnostics, and name what they read.
 
 ghost use Rattle.std.specs.Prelude.{◌≡◌, IfOk, OnOk, Some};
 ghost use Rattle.pb_mini.specs.Effects.{no_effects, joined, followed_by, Does, copied, copied_file, diagnosed, reads, asks};
@@ -11,19 +11,19 @@ use pb_data::{Items, Mentions, Table, Text};
 use pb_place::PathText;
 use std::alloc::{AllocError, Global};
 
-/// What the lines of a source do together.
+/// The effects of the lines of a source, together.
 #[derive(Drop)]
 pub struct Effects {
     /// The lines of the image after its first, each with its line feed.
     pub image: Buffer,
-    /// What is said of the lines.
+    /// The diagnostics about the lines.
     pub diagnostics: Items<Diagnostic>,
     /// The names of what they read.
     pub names: Names,
 }
 
 impl Effects {
-    /// No effects, which takes no memory.
+    /// Returns no effects. It takes no memory.
     pub(crate) fn new(alloc: Global) -> Effects
         ensures { result ≡ no_effects }
     {
@@ -55,7 +55,7 @@ pub(crate) fn add_diagnostic(
     Ok(())
 }
 
-/// Adds a diagnostic with a message that is copied.
+/// Adds a diagnostic with a copy of its message.
 pub(crate) fn add_said(
     alloc: Global,
     effects: &mut Effects,
@@ -99,7 +99,7 @@ pub(crate) fn add_path(effects: &mut Effects, path: Option<PathText>) -> Result<
     Ok(())
 }
 
-/// Names a variable that is read, with the value that it has.
+/// Names a variable that is read, with its value.
 pub(crate) fn add_variable(
     effects: &mut Effects,
     name: Text,

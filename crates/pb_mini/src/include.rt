@@ -15,7 +15,7 @@ use pb_data::{Bytes, Table, Text, with_next};
 use pb_place::{PathText, View, ViewFault};
 use std::alloc::{AllocError, Global};
 
-/// What stands before the first slash, and what follows it, where there is one.
+/// Returns the text before the first slash, and the text after it, if there is one.
 #[tactic(auto, using(crate::proofs::SlashLemmas::slash_laws))]
 fn first_part(text: &str) -> (&str, Option<&str>)
     ensures part { result.0.now ≡ before_first (λ b. b == 47) text.now }
@@ -27,14 +27,14 @@ fn first_part(text: &str) -> (&str, Option<&str>)
     }
 }
 
-/// What follows a `$` in front, where there is one.
+/// Returns the text after a leading `$`, if there is one.
 fn after_dollar(path: &str) -> Option<&str>
     ensures { MatchOption result ((rest : List ℕ) → path.now ≢ 36 ∷ rest) (λ rest. path.now ≡ 36 ∷ rest.now) }
 {
     path.strip_prefix('$')
 }
 
-/// The name of the variable that stands for the first part of a path, as in `$NAME/x`.
+/// Returns the name of the variable in the first part of a path, as in `$NAME/x`.
 #[tactic(auto, using(crate::proofs::SlashLemmas::variable_laws))]
 fn variable_in(path: &str) -> Option<&str>
     ensures { option_map (λ name. name.now) result ≡ variable_in path.now }
@@ -45,7 +45,7 @@ fn variable_in(path: &str) -> Option<&str>
     }
 }
 
-/// The variable that stands for the first part of a path, with its value.
+/// Returns the variable in the first part of a path, with its value.
 fn variable_of<V: View>(
     alloc: Global,
     pairs: &Table<Text>,
@@ -65,7 +65,7 @@ fn variable_of<V: View>(
     }
 }
 
-/// The path with a value in place of its first part.
+/// Returns the path with a value instead of its first part.
 fn with_first_part(alloc: Global, value: &str, path: &str) -> Result<String, AllocError>
     ensures { IfOk result (λ text. string_bytes text ≡ value.now ++ from_slash path.now) }
 {
@@ -77,7 +77,8 @@ fn with_first_part(alloc: Global, value: &str, path: &str) -> Result<String, All
     Ok(text)
 }
 
-/// The path with the variable's value in place of its first part, which is empty where it is not set.
+/// Returns the path with the variable's value instead of its first part. A variable that is not set
+/// is empty.
 fn expanded(
     alloc: Global,
     path: &str,
@@ -105,7 +106,7 @@ fn add_variable_of(
     Ok(())
 }
 
-/// The message that there is no file.
+/// Returns the message that there is no file.
 fn no_file(alloc: Global, written: &str) -> Result<Text, AllocError>
     ensures { IfOk result (λ message. message ≡ codes "no file " ++ written.now) }
 {
@@ -113,7 +114,7 @@ fn no_file(alloc: Global, written: &str) -> Result<Text, AllocError>
     Ok(Text::new(message))
 }
 
-/// Says that there is no file.
+/// Reports that there is no file.
 fn add_no_file(
     alloc: Global,
     effects: &mut Effects,
@@ -126,7 +127,7 @@ fn add_no_file(
     add_diagnostic(effects, Level::Error, message, number)
 }
 
-/// Adds each line of the file, or says that there is none.
+/// Adds each line of the file, or reports that there is none.
 fn add_lines_of(
     alloc: Global,
     effects: &mut Effects,
@@ -160,7 +161,7 @@ fn add_included(
     Ok(())
 }
 
-/// The path of the file that a line includes, or none where it has byte 0.
+/// Returns the path of the file that a line includes, or none if it has byte 0.
 fn path_included(
     alloc: Global,
     folder: &PathText,
@@ -173,7 +174,7 @@ fn path_included(
     path_from(alloc, folder, text.as_str())
 }
 
-/// The path of the file that a line includes, and the file, if there is one.
+/// Returns the path of the file that a line includes, and the file, if there is one.
 fn file_included<V: View>(
     alloc: Global,
     folder: &PathText,
@@ -189,7 +190,7 @@ fn file_included<V: View>(
     with_next(path, found)
 }
 
-/// Does the line `include PATH`.
+/// Carries out the line `include PATH`.
 pub(crate) fn add_include<V: View>(
     alloc: Global,
     effects: &mut Effects,

@@ -1,5 +1,6 @@
-//! The small compiler: a compiler of one file that stands in for a real one in every session and test. It is a
-//! child like any other, so what it answers says that a child can be honest. Its language is our own.
+//! The small compiler: a compiler of one file that replaces a real one in every session and test.
+//! It is a child like any other, so its contract shows that a child can be honest. Its language is
+//! our own.
 #![tactic(auto)]
 
 mod buffer;

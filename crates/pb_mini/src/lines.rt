@@ -1,4 +1,4 @@
-//! The lines of a text, and the words in front of a line.
+//! The lines of a text, and the words at the front of a line.
 
 ghost use Rattle.std.specs.Prelude.{◌≡◌, ◌≢◌, ◌==◌, ℕ, List, [], ◌∷◌, ◌++◌, map, IfOk, OnOk, MatchOption};
 ghost use Rattle.std.specs.List.{slice_split};
@@ -7,8 +7,8 @@ ghost use Rattle.pb_mini.specs.Lines.{lines_of, word_in, rest_of, name_in, value
 use crate::buffer::Buffer;
 use std::alloc::{AllocError, Global};
 
-/// A line's first word and what follows it: the word ends at the first space. Where there is none, the line is the
-/// word, and nothing follows.
+/// Returns a line's first word and the rest. The word ends at the first space. If there is none,
+/// the whole line is the word, and the rest is empty.
 pub(crate) fn word_and_rest(line: &str) -> (&str, &str)
     ensures word { result.0.now ≡ word_in line.now }
     ensures rest { result.1.now ≡ rest_of line.now }
@@ -19,7 +19,8 @@ pub(crate) fn word_and_rest(line: &str) -> (&str, &str)
     }
 }
 
-/// What stands before and after the first `=`. Where there is none, the text is the name, and the value is empty.
+/// Returns the texts before and after the first `=`. If there is none, the whole text is the name,
+/// and the value is empty.
 pub(crate) fn name_and_value(text: &str) -> (&str, &str)
     ensures name { result.0.now ≡ name_in text.now }
     ensures value { result.1.now ≡ value_in text.now }
@@ -30,14 +31,14 @@ pub(crate) fn name_and_value(text: &str) -> (&str, &str)
     }
 }
 
-/// The parts of bytes between their line feeds.
+/// Returns the parts between the line feeds of some bytes.
 fn byte_parts(alloc: Global, bytes: &[u8]) -> Result<Vec<&[u8]>, AllocError>
     ensures { IfOk result (λ parts. map (λ part. part.now) parts.items ≡ slice_split (λ b. b == 10) bytes.now) }
 {
     bytes.split(|byte| *byte == b'\n').collect(alloc)
 }
 
-/// Bytes without the line feed at their end, where there is one.
+/// Returns bytes without the line feed at their end, if there is one.
 fn without_feed(bytes: &[u8]) -> &[u8]
     ensures { result.now ≡ without_feed bytes.now }
 {
@@ -47,7 +48,7 @@ fn without_feed(bytes: &[u8]) -> &[u8]
     }
 }
 
-/// The lines of bytes.
+/// Returns the lines of bytes.
 pub(crate) fn byte_lines(alloc: Global, bytes: &[u8]) -> Result<Vec<&[u8]>, AllocError>
     ensures { IfOk result (λ lines. map (λ line. line.now) lines.items ≡ lines_of bytes.now) }
 {
@@ -57,21 +58,21 @@ pub(crate) fn byte_lines(alloc: Global, bytes: &[u8]) -> Result<Vec<&[u8]>, Allo
     byte_parts(alloc, without_feed(bytes))
 }
 
-/// The parts of a text between its line feeds.
+/// Returns the parts between the line feeds of a text.
 fn text_parts(alloc: Global, text: &str) -> Result<Vec<&str>, AllocError>
     ensures { IfOk result (λ parts. map (λ part. part.now) parts.items ≡ slice_split (λ b. b == 10) text.now) }
 {
     text.split('\n').collect(alloc)
 }
 
-/// A text without the line feed at its end, where there is one.
+/// Returns a text without the line feed at its end, if there is one.
 fn before_line_feed(text: &str) -> Option<&str>
     ensures { MatchOption result ((front : List ℕ) → text.now ≢ front ++ 10 ∷ []) (λ front. text.now ≡ front.now ++ 10 ∷ []) }
 {
     text.strip_suffix('\n')
 }
 
-/// The lines of a text.
+/// Returns the lines of a text.
 pub(crate) fn text_lines(alloc: Global, text: &str) -> Result<Vec<&str>, AllocError>
     ensures { IfOk result (λ lines. map (λ line. line.now) lines.items ≡ lines_of text.now) }
 {

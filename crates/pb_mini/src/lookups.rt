@@ -1,4 +1,5 @@
-//! What a command line and a source ask of the world: files by their paths, and the values of variables.
+//! What a command line and a source look up in the world: files by their paths, and the values of
+//! variables.
 
 ghost use Rattle.std.specs.Prelude.{◌≡◌, IfOk, OnOk, IfErr, IsTrue, ℕ, List};
 ghost use Rattle.pb_data.specs.Table.{with_entry, with_entries, table_of};
@@ -9,7 +10,7 @@ use pb_data::{Bytes, Table, Text, TryCopy};
 use pb_place::{PathFault, PathText, View, ViewFault};
 use std::alloc::{AllocError, Global};
 
-/// The path that a text is, or none where it is no absolute path.
+/// Returns the path of a text, or none if it is no absolute path.
 pub(crate) fn path_of(alloc: Global, text: &str) -> Result<Option<PathText>, AllocError>
     ensures { IfOk result (λ path. path ≡ path_of text.now) }
 {
@@ -20,7 +21,7 @@ pub(crate) fn path_of(alloc: Global, text: &str) -> Result<Option<PathText>, All
     }
 }
 
-/// The path that a text is from a folder, or none where it has byte 0.
+/// Returns the path of a text relative to a folder, or none if it contains byte 0.
 pub(crate) fn path_from(
     alloc: Global,
     folder: &PathText,
@@ -35,7 +36,7 @@ pub(crate) fn path_from(
     }
 }
 
-/// The bytes of the file at a path, or none where there is no path or no file.
+/// Returns the bytes of the file at a path, or none if there is no path or no file.
 pub(crate) fn file_at<V: View>(
     alloc: Global,
     view: &V,
@@ -50,7 +51,8 @@ pub(crate) fn file_at<V: View>(
     }
 }
 
-/// The value of a variable: that of the pairs, else the inherited one, or none where it is not set.
+/// Returns the value of a variable: the one in the pairs, else the inherited one, or none if it is
+/// not set.
 pub(crate) fn value_of<V: View>(
     alloc: Global,
     pairs: &Table<Text>,
@@ -77,7 +79,7 @@ fn put_pair(alloc: Global, table: &mut Table<Text>, pair: &(Text, Text)) -> Resu
     table.insert(pair.0.copy(alloc)?, pair.1.copy(alloc)?)
 }
 
-/// Pairs as a table, in which of several with one name the last counts.
+/// Returns pairs as a table, in which the last of several with the same name counts.
 pub(crate) fn table_of(alloc: Global, pairs: &[(Text, Text)]) -> Result<Table<Text>, AllocError>
     ensures { IfOk result (λ table. table ≡ table_of pairs.now) }
 {

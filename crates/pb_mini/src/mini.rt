@@ -1,4 +1,4 @@
-//! The small compiler's answer to any words.
+//! The small compiler's reply to any arguments.
 
 ghost use Rattle.std.specs.Prelude.{◌≡◌, [], IfOk, IfErr, IsTrue};
 ghost use Rattle.pb_mini.specs.Answer.{version, bad_command_line, replied_to, answered};
@@ -12,7 +12,7 @@ use pb_data::{Bytes, Items, Table, Text};
 use pb_place::{Child, Command, Reply, View, ViewFault};
 use std::alloc::{AllocError, Global};
 
-/// A reply without files.
+/// Returns a reply without files.
 fn said(alloc: Global, status: i32, stdout: &[u8], stderr: &[u8]) -> Result<Reply, AllocError>
     ensures { IfOk result (λ reply. reply ≡ record { status = status; stdout = stdout.now; stderr = stderr.now; files = [] }) }
 {
@@ -24,7 +24,7 @@ fn said(alloc: Global, status: i32, stdout: &[u8], stderr: &[u8]) -> Result<Repl
     })
 }
 
-/// The reply to `-vV`.
+/// Returns the reply to `-vV`.
 fn version(alloc: Global) -> Result<Reply, ViewFault>
     ensures reply { IfOk result (λ reply. reply ≡ version) }
     ensures err { IfErr result (λ e. e ≡ ViewFault.OutOfMemory) }
@@ -33,7 +33,7 @@ fn version(alloc: Global) -> Result<Reply, ViewFault>
     Ok(reply)
 }
 
-/// The reply to words that say nothing that the small compiler does.
+/// Returns the reply to arguments that the small compiler does not know.
 fn bad_command_line(alloc: Global) -> Result<Reply, ViewFault>
     ensures reply { IfOk result (λ reply. reply ≡ bad_command_line) }
     ensures err { IfErr result (λ e. e ≡ ViewFault.OutOfMemory) }
@@ -42,7 +42,7 @@ fn bad_command_line(alloc: Global) -> Result<Reply, ViewFault>
     Ok(reply)
 }
 
-/// The reply to what words ask for.
+/// Returns the reply to a request.
 fn reply_to<V: View>(
     alloc: Global,
     request: &Request,
@@ -59,43 +59,60 @@ fn reply_to<V: View>(
     }
 }
 
-/// What the small compiler answers to the words of a command line.
+/// Returns the reply of the small compiler to the arguments of a command line.
 ///
-/// `-vV` alone gives its version: status 0, and on standard output a line with its name and number and a line
-/// `host:` with the platform. `--run PATH` runs an image. Else the words say a compile: `--crate-name NAME` and
-/// `--out-dir FOLDER` once each, `--crate-type TYPE` at least once, of which the first counts, one source, and any of
-/// `-C`, `--cfg`, `--check-cfg`, `--extern`, `-L` and `-l` with a word after it, and of the words that begin with
-/// `--edition=`, `--error-format=` or `--emit=`. Anything else is answered with status 2 and `mini: bad command line`
-/// on standard error.
+/// - `-vV` alone prints the version: the status is 0, and standard output has a line with name and
+///   number and a line `host:` with the platform.
+/// - `--run PATH` runs an image.
+/// - Other arguments are a compile: `--crate-name NAME` and `--out-dir FOLDER` once each,
+///   `--crate-type TYPE` at least once, of which the first counts, and one source. There may be any
+///   number of `-C`, `--cfg`, `--check-cfg`, `--extern`, `-L` and `-l`, each with an argument after
+///   it, and of arguments that begin with `--edition=`, `--error-format=` or `--emit=`.
+/// - Anything else has status 2, and `mini: bad command line` on standard error.
 ///
-/// **A compile** with an error has status 1 and no image, else status 0 and the image; it has dep-info, `NAME.d`, in
-/// both cases, and its diagnostics are lines of JSON on standard error. A line of the source that is empty or begins
-/// with `#` does nothing. `use NAME` puts the line in the image, and after it each line of the library's file with
-/// `> ` in front; the library is the first `--extern NAME=PATH`, and the error is `no library NAME`. `include PATH`
-/// puts in each line of the file with `| ` in front; a relative path begins at the source's folder, `$VAR` as its first
-/// part is the variable's value, and the error is `no file PATH`. `env NAME` puts in `env NAME=VALUE`, or `env NAME`
-/// where the variable is not set. `when COND LINE` is LINE where `--cfg COND` was given, and nothing else.
-/// `warn TEXT` and `fail TEXT` are diagnostics; a line whose verb is `print`, `show`, `read`, `put` or `exit` stands
-/// in the image; any other is the error `unknown line`. A source that is missing or not UTF-8 is the error `no source`
-/// of line 0. Included files and variables that are read are named in the dep-info, each once, also those that are not
-/// there.
+/// **A compile** with an error has status 1 and no image, else status 0 and the image. In both
+/// cases it has dep-info, `NAME.d`, and its diagnostics are lines of JSON on standard error. A
+/// source that is missing or not UTF-8 is the error `no source` at line 0. The lines of the source:
 ///
-/// **A run** goes through the lines of the image. `print TEXT` writes the text; `show NAME` declares a variable and
-/// sets `SHOW_NAME` to its value; `read PATH` declares a file and sets `READ` to its first line; `put NAME TEXT` leaves
-/// a file; `exit N` ends with a status from 0 to 255, and with 2 for anything else. Other lines are passed over. A name
-/// of a file that is empty, `.` or `..`, or has a slash or byte 0, ends the run with status 2. Where there is no image
-/// the status is 2, with `mini: no image` on standard error.
+/// - A line that is empty or begins with `#` does nothing.
+/// - `use NAME` adds the line to the image, and after it each line of the library's file with `> `
+///   in front. The library is the first `--extern NAME=PATH`; without one, the error is `no library
+///   NAME`.
+/// - `include PATH` adds each line of the file with `| ` in front. A relative path begins at the
+///   source's folder, and `$VAR` as its first part is the variable's value. The error is `no file
+///   PATH`.
+/// - `env NAME` adds `env NAME=VALUE`, or `env NAME` if the variable is not set.
+/// - `when COND LINE` is LINE if `--cfg COND` was given, and else does nothing.
+/// - `warn TEXT` and `fail TEXT` are diagnostics.
+/// - A line whose verb is `print`, `show`, `read`, `put` or `exit` is added to the image.
+/// - Any other line is the error `unknown line`.
 ///
-/// Our own choices: a source that is no absolute path is the error `no source`, too; an out folder that is none, or a
-/// crate name that names no file inside it, is a bad command line; a library whose path is not absolute has no file; a
-/// line of an image that is not UTF-8 is passed over.
+/// The dep-info names all included files and all variables that are read, without repeats, even
+/// those that do not exist.
 ///
-/// `pairs` are names and values that go over the variables of the view; of several with one name the last counts.
+/// **A run** carries out the lines of the image and ignores those that it does not know:
 ///
-/// OutOfMemory where memory is refused, and Failed where the view fails: a failure is only passed on. Over a view
-/// that does not tell what it shows, as one of real files, nothing is said of the reply.
+/// - `print TEXT` writes the text.
+/// - `show NAME` declares a variable, and sets `SHOW_NAME` to its value.
+/// - `read PATH` declares a file, and sets `READ` to its first line.
+/// - `put NAME TEXT` leaves a file. If NAME is empty, `.` or `..`, or contains a slash or byte 0,
+///   the run ends with status 2.
+/// - `exit N` ends with a status from 0 to 255, or with 2 for any other text.
 ///
-/// The words are those that Cargo passes to a compiler; the language of the source is our own choice.
+/// If there is no image, the status is 2, with `mini: no image` on standard error.
+///
+/// Our own choices: a source that is no absolute path is also the error `no source`. An output
+/// folder that is no absolute path, or a crate name that is no file name, is a bad command line. A
+/// library whose path is not absolute has no file. A line of an image that is not UTF-8 is ignored.
+///
+/// `pairs` are names and values that override the variables of the view; the last of several with
+/// the same name counts.
+///
+/// Errors: `Failed`, only if the view fails; `OutOfMemory`. About a view that does not report what
+/// it shows, such as one of real files, no clause promises what the reply is.
+///
+/// The arguments are those that Cargo passes to a compiler; the language of the source is our own
+/// choice.
 pub fn answer<V: View>(
     alloc: Global,
     words: &[Text],
@@ -123,7 +140,8 @@ pub fn answer<V: View>(
     }
 }
 
-/// The small compiler as a child. Only the words, the pairs and what the view shows count.
+/// The small compiler as a child. Its reply depends only on the arguments, the pairs and what the
+/// view shows.
 #[derive(Clone, Copy, Debug)]
 pub struct Mini;
 

@@ -13,12 +13,13 @@ use std::alloc::Global;
 pub struct Output {
     /// All that it wrote to standard output.
     pub stdout: Buffer,
-    /// The files that it put in its folder, by their names. Of two with one name the later stands.
+    /// The files that it put in its folder, by their names. If two have the same name, the later
+    /// one counts.
     pub files: Items<(RelativePath, Bytes)>,
 }
 
 impl Output {
-    /// Nothing, which takes no memory.
+    /// Returns no output. It takes no memory.
     pub(crate) fn new(alloc: Global) -> Output
         ensures { result ≡ no_output }
     {
@@ -28,7 +29,7 @@ impl Output {
         }
     }
 
-    /// The reply of a script that ends so with a status.
+    /// Returns the reply of a script that ends with this output and a status.
     pub(crate) fn into_reply(self, alloc: Global, status: u8) -> Reply
         ensures { result ≡ before self (ending status) }
     {

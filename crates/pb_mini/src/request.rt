@@ -1,4 +1,4 @@
-//! What words ask for.
+//! The requests of arguments.
 
 ghost use Rattle.std.specs.Prelude.{◌≡◌};
 ghost use Rattle.pb_data.specs.Gives.{Gives};
@@ -9,7 +9,7 @@ use crate::command_line::{CommandLine, CommandLineFault, command_line_of};
 use pb_data::{Text, TryCopy};
 use std::alloc::Global;
 
-/// What words ask for.
+/// What some arguments request.
 #[derive(Drop)]
 pub enum Request {
     /// The version of the compiler.
@@ -20,7 +20,7 @@ pub enum Request {
     Compile(CommandLine),
 }
 
-/// The compile that words ask for.
+/// Returns the compile that some arguments request.
 fn compile_in(alloc: Global, words: &[Text]) -> Result<Request, CommandLineFault>
     ensures { Gives fault.OutOfMemory (λ request. request) result (compile_in words.now) }
 {
@@ -28,8 +28,10 @@ fn compile_in(alloc: Global, words: &[Text]) -> Result<Request, CommandLineFault
     Ok(Request::Compile(line))
 }
 
-/// What words ask for: `-vV` alone the version, `--run` and one word more the run of an image, and others a compile.
-/// Bad where they say none.
+/// Returns the request of some arguments: `-vV` alone is for the version, `--run` and one more
+/// argument for the run of an image, and others for a compile.
+///
+/// Errors: `Bad`, if they are no request; `OutOfMemory`.
 pub(crate) fn request_of(alloc: Global, words: &[Text]) -> Result<Request, CommandLineFault>
     ensures { Gives fault.OutOfMemory (λ request. request) result (request_of words.now) }
 {

@@ -1,4 +1,4 @@
-//! What the lines of a source may name.
+//! What the lines of a source can name.
 
 ghost use Rattle.std.specs.Prelude.{◌≡◌, IfOk, OnOk, map};
 ghost use Rattle.pb_data.specs.Mentions.{mentioned_all, once};
@@ -11,20 +11,21 @@ use pb_data::{Mentions, Table, Text, TryCopy, with_next};
 use pb_place::PathText;
 use std::alloc::{AllocError, Global};
 
-/// What the lines of a source may name: libraries, conditions and variables, and the folder at which paths begin.
+/// What the lines of a source can name: libraries, conditions and variables, and the folder at
+/// which paths begin.
 #[derive(Drop)]
 pub struct Scope {
     /// The folder of the source.
     pub folder: PathText,
-    /// The file of each library by its name, as the words say it.
+    /// The file of each library by its name, from the arguments.
     pub libraries: Table<Text>,
     /// The conditions that are given.
     pub conditions: Mentions,
-    /// The values that go over those of the inherited variables.
+    /// The values that override those of the inherited variables.
     pub pairs: Table<Text>,
 }
 
-/// Adds a library with its file, unless there is one of this name.
+/// Adds a library with its file, unless there is one with this name.
 fn add_library(alloc: Global, libraries: &mut Table<Text>, written: &str) -> Result<(), AllocError>
     ensures { OnOk result (libraries.new ≡ with_first libraries.old (library_of written.now)) }
 {
@@ -37,7 +38,7 @@ fn add_library(alloc: Global, libraries: &mut Table<Text>, written: &str) -> Res
     Ok(())
 }
 
-/// The libraries with their files, of which of several with one name the first counts.
+/// Returns the libraries with their files; the first counts if several have the same name.
 fn libraries_of(alloc: Global, externs: &[Text]) -> Result<Table<Text>, AllocError>
     ensures { IfOk result (λ libraries. libraries ≡ libraries_of externs.now) }
 {
@@ -48,7 +49,7 @@ fn libraries_of(alloc: Global, externs: &[Text]) -> Result<Table<Text>, AllocErr
     Ok(libraries)
 }
 
-/// Conditions, each once.
+/// Returns the conditions, without repeats.
 #[tactic(auto, using(crate::proofs::MentionLemmas::mention_laws))]
 fn conditions_of(alloc: Global, given: &[Text]) -> Result<Mentions, AllocError>
     ensures { IfOk result (λ conditions. conditions ≡ once given.now) }
@@ -60,7 +61,7 @@ fn conditions_of(alloc: Global, given: &[Text]) -> Result<Mentions, AllocError>
     Ok(conditions)
 }
 
-/// The folder of a source, and the libraries and conditions that its lines may name.
+/// Returns the folder of a source, and the libraries and conditions that its lines can name.
 fn parts_of(
     alloc: Global,
     line: &CommandLine,
@@ -75,7 +76,7 @@ fn parts_of(
 }
 
 impl Scope {
-    /// The scope of a source at this path.
+    /// Returns the scope of a source at this path.
     pub(crate) fn new(
         alloc: Global,
         line: &CommandLine,

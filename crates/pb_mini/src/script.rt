@@ -17,24 +17,24 @@ use pb_data::{Bytes, Items, Table, Text};
 use pb_place::{PathText, RelativePath, Reply, View, ViewFault};
 use std::alloc::{AllocError, Global};
 
-/// What the first word of a line says to do.
+/// What a line does, by its first word.
 #[derive(Clone, Copy)]
 pub enum Deed {
-    /// To print the rest.
+    /// Prints the rest.
     Print,
-    /// To show a variable.
+    /// Shows a variable.
     Show,
-    /// To read a file.
+    /// Reads a file.
     Read,
-    /// To put a file in the output folder.
+    /// Puts a file in the output folder.
     Put,
-    /// To end.
+    /// Ends the script.
     Exit,
     /// Nothing.
     Skip,
 }
 
-/// What a word says to do.
+/// Returns what a line with this first word does.
 fn deed_of(word: &str) -> Deed
     ensures { result ≡ deed_of word.now }
 {
@@ -56,14 +56,14 @@ fn deed_of(word: &str) -> Deed
     Deed::Skip
 }
 
-/// Does `print TEXT`.
+/// Carries out `print TEXT`.
 fn print(output: &mut Output, text: &str) -> Result<(), AllocError>
     ensures { OnOk result (Wrote output.new output.old (printed text.now)) }
 {
     push_line(&mut output.stdout, text.as_bytes())
 }
 
-/// The value, which is empty where there is none.
+/// Returns the value, which is empty if there is none.
 fn or_empty(value: &Option<Text>) -> &str
     ensures { result.now ≡ unwrap_or value.now [] }
 {
@@ -73,7 +73,7 @@ fn or_empty(value: &Option<Text>) -> &str
     }
 }
 
-/// Adds a line that is a key and a text.
+/// Adds a line with a key and a text.
 fn push_keyed(buffer: &mut Buffer, key: &[u8], text: &[u8]) -> Result<(), AllocError>
     ensures { OnOk result (buffer.new ≡ buffer.old ++ ended (key.now ++ text.now)) }
 {
@@ -82,7 +82,7 @@ fn push_keyed(buffer: &mut Buffer, key: &[u8], text: &[u8]) -> Result<(), AllocE
     Ok(())
 }
 
-/// Adds what `show NAME` prints of a variable with this value.
+/// Adds what `show NAME` prints for a variable with this value.
 fn push_shown(buffer: &mut Buffer, name: &str, value: &str) -> Result<(), AllocError>
     ensures { OnOk result (buffer.new ≡ buffer.old ++ shown_text name.now value.now) }
 {
@@ -93,14 +93,14 @@ fn push_shown(buffer: &mut Buffer, name: &str, value: &str) -> Result<(), AllocE
     Ok(())
 }
 
-/// Does `show NAME` of a variable with this value.
+/// Carries out `show NAME` for a variable with this value.
 fn show(output: &mut Output, name: &str, value: &Option<Text>) -> Result<(), AllocError>
     ensures { OnOk result (Wrote output.new output.old (shown name.now value.now)) }
 {
     push_shown(&mut output.stdout, name, or_empty(value))
 }
 
-/// The first line of a text.
+/// Returns the first line of a text.
 fn first_line(text: &str) -> &str
     ensures { result.now ≡ first_line text.now }
 {
@@ -110,7 +110,7 @@ fn first_line(text: &str) -> &str
     }
 }
 
-/// Adds what `read PATH` prints of a file with this text.
+/// Adds what `read PATH` prints for a file with this text.
 fn push_read(buffer: &mut Buffer, path: &str, text: &Option<Text>) -> Result<(), AllocError>
     ensures { OnOk result (buffer.new ≡ buffer.old ++ read_text path.now text.now) }
 {
@@ -125,14 +125,14 @@ fn push_read(buffer: &mut Buffer, path: &str, text: &Option<Text>) -> Result<(),
     }
 }
 
-/// Does `read PATH` of a file with this text.
+/// Carries out `read PATH` for a file with this text.
 fn read(output: &mut Output, path: &str, text: &Option<Text>) -> Result<(), AllocError>
     ensures { OnOk result (Wrote output.new output.old (was_read path.now text.now)) }
 {
     push_read(&mut output.stdout, path, text)
 }
 
-/// Whether a text begins with `/`.
+/// Returns whether a text begins with `/`.
 fn is_absolute(text: &str) -> bool
     ensures { result ≡ is_absolute text.now }
 {
@@ -142,7 +142,7 @@ fn is_absolute(text: &str) -> bool
     }
 }
 
-/// A path below a folder that is a text, which is empty where there is none.
+/// Returns a path below a folder, which is empty if there is none.
 fn below_text(alloc: Global, folder: &Option<Text>, path: &str) -> Result<Text, AllocError>
     ensures { IfOk result (λ text. text ≡ below_text folder.now path.now) }
 {
@@ -151,14 +151,14 @@ fn below_text(alloc: Global, folder: &Option<Text>, path: &str) -> Result<Text, 
     Ok(Text::new(text))
 }
 
-/// The same, of a folder that nothing else needs.
+/// Returns the same for a folder that is not needed afterwards.
 fn below_folder(alloc: Global, folder: Option<Text>, path: &str) -> Result<Text, AllocError>
     ensures { IfOk result (λ text. text ≡ below_text folder path.now) }
 {
     below_text(alloc, &folder, path)
 }
 
-/// The path of a file that is read, as a text: a relative one begins at `CARGO_MANIFEST_DIR`.
+/// Returns the path of a file to read, as a text: a relative one begins at `CARGO_MANIFEST_DIR`.
 fn full_path<V: View>(
     alloc: Global,
     pairs: &Table<Text>,
@@ -177,14 +177,14 @@ fn full_path<V: View>(
     Ok(text)
 }
 
-/// The path that a text is, or none where it is no absolute path.
+/// Returns a text as a path, or none if it is no absolute path.
 fn path_in(alloc: Global, text: Text) -> Result<Option<PathText>, AllocError>
     ensures { IfOk result (λ path. path ≡ path_of text) }
 {
     path_of(alloc, text.as_str())
 }
 
-/// The text of a file that is read.
+/// Returns the text of a file to read.
 fn text_read<V: View>(
     alloc: Global,
     pairs: &Table<Text>,
@@ -199,14 +199,14 @@ fn text_read<V: View>(
     text_at(alloc, view, &path)
 }
 
-/// Whether a text has a slash.
+/// Returns whether a text contains a slash.
 fn has_slash(text: &str) -> bool
     ensures { result ≡ list_any (λ b. b == 47) text.now }
 {
     text.as_bytes().iter().any(|byte| *byte == b'/')
 }
 
-/// The path of a file with this name in the output folder, or none where it is no name of a file.
+/// Returns the path of a file with this name in the output folder, or none if it is no file name.
 fn file_named(alloc: Global, name: &str) -> Result<Option<RelativePath>, AllocError>
     ensures { IfOk result (λ path. path ≡ (if is_file_name name.now then Some name.now else None)) }
 {
@@ -217,7 +217,8 @@ fn file_named(alloc: Global, name: &str) -> Result<Option<RelativePath>, AllocEr
     Ok(RelativePath::of(name))
 }
 
-/// Does `put NAME TEXT`. Where that is no name of a file, the status with which the script ends.
+/// Carries out `put NAME TEXT`. If that is no file name, returns the status with which the script
+/// ends.
 fn put(alloc: Global, output: &mut Output, name: &str, text: &str) -> Result<Option<u8>, AllocError>
     ensures { IfOk result (λ ends. Goes ends output.new output.old (was_put name.now text.now)) }
 {
@@ -242,7 +243,8 @@ fn is_leading(byte: u8) -> bool
     is_digit(byte) && byte != 48
 }
 
-/// The status that a text says: a number from 0 to 255, in decimal and without zeros in front; 2 for anything else.
+/// Returns the status in a text: a decimal number from 0 to 255 without leading zeros; 2 for any
+/// other text.
 fn status_in(text: &str) -> u8
     ensures { result ≡ status_in text.now }
 {
@@ -264,7 +266,7 @@ fn status_in(text: &str) -> u8
     }
 }
 
-/// The status of three digits.
+/// Returns the status of three digits.
 fn three_digits(a: u8, b: u8, c: u8) -> u8
     ensures { result ≡ three_digits a b c }
 {
@@ -275,7 +277,7 @@ fn three_digits(a: u8, b: u8, c: u8) -> u8
     if number < 256 { number as u8 } else { 2 }
 }
 
-/// Does a line by its first word. Where the script ends there, the status with which it ends.
+/// Carries out a line by its first word. If the script ends there, returns its status.
 fn do_by<V: View>(
     alloc: Global,
     output: &mut Output,
@@ -308,7 +310,7 @@ fn do_by<V: View>(
     Ok(None)
 }
 
-/// Does a line; one that is no text is passed over.
+/// Carries out a line; a line that is no text does nothing.
 fn do_line<V: View>(
     alloc: Global,
     output: &mut Output,
@@ -326,7 +328,7 @@ fn do_line<V: View>(
     do_by(alloc, output, pairs, view, deed_of(word), rest)
 }
 
-/// Does lines in turn, until one of them ends the script.
+/// Carries out lines in turn, until one of them ends the script.
 fn run_lines<V: View>(
     alloc: Global,
     pairs: &Table<Text>,
@@ -345,7 +347,7 @@ fn run_lines<V: View>(
     Ok(output.into_reply(alloc, 0))
 }
 
-/// The reply where there is no image.
+/// Returns the reply if there is no image.
 fn no_image(alloc: Global) -> Result<Reply, AllocError>
     ensures { IfOk result (λ reply. reply ≡ no_image) }
 {
@@ -357,7 +359,7 @@ fn no_image(alloc: Global) -> Result<Reply, AllocError>
     })
 }
 
-/// The image at a path, if there is one.
+/// Returns the image at a path, if there is one.
 fn image_at<V: View>(alloc: Global, path: &str, view: &V) -> Result<Option<Bytes>, ViewFault>
     ensures image { IsTrue V.tells → IfOk result (λ image. image ≡ file_at (V.shown view.now) (path_of path.now)) }
     ensures failed { IfErr result (λ e. e ≡ ViewFault.Failed → V.fails view.now) }
@@ -380,8 +382,8 @@ fn run_image<V: View>(
     run_lines(alloc, pairs, view, lines.as_slice())
 }
 
-/// Runs the image at a path, line by line, as a build script; status 2 and `mini: no image` on standard error where
-/// there is no image.
+/// Runs the image at a path, line by line, as a build script. If there is no image, the status is
+/// 2, with `mini: no image` on standard error.
 pub(crate) fn run<V: View>(
     alloc: Global,
     path: &str,

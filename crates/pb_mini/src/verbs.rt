@@ -1,4 +1,4 @@
-//! What each line of a source does.
+//! The effect of each line of a source.
 
 ghost use Rattle.std.specs.Prelude.{◌≡◌, ◌<◌, ◌++◌, codes, map, IfOk, OnOk, IfErr, IfSome, IsTrue, length, ℕ, List};
 ghost use Rattle.std.specs.Option.{option_map};
@@ -20,23 +20,23 @@ use std::alloc::{AllocError, Global};
 /// The first word of a line.
 #[derive(Clone, Copy)]
 pub enum Verb {
-    /// The lines of a library go into the image.
+    /// The lines of a library are added to the image.
     Use,
-    /// The lines of a file go into the image.
+    /// The lines of a file are added to the image.
     Include,
-    /// The value of a variable goes into the image.
+    /// The value of a variable is added to the image.
     Env,
     /// A warning with the rest as its message.
     Warn,
     /// An error with the rest as its message.
     Fail,
-    /// The line goes into the image as it is, for a script that runs it.
+    /// The line is added to the image as it is, for the script that runs it.
     Copied,
     /// No verb of the language.
     Unknown,
 }
 
-/// The verb that a word is.
+/// Returns the verb of a word.
 fn verb_of(word: &str) -> Verb
     ensures { result ≡ verb_of word.now }
 {
@@ -61,7 +61,7 @@ fn verb_of(word: &str) -> Verb
     Verb::Unknown
 }
 
-/// Whether a line is empty or a comment.
+/// Returns whether a line is empty or a comment.
 fn is_passed_over(line: &str) -> bool
     ensures { result ≡ is_passed_over line.now }
 {
@@ -71,7 +71,7 @@ fn is_passed_over(line: &str) -> bool
     }
 }
 
-/// Whether a condition is given.
+/// Returns whether a condition is given.
 fn is_given(alloc: Global, given: &Mentions, condition: &str) -> Result<bool, AllocError>
     ensures { IfOk result (λ is. is ≡ is_mentioned given.now condition.now) }
 {
@@ -79,7 +79,7 @@ fn is_given(alloc: Global, given: &Mentions, condition: &str) -> Result<bool, Al
     Ok(given.contains(&condition))
 }
 
-/// The condition of a line `when COND LINE` and its line; none for any other line.
+/// Returns the condition and the line of a line `when COND LINE`, or none for any other line.
 
 fn condition_of(line: &str) -> Option<(&str, &str)>
     ensures line { (given : List (List ℕ)) → line_meant given line.now ≡ meant_at given line.now (option_map (λ p. (p.0.now, p.1.now)) result) }
@@ -92,8 +92,8 @@ fn condition_of(line: &str) -> Option<(&str, &str)>
     Some(word_and_rest(rest))
 }
 
-/// The line that a line stands for where these conditions are given: each `when COND` in front is taken away. It is
-/// empty where one is not given.
+/// Returns the line that remains of a line under these conditions: each leading `when COND` is
+/// removed. It is empty if one of the conditions is not given.
 fn line_meant<'a>(alloc: Global, given: &Mentions, line: &'a str) -> Result<&'a str, AllocError>
     ensures { IfOk result (λ meant. meant.now ≡ line_meant given.now line.now) }
 {
@@ -107,7 +107,7 @@ fn line_meant<'a>(alloc: Global, given: &Mentions, line: &'a str) -> Result<&'a 
     Ok(left)
 }
 
-/// The path of a library's file, as the command line says it.
+/// Returns the path of a library's file, from the command line.
 fn library_path(alloc: Global, scope: &Scope, name: &str) -> Result<Option<PathText>, AllocError>
     ensures { IfOk result (λ path. path ≡ library_path scope.now name.now) }
 {
@@ -118,7 +118,7 @@ fn library_path(alloc: Global, scope: &Scope, name: &str) -> Result<Option<PathT
     }
 }
 
-/// The message that there is no library.
+/// Returns the message that there is no library.
 fn no_library(alloc: Global, name: &str) -> Result<Text, AllocError>
     ensures { IfOk result (λ message. message ≡ codes "no library " ++ name.now) }
 {
@@ -126,7 +126,7 @@ fn no_library(alloc: Global, name: &str) -> Result<Text, AllocError>
     Ok(Text::new(message))
 }
 
-/// Says that there is no library.
+/// Reports that there is no library.
 fn add_no_library(
     alloc: Global,
     effects: &mut Effects,
@@ -153,7 +153,7 @@ fn add_library(
     Ok(())
 }
 
-/// Adds the line and each line of the library's file, or says that there is no library.
+/// Adds the line and each line of the library's file, or reports that there is no library.
 
 fn add_used(
     alloc: Global,
@@ -171,7 +171,7 @@ fn add_used(
     }
 }
 
-/// Does the line `use NAME`.
+/// Carries out the line `use NAME`.
 fn add_use<V: View>(
     alloc: Global,
     effects: &mut Effects,
@@ -190,7 +190,7 @@ fn add_use<V: View>(
     Ok(())
 }
 
-/// The line `env NAME=VALUE`, or `env NAME` where the variable is not set.
+/// Returns the line `env NAME=VALUE`, or `env NAME` if the variable is not set.
 fn env_line(alloc: Global, name: &str, value: &Option<Text>) -> Result<Text, AllocError>
     ensures { IfOk result (λ line. line ≡ env_line name.now value.now) }
 {
@@ -220,7 +220,7 @@ fn add_told(
     Ok(())
 }
 
-/// Does the line `env NAME`.
+/// Carries out the line `env NAME`.
 fn add_env<V: View>(
     alloc: Global,
     effects: &mut Effects,
@@ -236,7 +236,7 @@ fn add_env<V: View>(
     Ok(())
 }
 
-/// Does a line by its verb and the rest of it.
+/// Carries out a line by its verb and its rest.
 fn add_by<V: View>(
     alloc: Global,
     effects: &mut Effects,
@@ -262,7 +262,7 @@ fn add_by<V: View>(
     Ok(())
 }
 
-/// Does one line, of this number from 1.
+/// Carries out one line with this number, counted from 1.
 fn add_line<V: View>(
     alloc: Global,
     effects: &mut Effects,
@@ -284,7 +284,7 @@ fn add_line<V: View>(
     Ok(())
 }
 
-/// Does lines in turn, of which the first has the number 1.
+/// Carries out lines in turn, of which the first has the number 1.
 #[tactic(auto, using(crate::proofs::DoingLemmas::followed_nothing))]
 pub(crate) fn add_lines<V: View>(
     alloc: Global,

@@ -1,4 +1,4 @@
--- What the faults of the outside world are to the program.
+-- How faults of the outside world become faults of the program.
 use Rattle.pb_place.specs.declared.child.ViewFault.{ViewFault}
 use Rattle.pb_place.specs.declared.child.ViewFault.TheVariants as view
 use Rattle.pb_place.specs.declared.place.PlaceFault.{PlaceFault}

@@ -1,4 +1,5 @@
--- What the program writes of a reply, and at what it stops: first the files, then the output, then standard error. Nothing is written behind a write that failed.
+-- What the program writes of a reply, in order: the files, the output, standard error.
+-- Nothing is written after a failed write.
 use Rattle.std.specs.Prelude.{◌≡◌, ◌⊎◌, ℕ, Bool, List, [], ◌∷◌, ◌++◌, Option, Some, None, IsTrue}
 use Rattle.std.specs.Io.KnownBytes.{Appends}
 use Rattle.pb_place.specs.At.{At}
@@ -14,11 +15,11 @@ use Rattle.pb_place.specs.declared.place.PlaceFault.TheVariants as place
 use Rattle.pb_mini.specs.Answer.{answered}
 use Rattle.pb_mini_program.specs.OutFolder.{out_folder}
 
--- all of some bytes were written
+-- all of these bytes were written
 abbrev pub Writes : List ℕ → Heard → Heard → Type 0
 Writes bytes old new = Appends old.taken new.taken bytes × (new.faults ≡ old.faults)
 
--- the sink failed at some bytes, of which it took the first, and not all
+-- the sink failed at these bytes, of which it took the first n but not all
 abbrev pub FailsAt : List ℕ → Heard → Heard → Type 0
 FailsAt bytes old new = TakesPart bytes old.taken new.taken × (new.faults ≡ up old.faults)
 
@@ -30,51 +31,53 @@ pub record Kept : Type 0 where
 abbrev pub kept : At → Kept
 kept at = record { world = at.world; counts = at.counts }
 
--- each of some files is written in a folder, in turn
+-- the calls that write these files in a folder, in turn
 abbrev pub writes_in : List ℕ → List (List ℕ × List ℕ) → List Call
 writes_in folder [] = []
 writes_in folder (file ∷ files) = call.Write (below folder file.0) ∷ writes_in folder files
 
--- after files were put in a folder: one call for each, in turn, and none where there is no folder
+-- the counters after files were put in a folder, by one call for each; without a folder there is no call
 abbrev pub past_puts : Option (List ℕ) → List (List ℕ × List ℕ) → Counts → Counts
 past_puts None files c = c
 past_puts (Some folder) files c = past_calls (writes_in folder files) c
 
--- files were put in a folder, by one call for each, in turn, and none failed; where there is no folder, no call was made
+-- the files were put in the folder by one call for each, in turn, and none failed; without a folder no call was made
 abbrev pub PutsIn : Bool → Option (List ℕ) → List (List ℕ × List ℕ) → Kept → Kept → Type 0
 PutsIn tells folder files old new = (new.counts ≡ past_puts folder files old.counts) × (IsTrue tells → new.world ≡ put_reply folder files old.world)
 
--- files were put in a folder in turn, up to this one, which stands in part or as it did
+-- the files were put in the folder up to this one, which has a first part of its bytes or is as it was
 abbrev pub PutsUpTo : List ℕ → List (List ℕ × List ℕ) → List ℕ × List ℕ → World → World → Type 0
 PutsUpTo folder done file old new = Torn (below folder file.0) file.1 (put_reply (Some folder) done old) new
 
--- at one of some files the write failed: the calls before it were those for the files before it, which were put in the folder, and no call came after it
+-- the write of one of the files failed: the files before it were put in the folder, and no call came after it
 abbrev pub FailsToPut : Bool → List ℕ → List (List ℕ × List ℕ) → Kept → Kept → Type 0
 FailsToPut tells folder files old new =
     (done : List (List ℕ × List ℕ)) × (file : List ℕ × List ℕ) × (left : List (List ℕ × List ℕ)) × (files ≡ done ++ file ∷ left)
     × (new.counts ≡ past_place_fault (call.Write (below folder file.0)) place.Write (past_calls (writes_in folder done) old.counts)) × (IsTrue tells → PutsUpTo folder done file old.world new.world)
 
--- memory was refused at one of some files, before its write or in it, which is a call that did not fail; those before it were put in the folder
+-- memory ran out at one of the files, before its write or in it, and no call failed;
+-- the files before it were put in the folder
 abbrev pub StopsPutting : Bool → List ℕ → List (List ℕ × List ℕ) → Kept → Kept → Type 0
 StopsPutting tells folder files old new =
     (done : List (List ℕ × List ℕ)) × (file : List ℕ × List ℕ) × (left : List (List ℕ × List ℕ)) × (files ≡ done ++ file ∷ left)
     × (PutsIn tells (Some folder) done old new
     ⊎ ((new.counts ≡ past_calls (writes_in folder (done ++ file ∷ [])) old.counts) × (IsTrue tells → PutsUpTo folder done file old.world new.world)))
 
--- What is told of a reply, over a view: where the view tells what it shows, it is the small compiler's to these words.
+-- What is reported of a reply over a view:
+-- if the view reports what it shows, the reply is the small compiler's to these arguments.
 
 abbrev pub IsReply : Bool → List (List ℕ) → World → Reply → Type 0
 IsReply shows words shown reply = IsTrue shows → reply ≡ answered words [] shown
 
--- its files go into this folder, or nowhere
+-- the reply's files go into this folder, or nowhere
 abbrev pub IsFolder : Bool → List (List ℕ) → World → Option (List ℕ) → Type 0
 IsFolder shows words shown folder = IsTrue shows → out_folder words shown ≡ folder
 
--- the same of some files, if they are those of the reply
+-- the same for some files, if they are those of the reply
 abbrev pub IsFolderOf : Bool → List (List ℕ) → World → List (List ℕ × List ℕ) → Option (List ℕ) → Type 0
 IsFolderOf shows words shown files folder = files ≡ (answered words [] shown).files → IsFolder shows words shown folder
 
--- all its files were put there
+-- all files of the reply were put there
 abbrev pub Puts : Bool → Bool → List (List ℕ) → World → Reply → Kept → Kept → Type 0
 Puts shows tells words shown reply old new = (folder : Option (List ℕ)) × IsFolder shows words shown folder × PutsIn tells folder reply.files old new
 
@@ -87,18 +90,19 @@ pub record Outside : Type 0 where
 abbrev pub outside : At → Heard → Heard → Outside
 outside at out err = record { kept = kept at; out = out; err = err }
 
--- all was written: the files, the output, and standard error
+-- all of the reply was written: the files, the output, and standard error
 abbrev pub WritesAll : Bool → Bool → List (List ℕ) → World → Reply → Outside → Outside → Type 0
 WritesAll shows tells words shown reply old new = Puts shows tells words shown reply old.kept new.kept × Writes reply.stdout old.out new.out × Writes reply.stderr old.err new.err
 
--- a write failed: that of a file; or the output, behind all files; or standard error, behind these and the whole output
+-- a write failed: that of a file; that of the output, after all files;
+-- or that of standard error, after the whole output
 abbrev pub WriteFails : Bool → Bool → List (List ℕ) → World → Reply → Outside → Outside → Type 0
 WriteFails shows tells words shown reply old new =
     ((folder : List ℕ) × IsFolder shows words shown (Some folder) × FailsToPut tells folder reply.files old.kept new.kept × (new.out ≡ old.out) × (new.err ≡ old.err))
     ⊎ ((Puts shows tells words shown reply old.kept new.kept × FailsAt reply.stdout old.out new.out × (new.err ≡ old.err))
     ⊎ (Puts shows tells words shown reply old.kept new.kept × Writes reply.stdout old.out new.out × FailsAt reply.stderr old.err new.err))
 
--- memory was refused before a file was put, or at one of them; no call failed, and nothing was written to a sink
+-- memory ran out before a file was put, or at one of the files; no call failed, and nothing was written to a sink
 abbrev pub MemoryEnds : Bool → Bool → List (List ℕ) → World → Outside → Outside → Type 0
 MemoryEnds shows tells words shown old new =
     (new ≡ old)

@@ -14,10 +14,10 @@ pub enum Fault {
     /// A file or a variable could not be read.
     #[error("a file or a variable could not be read")]
     Read,
-    /// A file could not be written, or a stream.
+    /// A file or a stream could not be written.
     #[error("a file or a stream could not be written")]
     Write,
-    /// Memory was refused.
+    /// Out of memory.
     #[error("out of memory")]
     OutOfMemory,
 }

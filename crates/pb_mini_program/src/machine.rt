@@ -6,7 +6,7 @@ use pb_host::{HostPlace, HostView};
 use pb_place::Over;
 use std::{env, io};
 
-/// The words after the program's own name.
+/// Returns the arguments after the program's own name.
 fn words(rt: &HostRuntime) -> io::Result<Items<Text>> {
     let mut words = Items::new(rt.alloc());
     for word in env::args(rt)?.skip(1) {
@@ -18,8 +18,9 @@ fn words(rt: &HostRuntime) -> io::Result<Items<Text>> {
 /// The status of a program that could not do its work.
 const FAILED: u8 = 2;
 
-/// Does what the words of this process ask for, over its files and variables, and gives the status to end with. 2
-/// where the words cannot be read, where a read or a write fails, and where memory is refused.
+/// Carries out what this process's arguments request, over its files and variables, and returns the
+/// status with which to end. The status is 2 if the arguments cannot be read, if a read or a write
+/// fails, or if memory runs out.
 pub fn compiler(rt: &HostRuntime) -> u8 {
     let Ok(words) = words(rt) else {
         return FAILED;

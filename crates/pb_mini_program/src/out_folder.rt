@@ -1,4 +1,4 @@
-//! The folder into which the files of a reply go.
+//! The folder in which the files of a reply are put.
 
 ghost use Rattle.std.specs.Prelude.{◌≡◌, Ok, Some, IfOk, IfErr, IsTrue, ℕ, List, None, option_map, option_and_then};
 ghost use Rattle.pb_mini.specs.Answer.{request_of};
@@ -15,13 +15,13 @@ use std::alloc::{AllocError, Global};
 /// An option that waits for its value.
 #[derive(Clone, Copy, PartialEq, Eq)]
 pub(crate) enum Waiting {
-    /// The one that says the out folder.
+    /// The option for the output folder.
     Folder,
-    /// Another.
+    /// Another option.
     Other,
 }
 
-/// Whether the next word is the value of this one.
+/// Returns whether the next argument is the value of this one.
 fn takes_value(word: &str) -> bool
     ensures { result ≡ takes_value word.now }
 {
@@ -36,7 +36,7 @@ fn takes_value(word: &str) -> bool
         || word == "-l"
 }
 
-/// The option whose value the next word is.
+/// Returns the option whose value the next argument is.
 fn waiting_after(word: &str) -> Option<Waiting>
     ensures { result ≡ waiting_after word.now }
 {
@@ -49,7 +49,7 @@ fn waiting_after(word: &str) -> Option<Waiting>
     None
 }
 
-/// The first value of `--out-dir`.
+/// Returns the first value of `--out-dir`.
 fn out_dir_in(words: &[Text]) -> Option<&Text>
     ensures { option_map (λ text. text.now) result ≡ first_out_dir None words.now }
 {
@@ -64,7 +64,7 @@ fn out_dir_in(words: &[Text]) -> Option<&Text>
     None
 }
 
-/// The folder that a text says, or none where it is no absolute path.
+/// Returns the folder of a text, or none if it is no absolute path.
 fn path_of(alloc: Global, text: &str) -> Result<Option<PathText>, AllocError>
     ensures { IfOk result (λ path. path ≡ path_of text.now) }
 {
@@ -75,7 +75,7 @@ fn path_of(alloc: Global, text: &str) -> Result<Option<PathText>, AllocError>
     }
 }
 
-/// Returns the folder that the variable `OUT_DIR` says, if it says one.
+/// Returns the folder in the variable `OUT_DIR`, if there is one.
 ///
 /// Errors: those of the view.
 fn out_dir_variable<V: View>(alloc: Global, view: &V) -> Result<Option<PathText>, ViewFault>
@@ -89,7 +89,7 @@ fn out_dir_variable<V: View>(alloc: Global, view: &V) -> Result<Option<PathText>
     }
 }
 
-/// Returns the out folder of a compile: the first value of `--out-dir`.
+/// Returns the output folder of a compile: the first value of `--out-dir`.
 fn out_dir_of(alloc: Global, words: &[Text]) -> Result<Option<PathText>, AllocError>
     ensures { IfOk result
         (λ folder. folder ≡ option_and_then path_of (first_out_dir None words.now)) }
@@ -100,7 +100,7 @@ fn out_dir_of(alloc: Global, words: &[Text]) -> Result<Option<PathText>, AllocEr
     }
 }
 
-/// Whether words ask for the run of an image.
+/// Returns whether arguments request the run of an image.
 fn asks_run(words: &[Text]) -> bool
     ensures { result ≡ asks_run words.now }
 {
@@ -110,8 +110,8 @@ fn asks_run(words: &[Text]) -> bool
     }
 }
 
-/// Returns the folder into which the files of a reply go, if there is one. For a compile it is the one that the words
-/// say, for a run the one that `OUT_DIR` says.
+/// Returns the folder in which the files of a reply are put, if there is one. A compile's folder is
+/// in its arguments, a run's is in `OUT_DIR`.
 ///
 /// Errors: those of the view.
 pub(crate) fn out_folder<V: View>(

@@ -16,9 +16,9 @@ use pb_mini::answer;
 use pb_place::{Out, PathText, Place, PlaceFault, RelativePath, View, write_all};
 use std::alloc::Global;
 
-/// Writes files into a folder, one after another, by their paths there.
+/// Writes files in a folder, one after another, by their paths there.
 ///
-/// Errors: `Write`, `OutOfMemory`; those before are written.
+/// Errors: `Write`; `OutOfMemory`. The files before the failing one have been written then.
 fn write_files<P: Place>(
     alloc: Global,
     place: &mut P,
@@ -41,7 +41,7 @@ fn write_files<P: Place>(
     Ok(())
 }
 
-/// Leaves the files of a reply in its out folder, if there is one.
+/// Leaves the files of a reply in its output folder, if there is one.
 ///
 /// Errors: `Read`, if the view fails; `Write`, if a file cannot be written; `OutOfMemory`.
 fn leave_files<P: Place, V: View>(
@@ -51,7 +51,7 @@ fn leave_files<P: Place, V: View>(
     place: &mut P,
     files: &[(RelativePath, Bytes)],
 ) -> Result<(), Fault>
-    // All files are put in the out folder, or nowhere if there is none.
+    // All files are put in the output folder, or none if there is no folder.
     ensures files { IsTrue V.tells → IsTrue P.tells → OnOk result
         (files.now ≡ (answered words.now [] (V.shown view.now)).files → (P.at place.new).world
         ≡ put_reply (out_folder words.now (V.shown view.now)) files.now (P.at place.old).world) }
@@ -59,7 +59,7 @@ fn leave_files<P: Place, V: View>(
         × IsFolderOf V.tells words.now (V.shown view.now) files.now folder
         × PutsIn P.tells folder files.now (kept (P.at place.old)) (kept (P.at place.new))) }
 
-    // Why it fails.
+    // Why it fails:
     ensures read { IfErr result (λ e. e ≡ Fault.Read → V.fails view.now
         × (place.new ≡ place.old)) }
     ensures write { IfErr result (λ e. e ≡ Fault.Write → (folder : List ℕ)
@@ -79,13 +79,14 @@ fn leave_files<P: Place, V: View>(
     Ok(())
 }
 
-/// Answers words as the small compiler does, and returns the status of its reply. It leaves the files of the reply in
-/// its out folder, and then writes its two streams. It writes nothing after a failure; what it wrote before stays.
+/// Replies to arguments as the small compiler does, and returns the status of the reply. It leaves
+/// the files of the reply in its output folder, and then writes its two streams. It writes nothing
+/// after a failure; earlier writes stay.
 ///
 /// Errors:
-/// - `Read`: the view failed. Then nothing was written.
+/// - `Read`: the view failed. Nothing was written then.
 /// - `Write`: a file or a stream could not be written.
-/// - `OutOfMemory`: memory was refused, before the streams were written.
+/// - `OutOfMemory`: memory ran out before the streams were written.
 pub fn carry_out<V: View, P: Place, O: Out, E: Out>(
     alloc: Global,
     words: &[Text],
@@ -94,7 +95,7 @@ pub fn carry_out<V: View, P: Place, O: Out, E: Out>(
     out: &mut O,
     err: &mut E,
 ) -> Result<i32, Fault>
-    // Over a view that tells what it shows, and a place that tells its maps.
+    // Over a view that reports what it shows, and a place that tells its maps:
     ensures status { IsTrue V.tells → IfOk result
         (λ status. status ≡ (answered words.now [] (V.shown view.now)).status) }
     ensures stdout { IsTrue V.tells → OnOk result (Appends (O.heard out.old).taken
@@ -105,14 +106,15 @@ pub fn carry_out<V: View, P: Place, O: Out, E: Out>(
         ≡ put_reply (out_folder words.now (V.shown view.now))
         (answered words.now [] (V.shown view.now)).files (P.at place.old).world) }
 
-    // Over any: the files, the output and standard error of one reply are written, in this order.
+    // Over any view and place: the files, the output and standard error of one reply are written,
+    // in this order.
     ensures whole { IfOk result (λ status. (reply : Reply)
         × IsReply V.tells words.now (V.shown view.now) reply × (status ≡ reply.status)
         × WritesAll V.tells P.tells words.now (V.shown view.now) reply
         (outside (P.at place.old) (O.heard out.old) (E.heard err.old))
         (outside (P.at place.new) (O.heard out.new) (E.heard err.new))) }
 
-    // Why it fails.
+    // Why it fails:
     ensures read { IfErr result (λ e. e ≡ Fault.Read → V.fails view.now
         × (place.new ≡ place.old) × (out.new ≡ out.old) × (err.new ≡ err.old)) }
     ensures write { IfErr result (λ e. e ≡ Fault.Write → (reply : Reply)

@@ -1,4 +1,4 @@
--- Marks, levels, ranks and steps, as the code has them on the way. These words serve private functions alone.
+-- Marks, levels, ranks and steps as intermediate results of the code. These definitions serve private functions only.
 use Rattle.std.specs.Prelude.{◌≡◌, ◌⊎◌, ◌↔◌, ℕ, ◌+◌, ◌<◌, ◌≤◌, Bool, true, false, not, List, Contains, length, count_by, slice_index_or, IsTrue, map, All, slice_index, AllPairs, slice_get, Some}
 use Rattle.pb_order.specs.declared.graph.Node.{Node}
 use Rattle.std.specs.List.Sorted.{IsNonDecreasingBy, IsStrictlyIncreasing}
@@ -8,7 +8,7 @@ use Rattle.std.specs.List.{AllZip}
 use Rattle.pb_order.specs.declared.graph.Step.{Step}
 use Rattle.pb_order.specs.Graph.{needs_at, key_at, IsBelow, above, Reaches, IsReached}
 
--- Nodes that are marked, as a list of tests by their numbers.
+-- Marked nodes, as a list of truth values by their numbers.
 
 abbrev pub IsMarked : List Bool → ℕ → Type 0
 IsMarked marks v = slice_index_or marks v false ≡ true
@@ -16,7 +16,7 @@ IsMarked marks v = slice_index_or marks v false ≡ true
 abbrev pub unmarked : List Bool → ℕ
 unmarked marks = count_by not marks
 
--- What the first `count` of a list are marked, and wait if they were not marked before.
+-- The first `count` nodes of a list are marked; those that were not marked before are waiting.
 pub record Marked (list : List ℕ) (count : ℕ) (old_marks : List Bool) (old_waiting : List ℕ) (marks : List Bool) (waiting : List ℕ) : Type 0 where
   pub long : length marks ≡ length old_marks
   pub each : (k : ℕ) → k < count → IsMarked marks (slice_index_or list k 0)
@@ -27,44 +27,44 @@ pub record Marked (list : List ℕ) (count : ℕ) (old_marks : List Bool) (old_w
   pub new_waits : (v : ℕ) → IsMarked marks v → IsMarked old_marks v ⊎ Contains waiting v
   pub work : unmarked marks + length waiting ≡ unmarked old_marks + length old_waiting
 
--- nothing is marked
+-- no node is marked
 abbrev pub AreClear : List Bool → Type 0
 AreClear marks = (v : ℕ) → IsMarked marks v → ⊥
 
--- what is marked still is among the rest of a list
+-- only nodes in the rest of a list are still marked
 pub record Clearing (list : List ℕ) (count : ℕ) (old_marks marks : List Bool) : Type 0 where
   pub long : length marks ≡ length old_marks
   pub left : (v : ℕ) → IsMarked marks v → (k : ℕ) × (count ≤ k) × (k < length list) × (slice_index_or list k 0 ≡ v)
 
--- what was found is what the roots reach, each once: as many as are marked
+-- the nodes found are those that the roots reach, without repeats: as many as are marked
 pub record IsFound (nodes : List Node) (roots : List ℕ) (marks : List Bool) (found : List ℕ) : Type 0 where
   pub long : length marks ≡ length nodes
   pub exact : (v : ℕ) → IsMarked marks v ↔ IsReached nodes roots v
   pub same : (v : ℕ) → Contains found v ↔ IsMarked marks v
   pub count : length found + unmarked marks ≡ length nodes
 
--- what the roots reach
+-- the list is the nodes that the roots reach
 abbrev pub AreReached : List Node → List ℕ → List ℕ → Type 0
 AreReached nodes roots found = (marks : List Bool) × IsFound nodes roots marks found
 
--- How much nodes reach, and their levels.
+-- How many nodes each node reaches, and the levels of nodes.
 
 abbrev pub node_of : Extent → ℕ
 node_of e = e.node
 
--- how many nodes it reaches, and whether it is one of them
+-- how many nodes a node reaches, and whether it reaches itself
 pub record IsExtent (nodes : List Node) (e : Extent) : Type 0 where
   pub reached : List ℕ
   pub are : AreReached nodes (needs_at nodes e.node) reached
   pub count : e.count ≡ length reached
   pub turns : IsTrue e.turns ↔ Reaches nodes e.node e.node
 
--- each of these is one more than the greatest of what it needs
+-- each of these nodes has a level one more than the greatest of those that it needs
 pub record AreLevels (nodes : List Node) (list levels : List ℕ) : Type 0 where
   pub long : length levels ≡ length nodes
   pub each : (v : ℕ) → Contains list v → slice_index levels v ≡ above (map (slice_index levels) (needs_at nodes v))
 
--- Extents by their counts, of nodes that do not reach themselves and whose needs are among them.
+-- Extents in order of their counts, of nodes that do not reach themselves and whose needs are among them.
 pub record AreRising (nodes : List Node) (extents : List Extent) : Type 0 where
   pub each : All (IsExtent nodes) extents
   pub rising : IsNonDecreasingBy (λ e. e.count) extents
@@ -76,16 +76,16 @@ pub record AreRising (nodes : List Node) (extents : List Extent) : Type 0 where
 abbrev pub rank_node : Rank → ℕ
 rank_node r = r.node
 
--- its node's level and key
+-- a rank has its node's level and key
 pub record IsRank (nodes : List Node) (levels : List ℕ) (r : Rank) : Type 0 where
   pub level : r.level ≡ slice_index levels r.node
   pub key : r.key ≡ key_at nodes r.node
 
--- by level, and then by the bytes of the key
+-- a rank comes before another by level, and then by the bytes of the key
 pub record RanksBefore (a b : Rank) : Type 0 where
   pub order : (a.level < b.level) ⊎ ((a.level ≡ b.level) × IsBelow a.key b.key)
 
--- the nodes of a list in order, each once
+-- the ranks are the nodes of a list in order, without repeats
 pub record AreRanked (nodes : List Node) (list levels : List ℕ) (ranks : List Rank) : Type 0 where
   pub each : All (IsRank nodes levels) ranks
   pub same : (v : ℕ) → Contains (map rank_node ranks) v ↔ Contains list v
@@ -94,17 +94,17 @@ pub record AreRanked (nodes : List Node) (list levels : List ℕ) (ranks : List 
 
 -- Steps of the order.
 
--- The places of the first so many are told.
+-- The table contains the indices of the first `count` ranks.
 pub record PlacesTell (nodes : List Node) (ranks : List Rank) (count : ℕ) (places : List ℕ) : Type 0 where
   pub long : length places ≡ length nodes
   pub tell : (k : ℕ) (r : Rank) → k < count → slice_get ranks k ≡ Some r → slice_index places r.node ≡ k
 
--- the places of a list's nodes, ascending
+-- the indices of a list's nodes, ascending
 pub record ArePlacesBy (places list found : List ℕ) : Type 0 where
   pub rises : IsStrictlyIncreasing found
   pub same : (place : ℕ) → Contains found place ↔ Contains (map (slice_index places) list) place
 
--- a rank's node, with the places of what it needs and reaches
+-- the step of a rank: its node, with the indices of what it needs and reaches
 pub record IsPlaced (nodes : List Node) (places : List ℕ) (rank : Rank) (p : Step) : Type 0 where
   pub node : p.node ≡ rank.node
   pub key : p.key ≡ rank.key
@@ -114,30 +114,30 @@ pub record IsPlaced (nodes : List Node) (places : List ℕ) (rank : Rank) (p : S
   pub are : AreReached nodes (needs_at nodes rank.node) reached
   pub reaches : ArePlacesBy places reached p.reaches
 
--- all ranks' nodes
+-- the steps of all ranks
 pub record AreSteps (nodes : List Node) (ranks : List Rank) (plan : List Step) : Type 0 where
   pub places : List ℕ
   pub told : PlacesTell nodes ranks (length ranks) places
   pub each : AllZip (IsPlaced nodes places) ranks plan
 
--- the nodes of a list by the bytes of their keys
+-- the nodes of a list, by the bytes of their keys
 pub record AreByKey (nodes : List Node) (list found : List ℕ) : Type 0 where
   pub same : (v : ℕ) → Contains found v ↔ Contains list v
   pub order : AllPairs (λ u v. IsBelow (key_at nodes u) (key_at nodes v)) found
 
--- more nodes of a list than this number, by the bytes of their keys
+-- a list has more nodes than this number, listed by the bytes of their keys
 pub record IsCrowded (nodes : List Node) (list : List ℕ) (most : ℕ) : Type 0 where
   pub found : List ℕ
   pub listed : AreByKey nodes list found
   pub many : most < length found
 
--- how much each node reaches that the roots reach, the least first
+-- the extents of all nodes that the roots reach, the least first
 pub record AreSurveyed (nodes : List Node) (roots : List ℕ) (extents : List Extent) : Type 0 where
   pub same : (v : ℕ) → Contains (map node_of extents) v ↔ IsReached nodes roots v
   pub each : All (IsExtent nodes) extents
   pub rising : IsNonDecreasingBy (λ e. e.count) extents
 
--- the nodes of a list by level and key, each with its places
+-- the steps are the nodes of a list by level and key, each with its indices
 pub record IsOrdered (nodes : List Node) (list : List ℕ) (plan : List Step) : Type 0 where
   pub levels : List ℕ
   pub leveled : AreLevels nodes list levels

@@ -1,4 +1,4 @@
-//! What nodes reach.
+//! The nodes that nodes reach.
 
 ghost use Rattle.std.specs.Prelude.{◌≡◌, ◌<◌, ℕ, List, IfOk, OnOk, All, length, false, replicate};
 ghost use Rattle.pb_order.specs.Graph.{IsGraph, needs_at};
@@ -7,7 +7,7 @@ ghost use Rattle.pb_order.specs.Working.{AreClear, Clearing, AreReached, IsFound
 use crate::graph::Node;
 use std::alloc::{AllocError, Global};
 
-/// What a node needs.
+/// Returns the nodes that a node needs.
 pub fn needs_at(nodes: &[Node], u: usize) -> &[usize]
     requires { u < length nodes.now }
     ensures { result.now ≡ needs_at nodes.now u }
@@ -15,14 +15,14 @@ pub fn needs_at(nodes: &[Node], u: usize) -> &[usize]
     nodes[u].needs.as_slice()
 }
 
-/// No marks.
+/// Returns marks for this number of nodes, none of them set.
 pub fn no_marks(alloc: Global, count: usize) -> Result<Vec<bool>, AllocError>
     ensures { IfOk result (λ marks. marks.items ≡ replicate count false) }
 {
     vec![in alloc; false; count]
 }
 
-/// Marks each node of a list, and adds those that were not marked to what waits.
+/// Marks each node of a list, and appends those that were not marked to the waiting ones.
 pub fn mark_all(
     marks: &mut Vec<bool>,
     waiting: &mut Vec<usize>,
@@ -40,7 +40,7 @@ pub fn mark_all(
     Ok(())
 }
 
-/// What the roots reach, marked.
+/// Returns the nodes that the roots reach, marked.
 fn found_from(
     alloc: Global,
     nodes: &[Node],
@@ -63,7 +63,7 @@ fn found_from(
     Ok(found)
 }
 
-/// Takes the marks of a list away.
+/// Clears the marks of a list.
 fn clear(marks: &mut [bool], list: &[usize])
     requires within { All (λ v. v < length marks.old) list.now }
     requires all { Clearing list.now 0 marks.old marks.old }
@@ -75,7 +75,7 @@ fn clear(marks: &mut [bool], list: &[usize])
     }
 }
 
-/// What the roots reach. The marks are lent clear, and are clear again afterwards.
+/// Returns the nodes that the roots reach. The borrowed marks are clear before and after.
 pub fn reached_from(
     alloc: Global,
     nodes: &[Node],

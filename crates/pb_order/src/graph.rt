@@ -1,4 +1,4 @@
-//! A graph of things that need others, a step of its order, and why there is no order.
+//! A graph of nodes that need other nodes, a step of its order, and why there is no order.
 
 use pb_data::{Items, Text};
 use std::alloc::{AllocError, AllocFailed};
@@ -6,35 +6,35 @@ use std::alloc::{AllocError, AllocFailed};
 /// A node of the graph.
 #[derive(Drop)]
 pub struct Node {
-    /// What it is known by; no two nodes have the same.
+    /// Its key; no two nodes have the same.
     pub key: Text,
     /// The numbers of the nodes that it needs.
     pub needs: Items<usize>,
 }
 
-/// A node in its place in an order.
+/// A node at its position in an order.
 #[derive(Drop)]
 pub struct Step {
     /// The number of the node.
     pub node: usize,
     /// Its key.
     pub key: Text,
-    /// 0 without needs, else one more than the greatest level of a need.
+    /// 0 without needs, else one more than the greatest level of the nodes that it needs.
     pub level: usize,
-    /// The places in the order of what it needs, ascending.
+    /// The indices in the order of the nodes that it needs, ascending.
     pub needs: Items<usize>,
-    /// The places in the order of all that it reaches, ascending.
+    /// The indices in the order of all nodes that it reaches, ascending.
     pub reaches: Items<usize>,
 }
 
 /// Why there is no order.
 #[derive(Debug, Drop)]
 pub enum OrderFault {
-    /// Memory was refused.
+    /// Out of memory.
     OutOfMemory,
     /// These nodes reach themselves, by the bytes of their keys.
     Circle(Items<usize>),
-    /// There are more nodes than are wanted.
+    /// There are more nodes than allowed.
     TooMany,
 }
 

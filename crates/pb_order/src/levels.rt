@@ -1,4 +1,4 @@
-//! How much nodes reach, and the levels that follow.
+//! How many nodes each node reaches, and the levels that follow.
 
 ghost use Rattle.std.specs.Prelude.{◌≡◌, ◌⊎◌, ℕ, ◌<◌, ◌^◌, IfOk, OnOk, All, AllPairs, Contains, map, filter, length, false, slice_index, replicate};
 ghost use Rattle.pb_order.specs.Graph.{IsGraph, needs_at, above};
@@ -8,17 +8,17 @@ use crate::closure::{needs_at, reached_from};
 use crate::graph::Node;
 use std::alloc::{AllocError, Global};
 
-/// How much a node reaches.
+/// How many nodes a node reaches.
 #[derive(Clone, Copy)]
 pub struct Extent {
     pub node: usize,
-    /// How many nodes it reaches.
+    /// The number of nodes that it reaches.
     pub count: usize,
-    /// Whether it is one of them.
+    /// Whether it reaches itself.
     pub turns: bool,
 }
 
-/// How much one node reaches.
+/// Returns how many nodes one node reaches.
 fn extent_of(
     alloc: Global,
     nodes: &[Node],
@@ -42,7 +42,7 @@ fn extent_of(
     })
 }
 
-/// How much each node of a list reaches.
+/// Returns how many nodes each node of a list reaches.
 pub fn extents_of(
     alloc: Global,
     nodes: &[Node],
@@ -66,7 +66,7 @@ pub fn extents_of(
     Ok(extents)
 }
 
-/// The nodes that reach themselves.
+/// Returns the nodes that reach themselves.
 pub fn turning(alloc: Global, extents: &[Extent]) -> Result<Vec<usize>, AllocError>
     ensures { IfOk result (λ nodes. nodes.items ≡ map node_of (filter (λ e. e.turns) extents.now)) }
 {
@@ -77,7 +77,7 @@ pub fn turning(alloc: Global, extents: &[Extent]) -> Result<Vec<usize>, AllocErr
         .collect(alloc)
 }
 
-/// One more than the greatest level of a need.
+/// Returns one more than the greatest level of the needed nodes, or 0 if there are none.
 fn level_above(levels: &[usize], needs: &[usize]) -> usize
     requires needs { All (λ v. v < length levels.now) needs.now }
     requires small { (v : ℕ) → slice_index levels.now v < 2 ^ 63 }
@@ -90,8 +90,8 @@ fn level_above(levels: &[usize], needs: &[usize]) -> usize
     level
 }
 
-/// The levels of nodes that come in the order of how much they reach: so what a node needs comes
-/// before it.
+/// Returns the levels of nodes, which are in the order of how many nodes they reach. Therefore the
+/// nodes that a node needs come before it.
 pub fn levels_of(
     alloc: Global,
     nodes: &[Node],
@@ -110,7 +110,7 @@ pub fn levels_of(
     Ok(levels)
 }
 
-/// No level above 0.
+/// Returns levels that are all 0.
 pub fn zeros(alloc: Global, count: usize) -> Result<Vec<usize>, AllocError>
     ensures { IfOk result (λ levels. levels.items ≡ replicate count 0) }
 {

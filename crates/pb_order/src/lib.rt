@@ -1,5 +1,6 @@
-//! The order of things that need others: what some of them reach, each after all that it needs, by
-//! level and then by key; or the circle that keeps them from having one.
+//! The order of nodes that need other nodes. It has all nodes that some of them reach, each after
+//! all that it needs, by level and then by key. If a circle prevents an order, it returns the
+//! circle.
 #![tactic(auto)]
 
 mod closure;

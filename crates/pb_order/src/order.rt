@@ -1,4 +1,4 @@
-//! The order of what some nodes reach.
+//! The order of the nodes that some nodes reach.
 
 ghost use Rattle.std.specs.Prelude.{◌≡◌, ◌≢◌, ◌↔◌, ◌⊎◌, ℕ, ◌<◌, ◌≤◌, IfOk, IfErr, OnOk, All, AllPairs, Contains, map, length, slice_index, Some};
 ghost use Rattle.std.specs.List.Sorted.{IsStrictlyIncreasing};
@@ -14,7 +14,7 @@ use crate::ranks::{Rank, ranked, sort_once};
 use pb_data::{Items, TryCopy};
 use std::alloc::{AllocError, Global};
 
-/// The place of each node in the order.
+/// Returns the index of each node in the order.
 fn places_of(alloc: Global, nodes: &[Node], ranks: &[Rank]) -> Result<Vec<usize>, AllocError>
     requires within { All (λ r. r.node < length nodes.now) ranks.now }
     requires apart { AllPairs (λ a b. a.node ≢ b.node) ranks.now }
@@ -27,7 +27,7 @@ fn places_of(alloc: Global, nodes: &[Node], ranks: &[Rank]) -> Result<Vec<usize>
     Ok(places)
 }
 
-/// The places of a list's nodes, ascending, each once.
+/// Returns the indices of a list's nodes, ascending, without repeats.
 fn placed(alloc: Global, places: &[usize], list: &[usize]) -> Result<Items<usize>, AllocError>
     requires { All (λ v. v < length places.now) list.now }
     ensures { IfOk result (ArePlacesBy places.now list.now) }
@@ -40,7 +40,7 @@ fn placed(alloc: Global, places: &[usize], list: &[usize]) -> Result<Items<usize
     Ok(Items::from_vec(found))
 }
 
-/// A node of the order, with the places of what it needs and reaches.
+/// Returns a node of the order, with the indices of the nodes that it needs and reaches.
 fn step_of(
     alloc: Global,
     nodes: &[Node],
@@ -70,7 +70,7 @@ fn step_of(
     })
 }
 
-/// All nodes of the order.
+/// Returns all nodes of the order.
 fn steps_of(
     alloc: Global,
     nodes: &[Node],
@@ -93,7 +93,7 @@ fn steps_of(
     Ok(plan)
 }
 
-/// The nodes of a list by the bytes of their keys, each once.
+/// Returns the nodes of a list by the bytes of their keys, without repeats.
 fn by_key(alloc: Global, nodes: &[Node], list: &[usize]) -> Result<Items<usize>, AllocError>
     requires graph { IsGraph nodes.now }
     requires list { All (λ v. v < length nodes.now) list.now }
@@ -105,21 +105,21 @@ fn by_key(alloc: Global, nodes: &[Node], list: &[usize]) -> Result<Items<usize>,
     Ok(Items::from_vec(found))
 }
 
-/// The nodes of some ranks.
+/// Returns the nodes of some ranks.
 fn ranked_nodes(alloc: Global, ranks: &[Rank]) -> Result<Vec<usize>, AllocError>
     ensures { IfOk result (λ found. found.items ≡ map rank_node ranks.now) }
 {
     ranks.iter().map(|r| r.node).collect(alloc)
 }
 
-/// The nodes of some extents.
+/// Returns the nodes of some extents.
 fn extent_nodes(alloc: Global, extents: &[Extent]) -> Result<Vec<usize>, AllocError>
     ensures { IfOk result (λ found. found.items ≡ map node_of extents.now) }
 {
     extents.iter().map(|e| e.node).collect(alloc)
 }
 
-/// How much each node reaches that the roots reach, the least first.
+/// Returns how many nodes each node that the roots reach reaches itself, the least first.
 fn survey(
     alloc: Global,
     nodes: &[Node],
@@ -140,7 +140,8 @@ fn survey(
     Ok(extents)
 }
 
-/// The nodes of a list by the bytes of their keys, each once, where there are no more than are wanted.
+/// Returns the nodes of a list by the bytes of their keys, without repeats, unless there are more
+/// than allowed.
 fn within(
     alloc: Global,
     nodes: &[Node],
@@ -160,7 +161,7 @@ fn within(
     Ok(found)
 }
 
-/// The order of nodes of which none reaches itself.
+/// Returns the order of nodes none of which reaches itself.
 fn ordered(
     alloc: Global,
     nodes: &[Node],
@@ -188,10 +189,11 @@ fn ordered(
     Ok(plan)
 }
 
-/// The order of what the roots reach, with the roots: by level, then by the bytes of the keys.
+/// Returns the order of the roots and the nodes that they reach: by level, then by the bytes of the
+/// keys.
 ///
-/// Refused, in this order: Circle where some of these nodes reach themselves; TooMany where there are more
-/// of them than `most`. Beside these there is want of memory alone.
+/// Errors: `Circle`, if some of these nodes reach themselves; else `TooMany`, if there are more
+/// than `most` of them; `OutOfMemory`.
 pub fn order(
     alloc: Global,
     nodes: &[Node],

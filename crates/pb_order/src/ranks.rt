@@ -9,7 +9,7 @@ use crate::graph::Node;
 use pb_data::{Text, TryCopy};
 use std::alloc::{AllocError, Global};
 
-/// A node's place in the order: by level, and then by the bytes of the key.
+/// A node's position in the order: by level, and then by the bytes of the key.
 #[derive(Drop, PartialEq, Eq, PartialOrd, Ord)]
 pub struct Rank {
     pub level: usize,
@@ -17,7 +17,7 @@ pub struct Rank {
     pub node: usize,
 }
 
-/// Puts items in order, each once.
+/// Sorts items and removes repeats.
 pub fn sort_once<T: Ord + Drop>(items: &mut Vec<T>)
     ensures rises { IsStrictlySortedBy T.cmp items.new.items }
     ensures keeps { (x : T) → Contains items.old.items x → Any (λ y. T.eq x y ≡ true) items.new.items }
@@ -28,7 +28,7 @@ pub fn sort_once<T: Ord + Drop>(items: &mut Vec<T>)
     items.dedup();
 }
 
-/// A node's rank.
+/// Returns a node's rank.
 fn rank_of(alloc: Global, nodes: &[Node], levels: &[usize], node: usize) -> Result<Rank, AllocError>
     requires node { node < length nodes.now }
     requires levels { length levels.now ≡ length nodes.now }
@@ -43,7 +43,7 @@ fn rank_of(alloc: Global, nodes: &[Node], levels: &[usize], node: usize) -> Resu
     })
 }
 
-/// The ranks of a list.
+/// Returns the ranks of a list.
 fn ranks_of(
     alloc: Global,
     nodes: &[Node],
@@ -63,7 +63,7 @@ fn ranks_of(
     Ok(ranks)
 }
 
-/// The nodes of a list in order, each once.
+/// Returns the nodes of a list in order, without repeats.
 pub fn ranked(
     alloc: Global,
     nodes: &[Node],

@@ -1,4 +1,6 @@
--- What every workspace that was read is, whatever its files say: packages by folder and by name, entries that lead somewhere and whose keys are names, features and binaries by name.
+-- What is true of every workspace that was read, whatever its files contain:
+-- packages are in order of folders and differ in name.
+-- Entries lead to packages and have names as keys, and features and binaries are in order of their names.
 use Rattle.std.specs.Prelude.{◌≡◌, ℕ, ◌<◌, ◌≤◌, ◌||◌, true, List, map, All, IfSome, length}
 use Rattle.std.specs.Ordering.{nat_cmp}
 use Rattle.std.specs.Cmp.Lexicographic.{slice_cmp}
@@ -15,11 +17,12 @@ use Rattle.pb_package.specs.declared.workspace.DefaultMembers.{DefaultMembers}
 use Rattle.pb_package.specs.declared.workspace.DefaultMembers.TheVariants.{Unwritten, Named, Unknown}
 use Rattle.pb_package.specs.declared.workspace.Workspace.{Workspace}
 
--- texts in byte order, each once
+-- the texts are in byte order without repeats
 abbrev pub IsAscending : List (List ℕ) → Type 0
 IsAscending texts = IsStrictlySortedBy (slice_cmp nat_cmp) texts
 
--- a package among so many. A feature has a feature's letters, or a package's where an optional dependency makes it
+-- A package in a workspace of `count` packages.
+-- The name of a feature has the letters of features, or those of packages if an optional dependency makes the feature.
 pub record IsPackage (count : ℕ) (p : Package) : Type 0 where
   pub name : is_name p.name ≡ true
   pub crate_name : IfSome p.library (λ library. is_crate_name library.name ≡ true)
@@ -30,13 +33,14 @@ pub record IsPackage (count : ℕ) (p : Package) : Type 0 where
   pub leads : All (λ (entry : Entry). entry.to < count) p.entries
   pub entry_keys : All (λ (entry : Entry). is_name entry.key ≡ true) p.entries
 
--- what `default-members` names, where it names members
+-- this is true of the packages that `default-members` names, if it names members
 abbrev pub IfNamed : DefaultMembers → (List ℕ → Type 0) → Type 0
 IfNamed Unwritten Holds = Unit {0}
 IfNamed (Named places) Holds = Holds places
 IfNamed Unknown Holds = Unit {0}
 
--- a workspace that was read: at most 256 packages, in byte order of their folders, no two of one name; the root package and the default members are among them
+-- A workspace that was read: it has at most 256 packages, in byte order of their folders and with distinct names.
+-- The root package and the default members are among these packages.
 pub record IsSettled (ws : Workspace) : Type 0 where
   pub few : length ws.packages ≤ 256
   pub folders : IsAscending (map (λ (p : Package). p.folder) ws.packages)
@@ -45,7 +49,7 @@ pub record IsSettled (ws : Workspace) : Type 0 where
   pub root : IfSome ws.root_package (λ place. place < length ws.packages)
   pub defaults : IfNamed ws.default_members (All (λ place. place < length ws.packages))
 
--- a workspace, and what is selected of it
+-- a workspace, and what is selected in it
 pub record Selected : Type 0 where
   pub workspace : Workspace
   pub selection : Selection

@@ -1,4 +1,4 @@
--- Words for what a workspace has, by places.
+-- The packages, entries and features of a workspace, by indices.
 use Rattle.std.specs.Prelude.{◌≡◌, ℕ, Bool, true, List, Some, Contains, slice_get}
 use Rattle.std.specs.List.{list_any}
 use Rattle.std.specs.Str.{bytes_eq}
@@ -12,18 +12,19 @@ use Rattle.pb_package.specs.declared.workspace.Workspace.{Workspace}
 use Rattle.pb_manifest.specs.declared.feature.Feature.{Feature}
 use Rattle.pb_manifest.specs.declared.feature.FeatureItem.{FeatureItem}
 
--- the side on which an entry's package is made, where its own package is made on this one: build entries lead to the host
+-- the side on which an entry's package is built, if its own package is built on this side:
+-- build entries lead to the host
 abbrev pub side_of : DependencyKind → Side → Side
 side_of Normal side = side
 side_of Build side = Host
 
--- the package at this place has this entry at this place
+-- the package with this index has this entry with this index
 pub record HasEntry (ws : Workspace) (p n : ℕ) (entry : Entry) : Type 0 where
   pub owner : Package
   pub package_at : slice_get ws.packages p ≡ Some owner
   pub entry_at : slice_get owner.entries n ≡ Some entry
 
--- the package at this place has a feature of this name, which lists this item
+-- the package with this index has a feature with this name, which lists this item
 pub record ListsItem (ws : Workspace) (p : ℕ) (name : List ℕ) (item : FeatureItem) : Type 0 where
   pub owner : Package
   pub feature : Feature
@@ -36,7 +37,7 @@ pub record ListsItem (ws : Workspace) (p : ℕ) (name : List ℕ) (item : Featur
 abbrev pub has_feature_named : List Feature → List ℕ → Bool
 has_feature_named features name = list_any (λ f. bytes_eq name f.name) features
 
--- the package at this place has a feature of this name
+-- the package with this index has a feature with this name
 pub record HasFeature (ws : Workspace) (p : ℕ) (name : List ℕ) : Type 0 where
   pub owner : Package
   pub package_at : slice_get ws.packages p ≡ Some owner

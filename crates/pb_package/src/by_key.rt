@@ -1,6 +1,6 @@
-//! The entries of a package in order: those of `[dependencies]` and then those of
-//! `[build-dependencies]`, each in byte order of their keys, no key twice in one table. An entry is
-//! found by halving, and not by a walk.
+//! The entries of a package in order: first those of `[dependencies]` and then those of
+//! `[build-dependencies]`, each in byte order of their keys, without repeats in a table. An entry
+//! is found by binary search.
 
 ghost use Rattle.std.specs.Prelude.{◌≡◌, [], map};
 ghost use Rattle.std.specs.List.{position};
@@ -16,7 +16,7 @@ use std::alloc::Global;
 use std::cmp::Ordering;
 use std::marker::Model;
 
-/// How an entry stands to a key of a table.
+/// Returns how an entry compares to a key of a table.
 fn compared(entry: &Entry, kind: DependencyKind, key: &[u8]) -> Ordering
     ensures { result ≡ slice_cmp nat_cmp (table_key entry.now.kind entry.now.key) (table_key kind key.now) }
 {
@@ -28,7 +28,7 @@ fn compared(entry: &Entry, kind: DependencyKind, key: &[u8]) -> Ordering
     }
 }
 
-/// The entries of a package in order. Contracts see the list of them.
+/// The entries of a package, in order. Contracts see them as a list.
 #[derive(Drop)]
 pub struct EntriesByKey {
     inside: Items<Entry>,
@@ -50,7 +50,7 @@ impl Model for EntriesByKey {
 }
 
 impl EntriesByKey {
-    /// No entries, which takes no memory.
+    /// Returns no entries. It takes no memory.
     pub fn new(alloc: Global) -> EntriesByKey
         ensures { result ≡ [] }
     {
@@ -59,7 +59,9 @@ impl EntriesByKey {
         }
     }
 
-    /// Entries that stand in order.
+    /// Returns these entries.
+    ///
+    /// Requires: they are in order.
     pub fn from_items(entries: Items<Entry>) -> EntriesByKey
         requires { IsStrictlySortedBy (slice_cmp nat_cmp) (map (λ entry. table_key entry.kind entry.key) entries) }
         ensures { result ≡ entries }
@@ -67,14 +69,14 @@ impl EntriesByKey {
         EntriesByKey { inside: entries }
     }
 
-    /// The entries themselves.
+    /// Returns the entries as a slice.
     pub fn as_slice(&self) -> &[Entry]
         ensures { result.now ≡ self.now }
     {
         self.inside.as_slice()
     }
 
-    /// The place of the entry of a key in a table.
+    /// Returns the index of the entry with a key in a table, if there is one.
     pub fn place_of(&self, kind: DependencyKind, key: &[u8]) -> Option<usize>
         ensures place { result ≡ position (λ entry. bytes_eq (table_key kind key.now) (table_key entry.kind entry.key)) self.now }
         ensures order { IsStrictlySortedBy (slice_cmp nat_cmp) (map (λ entry. table_key entry.kind entry.key) self.now) }

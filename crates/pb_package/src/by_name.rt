@@ -1,5 +1,5 @@
-//! Parts of a package in byte order of their names, each name once: what has a name is found by
-//! halving, and not by a walk.
+//! Parts of a package in byte order of their names, without repeats. A part is found by binary
+//! search.
 
 ghost use Rattle.std.specs.Prelude.{◌≡◌, [], map};
 ghost use Rattle.std.specs.List.{find, position};
@@ -15,7 +15,7 @@ use pb_manifest::Feature;
 use std::alloc::Global;
 use std::marker::Model;
 
-/// Binaries in byte order of their names, no two of one name. Contracts see the list of them.
+/// Binaries in byte order of their names, without repeats. Contracts see them as a list.
 #[derive(Drop)]
 pub struct BinariesByName {
     inside: Items<Binary>,
@@ -36,7 +36,7 @@ impl Model for BinariesByName {
 }
 
 impl BinariesByName {
-    /// No binaries, which takes no memory.
+    /// Returns no binaries. It takes no memory.
     pub fn new(alloc: Global) -> BinariesByName
         ensures { result ≡ [] }
     {
@@ -45,7 +45,9 @@ impl BinariesByName {
         }
     }
 
-    /// Binaries that stand in byte order of their names.
+    /// Returns these binaries.
+    ///
+    /// Requires: they are in byte order of their names, without repeats.
     pub fn from_items(binaries: Items<Binary>) -> BinariesByName
         requires { IsStrictlySortedBy (slice_cmp nat_cmp) (map (λ binary. binary.name) binaries) }
         ensures { result ≡ binaries }
@@ -53,14 +55,14 @@ impl BinariesByName {
         BinariesByName { inside: binaries }
     }
 
-    /// The binaries themselves.
+    /// Returns the binaries as a slice.
     pub fn as_slice(&self) -> &[Binary]
         ensures { result.now ≡ self.now }
     {
         self.inside.as_slice()
     }
 
-    /// The binary of a name.
+    /// Returns the binary with a name, if there is one.
     pub fn named(&self, name: &Text) -> Option<&Binary>
         ensures { option_copied result ≡ find (λ binary. bytes_eq name.now binary.name) self.now }
     {
@@ -72,7 +74,7 @@ impl BinariesByName {
     }
 }
 
-/// Features in byte order of their names, no two of one name. Contracts see the list of them.
+/// Features in byte order of their names, without repeats. Contracts see them as a list.
 #[derive(Drop)]
 pub struct FeaturesByName {
     inside: Items<Feature>,
@@ -93,7 +95,7 @@ impl Model for FeaturesByName {
 }
 
 impl FeaturesByName {
-    /// No features, which takes no memory.
+    /// Returns no features. It takes no memory.
     pub fn new(alloc: Global) -> FeaturesByName
         ensures { result ≡ [] }
     {
@@ -102,7 +104,9 @@ impl FeaturesByName {
         }
     }
 
-    /// Features that stand in byte order of their names.
+    /// Returns these features.
+    ///
+    /// Requires: they are in byte order of their names, without repeats.
     pub fn from_items(features: Items<Feature>) -> FeaturesByName
         requires { IsStrictlySortedBy (slice_cmp nat_cmp) (map (λ feature. feature.name) features) }
         ensures { result ≡ features }
@@ -110,14 +114,14 @@ impl FeaturesByName {
         FeaturesByName { inside: features }
     }
 
-    /// The features themselves.
+    /// Returns the features as a slice.
     pub fn as_slice(&self) -> &[Feature]
         ensures { result.now ≡ self.now }
     {
         self.inside.as_slice()
     }
 
-    /// The place of the feature of a name.
+    /// Returns the index of the feature with a name, if there is one.
     pub fn place_of(&self, name: &[u8]) -> Option<usize>
         ensures { result ≡ position (λ feature. bytes_eq name.now feature.name) self.now }
     {

@@ -1,7 +1,7 @@
-//! What a workspace is: its packages, each with nothing left to inherit and nothing left to look for,
-//! what a build is asked for of it, and why it cannot be read (The Cargo Book, Workspaces, Manifest
-//! Format, Specifying Dependencies). `pb_workspace` reads it; whoever only looks at it stands on this
-//! crate.
+//! The contents of a workspace: its packages, with everything inherited and discovered, what a
+//! build requests of it, and why it cannot be read (The Cargo Book, Workspaces, Manifest Format,
+//! Specifying Dependencies). `pb_workspace` reads a workspace; crates that only use one depend on
+//! this crate.
 #![tactic(auto)]
 
 mod by_key;

@@ -1,4 +1,4 @@
-//! A package, with nothing left to inherit and nothing left to look for.
+//! A package, with everything inherited and discovered.
 
 use crate::by_key::EntriesByKey;
 use crate::by_name::{BinariesByName, FeaturesByName};
@@ -6,12 +6,12 @@ use pb_data::{Items, Text};
 use pb_manifest::{CrateType, Edition, Version};
 use pb_place::PathText;
 
-/// The side that a part of a build is made for: build scripts and what they depend on are made for the
-/// host, all else for the target (The Cargo Book, Features). Our own choice: what is made for one side is
-/// never shared with the other.
+/// The side for which a part of a build is made. Build scripts and what they depend on are made for
+/// the host, everything else for the target (The Cargo Book, Features). Our own choice: the sides
+/// share nothing.
 #[derive(Clone, Copy, Debug, PartialEq, Eq)]
 pub enum Side {
-    /// What the build is for.
+    /// The machine for which the build is.
     Target,
     /// The machine that builds.
     Host,
@@ -29,20 +29,20 @@ pub enum DependencyKind {
 /// An entry of `[dependencies]` or `[build-dependencies]` whose package was found.
 #[derive(Drop)]
 pub struct Entry {
-    /// The name that the manifest gives it: the letters of a package's name.
+    /// The name that the manifest gives it, with the letters of package names.
     pub key: Text,
-    /// The table that it stands in.
+    /// The table in which it is written.
     pub kind: DependencyKind,
-    /// The place of its package among the workspace's.
+    /// The index of its package in the workspace.
     pub to: usize,
-    /// Whether `package` names it otherwise than its key does.
+    /// Whether `package` names a package other than the key.
     pub renamed: bool,
-    /// Whether it is left out unless something enables it.
+    /// Whether it is optional, so that it needs a feature to enable it.
     pub optional: bool,
-    /// Whether it turns on the feature `default` of its package, where there is one.
+    /// Whether it enables the feature `default` of its package, if there is one.
     pub default_features: bool,
-    /// The features that it turns on: those of `[workspace.dependencies]`, where it takes them, and then
-    /// its own, each in the manifest's order.
+    /// The features that it enables: those of `[workspace.dependencies]`, if it inherits them, and
+    /// then its own, each in the manifest's order.
     pub features: Items<Text>,
 }
 
@@ -51,27 +51,27 @@ pub struct Entry {
 pub struct Library {
     /// The crate's name: ASCII letters, digits and `_`, not empty.
     pub name: Text,
-    /// In the manifest's order, `lib` alone where none is written. Never empty.
+    /// In the manifest's order; only `lib` if none is written. Never empty.
     pub crate_types: Items<CrateType>,
-    /// Where its source is.
+    /// The path of its source.
     pub source: PathText,
 }
 
 /// A binary of a package.
 #[derive(Drop)]
 pub struct Binary {
-    /// The letters of a package's name.
+    /// Its name, with the letters of package names.
     pub name: Text,
-    /// Where its source is.
+    /// The path of its source.
     pub source: PathText,
-    /// The features without which it is not built.
+    /// The features that it requires.
     pub required_features: Items<Text>,
 }
 
-/// What a package says of itself to people. What is not written is the empty text.
+/// The texts in which a package describes itself to people. A text that is not written is empty.
 #[derive(Drop)]
 pub struct About {
-    /// The authors with `:` between them.
+    /// The authors, separated by `:`.
     pub authors: Text,
     /// `description`.
     pub description: Text,
@@ -79,10 +79,11 @@ pub struct About {
     pub homepage: Text,
     /// `license`.
     pub license: Text,
-    /// `license-file`, as a path from the package's folder.
+    /// `license-file`, as a path relative to the package's folder.
     pub license_file: Text,
-    /// `readme`, as a path from the package's folder: `README.md` for `true`, nothing for `false`; where it
-    /// is not written, the first of `README.md`, `README.txt`, `README` that is a file there.
+    /// `readme`, as a path relative to the package's folder: `README.md` for `true`, nothing for
+    /// `false`. If it is not written, the first of `README.md`, `README.txt`, `README` that is a
+    /// file.
     pub readme: Text,
     /// `repository`.
     pub repository: Text,
@@ -90,38 +91,41 @@ pub struct About {
     pub rust_version: Text,
 }
 
-/// A package: what its manifest and its folder say, with all that it takes from its workspace.
+/// A package: the contents of its manifest and its folder, and all that it inherits from its
+/// workspace.
 #[derive(Drop)]
 pub struct Package {
-    /// ASCII letters, digits, `-` and `_`, not empty. No two packages of a workspace have one name.
+    /// ASCII letters, digits, `-` and `_`, not empty. No two packages of a workspace have the same
+    /// name.
     pub name: Text,
-    /// 0.0.0 where none is written.
+    /// 0.0.0 if none is written.
     pub version: Version,
-    /// 2015 where none is written.
+    /// 2015 if none is written.
     pub edition: Edition,
-    /// The folder that its manifest lies in.
+    /// The folder that contains its manifest.
     pub folder: PathText,
     /// The path of its manifest.
     pub manifest: PathText,
-    /// Whether it is a member of the workspace. Packages that are none are read since a path dependency
-    /// leads to them.
+    /// Whether it is a member of the workspace. A package that is no member is read because a path
+    /// dependency leads to it.
     pub is_member: bool,
-    /// What it says of itself to people.
+    /// The texts in which it describes itself to people.
     pub about: About,
-    /// The native library that it links, any text. No two packages of a workspace have one.
+    /// The native library that it links, any text. No two packages of a workspace link the same.
     pub links: Option<Text>,
-    /// Its library, where it has one.
+    /// Its library, if it has one.
     pub library: Option<Library>,
-    /// Its binaries, in byte order of their names, no two of one name.
+    /// Its binaries, in byte order of their names, without repeats.
     pub binaries: BinariesByName,
-    /// The source of its build script, where it has one.
+    /// The source of its build script, if it has one.
     pub script: Option<PathText>,
-    /// The entries of `[dependencies]` and then those of `[build-dependencies]`, each in byte order of
-    /// their keys.
+    /// The entries of `[dependencies]` and then those of `[build-dependencies]`, each in byte order
+    /// of their keys.
     pub entries: EntriesByKey,
-    /// Its features in byte order of their names, no two of one name. An optional dependency N gives a
-    /// feature N with the one item `dep:N`, unless a feature N or some item `dep:N` is written
-    /// (The Cargo Book, Features); so a feature may have a package's letters and begin with `-`.
+    /// Its features in byte order of their names, without repeats. An optional dependency N makes a
+    /// feature N with the one item `dep:N`, unless a feature N or some item `dep:N` is written (The
+    /// Cargo Book, Features). Therefore a feature's name may be any package name, even one that
+    /// begins with `-`.
     pub features: FeaturesByName,
     /// The keys of `[dev-dependencies]`, in byte order.
     pub development: Items<Text>,

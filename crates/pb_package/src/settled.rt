@@ -1,11 +1,11 @@
-//! Workspaces that keep what their reader promises of them.
+//! Workspaces that keep the promises of their reader.
 
 use crate::options::Selection;
 use crate::workspace::Workspace;
 use std::marker::Model;
 
-/// A workspace that was read: at most 256 packages, by folder and by name, whose entries lead to packages among them.
-/// Contracts see the workspace.
+/// A workspace that was read: at most 256 packages, in order of folders and with distinct names,
+/// whose entries lead to packages of the workspace. Contracts see the workspace.
 #[derive(Drop)]
 pub struct SettledWorkspace {
     inside: Workspace,
@@ -26,7 +26,9 @@ impl SettledWorkspace {
     ghost use Rattle.std.specs.Prelude.{◌≡◌};
     ghost use Rattle.pb_package.specs.Settled.{IsSettled};
 
-    /// A workspace that is settled.
+    /// Returns a workspace as a settled one.
+    ///
+    /// Requires: it is settled.
     pub fn new(workspace: Workspace) -> SettledWorkspace
         requires { IsSettled workspace }
         ensures { result ≡ workspace }
@@ -34,7 +36,7 @@ impl SettledWorkspace {
         SettledWorkspace { inside: workspace }
     }
 
-    /// The workspace itself.
+    /// Returns the workspace itself.
     pub fn get(&self) -> &Workspace
         ensures value { result.now ≡ self.now }
         ensures settled { IsSettled self.now }
@@ -42,7 +44,7 @@ impl SettledWorkspace {
         &self.inside
     }
 
-    /// The workspace itself, taken out.
+    /// Returns the workspace as an owned value.
     pub fn into_workspace(self) -> Workspace
         ensures value { result ≡ self }
         ensures settled { IsSettled self }
@@ -51,8 +53,8 @@ impl SettledWorkspace {
     }
 }
 
-/// A workspace that was read, and what is selected of it: places of its packages. Contracts see the workspace and the
-/// selection.
+/// A workspace that was read, and what is selected in it: indices of its packages. Contracts see
+/// the workspace and the selection.
 #[derive(Drop)]
 pub struct SelectedWorkspace<'a> {
     workspace: &'a SettledWorkspace,
@@ -74,7 +76,7 @@ impl<'a> SelectedWorkspace<'a> {
     ghost use Rattle.std.specs.Prelude.{◌≡◌, ◌<◌, All, length};
     ghost use Rattle.pb_package.specs.Settled.{IsSettled};
 
-    /// A selection of packages of a workspace.
+    /// Returns a selection of packages in a workspace.
     pub fn new(workspace: &'a SettledWorkspace, selection: Selection) -> SelectedWorkspace<'a>
         requires { All (λ place. place < length workspace.now.packages) selection.packages }
         ensures workspace { result.workspace ≡ workspace.now }
@@ -86,7 +88,7 @@ impl<'a> SelectedWorkspace<'a> {
         }
     }
 
-    /// The workspace.
+    /// Returns the workspace.
     pub fn workspace(&self) -> &SettledWorkspace
         ensures value { result.now ≡ self.now.workspace }
         ensures settled { IsSettled self.now.workspace }
@@ -96,7 +98,7 @@ impl<'a> SelectedWorkspace<'a> {
         workspace
     }
 
-    /// What is selected of it.
+    /// Returns what is selected in it.
     pub fn selection(&self) -> &Selection
         ensures value { result.now ≡ self.now.selection }
         ensures within { All (λ place. place < length self.now.workspace.packages) self.now.selection.packages }

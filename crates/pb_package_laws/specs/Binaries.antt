@@ -1,4 +1,5 @@
--- The binaries of a package that was read (The Cargo Book, Cargo Targets). `sources` is the world without what lies at or below the target folder.
+-- The binaries of a package that was read (The Cargo Book, Cargo Targets).
+-- `sources` is the world without the files at or below the target folder.
 use Rattle.std.specs.Prelude.{◌≡◌, ◌≢◌, ◌↔◌, ℕ, true, if◌then◌else◌, codes, List, [], ◌∷◌, ◌++◌, map, Option, Some, Contains, get_or, unwrap_or}
 use Rattle.std.specs.Option.{option_map_or}
 use Rattle.std.specs.Str.{bytes_eq}
@@ -18,15 +19,16 @@ use Rattle.pb_package_laws.specs.Files.{first_file}
 abbrev pub in_bin : List ℕ → List (List ℕ)
 in_bin name = (codes "src/bin/" ++ (name ++ codes ".rs")) ∷ (codes "src/bin/" ++ (name ++ codes "/main.rs")) ∷ []
 
--- where the source of a binary is looked for, in this order: in `src/main.rs` where it is named as its package, and then in these two
+-- where the source of a binary is looked for, in order: `src/main.rs` if it has its package's name, then these two
 abbrev pub places : List ℕ → List ℕ → List (List ℕ)
 places package_name name = if bytes_eq name package_name then codes "src/main.rs" ∷ in_bin name else in_bin name
 
--- the source of a `[[bin]]`: the path that it writes, else the first of these places that is a file, and the first of them where none is
+-- the source of a `[[bin]]`:
+-- its written path, else the first of these names that is a file, else the first of these names
 abbrev pub source_of : World → List ℕ → List (List ℕ) → Option (List ℕ) → List ℕ
 source_of sources folder names path = option_map_or (resolved folder) path (below folder (unwrap_or (first_file sources folder names) (get_or names 0 [])))
 
--- a binary: that of a `[[bin]]`; or, unless `autobins = false`, one that is found in its first place, where no `[[bin]]` has its name
+-- a binary of a `[[bin]]`; or, unless `autobins = false`, one whose file is found and whose name no `[[bin]]` has
 pub data IsBinary (sources : World) (folder : List ℕ) (m : Manifest) (w : Written) (b : Binary) : Type 0 where
   written : (t : WrittenBinary) (table : Contains m.binaries t) (name : b.name ≡ t.name) (source : b.source ≡ source_of sources folder (places w.name t.name) t.path) (features : b.required_features ≡ t.required_features)
       → IsBinary sources folder m w b

@@ -1,4 +1,4 @@
--- Files of the sources: the world without what lies at or below the target folder.
+-- Files of the sources, which are the world without the files at or below the target folder.
 use Rattle.std.specs.Prelude.{◌≡◌, ℕ, Bool, is_some, List, Option, Some, Ok}
 use Rattle.std.specs.FinMap as finite
 use Rattle.std.specs.List.{find}
@@ -8,19 +8,19 @@ use Rattle.pb_manifest.specs.declared.manifest.Manifest.{Manifest}
 use Rattle.pb_place.specs.Paths.{below}
 use Rattle.pb_place.specs.World.{World}
 
--- a name of a file, from this folder
+-- whether a name, relative to this folder, is a file
 abbrev pub is_file : World → List ℕ → List ℕ → Bool
 is_file sources folder name = is_some (finite.get sources.files (below folder name))
 
--- the first of these names that is one
+-- the first of these names that is a file
 abbrev pub first_file : World → List ℕ → List (List ℕ) → Option (List ℕ)
 first_file sources folder names = find (is_file sources folder) names
 
--- its path
+-- the path of the first of these names that is a file
 abbrev pub first_path : World → List ℕ → List (List ℕ) → Option (List ℕ)
 first_path sources folder names = option_map (below folder) (first_file sources folder names)
 
--- the manifest in the file at this path
+-- the file at this path contains this manifest
 pub record IsManifestAt (sources : World) (path : List ℕ) (m : Manifest) : Type 0 where
   pub bytes : List ℕ
   pub file : finite.get sources.files path ≡ Some bytes

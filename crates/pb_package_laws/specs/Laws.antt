@@ -1,4 +1,4 @@
--- The law of workspaces: a workspace that was read is what its manifests and their folders say.
+-- The law of workspaces: a workspace that was read is determined by its manifests and their folders.
 use Rattle.std.specs.Prelude.{◌≡◌, ◌↔◌, ℕ, true, codes, List, map, Some, Ok, Contains}
 use Rattle.std.specs.List.{position}
 use Rattle.std.specs.Str.{bytes_eq}
@@ -19,7 +19,8 @@ use Rattle.pb_package_laws.specs.Folders.{IsPackageFolder}
 use Rattle.pb_package_laws.specs.Members.{IsMember}
 use Rattle.pb_package_laws.specs.Packages.{IsPackageOf}
 
--- The package of its folder: that which the manifest there describes, and the files there. A member takes from its workspace, of which `f` is what the root manifest says.
+-- A package is that of its folder: the one that the manifest and the files there describe.
+-- A member inherits from its workspace; `f` is what the root manifest contains about it.
 pub record IsOfItsFolder (sources : World) (f : Frame) (ws : Workspace) (p : Package) : Type 0 where
   pub manifest : p.manifest ≡ below p.folder (codes "Cargo.toml")
   pub own : Manifest
@@ -30,11 +31,11 @@ pub record IsOfItsFolder (sources : World) (f : Frame) (ws : Workspace) (p : Pac
   pub says : IsPackageOf sources f.root (given_to f p.is_member) ws own written p
   pub binaries : FilesHavePaths sources → HasBinaries sources own written p
 
--- what a root manifest says of its workspace
+-- what a root manifest contains about its workspace
 abbrev pub frame_in : List ℕ → Manifest → Frame
 frame_in manifest r = frame_of (folder_of manifest) manifest r.workspace
 
--- The workspace of the root manifest `r`, which stands at this path. Its root package is the one in the root's folder.
+-- The workspace of the root manifest `r` at this path. Its root package is the one in the root's folder.
 pub record IsWorkspaceOf (sources : World) (manifest : List ℕ) (r : Manifest) (ws : Workspace) : Type 0 where
   pub read : IsManifestAt sources manifest r
   pub root : ws.root ≡ folder_of manifest
@@ -49,10 +50,10 @@ abbrev pub WorkspacesAreRead : Type 0
 WorkspacesAreRead = (manifest target : List ℕ) (w : World) (ws : Workspace) → is_path manifest ≡ true → workspace_of manifest target w ≡ Ok ws
     → (ws.target ≡ target) × ((r : Manifest) × IsWorkspaceOf (from_nothing target w) manifest r ws)
 
--- There is one such workspace, where each file of the sources has a normalised absolute path.
+-- There is at most one such workspace, if each file of the sources has a normalised absolute path.
 abbrev pub WorkspacesAreOne : Type 0
 WorkspacesAreOne = (sources : World) (manifest : List ℕ) (r s : Manifest) (v w : Workspace) → FilesHavePaths sources → IsWorkspaceOf sources manifest r v → IsWorkspaceOf sources manifest s w → v.target ≡ w.target → v ≡ w
 
--- A workspace that was read is settled: its names have their letters, its entries lead somewhere.
+-- A workspace that was read is settled: its names have valid letters, and its entries lead to packages.
 abbrev pub AllAreSettled : Type 0
 AllAreSettled = (manifest target : List ℕ) (w : World) (ws : Workspace) → is_path manifest ≡ true → workspace_of manifest target w ≡ Ok ws → IsSettled ws

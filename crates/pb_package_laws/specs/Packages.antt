@@ -1,4 +1,5 @@
--- A package that was read, in the words of The Cargo Book (Manifest Format, Cargo Targets, Build Scripts, Features, Specifying Dependencies, Workspaces). `sources` is the world without what lies at or below the target folder.
+-- A package that was read, in the terms of The Cargo Book (Manifest Format, Cargo Targets, Build Scripts, Features,
+-- Specifying Dependencies, Workspaces). `sources` is the world without the files at or below the target folder.
 use Rattle.std.specs.Prelude.{◌≡◌, ◌≢◌, ◌↔◌, ℕ, Bool, true, not, ◌||◌, codes, List, [], ◌∷◌, ◌++◌, map, Option, Some, None, IfSome, Contains, slice_get, unwrap_or}
 use Rattle.std.specs.List.{AllZip, join_by}
 use Rattle.std.specs.Option.{option_map, option_map_or}
@@ -42,12 +43,12 @@ use Rattle.pb_package_laws.specs.Files.{first_file, first_path}
 
 -- Keys.
 
--- the package's own value, or its workspace's where it says `KEY.workspace = true`
+-- the package's own value, or its workspace's if the package has `KEY.workspace = true`
 abbrev pub IsOwnOrTaken : {A : Type 0} → Inherited A → Option A → A → Type 0
 IsOwnOrTaken (key.Written x) given value = value ≡ x
 IsOwnOrTaken key.Workspace given value = given ≡ Some value
 
--- a text: what it makes of the package's own, of the workspace's, and of none
+-- the text made from the package's own value, from the workspace's value, or from none
 abbrev pub IsText : {A : Type 0} → (A → List ℕ) → (A → List ℕ) → List ℕ → Inheritable A → Option A → List ℕ → Type 0
 IsText {A} own taken none (text.Written x) given value = value ≡ own x
 IsText {A} own taken none text.Workspace given value = (x : A) × (given ≡ Some x) × (value ≡ taken x)
@@ -56,15 +57,15 @@ IsText {A} own taken none text.Absent given value = value ≡ none
 abbrev pub IsPlainText : Inheritable (List ℕ) → Option (List ℕ) → List ℕ → Type 0
 IsPlainText = IsText (λ x. x) (λ x. x) []
 
--- the authors, with `:` between them
+-- the authors, separated by `:`
 abbrev pub with_colons : List (List ℕ) → List ℕ
 with_colons authors = join_by (λ author. author) (codes ":") authors
 
--- a text that the workspace says is a path from the root, told from the member's folder; as it is written where it is no path
+-- a text that is a path from the root, as a path from the member's folder; it stays as written if it is no path
 abbrev pub from_member : List ℕ → List ℕ → List ℕ → List ℕ
 from_member root folder text = option_map_or (text_between folder) (result_ok (joined root text)) text
 
--- the path of the README: `true` stands for `README.md`, `false` for none
+-- the path of the README: `true` means `README.md`, `false` none
 abbrev pub readme_path : Readme → Option (List ℕ)
 readme_path readme.Standard = Some (codes "README.md")
 readme_path readme.Never = None
@@ -72,26 +73,28 @@ readme_path (readme.At path) = Some path
 
 -- Targets.
 
--- the build script: `build.rs` where that is a file, unless `build` says `true`, `false` or a path
+-- the build script: `build.rs` if there is such a file, unless `build` is `true`, `false` or a path
 abbrev pub script : World → List ℕ → Build → Option (List ℕ)
 script sources folder build.Discovered = first_path sources folder (codes "build.rs" ∷ [])
 script sources folder build.Standard = Some (below folder (codes "build.rs"))
 script sources folder build.Never = None
 script sources folder (build.At path) = Some (resolved folder path)
 
--- a library that is not said to be of another kind is of the kind `lib`
+-- a library without written crate types has the crate type `lib`
 abbrev pub kinds_or_lib : List CrateType → List CrateType
 kinds_or_lib [] = Lib ∷ []
 kinds_or_lib (kind ∷ kinds) = kind ∷ kinds
 
--- the library: that of `[lib]`, in `src/lib.rs` unless it writes a path; and without that table there is one where `src/lib.rs` is a file
+-- the library: that of `[lib]`, in `src/lib.rs` unless a path is written;
+-- without `[lib]`, that of `src/lib.rs` if there is such a file
 abbrev pub library : World → List ℕ → List ℕ → Option WrittenLibrary → Option Library
 library sources folder name (Some l) = Some record { name = unwrap_or l.name (underscored name); crate_types = kinds_or_lib l.crate_types; source = option_map_or (resolved folder) l.path (below folder (codes "src/lib.rs")) }
 library sources folder name None = option_map (λ path. record { name = underscored name; crate_types = Lib ∷ []; source = path }) (first_path sources folder (codes "src/lib.rs" ∷ []))
 
 -- Features.
 
--- a feature that is written; or that an optional entry makes, of the entry's key and with the one item `dep:KEY`, unless that item or a feature of that name is written
+-- A feature is written, or an optional entry makes it: it has the entry's key as its name and the one item `dep:KEY`.
+-- An entry makes no feature if its item, or a feature with its name, is written.
 pub data IsFeature (m : Manifest) (f : Feature) : Type 0 where
   written : (is : Contains m.features f) → IsFeature m f
   made : (d : Dependency) (entry : Contains (m.dependencies ++ m.build_dependencies) d) (optional : d.optional ≡ true) (name : f.name ≡ d.key) (items : f.items ≡ item.Dependency d.key ∷ [])
@@ -99,13 +102,17 @@ pub data IsFeature (m : Manifest) (f : Feature) : Type 0 where
 
 -- Entries.
 
--- what a dependency asks for: the folder at a path from its package's; or, where it takes the workspace's entry of its key, at a path from the root's, with the features of both, and with `default` where one of the two asks for it
+-- What a dependency requests: the package at its path, from the folder of its own package.
+-- If it inherits the workspace's entry with its key, the path is from the root's folder,
+-- and it requests the features of both.
+-- It then requests `default` if one of the two does.
 pub data Asks (root folder : List ℕ) (entries : List WorkspaceDependency) (d : Dependency) : List ℕ → PathSource → Bool → List (List ℕ) → Type 0 where
   path : (s : PathSource) (is : d.source ≡ source.Path s) → Asks root folder entries d (resolved folder s.path) s s.default_features d.features
   workspace : (default : Bool) (is : d.source ≡ source.Workspace default) (w : WorkspaceDependency) (there : Contains entries w) (same : w.key ≡ d.key) (s : PathSource) (has_path : w.source ≡ shared.Path s)
       → Asks root folder entries d (resolved root s.path) s (s.default_features || default) (w.features ++ d.features)
 
--- its entry leads to the package there, which has the name that `package` says, or else the key, and a version that matches
+-- The entry of a dependency leads to the package in that folder.
+-- That package has a matching version, and the name that `package` gives, or else the key as its name.
 pub record IsEntry (root folder : List ℕ) (entries : List WorkspaceDependency) (ws : Workspace) (kind : DependencyKind) (d : Dependency) (e : Entry) : Type 0 where
   pub key_is : e.key ≡ d.key
   pub kind_is : e.kind ≡ kind
@@ -118,7 +125,9 @@ pub record IsEntry (root folder : List ℕ) (entries : List WorkspaceDependency)
   pub renamed : e.renamed ≡ not (bytes_eq found.name e.key)
   pub version : IfSome s.version (λ requirement. matches requirement found.version ≡ true)
 
--- A package of a workspace whose root folder and entries are these, with the manifest `m` and its `[package]` table `w`. Its entries are one for one those of the two tables, in their order.
+-- A package of a workspace with this root folder and these entries,
+-- with the manifest `m` and its `[package]` table `w`.
+-- The package's entries are those of the two tables, one for one and in order.
 pub record IsPackageOf (sources : World) (root : List ℕ) (given : Given) (ws : Workspace) (m : Manifest) (w : Written) (p : Package) : Type 0 where
   pub name : p.name ≡ w.name
   pub version : IsOwnOrTaken w.version given.package.version p.version

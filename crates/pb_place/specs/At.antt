@@ -21,19 +21,19 @@ pub record At : Type 1 where
   pub counts : Counts
   -- the most children that were ever in flight
   pub most : ℕ
-  -- of a ticket: nothing that its child sees, and no file of its folder, has changed since the spawn
+  -- whether nothing that a ticket's child sees, and no file of its folder, has changed since the spawn
   pub still : ℕ → Type 0
-  -- what changed under a child at work, as far as `watch` has looked
+  -- what changed under a running child, as far as `watch` has looked
   pub moved : List Moved
 
--- Nothing has changed, and no call was counted. `moved` may be longer.
+-- Nothing has changed and no call was counted, but `moved` may be longer.
 pub record IsUnchanged (old new : At) : Type 0 where
   pub world : new.world ≡ old.world
   pub counts : new.counts ≡ old.counts
   pub most : new.most ≡ old.most
   pub still : KeepsStill old.still new.still
 
--- One call that looks: nothing changes but the counters.
+-- One call that only looks changes nothing but the counters.
 pub record LooksOnce {T : Type 0} (call : Call) (result : Result T PlaceFault) (old new : At) : Type 0 where
   pub world : new.world ≡ old.world
   pub counts : new.counts ≡ counted call result old.counts
@@ -41,7 +41,7 @@ pub record LooksOnce {T : Type 0} (call : Call) (result : Result T PlaceFault) (
   pub still : KeepsStill old.still new.still
   pub fault : IfErr result (λ e. e ≢ place.OutOfMemory → e ≡ own_fault call)
 
--- One call that changes files of these paths, and nothing else.
+-- One call changes files at these paths, and nothing else.
 pub record ChangesOnce {T : Type 0} (inside : List ℕ → Bool) (call : Call) (result : Result T PlaceFault) (old new : At) : Type 0 where
   pub only : ChangesOnly inside old.world new.world
   pub counts : new.counts ≡ counted call result old.counts
@@ -49,7 +49,7 @@ pub record ChangesOnce {T : Type 0} (inside : List ℕ → Bool) (call : Call) (
   pub still : KeepsStillOutside inside old.counts.starts.flying old.still new.still
   pub fault : IfErr result (λ e. e ≢ place.OutOfMemory → e ≡ own_fault call)
 
--- A child process is spawned, or `CannotStart` is returned and none is.
+-- A child process is spawned, or the result is an error and none is spawned.
 pub record Spawns (child : Answers) (command : Command) (result : Result ℕ StartFault) (old new : At) : Type 0 where
   pub only : ChangesOnlyInSome command.out old.world new.world
   -- no child in flight has the new ticket
@@ -60,7 +60,7 @@ pub record Spawns (child : Answers) (command : Command) (result : Result ℕ Sta
   pub still : StaysStill old.counts.starts.flying old.world new.world old.still new.still
   pub fault : IfErr result (λ e. e ≢ start.OutOfMemory → e ≡ start.CannotStart)
 
--- The child of a ticket is waited for, and is in flight no more, whatever it answers.
+-- The ticket's child is waited for, and is no longer in flight, whatever the result is.
 pub record Finishes (ticket : ℕ) (result : Result Ended StartFault) (old new : At) : Type 0 where
   pub only : IfSome (child_at ticket old.counts.starts.flying) (λ spawned. ChangesOnlyInSome spawned.command.out old.world new.world)
   pub counts : new.counts ≡ counted_finish ticket result old.counts
@@ -73,5 +73,5 @@ pub record Starts (command : Command) (result : Result Ended StartFault) (old ne
   pub only : ChangesOnlyInSome command.out old.world new.world
   pub counts : new.counts ≡ counted_start result old.counts
   pub most : OnOk result (new.most ≡ max old.most (length old.counts.starts.flying + 1))
-  -- where it failed: before the spawn, or after it
+  -- an error came before the spawn, or after it
   pub most_else : OnErr result ((new.most ≡ old.most) ⊎ (new.most ≡ max old.most (length old.counts.starts.flying + 1)))

@@ -1,22 +1,22 @@
-//! A child that was started and is not yet waited for.
+//! A child that was spawned and has not been waited for.
 
 use crate::command::{Command, Ended};
 use crate::files::FileMap;
 use crate::relative::RelativePath;
 use pb_data::{Bytes, Items};
 
-/// A child in flight: its ticket, its command, how it will end, which files it will leave in the command's folder, and
-/// what that folder held when it was spawned.
+/// A child in flight: its ticket, its command, how it will end, the files that it will leave in the
+/// command's folder, and the folder's files at the spawn.
 #[derive(Drop)]
 pub struct ChildInFlight {
-    /// The number by which its end is asked for. No two children in flight share one.
+    /// The number with which its end is requested. No two children in flight have the same.
     pub ticket: u64,
-    /// What was started.
+    /// The command that was spawned.
     pub command: Command,
-    /// How it ends, if it answers.
+    /// How it ends, if it replies.
     pub ended: Ended,
-    /// The files that it then leaves in that folder.
+    /// The files that it leaves in the command's folder if it replies.
     pub files: Items<(RelativePath, Bytes)>,
-    /// The files inside that folder when it was spawned.
+    /// The files inside the command's folder when it was spawned.
     pub before: FileMap,
 }

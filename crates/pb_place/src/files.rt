@@ -24,8 +24,10 @@ use std::collections::BTreeMap;
 use std::marker::Model;
 use std::ops::Bound;
 
-/// Files by their paths, in byte order. A look-up takes time logarithmic in their number, and a listing
-/// and a removal that for each file that is listed or removed.
+/// Files by their paths, in byte order.
+///
+/// A look-up takes time logarithmic in the number of files. A listing or a removal takes that time
+/// for each file that it returns or removes.
 #[derive(Drop)]
 pub struct FileMap {
     inside: BTreeMap<Text, Bytes>,
@@ -49,7 +51,7 @@ impl Model for FileMap {
 }
 
 impl FileMap {
-    /// No files, which takes no memory.
+    /// Returns a map without files. It takes no memory.
     pub fn new(alloc: Global) -> FileMap
         ensures { result ≡ map.empty }
     {
@@ -58,7 +60,7 @@ impl FileMap {
         }
     }
 
-    /// The bytes of a file, if it is there.
+    /// Returns the bytes of a file, if it is there.
     #[tactic(auto, using(crate::proofs::MapLemmas::map_laws))]
     pub fn get(&self, path: &PathText) -> Option<&Bytes>
         ensures { option_copied result ≡ map.get self.now path.now }
@@ -66,7 +68,9 @@ impl FileMap {
         self.inside.get(path.as_text())
     }
 
-    /// Puts a file. Where memory is refused, nothing changes.
+    /// Puts a file.
+    ///
+    /// Errors: out of memory only. Nothing changes then.
     #[tactic(auto, using(crate::proofs::MapLemmas::insert_laws))]
     pub fn insert(&mut self, alloc: Global, path: &PathText, bytes: &[u8]) -> Result<(), AllocError>
         ensures ok { OnOk result (self.new ≡ map.insert self.old path.now bytes.now) }
@@ -78,7 +82,9 @@ impl FileMap {
         Ok(())
     }
 
-    /// The paths of the files below a folder, in byte order. The one fault is want of memory.
+    /// Returns the paths of the files below a folder, in byte order.
+    ///
+    /// Errors: out of memory only.
     pub fn list(&self, alloc: Global, folder: &PathText) -> Result<Items<PathText>, AllocError>
         ensures { IfOk result
             (λ paths. paths ≡ map.keys (map.retain_keys self.now (is_below folder.now))) }
@@ -87,7 +93,10 @@ impl FileMap {
         Ok(paths_of(alloc, names)?)
     }
 
-    /// The paths of the files below a folder but those at or below another path, in byte order. The one fault is want of memory.
+    /// Returns the paths of the files below a folder, except those at or below another path, in
+    /// byte order.
+    ///
+    /// Errors: out of memory only.
     pub fn list_outside(
         &self,
         alloc: Global,
@@ -108,7 +117,9 @@ impl FileMap {
         Ok(paths_of(alloc, names)?)
     }
 
-    /// The paths of the files directly in a folder, in byte order. The one fault is want of memory.
+    /// Returns the paths of the files directly in a folder, in byte order.
+    ///
+    /// Errors: out of memory only.
     pub fn list_directly(
         &self,
         alloc: Global,
@@ -122,7 +133,8 @@ impl FileMap {
         Ok(paths_of(alloc, names)?)
     }
 
-    /// Does nothing. It tells that each file has a normalised absolute path. It takes no memory.
+    /// Does nothing; its contract states that each file has a normalised absolute path. It takes no
+    /// memory.
     pub fn have_paths(&self)
         ensures { (path bytes : List ℕ) → map.get self.now path ≡ Some bytes
             → is_path path ≡ true }
@@ -130,15 +142,17 @@ impl FileMap {
         let _inside = &self.inside;
     }
 
-    /// Whether a file is at a path. It takes no memory.
+    /// Returns whether a file is at a path. It takes no memory.
     pub fn has(&self, path: &PathText) -> bool
         ensures { result ≡ is_some (map.get self.now path.now) }
     {
         self.get(path).is_some()
     }
 
-    /// The folders directly in a folder below which a file is, apart from the files at or below another path: each
-    /// once, in the order of these files. The one fault is want of memory.
+    /// Returns the folders directly in a folder that have a file below them, in the order of these
+    /// files without repeats. Files at or below another path are ignored.
+    ///
+    /// Errors: out of memory only.
     pub fn list_folders(
         &self,
         alloc: Global,
@@ -154,7 +168,9 @@ impl FileMap {
         folders_among(alloc, folder, paths.as_slice())
     }
 
-    /// Removes the file at a path and the files below it. Where memory is refused, nothing changes.
+    /// Removes the file at a path and the files below it.
+    ///
+    /// Errors: out of memory only. Nothing changes then.
     pub fn remove(&mut self, alloc: Global, path: &PathText) -> Result<(), AllocError>
         ensures ok { OnOk result
             (self.new ≡ map.retain_keys self.old (λ q. not (is_at_or_below path.now q))) }
@@ -168,7 +184,9 @@ impl FileMap {
 }
 
 impl FileMap {
-    /// Removes the files strictly below a folder. Where memory is refused, nothing changes.
+    /// Removes the files strictly below a folder.
+    ///
+    /// Errors: out of memory only. Nothing changes then.
     pub fn remove_below(&mut self, alloc: Global, folder: &PathText) -> Result<(), AllocError>
         ensures ok { OnOk result
             (self.new ≡ map.retain_keys self.old (λ q. not (is_below folder.now q))) }
@@ -179,8 +197,10 @@ impl FileMap {
         Ok(())
     }
 
-    /// Removes the first half, rounded down and in byte order, of the file at a path and the files below it. Where
-    /// memory is refused, nothing changes.
+    /// Removes the first half, rounded down and in byte order, of the file at a path and the files
+    /// below it.
+    ///
+    /// Errors: out of memory only. Nothing changes then.
     pub fn remove_half(&mut self, alloc: Global, path: &PathText) -> Result<(), AllocError>
         ensures ok { OnOk result (self.new ≡ half_removed path.now self.old) }
         ensures partly { OnOk result (PartlyRemovedAt path.now self.old self.new) }
@@ -192,7 +212,9 @@ impl FileMap {
         Ok(())
     }
 
-    /// Puts the file of another map that stands at a path, if one does. Where memory is refused, nothing changes.
+    /// Copies the file at a path from another map, if there is one.
+    ///
+    /// Errors: out of memory only. Nothing changes then.
     fn take_over(
         &mut self,
         alloc: Global,
@@ -209,8 +231,10 @@ impl FileMap {
         }
     }
 
-    /// Puts the files of another map that stand at some paths, in turn. Where memory is refused, those at the first few
-    /// of the paths are put, and no other.
+    /// Copies the files at these paths from another map, in turn.
+    ///
+    /// Errors: out of memory only. The files at the first n of the paths have been copied then, for
+    /// some n, and no others.
     pub fn put_from(
         &mut self,
         alloc: Global,
@@ -229,7 +253,7 @@ impl FileMap {
     }
 }
 
-/// A folder's stem and an end.
+/// Returns a folder's stem with an end appended.
 fn bound(alloc: Global, folder: &str, end: &str) -> Result<Text, AllocError>
     ensures { IfOk result (λ text. text ≡ stem folder.now ++ end.now) }
 {
@@ -238,7 +262,7 @@ fn bound(alloc: Global, folder: &str, end: &str) -> Result<Text, AllocError>
     Ok(Text::new(text))
 }
 
-/// The keys between two texts, in byte order.
+/// Returns the keys between two texts, in byte order.
 fn names_between(
     alloc: Global,
     files: &BTreeMap<Text, Bytes>,
@@ -261,8 +285,8 @@ fn names_between(
     Ok(names)
 }
 
-/// The keys below a folder, in byte order: those between its stem with a slash and its stem with a `0`,
-/// the character after the slash.
+/// Returns the keys below a folder, in byte order: those between its stem with a slash and its stem
+/// with a `0`, the character after the slash.
 fn names_below(
     alloc: Global,
     files: &BTreeMap<Text, Bytes>,
@@ -283,7 +307,7 @@ fn names_below(
     Ok(names)
 }
 
-/// The keys at or below a path, in byte order.
+/// Returns the keys at or below a path, in byte order.
 fn names_at_or_below(
     alloc: Global,
     files: &BTreeMap<Text, Bytes>,
@@ -304,7 +328,7 @@ fn names_at_or_below(
     Ok(names)
 }
 
-/// Those of some texts that are neither a folder nor below it.
+/// Returns the texts that are neither a folder nor below it.
 fn names_outside(
     alloc: Global,
     names: Vec<Text>,
@@ -322,7 +346,7 @@ fn names_outside(
     Ok(kept)
 }
 
-/// What follows a folder and a slash in a path; nothing, where the path is too short.
+/// Returns the rest of a path after a folder and a slash, or nothing if the path is too short.
 fn rest_in<'a>(folder: &str, path: &'a str) -> &'a [u8]
     ensures { result.now ≡ drop (length (stem folder.now) + 1) path.now }
 {
@@ -333,14 +357,14 @@ fn rest_in<'a>(folder: &str, path: &'a str) -> &'a [u8]
     }
 }
 
-/// Whether there is a slash.
+/// Returns whether a name contains a slash.
 fn has_slash(name: &[u8]) -> bool
     ensures { result ≡ list_any (λ b. b == 47) name.now }
 {
     name.iter().any(|byte| *byte == b'/')
 }
 
-/// Those of some texts below a folder that go on with one name.
+/// Returns the texts that are a folder, a slash and one name.
 fn names_without_slash(
     alloc: Global,
     names: Vec<Text>,
@@ -366,7 +390,9 @@ fn names_without_slash(
     Ok(kept)
 }
 
-/// Paths of texts that are paths.
+/// Returns these texts as paths.
+///
+/// Requires: all of them are paths.
 fn paths_of(alloc: Global, names: Vec<Text>) -> Result<Items<PathText>, AllocError>
     requires { list_all is_path names.items ≡ true }
     ensures { IfOk result (λ paths. paths ≡ names.items) }
@@ -378,7 +404,7 @@ fn paths_of(alloc: Global, names: Vec<Text>) -> Result<Items<PathText>, AllocErr
     Ok(paths)
 }
 
-/// The first of two or more parts.
+/// Returns the first of two or more parts.
 fn first_folder<'a>(parts: &[&'a str]) -> Option<&'a str>
     ensures { option_copied result ≡ first_folder (each (λ part. part.now) parts.now) }
 {
@@ -388,7 +414,7 @@ fn first_folder<'a>(parts: &[&'a str]) -> Option<&'a str>
     }
 }
 
-/// The folder directly in a folder through which a path leads, if it leads through one.
+/// Returns the folder directly in a folder through which a path leads, if it leads through one.
 fn folder_towards(
     alloc: Global,
     folder: &PathText,
@@ -410,7 +436,7 @@ fn folder_towards(
     }
 }
 
-/// Whether a path is the last of some.
+/// Returns whether a path is the last of these paths.
 fn is_last(path: &PathText, paths: &[PathText]) -> bool
     ensures { result ≡ is_last path.now paths.now }
 {
@@ -420,7 +446,7 @@ fn is_last(path: &PathText, paths: &[PathText]) -> bool
     }
 }
 
-/// Adds a folder at the end, if there is one and it is not the last.
+/// Appends a folder, if there is one and it is not the last already.
 fn put_new(folders: &mut Items<PathText>, folder: Option<PathText>) -> Result<(), AllocError>
     ensures { OnOk result (folders.new ≡ with_new folders.old folder) }
 {
@@ -432,7 +458,8 @@ fn put_new(folders: &mut Items<PathText>, folder: Option<PathText>) -> Result<()
     Ok(())
 }
 
-/// The folders directly in a folder through which some paths lead, in their order, and none twice in a row.
+/// Returns the folders directly in a folder through which some paths lead, in the order of the
+/// paths, without repeats in a row.
 fn folders_among(
     alloc: Global,
     folder: &PathText,
@@ -448,7 +475,7 @@ fn folders_among(
     Ok(folders)
 }
 
-/// Takes the files at some keys away.
+/// Removes the files at these keys.
 fn remove_names(files: &mut BTreeMap<Text, Bytes>, names: &[Text])
     ensures gone { (q : List ℕ)
         → map.get (files_of files.new) q

@@ -38,12 +38,12 @@ pub enum PlaceFault {
     /// A variable could not be read.
     #[error("a variable could not be read")]
     Variable,
-    /// Memory was refused. The outside did not fail.
+    /// Out of memory. The outside did not fail.
     #[error("out of memory")]
     OutOfMemory,
 }
 
-/// Why a child gave no answer.
+/// Why a child gave no reply.
 #[derive(Clone, Copy, Debug, PartialEq, Eq, Error)]
 pub enum StartFault {
     /// The program could not be started.
@@ -52,20 +52,20 @@ pub enum StartFault {
     /// The child ended without a status.
     #[error("the child died")]
     Died,
-    /// What the child wrote could not be taken in.
+    /// The child's output could not be captured.
     #[error("the child's output could not be taken in")]
     Capture,
-    /// Memory was refused. The outside did not fail.
+    /// Out of memory. The outside did not fail.
     #[error("out of memory")]
     OutOfMemory,
 }
 
-/// What the outside answered to a call that failed. Want of memory is no failure of the outside.
+/// How the outside world failed a call. Running out of memory is no failure of the outside.
 #[derive(Clone, Copy, Debug, PartialEq, Eq)]
 pub enum Failure {
     /// A call on files or variables failed.
     Called(PlaceFault),
-    /// A child could not be started, or gave no answer.
+    /// A child could not be started, or gave no reply.
     Started(StartFault),
 }
 
@@ -101,7 +101,7 @@ impl<T: Drop> From<AllocFailed<T>> for StartFault {
     }
 }
 
-/// Returns the first of these bytes, at most `most`.
+/// Returns the first n of these bytes, where n is at most `most`.
 fn cut(bytes: Bytes, most: usize) -> Bytes
     ensures { result ≡ take most bytes }
 {
@@ -112,15 +112,18 @@ fn cut(bytes: Bytes, most: usize) -> Bytes
 
 /// The files, the variables and the child processes of the outside world.
 ///
-/// Clauses about answers and about file contents hold of a place that tells its maps. All others hold of every place.
-/// Apart from out of memory, each answer is determined by the maps and the child.
-/// Our own choice of calls.
+/// Clauses about answers and about file contents apply to places that tell their maps. All other
+/// clauses apply to every place. Unless memory runs out, the maps and the child determine each
+/// answer.
+///
+/// Which calls there are is our own choice.
 pub trait Place {
-    /// Whether the place tells its maps: whether `at` has the files and variables as they are. A real machine does not,
-    /// so clauses with this premise say nothing about it.
+    /// Whether the place tells its maps: whether `at` has the files and variables as they are. A
+    /// real machine does not, so clauses with this premise do not apply to it.
     ghost tells: { Bool };
 
-    /// All that clauses say of the place at one moment. If it does not tell its maps, they are constant.
+    /// All that clauses can see of the place at one moment. If it does not tell its maps, they are
+    /// constant.
     ghost at: { Self → At };
 
     /// The child: a member of the type, so no call can change it.
@@ -138,7 +141,8 @@ pub trait Place {
         ensures looks { LooksOnce (call.Read path.now) result (at self.old) (at self.new) }
         ensures fails { IfErr result (λ e. e ≢ PlaceFault.OutOfMemory → fails self.old) };
 
-    /// Returns the first bytes of a file, at most `most`, or none if no file is there. It is counted as `read` is.
+    /// Returns the first bytes of a file, at most `most`, or none if no file is there. It is
+    /// counted as `read` is.
     ///
     /// Errors: `Read`; `OutOfMemory`.
     fn read_first(
@@ -168,7 +172,8 @@ pub trait Place {
         ensures looks { LooksOnce (call.IsFile path.now) result (at self.old) (at self.new) }
         ensures fails { IfErr result (λ e. e ≢ PlaceFault.OutOfMemory → fails self.old) };
 
-    /// Returns the paths of all files below a folder, in byte order. The folder's own path is not among them.
+    /// Returns the paths of all files below a folder, in byte order. The folder's own path is not
+    /// among them.
     ///
     /// Errors: `List`; `OutOfMemory`.
     fn list(&mut self, alloc: Global, folder: &PathText) -> Result<Items<PathText>, PlaceFault>
@@ -177,8 +182,8 @@ pub trait Place {
         ensures looks { LooksOnce (call.List folder.now) result (at self.old) (at self.new) }
         ensures fails { IfErr result (λ e. e ≢ PlaceFault.OutOfMemory → fails self.old) };
 
-    /// Returns the paths of all files below a folder but those at or below another path, in byte order. It does not
-    /// look at or below that path.
+    /// Returns the paths of all files below a folder, except those at or below another path, in
+    /// byte order. It does not look at or below that path.
     ///
     /// Errors: `List`; `OutOfMemory`.
     fn list_outside(
@@ -193,7 +198,8 @@ pub trait Place {
             (at self.old) (at self.new) }
         ensures fails { IfErr result (λ e. e ≢ PlaceFault.OutOfMemory → fails self.old) };
 
-    /// Returns the paths of the files directly in a folder, in byte order. It does not look into the folders there.
+    /// Returns the paths of the files directly in a folder, in byte order. It does not look into
+    /// the folders there.
     ///
     /// Errors: `List`; `OutOfMemory`.
     fn list_directly(
@@ -207,10 +213,12 @@ pub trait Place {
             (at self.old) (at self.new) }
         ensures fails { IfErr result (λ e. e ≢ PlaceFault.OutOfMemory → fails self.old) };
 
-    /// Returns the paths of the folders directly in a folder, each once. It does not look into them.
+    /// Returns the paths of the folders directly in a folder, without repeats. It does not look
+    /// into them.
     ///
-    /// In the maps a folder is one below which a file is, apart from the files at or below another path. A machine also
-    /// has folders without files: it may return them too, but not that other path.
+    /// In the maps these are the folders with a file below them, not counting files at or below
+    /// another path. A machine also has folders without files: it may return them too, but not that
+    /// other path.
     ///
     /// Errors: `List`; `OutOfMemory`.
     fn list_folders(
@@ -226,8 +234,8 @@ pub trait Place {
             (at self.old) (at self.new) }
         ensures fails { IfErr result (λ e. e ≢ PlaceFault.OutOfMemory → fails self.old) };
 
-    /// Writes a file and makes the folders above it. After an error the old file is there, or none, or the
-    /// first of the new bytes.
+    /// Writes a file, and creates the folders above it. After an error the path has the old file,
+    /// no file, or the first n of the new bytes.
     ///
     /// Errors: `Write`; `OutOfMemory`.
     fn write(&mut self, alloc: Global, path: &PathText, bytes: &[u8]) -> Result<(), PlaceFault>
@@ -239,8 +247,8 @@ pub trait Place {
             (at self.old) (at self.new) }
         ensures fails { IfErr result (λ e. e ≢ PlaceFault.OutOfMemory → fails self.old) };
 
-    /// Removes the file at a path and all files below it. If nothing is there, it changes nothing. After an
-    /// error each of them is there or not.
+    /// Removes the file at a path and all files below it. If there are none, nothing changes. After
+    /// an error each of them may still exist.
     ///
     /// Errors: `Remove`; `OutOfMemory`.
     fn remove_tree(&mut self, alloc: Global, path: &PathText) -> Result<(), PlaceFault>
@@ -261,8 +269,9 @@ pub trait Place {
         ensures looks { LooksOnce (call.Variable name.now) result (at self.old) (at self.new) }
         ensures fails { IfErr result (λ e. e ≢ PlaceFault.OutOfMemory → fails self.old) };
 
-    /// Spawns a child process, and returns its ticket, by which `finish` waits for it. No other child in flight has
-    /// this ticket. `command.out` is made; anything may be inside it from then on, until the child has ended.
+    /// Spawns a child process, and returns its ticket, by which `finish` waits for it. No other
+    /// child in flight has this ticket. It creates `command.out`; until the child has ended, that
+    /// folder may contain anything.
     ///
     /// Errors: `CannotStart`, and then no child is in flight; `OutOfMemory`.
     fn spawn(&mut self, alloc: Global, command: &Command) -> Result<u64, StartFault>
@@ -270,9 +279,9 @@ pub trait Place {
         ensures fails { IfErr result (λ e. e ≢ StartFault.OutOfMemory → fails self.old) }
         ensures later { fails self.new → fails self.old };
 
-    /// Waits for the end of a child in flight, and ends its ticket, whatever it answers. If the child answers, and
-    /// what it sees and what its folder holds has not changed since it was spawned, its answer and its folder are
-    /// what its reply to the world at the spawn makes of them.
+    /// Waits for the end of a child in flight, and ends its ticket, whatever the result. Suppose
+    /// that the child replies, and that what it sees and its folder have not changed since the
+    /// spawn. Then its reply and its folder are determined by the world at the spawn.
     ///
     /// Errors: `Died`; `Capture`; `OutOfMemory`.
     fn finish(&mut self, alloc: Global, ticket: u64) -> Result<Ended, StartFault>
@@ -283,9 +292,9 @@ pub trait Place {
         ensures finishes { Finishes ticket result (at self.old) (at self.new) }
         ensures fails { IfErr result (λ e. e ≢ StartFault.OutOfMemory → fails self.old) };
 
-    /// Starts a child process and waits for its end: `spawn`, then `finish`. It makes the folder `command.out` first
-    /// (the maps know files alone, so no clause shows that). It changes files inside `out` alone, and after an error
-    /// anything may be there.
+    /// Starts a child process and waits for its end: `spawn`, then `finish`. It first creates the
+    /// folder `command.out`, which no clause shows, since the maps contain only files. It changes
+    /// only files inside `out`; after an error `out` may contain anything.
     ///
     /// Errors: those of `spawn` and of `finish`.
     fn start(&mut self, alloc: Global, command: &Command) -> Result<Ended, StartFault>
@@ -298,8 +307,9 @@ pub trait Place {
         self.finish(alloc, ticket)
     }
 
-    /// Returns the path that a text means from a folder: that of `PathText::join`. On a machine a `..` behind a link leads
-    /// to the folder in which the link's goal lies. It is not counted.
+    /// Returns the path that a text spells relative to a folder: that of `PathText::join`. On a
+    /// machine, a `..` after a link leads to the folder that contains the link's target. The call
+    /// is not counted.
     ///
     /// Errors: those of `PathText::join`.
     fn path_from(&self, alloc: Global, folder: &PathText, text: &str) -> Result<PathText, PathFault>
@@ -309,9 +319,10 @@ pub trait Place {
         folder.join(alloc, text)
     }
 
-    /// Looks whether anything at or below a path, but not in the target folder, has moved: whether it has changed since
-    /// the child of this command was spawned, the last that has ended. `moved` has it from then on. Nothing else writes
-    /// in the maps, so nothing moves there. A machine that cannot tell takes it for moved. It is not counted.
+    /// Checks whether anything at or below a path, outside the target folder, has changed since the
+    /// child of this command was spawned; this must be the last child that has ended. If so,
+    /// `moved` contains it from then on. A machine that cannot decide reports a change. Nothing
+    /// else writes in the maps, so nothing moves there. The call is not counted.
     ///
     /// Errors: out of memory only.
     fn watch(
@@ -325,22 +336,23 @@ pub trait Place {
         Ok(())
     }
 
-    /// Returns whether all that the child of this command read has stood still, as far as `watch` looked: nothing has
-    /// moved for this child, and nothing for a child in whose output folder it reads. It takes no memory, and is not
-    /// counted.
+    /// Returns whether nothing that the child of this command read has moved, as far as `watch` has
+    /// looked. This covers children in whose output folders the child reads. It takes no memory,
+    /// and is not counted.
     fn stood_still(&self, _command: &Command) -> bool
         ensures { IsTrue tells → result ≡ true }
     {
         true
     }
 
-    /// Returns what has moved, for each child at most once, in the order in which it was found. It takes no memory.
+    /// Returns what has moved, at most one path per child, in the order in which it was found. It
+    /// takes no memory.
     fn moved(&self) -> &[Moved]
         ensures all { result.now ≡ (at self.now).moved }
         ensures none { IsTrue tells → result.now ≡ [] };
 
-    /// Does nothing. It tells that each file in the maps has a normalised absolute path. It takes no memory, and is not
-    /// counted.
+    /// Does nothing; its contract states that each file in the maps has a normalised absolute path.
+    /// It takes no memory, and is not counted.
     fn files_have_paths(&self)
         ensures { IsTrue tells → FilesHavePaths (at self.now).world };
 
@@ -352,8 +364,9 @@ pub trait Place {
     fn starts(&self) -> u64
         ensures { result ≡ (at self.now).counts.starts.count };
 
-    /// Returns how many counted calls but `finish` came since the last that failed, at most `u64::MAX`; 0 if none failed.
-    /// Those of `&self`, and `watch`, are not counted. It takes no memory.
+    /// Returns the number of counted calls other than `finish` since the last failure, at most
+    /// `u64::MAX`; 0 if none failed. Calls on `&self`, and `watch`, are not counted. It takes no
+    /// memory.
     fn late(&self) -> u64
         ensures { result ≡ (at self.now).counts.late };
 

@@ -11,7 +11,8 @@ use std::alloc::{AllocError, Global};
 use std::collections::BTreeMap;
 use std::marker::Model;
 
-/// Texts by their names, in byte order, as variables are. A look-up takes time logarithmic in their number.
+/// Texts by their names, in byte order, such as variables. A look-up takes time logarithmic in
+/// their number.
 #[derive(Drop)]
 pub struct TextMap {
     inside: BTreeMap<Text, Text>,
@@ -30,7 +31,7 @@ impl Model for TextMap {
 }
 
 impl TextMap {
-    /// Returns the map without a name. It takes no memory.
+    /// Returns a map without names. It takes no memory.
     pub fn new(alloc: Global) -> TextMap
         ensures { result ≡ map.empty }
     {

@@ -1,4 +1,4 @@
--- What holds leaves nothing unsaid of what is on.
+-- The definition of resolved features determines all that is on.
 use Rattle.std.specs.Prelude.{◌≡◌, ℕ}
 use Rattle.pb_feature.specs.Resolved.{IsResolved}
 use Rattle.pb_resolved.specs.Features.{features_at, is_active, is_enabled}
@@ -7,7 +7,7 @@ use Rattle.pb_package.specs.declared.options.Selection.{Selection}
 use Rattle.pb_package.specs.declared.package.Side.{Side}
 use Rattle.pb_package.specs.declared.workspace.Workspace.{Workspace}
 
--- all that is asked of two features of one selection has one answer
+-- two resolutions of one selection agree on each question about features
 abbrev pub FeaturesAreOne : Type 0
 FeaturesAreOne = (ws : Workspace) (selection : Selection) (f g : Features) → IsResolved ws selection f → IsResolved ws selection g
     → (p : ℕ) (s : Side) → (is_active f p s ≡ is_active g p s) × (features_at f p s ≡ features_at g p s) × ((n : ℕ) → is_enabled f p s n ≡ is_enabled g p s n)

@@ -12,7 +12,8 @@ use Rattle.pb_package.specs.Workspace.{has_feature_named}
 use Rattle.pb_package.specs.declared.package.Entry.{Entry}
 use Rattle.pb_package.specs.declared.package.Package.{Package}
 
--- what is wrong with a name that an entry has to have, an optional one or any: only others have it; or none has, and it is no name of `[dev-dependencies]`
+-- what is wrong with a name that must be that of an entry, or of an optional entry: only other entries have it; or no
+-- entry has it, and it is no name of `[dev-dependencies]`
 abbrev pub name_fault : Package → Bool → List ℕ → Option FeatureFault
 name_fault p optional name =
     if list_any (λ (e : Entry). bytes_eq name e.key && (e.optional || not optional)) p.entries then None
@@ -25,6 +26,6 @@ fault_of p (Of name feature) = name_fault p false name
 fault_of p (Dependency name) = name_fault p true name
 fault_of p (OfEnabled name feature) = name_fault p true name
 
--- The fault of a package is the first of its items as they are written, feature after feature in byte order.
+-- The fault of a package is the first fault of its items, in written order, feature after feature in byte order.
 abbrev pub PackagesAreAtFault : Type 0
 PackagesAreAtFault = (p : Package) → package_fault p ≡ slice_get (filter_map (fault_of p) (flat_map (λ (feature : Feature). feature.items) p.features)) 0

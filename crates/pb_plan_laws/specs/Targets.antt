@@ -1,4 +1,4 @@
--- What a unit compiles, and where what it makes lies (The Cargo Book, Cargo Targets, Build Scripts).
+-- What a unit compiles, and the files that it produces (The Cargo Book, Cargo Targets, Build Scripts).
 use Rattle.std.specs.Prelude.{◌≡◌, ℕ, codes, List, [], ◌∷◌, ◌++◌, map, None, Some, Contains, slice_get}
 use Rattle.pb_directive.specs.Metadata.{underscored}
 use Rattle.pb_manifest.specs.declared.target.CrateType.{CrateType}
@@ -19,13 +19,14 @@ use Rattle.pb_unit.specs.declared.unit.Unit.{Unit as OfPlan}
 use Rattle.pb_unit.specs.declared.unit.What.{What}
 use Rattle.pb_unit.specs.declared.unit.What.TheVariants.{Lib, Bin, Script, Run}
 
--- a target of a package: the name of its crate, its crate types, its source, and the name of the file that is made of it
+-- a target of a package: the name of its crate, its crate types, its source, and the name of the file that it is
+-- compiled to
 pub data IsTarget (p : Package) : What → List ℕ → List CrateType → List ℕ → List ℕ → Type 0 where
   library : (l : Library) (has : p.library ≡ Some l) → IsTarget p Lib l.name l.crate_types l.source (codes "lib" ++ l.name ++ codes ".rlib")
   binary : (b : Binary) (has : Contains p.binaries b) → IsTarget p (Bin b.name) (underscored b.name) (crate_type.Bin ∷ []) b.source (underscored b.name)
   script : (source : List ℕ) (has : p.script ≡ Some source) → IsTarget p Script (codes "build_script_build") (crate_type.Bin ∷ []) source (codes "build_script_build")
 
--- a unit compiles that; in its output folder lie the file, and `CRATE.d`, which tells what was read
+-- a unit compiles this target; its output folder contains the file, and `CRATE.d`, which lists what was read
 pub record Makes (project : Project) (u : Planned) (p : Package) (crate : List ℕ) (types : List CrateType) (source file : List ℕ) : Type 0 where
   pub crate_is : crate_name_of project u ≡ crate
   pub types_are : crate_types p.library u.unit.what ≡ types
@@ -33,20 +34,21 @@ pub record Makes (project : Project) (u : Planned) (p : Package) (crate : List �
   pub file_is : made_file_of project u ≡ file_in u.out file
   pub told : dep_info_of project u ≡ file_in u.out (crate ++ codes ".d")
 
--- of a package with its binaries by name, as one of a workspace that was read
+-- each unit of a package compiles its target, if the package's binaries are sorted by name, as those of a workspace
+-- that was read
 abbrev pub UnitsMakeTargets : Type 0
 UnitsMakeTargets = (project : Project) (u : Planned) (p : Package) (crate : List ℕ) (types : List CrateType) (source file : List ℕ) → package_of project u ≡ Some p → IsAscending (map (λ (b : Binary). b.name) p.binaries)
     → IsTarget p u.unit.what crate types source file → Makes project u p crate types source file
 
--- and a run makes no file
+-- and a run produces no file
 abbrev pub RunsMakeNone : Type 0
 RunsMakeNone = (project : Project) (u : Planned) → u.unit.what ≡ Run → (made_file_of project u ≡ None) × (dep_info_of project u ≡ None)
 
--- a unit whose package has its target; of a run, its script
+-- a unit whose package has its target; for a run, its script
 pub data HasTarget (ws : Workspace) : OfPlan → Type 0 where
   compile : (p : ℕ) (s : Side) (what : What) (owner : Package) (there : slice_get ws.packages p ≡ Some owner) (crate : List ℕ) (types : List CrateType) (source file : List ℕ) (is : IsTarget owner what crate types source file) → HasTarget ws (unit p s what)
   run : (p : ℕ) (s : Side) (owner : Package) (there : slice_get ws.packages p ≡ Some owner) (source : List ℕ) (has : owner.script ≡ Some source) → HasTarget ws (unit p s Run)
 
--- each unit of a plan is one
+-- each unit of a plan is such a unit
 abbrev pub PlansHaveTargets : Type 0
 PlansHaveTargets = (ws : Workspace) (features : Features) (selection : Selection) (u : OfPlan) → IsPlanned ws features selection u → HasTarget ws u

@@ -1,4 +1,4 @@
--- What the line of a profile is, in the words of The Cargo Book: profiles of which each inherits from the next.
+-- The line of a profile in the terms of The Cargo Book: profiles each of which inherits from the next.
 use Rattle.std.specs.Prelude.{◌≡◌, ℕ, List, [], ◌∷◌, Some, None, Ok, Err, IsSome}
 use Rattle.pb_manifest.specs.declared.profile.Profile.{Profile}
 use Rattle.pb_package.specs.declared.package.Package.{Package}
@@ -11,21 +11,22 @@ use Rattle.pb_profile.specs.Settings.{looked_up, places_of}
 abbrev pub InheritsFrom : List Profile → Seen → Seen → Type 0
 InheritsFrom profiles s t = above profiles s ≡ Ok (Some t)
 
--- a line: a profile that inherits from none, or one and then the line of what it inherits from
+-- a line is a profile that inherits from none, or a profile and then the line of the profile that it inherits from
 pub data IsLine (profiles : List Profile) : Seen → List Seen → Type 0 where
   last : (s : Seen) (ends : above profiles s ≡ Ok None) → IsLine profiles s (s ∷ [])
   further : (s t : Seen) (line : List Seen) (inherits : InheritsFrom profiles s t) (rest : IsLine profiles t line) → IsLine profiles s (s ∷ line)
 
--- the profile itself, or one that it inherits from in some steps
+-- the profile itself, or one that it inherits from in one or more steps
 pub data IsAncestor (profiles : List Profile) : Seen → Seen → Type 0 where
   itself : (s : Seen) → IsAncestor profiles s s
   higher : (s t u : Seen) (inherits : InheritsFrom profiles s t) (more : IsAncestor profiles t u) → IsAncestor profiles s u
 
--- what is given as a line is one
+-- a line that is returned is a line in this sense
 abbrev pub GivesLines : Type 0
 GivesLines = (profiles : List Profile) (name : List ℕ) (line : List Seen) → line_of profiles name ≡ Ok line → IsLine profiles (seen_at profiles name) line
 
--- a profile is told as none only where the asked one, or one that it inherits from, inherits from nothing that is there
+-- a profile is missing if it is neither built in nor written with `inherits`;
+-- it is the requested profile or one from which that profile inherits
 pub record IsMissing (profiles : List Profile) (from : Seen) : Type 0 where
   pub profile : Seen
   pub ancestor : IsAncestor profiles from profile
@@ -34,7 +35,7 @@ pub record IsMissing (profiles : List Profile) (from : Seen) : Type 0 where
 abbrev pub TellsMissing : Type 0
 TellsMissing = (profiles : List Profile) (name : List ℕ) → line_of profiles name ≡ Err NoSuchProfile → IsMissing profiles (seen_at profiles name)
 
--- the line of a profile comes back: one of it inherits, in one step or more, from itself
+-- the line of a profile comes back: a profile in it inherits from itself in one or more steps
 pub record ComesBack (profiles : List Profile) (from : Seen) : Type 0 where
   pub profile : Seen
   pub ancestor : IsAncestor profiles from profile
@@ -42,11 +43,11 @@ pub record ComesBack (profiles : List Profile) (from : Seen) : Type 0 where
   pub inherits : InheritsFrom profiles profile next
   pub back : IsAncestor profiles next profile
 
--- a cycle is told only where the line comes back
+-- a cycle is reported only if the line comes back
 abbrev pub TellsCycles : Type 0
 TellsCycles = (profiles : List Profile) (name : List ℕ) → line_of profiles name ≡ Err InheritsCycle → ComesBack profiles (seen_at profiles name)
 
--- each of the nine keys has a value at some place, whatever the profiles write
+-- each of the nine keys has a value at some location, whatever the profiles contain
 pub record AllAreFound (p : Package) (role : Side) (line : List Seen) : Type 0 where
   pub opt_level : IsSome (looked_up (λ k. k.opt_level) (places_of p role) line)
   pub debug : IsSome (looked_up (λ k. k.debug) (places_of p role) line)

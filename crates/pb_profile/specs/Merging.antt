@@ -1,4 +1,5 @@
--- Keys put together as the code does it. These words serve private functions alone: that they give what the places say is proved.
+-- Keys merged as the code does it.
+-- These definitions serve private functions only; the result is proved to be that of `Settings`.
 use Rattle.std.specs.Prelude.{true, false, List, [], ◌∷◌, unwrap_or}
 use Rattle.std.specs.Option.{option_or}
 use Rattle.pb_manifest.specs.declared.profile.ProfileKeys.{ProfileKeys}
@@ -15,7 +16,7 @@ use Rattle.pb_profile.specs.declared.settings.Settings.{Settings}
 use Rattle.pb_profile.specs.declared.keys.Source.{Source}
 use Rattle.pb_profile.specs.declared.keys.Source.TheVariants.{Package, BuildOverride, OfHosts, Own, BuiltIn}
 
--- the keys of the first, and those of the second that the first does not set
+-- the keys of the first, and for keys that it does not set those of the second
 abbrev pub keys_or : ProfileKeys → ProfileKeys → ProfileKeys
 keys_or a b = record {
   codegen_units = option_or a.codegen_units b.codegen_units;
@@ -29,17 +30,17 @@ keys_or a b = record {
   strip = option_or a.strip b.strip;
 }
 
--- the keys at one place, along a line
+-- the keys at one location, merged along a line
 abbrev pub keys_along : Place → List Seen → ProfileKeys
 keys_along place [] = no_keys
 keys_along place (s ∷ line) = keys_or (place s) (keys_along place line)
 
--- the keys at places one after another
+-- the keys at several locations, merged in order
 abbrev pub keys_at : List Place → List Seen → ProfileKeys
 keys_at [] line = no_keys
 keys_at (place ∷ places) line = keys_or (keys_along place line) (keys_at places line)
 
--- where keys are sought, as in_package and the others have it
+-- the location that a source means, such as `in_package`
 abbrev pub sought : Source → Place
 sought (Package name) = in_package name.now
 sought BuildOverride = in_build_override
@@ -47,7 +48,7 @@ sought OfHosts = of_hosts
 sought Own = own
 sought BuiltIn = built_in
 
--- what a profile's table has at a place
+-- the keys of a profile's table at a location
 abbrev pub written_in : Source → Profile → ProfileKeys
 written_in (Package name) table = keys_or_none (override_named name.now table)
 written_in BuildOverride table = keys_or_none table.build_override
@@ -55,7 +56,7 @@ written_in OfHosts table = no_keys
 written_in Own table = table.keys
 written_in BuiltIn table = no_keys
 
--- the settings that merged keys say
+-- the settings that merged keys determine
 abbrev pub settings_from : Side → ProfileKeys → Settings
 settings_from role k = record {
   opt_level = unwrap_or k.opt_level Zero;

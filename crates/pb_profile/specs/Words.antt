@@ -1,4 +1,4 @@
--- Settings in the words that a compiler's command line and the message lines share.
+-- The spelling of settings on a compiler's command line and in message lines.
 use Rattle.std.specs.Prelude.{ℕ, codes, List}
 use Rattle.pb_manifest.specs.declared.profile.OptLevel.{OptLevel}
 use Rattle.pb_manifest.specs.declared.profile.OptLevel.TheVariants.{Zero, One, Two, Three, Size, SmallestSize}

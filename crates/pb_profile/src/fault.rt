@@ -1,4 +1,4 @@
-//! Why a profile gives no settings.
+//! Why a profile has no settings.
 
 ghost use Rattle.std.specs.Prelude.{◌≡◌};
 ghost use Rattle.pb_profile.specs.declared.fault.ProfileFault.TheVariants as profile_fault;
@@ -6,19 +6,20 @@ ghost use Rattle.pb_profile.specs.declared.fault.ProfileFault.TheVariants as pro
 use std::alloc::{AllocError, AllocFailed};
 use thiserror::Error;
 
-/// Why a profile gives no settings.
+/// Why a profile has no settings.
 #[derive(Clone, Copy, Debug, PartialEq, Eq, Error)]
 pub enum ProfileFault {
-    /// The asked profile, or one that it inherits from, is none: it is not built in and not written.
+    /// The requested profile, or one that it inherits from, is neither built in nor written.
     #[error("there is no such profile")]
     NoSuchProfile,
-    /// The asked profile leads to profiles that inherit from one another.
+    /// The requested profile leads to profiles that inherit from one another.
     #[error("profiles inherit from one another")]
     InheritsCycle,
-    /// An override of the asked profile, or of one that it inherits from, sets `panic`, `lto` or `rpath`.
+    /// An override of the requested profile, or of one that it inherits from, sets `panic`, `lto`
+    /// or `rpath`.
     #[error("an override sets a key that it may not set")]
     NotInOverride,
-    /// Memory was refused.
+    /// Out of memory.
     #[error("out of memory")]
     OutOfMemory,
 }

@@ -1,4 +1,4 @@
-//! Keys at one place after another: the first that has a key gives its value.
+//! Keys at several locations in order: the first location that has a key determines its value.
 
 ghost use Rattle.std.specs.Prelude.{◌≡◌, map, option_map};
 ghost use Rattle.pb_profile.specs.Line.{seen};
@@ -9,7 +9,7 @@ use crate::line::Ancestor;
 use pb_manifest::{DebugInfo, Lto, OptLevel, Panic, Profile, ProfileKeys, Strip};
 use pb_package::{Package, Side};
 
-/// No key is set.
+/// Returns no keys.
 pub(crate) fn no_keys() -> ProfileKeys
     ensures { result ≡ no_keys }
 {
@@ -26,7 +26,7 @@ pub(crate) fn no_keys() -> ProfileKeys
     }
 }
 
-/// The keys of the first, and those of the second that the first does not set.
+/// Returns the keys of the first, and for keys that it does not set those of the second.
 pub(crate) fn keys_or(first: &ProfileKeys, second: &ProfileKeys) -> ProfileKeys
     ensures { result ≡ keys_or first.now second.now }
 {
@@ -43,22 +43,22 @@ pub(crate) fn keys_or(first: &ProfileKeys, second: &ProfileKeys) -> ProfileKeys
     }
 }
 
-/// Where keys are sought.
+/// A location of keys.
 #[derive(Clone, Copy)]
 pub(crate) enum Source<'a> {
-    /// In the override of a package of this name.
+    /// The override of a package with this name.
     Package(&'a str),
-    /// In `build-override`.
+    /// `build-override`.
     BuildOverride,
-    /// Among the built-in values beside `build-override`.
+    /// The built-in values for `build-override`.
     OfHosts,
-    /// In the profile itself.
+    /// The profile itself.
     Own,
-    /// Among the built-in values of `dev` and `release`.
+    /// The built-in values of `dev` and `release`.
     BuiltIn,
 }
 
-/// The keys, or none of them.
+/// Returns these keys, or no keys if there are none.
 fn keys_or_none(keys: Option<ProfileKeys>) -> ProfileKeys
     ensures { result ≡ keys_or_none keys }
 {
@@ -68,7 +68,7 @@ fn keys_or_none(keys: Option<ProfileKeys>) -> ProfileKeys
     }
 }
 
-/// What the override of this name sets.
+/// Returns the keys that the override with this name sets.
 fn override_named(name: &str, profile: &Profile) -> Option<ProfileKeys>
     ensures { result ≡ override_named name.now profile.now }
 {
@@ -83,7 +83,7 @@ fn override_named(name: &str, profile: &Profile) -> Option<ProfileKeys>
     }
 }
 
-/// The built-in values beside `build-override`.
+/// Returns the built-in values for `build-override`.
 fn of_hosts(ancestor: &Ancestor) -> ProfileKeys
     ensures { result ≡ of_hosts (seen ancestor.now) }
 {
@@ -94,7 +94,7 @@ fn of_hosts(ancestor: &Ancestor) -> ProfileKeys
     keys
 }
 
-/// The built-in values of `dev`.
+/// Returns the built-in values of `dev`.
 fn dev_keys() -> ProfileKeys
     ensures { result ≡ dev_keys }
 {
@@ -111,7 +111,7 @@ fn dev_keys() -> ProfileKeys
     }
 }
 
-/// The built-in values of `release`.
+/// Returns the built-in values of `release`.
 fn release_keys() -> ProfileKeys
     ensures { result ≡ release_keys }
 {
@@ -128,7 +128,7 @@ fn release_keys() -> ProfileKeys
     }
 }
 
-/// The built-in values of a profile.
+/// Returns the built-in values of a profile.
 fn built_in(ancestor: &Ancestor) -> ProfileKeys
     ensures { result ≡ built_in (seen ancestor.now) }
 {
@@ -139,7 +139,7 @@ fn built_in(ancestor: &Ancestor) -> ProfileKeys
     }
 }
 
-/// The keys that a profile of a line has at a place.
+/// Returns the keys that a profile of a line has at a location.
 fn keys_in(source: Source, ancestor: &Ancestor) -> ProfileKeys
     ensures { result ≡ sought source.entry (seen ancestor.now) }
 {
@@ -153,7 +153,7 @@ fn keys_in(source: Source, ancestor: &Ancestor) -> ProfileKeys
     }
 }
 
-/// The keys that a profile's table has at a place; none for those that are built in.
+/// Returns the keys that a profile's table has at a location; none for built-in values.
 fn written_in(source: Source, table: &Profile) -> ProfileKeys
     ensures { result ≡ written_in source.entry table.now }
 {
@@ -165,7 +165,8 @@ fn written_in(source: Source, table: &Profile) -> ProfileKeys
     }
 }
 
-/// The keys at a place along a line, and of the rest those that it does not have.
+/// Returns the keys at a location along a line, and for keys that it does not have those of the
+/// rest.
 fn before(source: Source, line: &[Ancestor], rest: &ProfileKeys) -> ProfileKeys
     ensures { result ≡ keys_or (keys_along (sought source.entry) (map seen line.now)) rest.now }
 {
@@ -176,7 +177,7 @@ fn before(source: Source, line: &[Ancestor], rest: &ProfileKeys) -> ProfileKeys
     keys_or(&keys, rest)
 }
 
-/// The keys of a package in a role: at each of its places in turn.
+/// Returns the keys of a package in a role, from its locations in order.
 pub(crate) fn keys_at(owner: &Package, role: Side, line: &[Ancestor]) -> ProfileKeys
     ensures { result ≡ keys_at (places_of owner.now role) (map seen line.now) }
 {

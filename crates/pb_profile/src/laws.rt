@@ -2,17 +2,18 @@
 
 ghost use Rattle.pb_profile.specs.Laws.{GivesLines, TellsMissing, TellsCycles, FindsValues};
 
-/// What is given as the line of a profile is one: each inherits from the next, and the last from none. A
-/// profile is told as missing only where one of its line is, and a cycle only where one of its line
-/// inherits, in one step or more, from itself.
+/// A line that is returned for a profile is one: each profile inherits from the next, and the last
+/// from none. A missing profile is reported only if the requested profile, or one that it inherits
+/// from, is missing. A cycle is reported only if such a profile inherits from itself in one or more
+/// steps.
 pub fn lines_follow_inherits()
     ensures lines { GivesLines }
     ensures missing { TellsMissing }
     ensures cycles { TellsCycles }
 {}
 
-/// Along each line every key has a value, whatever the profiles write: that of the built-in values, where
-/// no place before them has it.
+/// Along each line every key has a value, whatever the profiles contain: the built-in one, if no
+/// earlier location has it.
 pub fn values_are_found()
     ensures { FindsValues }
 {}

@@ -1,4 +1,4 @@
-//! The line of a profile: the profile, what it inherits from, and so on.
+//! The line of a profile: the profile, the one that it inherits from, and so on.
 
 ghost use Rattle.std.specs.Prelude.{◌≡◌, map, option_map};
 ghost use Rattle.std.specs.List.{list_all};
@@ -10,18 +10,18 @@ use crate::fault::ProfileFault;
 use pb_manifest::{Profile, ProfileKeys, ProfileOverride};
 use std::alloc::Global;
 
-/// A profile of a line.
+/// A profile in a line.
 #[derive(Drop)]
 pub struct Ancestor<'a> {
     /// Its name.
     pub name: &'a str,
-    /// Its table in the root manifest. None for a built-in profile of which nothing is written.
+    /// Its table in the root manifest. None for a built-in profile that is not written.
     pub table: Option<&'a Profile>,
 }
 
-/// The folder inside the target folder that a profile's output goes to: `debug` for `dev` and `test`,
-/// `release` for `release` and `bench`, else the profile's name (The Cargo Book, Profiles). It takes no
-/// memory.
+/// Returns the folder of a profile's output inside the target folder: `debug` for `dev` and `test`,
+/// `release` for `release` and `bench`, else the profile's name (The Cargo Book, Profiles). It
+/// takes no memory.
 pub fn folder_of(profile: &str) -> &str
     ensures { result.now ≡ folder_of profile.now }
 {
@@ -32,7 +32,7 @@ pub fn folder_of(profile: &str) -> &str
     }
 }
 
-/// The table of this name.
+/// Returns the table with this name, if there is one.
 fn named<'a>(profiles: &'a [Profile], name: &str) -> Option<&'a Profile>
     ensures { option_map (λ p. p.now) result ≡ named profiles.now name.now }
 {
@@ -41,7 +41,7 @@ fn named<'a>(profiles: &'a [Profile], name: &str) -> Option<&'a Profile>
         .find(|profile| profile.name.as_str() == name)
 }
 
-/// The profile of this name.
+/// Returns the profile with this name.
 fn ancestor_at<'a>(profiles: &'a [Profile], name: &'a str) -> Ancestor<'a>
     ensures { seen result ≡ seen_at profiles.now name.now }
 {
@@ -51,8 +51,9 @@ fn ancestor_at<'a>(profiles: &'a [Profile], name: &'a str) -> Ancestor<'a>
     }
 }
 
-/// The name of what a profile inherits from: none for `dev` and `release`. NoSuchProfile where it is not
-/// built in and not written.
+/// Returns the name of the profile from which a profile inherits, or none for `dev` and `release`.
+///
+/// Errors: `NoSuchProfile`, if the profile is neither built in nor written.
 fn parent_of<'a>(ancestor: &Ancestor<'a>) -> Result<Option<&'a str>, ProfileFault>
     ensures { shown_parent (λ text. text.now) result ≡ parent_of (seen ancestor.now) }
 {
@@ -70,7 +71,7 @@ fn parent_of<'a>(ancestor: &Ancestor<'a>) -> Result<Option<&'a str>, ProfileFaul
     }
 }
 
-/// The profile that a profile inherits from.
+/// Returns the profile from which a profile inherits, if there is one.
 fn above<'a>(
     profiles: &'a [Profile],
     ancestor: &Ancestor<'a>,
@@ -83,10 +84,12 @@ fn above<'a>(
     }
 }
 
-/// The line of a profile: itself, what it inherits from, and so on to `dev` or `release`.
+/// Returns the line of a profile: itself, the profile that it inherits from, and so on to `dev` or
+/// `release`.
 ///
-/// NoSuchProfile where one of them is not built in and not written, InheritsCycle where the line has no
-/// end, NotInOverride where an override of one of them sets `panic`, `lto` or `rpath`.
+/// Errors: `NoSuchProfile`, if one of them is neither built in nor written; `InheritsCycle`, if the
+/// line has no end; `NotInOverride`, if an override of one of them sets `panic`, `lto` or `rpath`;
+/// `OutOfMemory`.
 #[tactic(auto, using(crate::proofs::Merged::each_seen))]
 pub fn line_of<'a>(
     alloc: Global,
@@ -103,14 +106,14 @@ pub fn line_of<'a>(
     }
 }
 
-/// Whether no override of these profiles sets what it may not set.
+/// Returns whether no override of these profiles sets a key that it may not set.
 fn all_allow(line: &[Ancestor]) -> bool
     ensures { result ≡ list_all (λ ancestor. allows (seen ancestor)) line.now }
 {
     line.iter().all(|ancestor| allows(ancestor))
 }
 
-/// The line of a profile, whatever its overrides set.
+/// Returns the line of a profile, whatever its overrides set.
 fn walked<'a>(
     alloc: Global,
     profiles: &'a [Profile],
@@ -136,14 +139,14 @@ fn walked<'a>(
     Err(ProfileFault::InheritsCycle)
 }
 
-/// Whether keys set none that an override may not set.
+/// Returns whether an override may set all of these keys.
 fn may_override(keys: &ProfileKeys) -> bool
     ensures { result ≡ may_override keys.now }
 {
     keys.panic.is_none() && keys.lto.is_none() && keys.rpath.is_none()
 }
 
-/// Whether no override of a profile sets what it may not set.
+/// Returns whether no override of a profile sets a key that it may not set.
 fn allows(ancestor: &Ancestor) -> bool
     ensures { result ≡ allows (seen ancestor.now) }
 {
@@ -153,7 +156,7 @@ fn allows(ancestor: &Ancestor) -> bool
     }
 }
 
-/// Whether keys that may be there set none that an override may not set.
+/// Returns whether an override may set all of these keys, if there are any.
 fn some_may_override(keys: Option<ProfileKeys>) -> bool
     ensures { result ≡ option_all may_override keys }
 {
@@ -163,14 +166,14 @@ fn some_may_override(keys: Option<ProfileKeys>) -> bool
     }
 }
 
-/// Whether overrides set none that they may not set.
+/// Returns whether none of these overrides sets a key that it may not set.
 fn all_may_override(overrides: &[ProfileOverride]) -> bool
     ensures { result ≡ list_all (λ (o : ProfileOverride). may_override o.keys) overrides.now }
 {
     overrides.iter().all(|one| may_override(&one.keys))
 }
 
-/// Whether no override of a table sets what it may not set.
+/// Returns whether no override of a table sets a key that it may not set.
 fn table_allows(table: &Profile) -> bool
     ensures { result ≡ table_allows table.now }
 {

@@ -14,7 +14,8 @@ use pb_manifest::{DebugInfo, Lto, OptLevel, Panic, ProfileKeys, Strip};
 use pb_package::{Package, Side, Workspace};
 use std::alloc::Global;
 
-/// The settings of a package in a role: one value for each key of a profile (The Cargo Book, Profiles).
+/// The settings of a package in a role: one value for each key of a profile (The Cargo Book,
+/// Profiles).
 #[derive(Clone, Copy, PartialEq, Eq)]
 pub struct Settings {
     /// `opt-level`.
@@ -38,17 +39,26 @@ pub struct Settings {
 }
 
 impl Settings {
-    /// The settings of a package in a role under a profile. A build script, and what is made for the host,
-    /// has the role of the host, all else that of the target.
+    /// Returns the settings of a package in a role under a profile. A build script, and everything
+    /// that is made for the host, has the role of the host; everything else has the role of the
+    /// target.
     ///
-    /// A value is that of the first place that has it, each place looked up along what the profile inherits
-    /// from: the override of the package's name; the override `*`, of a package that is no member; for the
-    /// host's role `build-override`, and then its built-in values; the profile; the built-in values. The
-    /// order of the places for the host's role is our own choice. `panic` of the host's role is `unwind`.
+    /// A value is that of the first location that has it. Each location is looked up along what the
+    /// profile inherits from:
     ///
-    /// NoSuchProfile where the profile, or one that it inherits from, is none; InheritsCycle where its line
-    /// comes back to itself; NotInOverride where an override of the profile or of one that it inherits
-    /// from, of any package, sets `panic`, `lto` or `rpath`.
+    /// - the override with the package's name;
+    /// - the override `*`, if the package is no member;
+    /// - in the host's role, `build-override`, and then its built-in values;
+    /// - the profile itself;
+    /// - the built-in values.
+    ///
+    /// The order of the locations in the host's role is our own choice. `panic` in the host's role
+    /// is `unwind`.
+    ///
+    /// Errors: `NoSuchProfile`, if the profile, or one that it inherits from, does not exist;
+    /// `InheritsCycle`, if its line comes back to itself; `NotInOverride`, if an override of the
+    /// profile or of one that it inherits from, for any package, sets `panic`, `lto` or `rpath`;
+    /// `OutOfMemory`.
     pub fn settings(
         alloc: Global,
         workspace: &Workspace,
@@ -63,7 +73,7 @@ impl Settings {
     }
 }
 
-/// The settings that merged keys say.
+/// Returns the settings that merged keys determine.
 fn settings_from(role: Side, keys: &ProfileKeys) -> Settings
     ensures { result ≡ settings_from role keys.now }
 {
@@ -84,8 +94,8 @@ fn settings_from(role: Side, keys: &ProfileKeys) -> Settings
     }
 }
 
-/// The settings of a package in a role along a line. It takes no memory, so whoever asks for many
-/// packages under one profile makes the line once.
+/// Returns the settings of a package in a role along a line. It takes no memory, so a caller that
+/// needs many packages under one profile can make the line once.
 #[tactic(auto, using(crate::proofs::Merged::merged_settings))]
 pub fn settings_along(owner: &Package, role: Side, line: &[Ancestor]) -> Settings
     ensures { result ≡ settings_along owner.now role (map seen line.now) }

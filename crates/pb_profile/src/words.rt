@@ -1,11 +1,11 @@
-//! Settings in the words that a compiler's command line and the message lines share.
+//! The spelling of settings on a compiler's command line and in message lines.
 
 ghost use Rattle.std.specs.Prelude.{◌≡◌};
 ghost use Rattle.pb_profile.specs.Words.{opt_level_text};
 
 use pb_manifest::OptLevel;
 
-/// An optimisation level as `opt-level` spells it (The Cargo Book, Profiles).
+/// Returns an optimisation level as `opt-level` spells it (The Cargo Book, Profiles).
 pub fn opt_level_text(level: OptLevel) -> &'static str
     ensures { result.now ≡ opt_level_text level }
 {

@@ -1,9 +1,9 @@
--- Texts by their names, set in turn.
+-- Texts by their names, set one after another.
 use Rattle.std.specs.Prelude.{ℕ, List, [], ◌∷◌}
 use Rattle.std.specs.FinMap as map
 use Rattle.pb_place.specs.World.{Map}
 
--- texts set in turn, by their names: a later one takes the place of an earlier one
+-- texts by their names, set one after another: a later text replaces an earlier one
 abbrev pub all_set : Map → List (List ℕ × List ℕ) → Map
 all_set m [] = m
 all_set m (pair ∷ pairs) = all_set (map.insert m pair.0 pair.1) pairs

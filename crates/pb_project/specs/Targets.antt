@@ -1,4 +1,5 @@
--- What a unit makes and where: crate names, sources, files, looked up by place (The Cargo Book, Cargo Targets, Build Scripts). Where nothing is at a place, nothing is found.
+-- What a unit produces and where: crate names, sources and files, looked up by index (The Cargo Book, Cargo Targets,
+-- Build Scripts). Nothing is found at an index without a unit or package.
 use Rattle.std.specs.Prelude.{ℕ, ◌==◌, ◌&&◌, Bool, true, false, if◌then◌else◌, codes, List, [], ◌∷◌, ◌++◌, Option, Some, None, slice_get}
 use Rattle.std.specs.List.{find}
 use Rattle.std.specs.Str.{bytes_eq}
@@ -31,7 +32,7 @@ abbrev pub package_folder : List ℕ → Option Package → List ℕ
 package_folder root None = root
 package_folder root (Some p) = p.folder
 
--- the folder of a unit's package; the workspace's where there is no such package
+-- the folder of a unit's package, or the workspace's if there is no such package
 abbrev pub folder_of : Project → Planned → List ℕ
 folder_of project unit = package_folder project.workspace.root (package_of project unit)
 
@@ -41,7 +42,8 @@ abbrev pub library_name : Option Library → List ℕ
 library_name None = []
 library_name (Some library) = library.name
 
--- the name of the crate: the library's own, a binary's with `_` for each `-`, and one that all scripts have; a run compiles none
+-- the name of the crate: the library's own, a binary's with `_` for each `-`, and one name for all scripts; a run
+-- compiles none
 abbrev pub crate_name : Option Library → What → List ℕ
 crate_name library Lib = library_name library
 crate_name library (Bin name) = underscored name
@@ -87,18 +89,18 @@ source_by p Run = []
 
 -- Files.
 
--- the file of this name in a folder, where it is a name
+-- the file of this name in a folder, if it is a name
 abbrev pub file_in : List ℕ → List ℕ → Option (List ℕ)
 file_in folder name = if is_relative name then Some (below folder name) else None
 
--- the file that is made of a crate: `libC.rlib` of a library, `C` of a binary or a script
+-- the file that a crate is compiled to: `libC.rlib` for a library, `C` for a binary or a script
 abbrev pub file_by : What → List ℕ → List ℕ → Option (List ℕ)
 file_by Lib folder name = file_in folder (codes "lib" ++ name ++ codes ".rlib")
 file_by (Bin binary) folder name = file_in folder name
 file_by Script folder name = file_in folder name
 file_by Run folder name = None
 
--- the file that a compile makes; a run makes none
+-- the file that a compile produces; a run produces none
 abbrev pub made_file_of : Project → Planned → Option (List ℕ)
 made_file_of project unit = file_by unit.unit.what unit.out (crate_name_of project unit)
 
@@ -108,7 +110,7 @@ dep_info_by (Bin binary) folder name = file_in folder (name ++ codes ".d")
 dep_info_by Script folder name = file_in folder (name ++ codes ".d")
 dep_info_by Run folder name = None
 
--- the file in which a compile tells what it has read: `C.d`; a run has none
+-- the file in which a compile reports what it has read: `C.d`; a run has none
 abbrev pub dep_info_of : Project → Planned → Option (List ℕ)
 dep_info_of project unit = dep_info_by unit.unit.what unit.out (crate_name_of project unit)
 
@@ -132,16 +134,16 @@ is_run (Bin name) = false
 is_run Script = false
 is_run Run = true
 
--- a unit is there, is one of these and of the package at this place
+-- there is a unit, it passes this test, and it is of the package at this index
 abbrev pub is_one_of : (What → Bool) → ℕ → Option Planned → Bool
 is_one_of test owner None = false
 is_one_of test owner (Some unit) = test unit.unit.what && (unit.unit.owner == owner)
 
--- the place of the one among the needs of a unit that is one of these and of the package at this place
+-- among the needs of a unit, the index of the one that passes this test and is of the package at this index
 abbrev pub needed : (What → Bool) → Project → Planned → ℕ → Option ℕ
 needed test project unit owner = find (λ place. is_one_of test owner (unit_at project place)) unit.needs
 
--- the run of its own package's script, where the unit needs it
+-- the run of its own package's script, if the unit needs it
 abbrev pub own_run : Project → Planned → Option ℕ
 own_run project unit = needed is_run project unit unit.unit.owner
 
@@ -168,7 +170,7 @@ said_in None = []
 said_in (Some None) = []
 said_in (Some (Some directives)) = directives
 
--- what the run at a place of the plan has said
+-- the directives of the run at an index of the plan
 abbrev pub said_at : List (Option (List Directive)) → ℕ → List Directive
 said_at done place = said_in (slice_get done place)
 
@@ -176,6 +178,6 @@ abbrev pub said_there : List (Option (List Directive)) → Option ℕ → List D
 said_there done None = []
 said_there done (Some place) = said_at done place
 
--- what the run of the unit's own package has said
+-- the directives of the run of the unit's own package
 abbrev pub own_said : Project → Planned → List (Option (List Directive)) → List Directive
 own_said project unit done = said_there done (own_run project unit)

@@ -18,20 +18,21 @@ pub enum UnitFault {
     /// A line of a build script's output has a fault.
     #[error("a line of the script's output is refused: {}", .0)]
     Directive(LineFault),
-    /// A build script ended with status 0 and printed a line `cargo::error` (The Cargo Book, Build Scripts).
+    /// A build script ended with status 0 and printed a line `cargo::error` (The Cargo Book, Build
+    /// Scripts).
     #[error("the script told of an error")]
     ScriptError,
-    /// The compiler left no dep-info, one that does not read, or one over 4,194,304 bytes.
+    /// The compiler left no dep-info, one that cannot be read, or one over 4,194,304 bytes.
     #[error("no dep-info that can be read")]
     NoDepInfo,
-    /// A path at or below the target folder is named as an input, and it lies in the folder of no unit that
-    /// was reached.
+    /// A path at or below the target folder is named as an input, and it is not in the folder of a
+    /// unit that this unit reaches.
     #[error("`{}` lies in the target folder", .0.as_str())]
     ForeignInput(PathText),
     /// A stream of the child is over 4,194,304 bytes (our own choice).
     #[error("a stream is too long")]
     OutputTooLong,
-    /// Memory was refused.
+    /// Memory ran out.
     #[error("out of memory")]
     OutOfMemory,
 }

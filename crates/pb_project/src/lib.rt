@@ -1,6 +1,7 @@
-//! What a build knows once it is planned: the project and its settings, what a unit makes and where, what it
-//! needs, what the runs of build scripts have said, what an answer gives and why one is bad. The commands of
-//! units stand on it, and so does all that speaks of units without making their commands.
+//! What a build knows once it is planned: the project and its settings, what a unit produces and
+//! where, what it needs, the directives of build scripts, what a good answer contains, and why an
+//! answer is bad. The commands of units are built over this crate, and so is all that is about
+//! units but makes no commands.
 #![tactic(auto)]
 
 pub mod answer;

@@ -1,4 +1,4 @@
-//! What a unit needs, by its package, and what runs have said.
+//! What a unit needs, by its package, and the directives of runs.
 
 ghost use Rattle.std.specs.Prelude.{◌≡◌, IfOk, option_map};
 ghost use Rattle.pb_project.specs.Targets.{unit_at, is_library, is_script, is_run, is_one_of, needed, own_run, file_at, library_file, script_file, said_at, own_said};
@@ -10,35 +10,35 @@ use pb_place::PathText;
 use pb_unit::{Planned, What};
 use std::alloc::{AllocError, Global};
 
-/// The unit at a place of the plan.
+/// Returns the unit at an index of the plan.
 pub fn unit_at(project: &Project, place: usize) -> Option<&Planned>
     ensures { option_map (λ unit. unit.now) result ≡ unit_at project.now place }
 {
     project.plan.planned.as_slice().get(place)
 }
 
-/// Whether it is a library.
+/// Returns whether it is a library.
 pub fn is_library(what: &What) -> bool
     ensures { result ≡ is_library what.now }
 {
     matches!(what, What::Lib)
 }
 
-/// Whether it is a script.
+/// Returns whether it is a script.
 fn is_script(what: &What) -> bool
     ensures { result ≡ is_script what.now }
 {
     matches!(what, What::Script)
 }
 
-/// Whether it is the run of a script.
+/// Returns whether it is the run of a script.
 pub fn is_run(what: &What) -> bool
     ensures { result ≡ is_run what.now }
 {
     matches!(what, What::Run)
 }
 
-/// Whether the unit at a place is the library of a package.
+/// Returns whether the unit at an index is the library of a package.
 fn is_library_of(project: &Project, place: usize, owner: usize) -> bool
     ensures { result ≡ is_one_of is_library owner (unit_at project.now place) }
 {
@@ -48,7 +48,7 @@ fn is_library_of(project: &Project, place: usize, owner: usize) -> bool
     }
 }
 
-/// Whether the unit at a place is a script of a package.
+/// Returns whether the unit at an index is a script of a package.
 fn is_script_of(project: &Project, place: usize, owner: usize) -> bool
     ensures { result ≡ is_one_of is_script owner (unit_at project.now place) }
 {
@@ -58,7 +58,7 @@ fn is_script_of(project: &Project, place: usize, owner: usize) -> bool
     }
 }
 
-/// Whether the unit at a place is a run of a package's script.
+/// Returns whether the unit at an index is a run of a package's script.
 fn is_run_of(project: &Project, place: usize, owner: usize) -> bool
     ensures { result ≡ is_one_of is_run owner (unit_at project.now place) }
 {
@@ -68,7 +68,7 @@ fn is_run_of(project: &Project, place: usize, owner: usize) -> bool
     }
 }
 
-/// The place of the library of a package, where a unit needs it.
+/// Returns the index of the library of a package, if a unit needs it.
 fn needed_library(project: &Project, unit: &Planned, owner: usize) -> Option<usize>
     ensures { result ≡ needed is_library project.now unit.now owner }
 {
@@ -79,7 +79,7 @@ fn needed_library(project: &Project, unit: &Planned, owner: usize) -> Option<usi
         .find(|place| is_library_of(project, *place, owner))
 }
 
-/// The place of the script of a package, where a unit needs it.
+/// Returns the index of the script of a package, if a unit needs it.
 fn needed_script(project: &Project, unit: &Planned, owner: usize) -> Option<usize>
     ensures { result ≡ needed is_script project.now unit.now owner }
 {
@@ -90,7 +90,7 @@ fn needed_script(project: &Project, unit: &Planned, owner: usize) -> Option<usiz
         .find(|place| is_script_of(project, *place, owner))
 }
 
-/// The place of the run of a unit's own package, where the unit needs it.
+/// Returns the index of the run of a unit's own package, if the unit needs it.
 pub fn own_run(project: &Project, unit: &Planned) -> Option<usize>
     ensures { result ≡ own_run project.now unit.now }
 {
@@ -102,7 +102,7 @@ pub fn own_run(project: &Project, unit: &Planned) -> Option<usize>
         .find(|place| is_run_of(project, *place, owner))
 }
 
-/// The file of what is made at a place of the plan.
+/// Returns the file that the unit at an index of the plan produces.
 fn file_at(
     alloc: Global,
     project: &Project,
@@ -119,7 +119,9 @@ fn file_at(
     }
 }
 
-/// The file of the library of a package, where a unit needs it. The one fault is want of memory.
+/// Returns the file of the library of a package, if a unit needs it.
+///
+/// Errors: only out of memory.
 pub fn library_file(
     alloc: Global,
     project: &Project,
@@ -131,7 +133,9 @@ pub fn library_file(
     file_at(alloc, project, needed_library(project, unit, owner))
 }
 
-/// The file of the script of a unit's own package, where the unit needs it. The one fault is want of memory.
+/// Returns the file of the script of a unit's own package, if the unit needs it.
+///
+/// Errors: only out of memory.
 pub fn script_file(
     alloc: Global,
     project: &Project,
@@ -143,7 +147,7 @@ pub fn script_file(
     file_at(alloc, project, place)
 }
 
-/// What the run at a place of the plan has said.
+/// Returns the directives of the run at an index of the plan.
 pub fn said_at(done: &[Option<Directives>], place: usize) -> &[Directive]
     ensures { result.now ≡ said_at done.now place }
 {
@@ -153,7 +157,7 @@ pub fn said_at(done: &[Option<Directives>], place: usize) -> &[Directive]
     }
 }
 
-/// What the run of a unit's own package has said.
+/// Returns the directives of the run of a unit's own package.
 pub fn own_said<'a>(
     project: &Project,
     unit: &Planned,

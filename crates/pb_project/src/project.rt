@@ -5,31 +5,31 @@ use pb_package::Workspace;
 use pb_resolved::Features;
 use pb_unit::Plan;
 
-/// All that a build knows of its workspace once it is planned.
+/// All that a build knows about its workspace once it is planned.
 #[derive(Drop)]
 pub struct Project {
     /// The workspace.
     pub workspace: Workspace,
-    /// What is on in it.
+    /// Its resolved features.
     pub features: Features,
     /// The plan of its units.
     pub plan: Plan,
-    /// The name of the profile that it was planned under.
+    /// The name of the profile under which it was planned.
     pub profile: Text,
 }
 
-/// What the variables and the options say of how things are compiled.
+/// How things are compiled, by the variables and the options.
 #[derive(Drop)]
 pub struct Setup {
-    /// The text of the variable `CARGO` of a child.
+    /// The value of the variable `CARGO` of a child.
     pub tool: Text,
     /// The compiler, as `RUSTC` names it.
     pub rustc: Text,
-    /// The words of `RUSTFLAGS`.
+    /// The arguments in `RUSTFLAGS`.
     pub flags: Items<Text>,
-    /// The words that stand before the path of a build script: a program and its words. Empty: the script is
-    /// started itself.
+    /// The arguments before the path of a build script: a program and its arguments. Empty: the
+    /// script itself is started.
     pub runner: Items<Text>,
-    /// What the compiler says of its version: the standard output of `-vV`.
+    /// The compiler's output about its version: the standard output of `-vV`.
     pub toolchain: Bytes,
 }

@@ -1,4 +1,4 @@
-//! What a unit makes and where.
+//! What a unit produces and where.
 
 ghost use Rattle.std.specs.Prelude.{◌≡◌, IfOk, OnOk, ◌++◌, option_map, slice_get, string_bytes, codes};
 ghost use Rattle.pb_project.specs.Targets.{package_of, folder_of, library_in, library_name, crate_name_of, library_source, binary_source, binary_named, source_by, file_in, file_by, made_file_of, dep_info_by, dep_info_of};
@@ -11,14 +11,14 @@ use pb_place::{PathText, RelativePath};
 use pb_unit::{Planned, What};
 use std::alloc::{AllocError, Global};
 
-/// The package of a unit.
+/// Returns the package of a unit.
 pub fn package_of<'a>(project: &'a Project, unit: &Planned) -> Option<&'a Package>
     ensures { option_map (λ owner. owner.now) result ≡ package_of project.now unit.now }
 {
     project.workspace.packages.as_slice().get(unit.unit.owner)
 }
 
-/// The folder of a unit's package.
+/// Returns the folder of a unit's package.
 pub fn folder_of<'a>(project: &'a Project, unit: &Planned) -> &'a PathText
     ensures { result.now ≡ folder_of project.now unit.now }
 {
@@ -28,7 +28,8 @@ pub fn folder_of<'a>(project: &'a Project, unit: &Planned) -> &'a PathText
     }
 }
 
-/// The crate's name of the library of the package at a place; empty where it has none.
+/// Returns the crate name of the library of the package at an index, or an empty name if it has
+/// none.
 pub fn library_name(project: &Project, place: usize) -> &str
     ensures { result.now ≡ library_name (library_in (slice_get project.now.workspace.packages place)) }
 {
@@ -41,9 +42,11 @@ pub fn library_name(project: &Project, place: usize) -> &str
     }
 }
 
-/// The name of the crate that a unit compiles (The Cargo Book, Cargo Targets): the library's own, a binary's
-/// with `_` for each `-`, `build_script_build` for each script (our own choice). A run compiles none, and its
-/// name is empty. The one fault is want of memory.
+/// Returns the name of the crate that a unit compiles (The Cargo Book, Cargo Targets): the
+/// library's own, a binary's with `_` for each `-`, or `build_script_build` for each script (our
+/// own choice). A run compiles none, and its name is empty.
+///
+/// Errors: only out of memory.
 pub fn crate_name_of(alloc: Global, project: &Project, unit: &Planned) -> Result<Text, AllocError>
     ensures { IfOk result (λ name. name ≡ crate_name_of project.now unit.now) }
 {
@@ -55,7 +58,7 @@ pub fn crate_name_of(alloc: Global, project: &Project, unit: &Planned) -> Result
     }
 }
 
-/// The path of the source of a package's library; empty where it has none.
+/// Returns the path of the source of a package's library, or an empty path if it has none.
 fn library_source(owner: &Package) -> &str
     ensures { result.now ≡ library_source owner.now.library }
 {
@@ -65,7 +68,8 @@ fn library_source(owner: &Package) -> &str
     }
 }
 
-/// The path of the source of a package's binary; empty where it has none of this name.
+/// Returns the path of the source of a package's binary, or an empty path if it has none of this
+/// name.
 fn source_of_binary<'a>(owner: &'a Package, name: &Text) -> &'a str
     ensures { result.now ≡ binary_source (binary_named name.now owner.now.binaries) }
 {
@@ -75,7 +79,7 @@ fn source_of_binary<'a>(owner: &'a Package, name: &Text) -> &'a str
     }
 }
 
-/// The path of the source of what a unit makes of its package; empty where there is none.
+/// Returns the path of the source that a unit compiles, or an empty path if there is none.
 pub fn source_by<'a>(owner: &'a Package, what: &What) -> &'a str
     ensures { result.now ≡ source_by owner.now what.now }
 {
@@ -90,7 +94,7 @@ pub fn source_by<'a>(owner: &'a Package, what: &What) -> &'a str
     }
 }
 
-/// The file of a name in a folder, where it is the name of a file.
+/// Returns the file of a name in a folder, if it is the name of a file.
 fn file_in(alloc: Global, folder: &PathText, name: String) -> Result<Option<PathText>, AllocError>
     ensures { IfOk result (λ file. file ≡ file_in folder.now (string_bytes name)) }
 {
@@ -103,7 +107,7 @@ fn file_in(alloc: Global, folder: &PathText, name: String) -> Result<Option<Path
     }
 }
 
-/// A text between two others.
+/// Returns a text between two others.
 fn between(alloc: Global, first: &str, text: &str, last: &str) -> Result<String, AllocError>
     ensures { IfOk result (λ made. string_bytes made ≡ first.now ++ text.now ++ last.now) }
 {
@@ -113,7 +117,7 @@ fn between(alloc: Global, first: &str, text: &str, last: &str) -> Result<String,
     Ok(made)
 }
 
-/// The file that is made of a crate in a folder.
+/// Returns the file to which a crate is compiled in a folder.
 fn file_by(
     alloc: Global,
     what: &What,
@@ -130,8 +134,10 @@ fn file_by(
     }
 }
 
-/// The file that a compile makes in its output folder: `libC.rlib` of a library, `C` of a binary and a script,
-/// where C is the crate's name (our own choice). None for a run. The one fault is want of memory.
+/// Returns the file that a compile produces in its output folder: `libC.rlib` for a library, `C`
+/// for a binary and a script, where C is the crate's name (our own choice). None for a run.
+///
+/// Errors: only out of memory.
 pub fn made_file(
     alloc: Global,
     project: &Project,
@@ -143,7 +149,7 @@ pub fn made_file(
     file_by(alloc, &unit.unit.what, &unit.out, name.as_str())
 }
 
-/// The dep-info of a crate in a folder.
+/// Returns the dep-info file of a crate in a folder.
 fn dep_info_by(
     alloc: Global,
     what: &What,
@@ -162,8 +168,10 @@ fn dep_info_by(
     }
 }
 
-/// The file in which a compile tells what it has read: `C.d` in its output folder, where C is the crate's name
-/// (our own choice). None for a run. The one fault is want of memory.
+/// Returns the file in which a compile reports what it has read: `C.d` in its output folder, where
+/// C is the crate's name (our own choice). None for a run.
+///
+/// Errors: only out of memory.
 pub fn dep_info_path(
     alloc: Global,
     project: &Project,

@@ -1,10 +1,10 @@
--- What was asked, and the command that asks it.
+-- What a record says was requested, and the command that requests it.
 use Rattle.std.specs.Prelude.{◌≡◌, true, if◌then◌else◌, Option, Some, None, List, ℕ}
 use Rattle.pb_place.specs.declared.command.Command.{Command}
 use Rattle.pb_record.specs.Sorted.{are_sorted}
 use Rattle.pb_record.specs.declared.asked.Asked.{Asked}
 
--- the command that was asked
+-- the command that was requested
 abbrev pub command_of : Asked → Command
 command_of a = record {
   program = a.program;
@@ -17,7 +17,8 @@ command_of a = record {
   reads = a.reads;
 }
 
--- what a command asks: it has an output folder, and its variables are sorted by name, each once
+-- the request of a command, from its parts and this output folder (below, with an optional one: a command has a request
+-- if it has an output folder and its variables are sorted by name, each name once)
 abbrev pub of_parts : Command → List ℕ → Asked
 of_parts c out = record {
   program = c.program;
@@ -37,7 +38,7 @@ asked_with c (Some out) = if are_sorted c.pairs then Some (of_parts c out) else 
 abbrev pub asked_in : Command → Option Asked
 asked_in c = asked_with c c.out
 
--- a command asks the same, its variables apart
+-- a command requests the same, variables apart
 pub record AsksAs (a : Asked) (c : Command) : Type 0 where
   pub program : a.program ≡ c.program
   pub words : a.words ≡ c.words
@@ -47,14 +48,14 @@ pub record AsksAs (a : Asked) (c : Command) : Type 0 where
   pub toolchain : a.toolchain ≡ c.toolchain
   pub reads : a.reads ≡ c.reads
 
--- What a command asks is that command.
+-- The command of a command's request is that command.
 abbrev pub AskedIsCommand : Type 0
 AskedIsCommand = (c : Command) (a : Asked) → asked_in c ≡ Some a → command_of a ≡ c
 
--- The command that was asked asks it.
+-- The request of a request's command is that request, if its variables are sorted.
 abbrev pub CommandIsAsked : Type 0
 CommandIsAsked = (a : Asked) → are_sorted a.pairs ≡ true → asked_in (command_of a) ≡ Some a
 
--- A command that asks the same, with the same variables, is the command that was asked.
+-- A command that requests the same, with the same variables, is the command that was requested.
 abbrev pub SameAsked : Type 0
 SameAsked = (a : Asked) (c : Command) → AsksAs a c → a.pairs ≡ c.pairs → command_of a ≡ c

@@ -1,4 +1,4 @@
--- Records as text: one function from a record to its bytes, in the order in which they stand.
+-- Records as text: one function from a record to its bytes, in the order of the text.
 use Rattle.std.specs.Prelude.{ℕ, ◌+◌, zero, suc, codes, List, [], ◌∷◌, ◌++◌, length, map, Option, Some, None}
 use Rattle.std.specs.Int.Digits.{digits_of}
 use Rattle.std.specs.List.{flat_map}
@@ -9,7 +9,7 @@ use Rattle.pb_record.specs.declared.record.Needed.{Needed}
 use Rattle.pb_record.specs.declared.record.Needed.TheVariants.{Copies, Numbers}
 use Rattle.pb_record.specs.declared.record.Record.{Record}
 
--- one text, and then another
+-- one text, followed by another
 infixr 10 ◌⨾◌
 abbrev pub ◌⨾◌ : List ℕ → List ℕ → List ℕ
 a ⨾ b = a ++ b
@@ -18,28 +18,28 @@ a ⨾ b = a ++ b
 abbrev pub line : List ℕ → List ℕ
 line text = text ++ 10 ∷ []
 
--- the decimal digits of a number: no 0 stands in front, but for the number 0 itself
+-- the decimal digits of a number, without a leading 0; the number 0 is one 0
 abbrev pub decimals : ℕ → List ℕ
 decimals zero = codes "0"
 decimals (suc n) = map (λ d. 48 + d) (digits_of 10 (suc n))
 
--- N, a number: its digits, and a line feed
+-- N, a number: its digits and a line feed
 unfoldable pub number : ℕ → List ℕ
 number n = line (decimals n)
 
--- B, some bytes: how many they are, the bytes, and a line feed
+-- B, some bytes: their count, the bytes, and a line feed
 unfoldable pub block : List ℕ → List ℕ
 block bytes = number (length bytes) ⨾ line bytes
 
--- L, a list: how many items there are, and each in turn
+-- L, a list: the count of its items, and each item in turn
 unfoldable pub listed : {A : Type 0} → (A → List ℕ) → List A → List ℕ
 listed item items = number (length items) ⨾ flat_map item items
 
--- two parts in turn
+-- two parts, one after the other
 abbrev pub both : {A B : Type 0} → (A → List ℕ) → (B → List ℕ) → (A × B) → List ℕ
 both first second p = first p.0 ⨾ second p.1
 
--- the files of a folder: the path of each in the folder, and its bytes
+-- the files of a folder: for each its path relative to the folder, and its bytes
 abbrev pub files : List (List ℕ × List ℕ) → List ℕ
 files = listed (both block block)
 
@@ -54,7 +54,7 @@ input_bytes (File path bytes) = line (codes "f") ⨾ block path ⨾ block bytes
 input_bytes (Tree path below) = line (codes "t") ⨾ block path ⨾ files below
 input_bytes (Value name text) = line (codes "v") ⨾ block name ⨾ perhaps text
 
--- what was asked of the child
+-- what was requested of the child
 abbrev pub asked_bytes : Asked → List ℕ
 asked_bytes a =
     block a.program
@@ -66,8 +66,8 @@ asked_bytes a =
     ⨾ block a.toolchain
     ⨾ listed block a.reads
 
--- the rest of a record, by its format: the needed units with the numbers of their records behind the record's own
--- number, or with copies of their files
+-- the bytes of a record, by its format: with its own number and the numbers of the needed units, or with copies of
+-- their files
 abbrev pub bytes_by : Record → Needed → List ℕ
 bytes_by r (Numbers own needs) =
     line (codes "record 2")

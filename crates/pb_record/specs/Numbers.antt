@@ -1,4 +1,4 @@
--- What a record says of run numbers.
+-- The run numbers in a record.
 use Rattle.std.specs.Prelude.{◌≡◌, ℕ, List, Option, Some, None, option_map}
 use Rattle.pb_record.specs.Parts.{IsReading, Says}
 use Rattle.pb_record.specs.declared.numbers.Numbers.{Numbers}
@@ -6,7 +6,7 @@ use Rattle.pb_record.specs.declared.record.Needed.{Needed}
 use Rattle.pb_record.specs.declared.record.Needed.TheVariants as needed
 use Rattle.pb_record.specs.declared.record.Record.{Record}
 
--- a record's own run number, and those with which it names the units that it needs; a record of format 1 has none
+-- a record's own run number, and the numbers by which it names the units that it needs; none in format 1
 abbrev pub numbered_in : Needed → Option (ℕ × List (List ℕ × ℕ))
 numbered_in (needed.Copies copies) = None
 numbered_in (needed.Numbers own needs) = Some (own, needs)
@@ -15,7 +15,7 @@ numbered_in (needed.Numbers own needs) = Some (own, needs)
 abbrev pub numbers_of : Record → Numbers
 numbers_of r = record { key = r.key; numbered = numbered_in r.needed }
 
--- the numbers of the record that a text is, or none if it is that of no record
+-- the numbers of the record of a text; none if the text is not that of a record
 abbrev pub AreNumbersOf : List ℕ → Option Numbers → Type 0
 AreNumbersOf text found = (read : List ℕ → Option Record) → IsReading read → found ≡ option_map numbers_of (read text)
 

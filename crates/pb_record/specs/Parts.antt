@@ -1,5 +1,5 @@
--- What a record is, beside its form: texts are UTF-8, paths are normalised, names inside a folder stay in it, numbers
--- fit 64 bits, and variables are sorted by name, each name once.
+-- What a record is, apart from its text: texts are UTF-8, paths are normalised, names inside a folder stay in it,
+-- numbers fit in 64 bits, and variables are sorted by name, each name once.
 use Rattle.std.specs.Prelude.{◌≡◌, ◌↔◌, ◌<◌, ◌^◌, ℕ, true, List, Option, Some, None}
 use Rattle.std.specs.List.{AllByRecursion}
 use Rattle.std.specs.Str.{IsUtf8}
@@ -13,7 +13,7 @@ use Rattle.pb_record.specs.declared.record.Needed.{Needed}
 use Rattle.pb_record.specs.declared.record.Needed.TheVariants.{Copies, Numbers}
 use Rattle.pb_record.specs.declared.record.Record.{Record}
 
--- any bytes
+-- any value is allowed
 abbrev pub IsAny : {A : Type 0} → A → Type 0
 IsAny x = Unit {0}
 
@@ -70,10 +70,10 @@ pub record Says (text : List ℕ) (r : Record) : Type 0 where
   pub is : IsRecord r
   pub same : text ≡ record_bytes r
 
--- The reading of a text: the record that it is, and none where it is that of no record.
+-- The reading of a text: its record, or none if it is not the text of a record.
 abbrev pub Reads : List ℕ → Option Record → Type 0
 Reads text found = (r : Record) → (found ≡ Some r) ↔ Says text r
 
--- a function that gives each text its reading
+-- a function that returns the reading of each text
 abbrev pub IsReading : (List ℕ → Option Record) → Type 0
 IsReading read = (text : List ℕ) → Reads text (read text)

@@ -1,14 +1,14 @@
--- What serves private functions alone: a part of a text at its front.
+-- For private functions only: a part at the beginning of a text.
 use Rattle.std.specs.Prelude.{◌≡◌, ◌≢◌, ◌<◌, ◌==◌, ℕ, Bool, false, not, ◌&&◌, List, [], ◌∷◌, ◌++◌, length}
 use Rattle.std.proofs.Common.{get_or}
 use Rattle.std.specs.List.{AllByRecursion}
 
--- the text begins with the bytes of this part, and the rest follows
+-- the text begins with the bytes of this part, followed by the rest
 pub record Stands {A : Type 0} (Is : A → Type 0) (spelled : A → List ℕ) (text : List ℕ) (x : A) (rest : List ℕ) : Type 0 where
   pub is : Is x
   pub here : text ≡ spelled x ++ rest
 
--- the text begins with the bytes of some such part, and the rest follows
+-- the text begins with the bytes of some such part, followed by the rest
 pub record StandsSome {A : Type 0} (Is : A → Type 0) (spelled : A → List ℕ) (text : List ℕ) (rest : List ℕ) : Type 0 where
   pub part : A
   pub stands : Stands Is spelled text part rest
@@ -17,21 +17,21 @@ pub record StandsSome {A : Type 0} (Is : A → Type 0) (spelled : A → List ℕ
 pub record StandsNone {A : Type 0} (Is : A → Type 0) (spelled : A → List ℕ) (text : List ℕ) : Type 0 where
   pub never : (x : A) (rest : List ℕ) → Stands Is spelled text x rest → ⊥
 
--- The bytes of a part are one at least, and say where it ends: what a text begins with says which part it is, and what
--- follows.
+-- The bytes of a part are not empty, and determine where it ends: the beginning of a text determines the part and the
+-- rest.
 pub record IsSpelling {A : Type 0} (spelled : A → List ℕ) : Type 0 where
   pub some : (x : A) → 0 < length (spelled x)
   pub apart : (x y : A) (rest more : List ℕ) → spelled x ++ rest ≡ spelled y ++ more → (x ≡ y) × (rest ≡ more)
 
--- so many of these
+-- n of these
 abbrev pub HasCount : {A : Type 0} → (A → Type 0) → ℕ → List A → Type 0
 HasCount Is count xs = AllByRecursion Is xs × (length xs ≡ count)
 
--- no byte of a text is a line feed
+-- a text contains no line feed
 abbrev pub HasNoFeed : List ℕ → Type 0
 HasNoFeed text = (k : ℕ) → k < length text → get_or text k 0 ≢ 10
 
--- digits that begin as those of a number: with no sign, and with a 0 only where it is the one digit
+-- digits that begin a number: without a sign, and with a 0 only if it is the only digit
 abbrev pub begins_well : List ℕ → Bool
 begins_well [] = false
 begins_well (d ∷ []) = not (d == 43)

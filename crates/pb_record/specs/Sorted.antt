@@ -3,12 +3,12 @@ use Rattle.std.specs.Prelude.{ℕ, Bool, true, ◌&&◌, List, [], ◌∷◌}
 use Rattle.std.specs.Ordering.{nat_cmp, is_lt}
 use Rattle.std.specs.Cmp.Lexicographic.{slice_cmp}
 
--- a name is before the first of some pairs in byte order, if there is one
+-- in byte order a name is before the name of the first of some pairs, if there is one
 abbrev pub leads : List ℕ → List (List ℕ × List ℕ) → Bool
 leads name [] = true
 leads name (next ∷ pairs) = is_lt (slice_cmp nat_cmp name next.0)
 
--- each name is before the next one: so they are sorted, and none stands twice
+-- each name is before the next one: so the names are sorted and distinct
 abbrev pub are_sorted : List (List ℕ × List ℕ) → Bool
 are_sorted [] = true
 are_sorted (pair ∷ pairs) = leads pair.0 pairs && are_sorted pairs

@@ -1,4 +1,4 @@
-//! What was asked of a child.
+//! What was requested of a child.
 
 ghost use Rattle.std.specs.Prelude.{◌≡◌, ◌++◌, OnOk};
 ghost use Rattle.std.specs.List.{AllByRecursion};
@@ -13,28 +13,28 @@ use pb_data::{Bytes, Items, Text};
 use pb_place::PathText;
 use std::alloc::{AllocError, Global};
 
-/// What was asked of a unit's child: a command that has an output folder, its variables sorted.
+/// What was requested of a unit's child: a command with an output folder and sorted variables.
 #[derive(Drop)]
 pub struct Asked {
-    /// The program, as a path or a name that the system looks up.
+    /// The program: a path, or a name that the system looks up.
     pub program: Text,
-    /// The words after the program's own, in order.
+    /// The arguments after the program, in order.
     pub words: Items<Text>,
     /// The folder in which the child starts.
     pub folder: PathText,
-    /// The variables that go over the inherited ones.
+    /// The variables that are set over the inherited ones.
     pub pairs: Pairs,
     /// The folder into which the child writes.
     pub out: PathText,
-    /// The target folder, of which the child sees nothing but what `reads` names.
+    /// The target folder. The child sees only those parts of it that `reads` names.
     pub target: PathText,
-    /// What the compiler says of its version.
+    /// The compiler's output about its version.
     pub toolchain: Bytes,
     /// The folders below the target folder whose files the child may read.
     pub reads: Items<PathText>,
 }
 
-/// The parts of what was asked, in the order in which they stand in a record.
+/// The parts of a request, in the order of a record's text.
 type AskedParts = (
     Text,
     (
@@ -46,7 +46,7 @@ type AskedParts = (
     ),
 );
 
-/// What was asked, of its parts.
+/// Returns the request made of its parts.
 fn asked_of(parts: AskedParts) -> Asked
     ensures { result ≡ asked_of parts }
 {
@@ -63,7 +63,7 @@ fn asked_of(parts: AskedParts) -> Asked
     }
 }
 
-/// Adds the program, its words, the folder and the variables.
+/// Adds the program, its arguments, the folder and the variables.
 fn write_command(asked: &Asked, out: &mut Vec<u8>) -> Result<(), AllocError>
     ensures written { OnOk result (out.new.items ≡ out.old.items ++ (block asked.now.program ⨾ listed block asked.now.words ⨾ block asked.now.folder ⨾ listed (both block block) asked.now.pairs)) }
     ensures are { OnOk result (IsUtf8 asked.now.program × AllByRecursion IsUtf8 asked.now.words × IsPlace asked.now.folder × ArePairs asked.now.pairs) }
@@ -75,7 +75,8 @@ fn write_command(asked: &Asked, out: &mut Vec<u8>) -> Result<(), AllocError>
     Ok(())
 }
 
-/// Adds where the child writes, what the compiler says of itself, and what the child may read.
+/// Adds the folder into which the child writes, the compiler's version, and what the child may
+/// read.
 fn write_places(asked: &Asked, out: &mut Vec<u8>) -> Result<(), AllocError>
     ensures written { OnOk result (out.new.items ≡ out.old.items ++ (block asked.now.out ⨾ block asked.now.target ⨾ block asked.now.toolchain ⨾ listed block asked.now.reads)) }
     ensures are { OnOk result (IsPlace asked.now.out × IsPlace asked.now.target × AllByRecursion IsPlace asked.now.reads) }

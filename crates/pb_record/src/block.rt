@@ -1,4 +1,4 @@
-//! Blocks of bytes: texts, paths and bytes as they stand in a record.
+//! Blocks of bytes: texts, paths and bytes in a record.
 
 ghost use Rattle.std.specs.Prelude.{◌≡◌, ◌++◌, ◌∷◌, List, ℕ, length, OnOk, MatchOption};
 ghost use Rattle.std.specs.Str.{IsUtf8};
@@ -9,7 +9,7 @@ ghost use Rattle.pb_record.specs.Reading.{Stands, StandsNone};
 use crate::number::{number_at, push_number};
 use std::alloc::AllocError;
 
-/// So many bytes, before a line feed, and what follows it.
+/// Returns n bytes that are followed by a line feed, and what comes after it.
 fn cut_block(text: &[u8], count: u64) -> Option<(&[u8], &[u8])>
     ensures { MatchOption result ((bytes rest : List ℕ) → length bytes ≡ count → text.now ≡ bytes ++ 10 ∷ rest → ⊥) (λ p. (length p.0.now ≡ count) × (text.now ≡ p.0.now ++ 10 ∷ p.1.now)) }
 {
@@ -23,7 +23,7 @@ fn cut_block(text: &[u8], count: u64) -> Option<(&[u8], &[u8])>
     }
 }
 
-/// The block with which a text begins, and what follows it.
+/// Returns the block with which a text begins, and what comes after it.
 pub(crate) fn block_at(text: &[u8]) -> Option<(&[u8], &[u8])>
     ensures { MatchOption result (StandsNone IsAny block text.now) (λ p. Stands IsAny block text.now p.0.now p.1.now) }
 {
@@ -31,7 +31,7 @@ pub(crate) fn block_at(text: &[u8]) -> Option<(&[u8], &[u8])>
     cut_block(after, count)
 }
 
-/// The block with which a text begins where it is UTF-8, and what follows it.
+/// Returns the block with which a text begins, if it is UTF-8, and what comes after it.
 pub(crate) fn text_at(text: &[u8]) -> Option<(&str, &[u8])>
     ensures { MatchOption result (StandsNone IsUtf8 block text.now) (λ p. Stands IsUtf8 block text.now p.0.now p.1.now) }
 {

@@ -1,4 +1,4 @@
-//! What was asked, beside a command: one made of the other, and the two compared.
+//! Requests and commands: one is made from the other, and the two are compared.
 
 ghost use Rattle.std.specs.Prelude.{◌≡◌, Decides};
 ghost use Rattle.pb_record.specs.Commands.{command_of, asked_in, AsksAs};
@@ -8,7 +8,7 @@ use crate::pairs::Pairs;
 use pb_data::{Items, Text};
 use pb_place::{Command, PathText};
 
-/// Whether two lists of texts are the same.
+/// Returns whether two lists of texts are equal.
 #[tactic(auto, using(crate::proofs::CommandLemmas::texts_same))]
 fn are_same_texts(texts: &[Text], others: &[Text]) -> bool
     ensures { Decides result (texts.now ≡ others.now) }
@@ -16,7 +16,7 @@ fn are_same_texts(texts: &[Text], others: &[Text]) -> bool
     texts == others
 }
 
-/// Whether two lists of paths are the same.
+/// Returns whether two lists of paths are equal.
 #[tactic(auto, using(crate::proofs::CommandLemmas::texts_same))]
 fn are_same_paths(paths: &[PathText], others: &[PathText]) -> bool
     ensures { Decides result (paths.now ≡ others.now) }
@@ -24,7 +24,7 @@ fn are_same_paths(paths: &[PathText], others: &[PathText]) -> bool
     paths == others
 }
 
-/// Whether two lists of names with their values are the same.
+/// Returns whether two lists of names with their values are equal.
 #[tactic(auto, using(crate::proofs::CommandLemmas::pairs_same))]
 fn are_same_pairs(pairs: &[(Text, Text)], others: &[(Text, Text)]) -> bool
     ensures { Decides result (pairs.now ≡ others.now) }
@@ -32,7 +32,7 @@ fn are_same_pairs(pairs: &[(Text, Text)], others: &[(Text, Text)]) -> bool
     pairs == others
 }
 
-/// Whether a command has this output folder.
+/// Returns whether a command has this output folder.
 fn has_out(out: &PathText, other: &Option<PathText>) -> bool
     ensures { Decides result (Some out.now ≡ other.now) }
 {
@@ -43,8 +43,8 @@ fn has_out(out: &PathText, other: &Option<PathText>) -> bool
 }
 
 impl Asked {
-    /// What a command asks; none where it has no output folder, or its variables are not sorted by name, each once. It
-    /// takes no memory.
+    /// Returns the request of a command, or none if the command has no output folder, or its
+    /// variables are not sorted by name, each name once. It takes no memory.
     pub fn of_command(command: Command) -> Option<Asked>
         ensures { result ≡ asked_in command }
     {
@@ -73,7 +73,7 @@ impl Asked {
         }
     }
 
-    /// The command that was asked. It takes no memory.
+    /// Returns the command that was requested. It takes no memory.
     pub fn into_command(self) -> Command
         ensures { result ≡ command_of self }
     {
@@ -99,8 +99,9 @@ impl Asked {
         }
     }
 
-    /// Whether a command starts the same program with the same words in the same folder, for the same output and
-    /// target folder, by the same compiler, over the same folders. Its variables are not looked at. It takes no memory.
+    /// Returns whether a command is equal to the request, apart from its variables: the program,
+    /// the arguments, the folder, the output and target folders, the compiler, and the folders that
+    /// it reads. It takes no memory.
     pub fn asks_as(&self, command: &Command) -> bool
         ensures { Decides result (AsksAs self.now command.now) }
     {
@@ -113,7 +114,7 @@ impl Asked {
             && are_same_paths(self.reads.as_slice(), command.reads.as_slice())
     }
 
-    /// Whether a command sets the same variables to the same values. It takes no memory.
+    /// Returns whether a command sets the same variables to the same values. It takes no memory.
     pub fn sets_as(&self, command: &Command) -> bool
         ensures { Decides result (self.now.pairs ≡ command.now.pairs) }
     {

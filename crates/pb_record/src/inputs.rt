@@ -79,7 +79,7 @@ impl Part for Pairs {
     fn spells() {}
 }
 
-/// A file behind its letter.
+/// Returns a file after its letter.
 fn file_at(alloc: Global, text: &[u8]) -> Result<Option<(Input, &[u8])>, AllocError>
     ensures { IfOk result (λ found. MatchOption found (StandsNone IsInput input_bytes (line (codes "f") ++ text.now)) (λ p. Stands IsInput input_bytes (line (codes "f") ++ text.now) p.0 p.1.now)) }
 {
@@ -90,7 +90,7 @@ fn file_at(alloc: Global, text: &[u8]) -> Result<Option<(Input, &[u8])>, AllocEr
     }
 }
 
-/// A folder behind its letter.
+/// Returns a folder after its letter.
 fn tree_at(alloc: Global, text: &[u8]) -> Result<Option<(Input, &[u8])>, AllocError>
     ensures { IfOk result (λ found. MatchOption found (StandsNone IsInput input_bytes (line (codes "t") ++ text.now)) (λ p. Stands IsInput input_bytes (line (codes "t") ++ text.now) p.0 p.1.now)) }
 {
@@ -101,7 +101,7 @@ fn tree_at(alloc: Global, text: &[u8]) -> Result<Option<(Input, &[u8])>, AllocEr
     }
 }
 
-/// A variable behind its letter.
+/// Returns a variable after its letter.
 fn value_at(alloc: Global, text: &[u8]) -> Result<Option<(Input, &[u8])>, AllocError>
     ensures { IfOk result (λ found. MatchOption found (StandsNone IsInput input_bytes (line (codes "v") ++ text.now)) (λ p. Stands IsInput input_bytes (line (codes "v") ++ text.now) p.0 p.1.now)) }
 {
@@ -112,7 +112,7 @@ fn value_at(alloc: Global, text: &[u8]) -> Result<Option<(Input, &[u8])>, AllocE
     }
 }
 
-/// Returns what follows a file behind its letter.
+/// Returns what follows a file after its letter.
 fn skip_file(alloc: Global, text: &[u8]) -> Result<Option<&[u8]>, AllocError>
     ensures { IfOk result (λ found. MatchOption found
         (StandsNone IsInput input_bytes (line (codes "f") ++ text.now))
@@ -125,7 +125,7 @@ fn skip_file(alloc: Global, text: &[u8]) -> Result<Option<&[u8]>, AllocError>
     }
 }
 
-/// Returns what follows a folder behind its letter.
+/// Returns what follows a folder after its letter.
 fn skip_tree(alloc: Global, text: &[u8]) -> Result<Option<&[u8]>, AllocError>
     ensures { IfOk result (λ found. MatchOption found
         (StandsNone IsInput input_bytes (line (codes "t") ++ text.now))
@@ -138,7 +138,7 @@ fn skip_tree(alloc: Global, text: &[u8]) -> Result<Option<&[u8]>, AllocError>
     }
 }
 
-/// Returns what follows a variable behind its letter.
+/// Returns what follows a variable after its letter.
 fn skip_value(alloc: Global, text: &[u8]) -> Result<Option<&[u8]>, AllocError>
     ensures { IfOk result (λ found. MatchOption found
         (StandsNone IsInput input_bytes (line (codes "v") ++ text.now))
@@ -151,7 +151,7 @@ fn skip_value(alloc: Global, text: &[u8]) -> Result<Option<&[u8]>, AllocError>
     }
 }
 
-/// Adds a line and the two parts behind it.
+/// Adds a line and the two parts after it.
 fn write_behind<A: Part, B: Part>(
     line: &[u8],
     first: &A,

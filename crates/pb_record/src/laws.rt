@@ -3,9 +3,9 @@
 ghost use Rattle.pb_record.specs.Laws.{TellsApart, SaysWhereItEnds, FirstPartsSayNothing, MoreBytesSayNothing, OnlyRecordsAreSaid, PathsHaveNoByte0, NoZeroLeads, NumbersHaveDigits, NoZeroLeadsRecord, RecordNumbersHaveDigits, RecordNumbersFit, HasOneReading, HasReading};
 ghost use Rattle.pb_record.specs.Commands.{AskedIsCommand, CommandIsAsked, SameAsked};
 
-/// The bytes of a record tell it from every other one, of its format and of the other. They say where it ends: so no
-/// record begins another, and a record with more bytes behind it, or a first part of one, as a write that was torn
-/// leaves it, is none.
+/// The bytes of a record differ from those of every other record, of either format, and determine
+/// where the record ends. So no record begins another. A record followed by more bytes is no
+/// record, and neither is a first part of one, as a torn write leaves it.
 pub fn records_lie_apart()
     ensures told { TellsApart }
     ensures ends { SaysWhereItEnds }
@@ -13,16 +13,16 @@ pub fn records_lie_apart()
     ensures longer { MoreBytesSayNothing }
 {}
 
-/// What is read is a record: the bytes of what has a text that is not UTF-8, a path that is not normalised, a number
-/// above the largest, or variables that are not sorted by name, each once, are those of no record. A path has no byte
-/// 0.
+/// What is read is a record. A value is no record if a text is not UTF-8, a path is not normalised,
+/// a number is above the largest, or the variables are not sorted by name, each name once; then its
+/// bytes are those of no record. A path has no byte 0.
 pub fn only_records_are_read()
     ensures said { OnlyRecordsAreSaid }
     ensures paths { PathsHaveNoByte0 }
 {}
 
-/// A number has one spelling: it has digits, and 0 stands in front only where it is the number. The same of the run
-/// number of a record, which is none above 18446744073709551615.
+/// A number has one spelling: it has digits, and begins with 0 only if it is 0. The same is true
+/// for the run number of a record, which is at most 18446744073709551615.
 pub fn numbers_have_one_spelling()
     ensures zero { NoZeroLeads }
     ensures digits { NumbersHaveDigits }
@@ -31,18 +31,20 @@ pub fn numbers_have_one_spelling()
     ensures record_fits { RecordNumbersFit }
 {}
 
-/// A text has one reading: what `read_record` gives is determined by its contract.
+/// A text is read in one way: the contract of `read_record` determines its result.
 pub fn texts_have_one_reading()
     ensures { HasOneReading }
 {}
 
-/// There is a function that gives each text its reading: so what is said of each such function is said of one.
+/// There is a function that returns the reading of each text, so a statement about each such
+/// function is about one.
 pub fn texts_have_a_reading()
     ensures { HasReading }
 {}
 
-/// What a command asks is that command again, and the command that was asked asks it: nothing of it is lost. A command
-/// that asks the same and sets the same variables is the one that was asked.
+/// The command of a command's request is that command, and the request of a request's command is
+/// that request: nothing is lost. A command that requests the same and sets the same variables is
+/// the one that was requested.
 pub fn commands_are_asked()
     ensures command { AskedIsCommand }
     ensures asked { CommandIsAsked }

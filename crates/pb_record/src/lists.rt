@@ -1,4 +1,4 @@
-//! Two parts in turn, and lists of parts.
+//! Two parts one after the other, and lists of parts.
 
 ghost use Rattle.std.specs.Prelude.{◌≡◌, ◌++◌, IfOk, OnOk, MatchOption};
 ghost use Rattle.std.specs.List.{flat_map, AllByRecursion};
@@ -52,7 +52,7 @@ impl<A: Part, B: Part> Part for (A, B) {
     }
 }
 
-/// So many parts with which a text begins, and what follows them.
+/// Returns n parts with which a text begins, and what follows them.
 fn read_items<T: Part>(
     alloc: Global,
     text: &[u8],
@@ -75,7 +75,7 @@ fn read_items<T: Part>(
     Ok(Some((items, rest)))
 }
 
-/// Returns what follows so many parts with which a text begins.
+/// Returns what follows n parts with which a text begins.
 fn skip_items<T: Part>(alloc: Global, text: &[u8], number: u64) -> Result<Option<&[u8]>, AllocError>
     ensures { IfOk result (λ found. MatchOption found
         (StandsNone (HasCount T.is_part number) (flat_map T.spelled) text.now)

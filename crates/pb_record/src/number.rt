@@ -8,7 +8,7 @@ ghost use Rattle.pb_record.specs.Reading.{Stands, StandsNone, HasNoFeed, begins_
 use itoa::Buffer;
 use std::alloc::AllocError;
 
-/// What stands before the first line feed, and what follows it.
+/// Returns what comes before the first line feed, and what comes after it.
 fn split_line(text: &[u8]) -> Option<(&[u8], &[u8])>
     ensures { MatchOption result ((line rest : List ℕ) → text.now ≡ line ++ 10 ∷ rest → ⊥) (λ p. (text.now ≡ p.0.now ++ 10 ∷ p.1.now) × HasNoFeed p.0.now) }
 {
@@ -20,7 +20,8 @@ fn split_line(text: &[u8]) -> Option<(&[u8], &[u8])>
     None
 }
 
-/// Whether digits begin as those of a number: with no sign, and with a 0 only where it is the one digit.
+/// Returns whether digits begin a number: without a sign, and with a 0 only if it is the only
+/// digit.
 fn begins_well(digits: &[u8]) -> bool
     ensures { result ≡ begins_well digits.now }
 {
@@ -31,7 +32,7 @@ fn begins_well(digits: &[u8]) -> bool
     }
 }
 
-/// The number of which these are the digits; none where they are those of no number below 2 ^ 64.
+/// Returns the number with these digits, or none if they are not those of a number below 2 ^ 64.
 fn number_of(digits: &[u8]) -> Option<u64>
     ensures { MatchOption result ((n : ℕ) → n < 2 ^ 64 → digits.now ≡ decimals n → ⊥) (λ n. (n < 2 ^ 64) × (digits.now ≡ decimals n)) }
 {
@@ -44,7 +45,8 @@ fn number_of(digits: &[u8]) -> Option<u64>
     }
 }
 
-/// The number with which a text begins, and what follows it; none where it begins with none below 2 ^ 64.
+/// Returns the number with which a text begins, and what follows it, or none if it begins with no
+/// number below 2 ^ 64.
 pub(crate) fn number_at(text: &[u8]) -> Option<(u64, &[u8])>
     ensures { MatchOption result (StandsNone IsNumber number text.now) (λ p. Stands IsNumber number text.now p.0 p.1.now) }
 {

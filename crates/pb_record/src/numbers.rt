@@ -1,4 +1,4 @@
-//! The run numbers of a record, read from its text. Of the rest of the text no values are made.
+//! The run numbers of a record, read from its text. No values are made of the rest of the text.
 
 ghost use Rattle.std.specs.Prelude.{◌++◌, codes, Decides, IfOk, MatchOption};
 ghost use Rattle.pb_record.specs.Grammar.{line};
@@ -15,16 +15,17 @@ use pb_data::{Bytes, Items, Text};
 use pb_place::RelativePath;
 use std::alloc::{AllocError, Global};
 
-/// What a record says of run numbers.
+/// The run numbers in a record.
 #[derive(Drop)]
 pub struct Numbers {
     /// The key of its unit.
     pub key: Text,
-    /// Its own run number, and those with which it names the units that it needs. None if it is of format 1.
+    /// Its own run number, and those by which it names the units that it needs. None if it is of
+    /// format 1.
     pub numbered: Option<(u64, Items<(Text, u64)>)>,
 }
 
-/// The parts of a record of format 1 behind its key.
+/// The parts of a record of format 1 after its key.
 type CopiedRest = (
     Asked,
     (
@@ -33,7 +34,7 @@ type CopiedRest = (
     ),
 );
 
-/// Returns whether a text is two streams before the line `end`, and nothing after it.
+/// Returns whether a text consists of two streams and the line `end`.
 fn is_end(alloc: Global, text: &[u8]) -> Result<bool, AllocError>
     ensures { IfOk result (λ is. Decides is (IsEnd text.now)) }
 {
@@ -44,7 +45,8 @@ fn is_end(alloc: Global, text: &[u8]) -> Result<bool, AllocError>
     }
 }
 
-/// Returns the needed units of a record of format 2, from its text behind the key, or none if the text is no such one.
+/// Returns the needed units of a record of format 2, from its text after the key, or none if it is
+/// no such text.
 fn needs_at(alloc: Global, text: &[u8]) -> Result<Option<Items<(Text, u64)>>, AllocError>
     ensures { IfOk result (λ found. MatchOption found
         ((p : RestParts) → IsRest text.now p → ⊥) (λ needs. HasNeeds text.now needs)) }
@@ -65,7 +67,7 @@ fn needs_at(alloc: Global, text: &[u8]) -> Result<Option<Items<(Text, u64)>>, Al
     }
 }
 
-/// Returns the numbers of a record of format 2, from its text behind the first line.
+/// Returns the numbers of a record of format 2, from its text after the first line.
 fn numbers_numbered(alloc: Global, text: &[u8]) -> Result<Option<Numbers>, AllocError>
     ensures { IfOk result (λ found. MatchOption found
         ((r : Record) → Says (line (codes "record 2") ++ text.now) r → ⊥)
@@ -87,7 +89,7 @@ fn numbers_numbered(alloc: Global, text: &[u8]) -> Result<Option<Numbers>, Alloc
     }
 }
 
-/// Returns what a record of format 1 says, from its text behind the first line: its key alone.
+/// Returns the numbers of a record of format 1, from its text after the first line: only its key.
 fn numbers_copied(alloc: Global, text: &[u8]) -> Result<Option<Numbers>, AllocError>
     ensures { IfOk result (λ found. MatchOption found
         ((r : Record) → Says (line (codes "record 1") ++ text.now) r → ⊥)
@@ -112,7 +114,7 @@ fn numbers_copied(alloc: Global, text: &[u8]) -> Result<Option<Numbers>, AllocEr
     }
 }
 
-/// Returns the numbers of the record that a text is, by the format that its first line names.
+/// Returns the numbers of the record of a text, by the format in its first line.
 fn numbers_by_format(alloc: Global, text: &[u8]) -> Result<Option<Numbers>, AllocError>
     ensures { IfOk result (λ found. MatchOption found ((r : Record) → Says text.now r → ⊥)
         (λ numbers. SaysNumbers text.now numbers)) }
@@ -126,10 +128,10 @@ fn numbers_by_format(alloc: Global, text: &[u8]) -> Result<Option<Numbers>, Allo
     Ok(None)
 }
 
-/// Returns what the record that a text is says of run numbers, or none if the text is no record. It returns some exactly
-/// if `read_record` does.
+/// Returns the run numbers of the record of a text, or none if the text is no record. It returns
+/// some if and only if `read_record` does.
 ///
-/// Errors: out of memory only.
+/// Errors: only out of memory.
 pub fn read_numbers(alloc: Global, text: &[u8]) -> Result<Option<Numbers>, AllocError>
     ensures { IfOk result (AreNumbersOf text.now) }
 {

@@ -6,7 +6,8 @@ ghost use Rattle.pb_record.specs.Sorted.{are_sorted, leads};
 use pb_data::{Items, Text};
 use std::marker::Model;
 
-/// Names and values of variables, sorted by name in byte order, each name once. Contracts see the list of them.
+/// Names and values of variables, sorted by name in byte order, each name once. Contracts see the
+/// list of them.
 #[derive(Drop)]
 pub struct Pairs {
     inside: Items<(Text, Text)>,
@@ -24,7 +25,8 @@ impl Model for Pairs {
     ghost invariant = { λ a. are_sorted a.inside ≡ true };
 }
 
-/// Whether a name is before the first of some pairs in byte order, if there is one.
+/// Returns whether, in byte order, a name is before the name of the first of some pairs, if there
+/// is one.
 fn leads(name: &Text, pairs: &[(Text, Text)]) -> bool
     ensures { result ≡ leads name.now pairs.now }
 {
@@ -34,7 +36,7 @@ fn leads(name: &Text, pairs: &[(Text, Text)]) -> bool
     }
 }
 
-/// Whether each name is before the next one in byte order. It takes no memory.
+/// Returns whether each name is before the next one in byte order. It takes no memory.
 fn are_sorted(pairs: &[(Text, Text)]) -> bool
     ensures { result ≡ are_sorted pairs.now }
 {
@@ -49,7 +51,8 @@ fn are_sorted(pairs: &[(Text, Text)]) -> bool
 }
 
 impl Pairs {
-    /// The pairs of a list, or none where it is not sorted by name or a name stands twice. It takes no memory.
+    /// Returns the pairs of a list, or none if it is not sorted by name or contains a name twice.
+    /// It takes no memory.
     pub fn of(inside: Items<(Text, Text)>) -> Option<Pairs>
         ensures { result ≡ (if are_sorted inside then Some inside else None) }
     {
@@ -59,7 +62,7 @@ impl Pairs {
         Some(Pairs { inside })
     }
 
-    /// The pairs themselves.
+    /// Returns the pairs.
     pub fn as_slice(&self) -> &[(Text, Text)]
         ensures pairs { result.now ≡ self.now }
         ensures sorted { are_sorted self.now ≡ true }
@@ -67,7 +70,7 @@ impl Pairs {
         self.inside.as_slice()
     }
 
-    /// The pairs as items, lent.
+    /// Returns the pairs as borrowed items.
     pub(crate) fn as_items(&self) -> &Items<(Text, Text)>
         ensures pairs { result.now ≡ self.now }
         ensures sorted { are_sorted self.now ≡ true }
@@ -75,7 +78,7 @@ impl Pairs {
         &self.inside
     }
 
-    /// The pairs as items. It takes no memory.
+    /// Returns the pairs as items. It takes no memory.
     pub fn into_items(self) -> Items<(Text, Text)>
         ensures pairs { result ≡ self }
         ensures sorted { are_sorted self ≡ true }

@@ -1,4 +1,4 @@
-//! A part of a record, read from the front of a text and written at the end of one.
+//! A part of a record, read from the beginning of a text and written at the end of one.
 
 ghost use Rattle.std.specs.Prelude.{◌≡◌, ◌++◌, List, ℕ, IfOk, OnOk, MatchOption};
 ghost use Rattle.pb_record.specs.Reading.{Stands, StandsNone, StandsSome, IsSpelling};
@@ -7,21 +7,23 @@ use std::alloc::{AllocError, Global};
 
 /// A part of a record.
 pub trait Part: Drop {
-    /// What such a part is, beside its form.
+    /// What such a part is, apart from its bytes.
     ghost is_part: { Self → Type 0 };
 
     /// Its bytes.
     ghost spelled: { Self → List ℕ };
 
-    /// The part with which a text begins, and what follows it; none where it begins with no such part. The one
-    /// fault is want of memory.
+    /// Returns the part with which a text begins, and what follows it, or none if the text begins
+    /// with no such part.
+    ///
+    /// Errors: only out of memory.
     fn read(alloc: Global, text: &[u8]) -> Result<Option<(Self, &[u8])>, AllocError>
         ensures { IfOk result (λ found. MatchOption found (StandsNone is_part spelled text.now) (λ p. Stands is_part spelled text.now p.0 p.1.now)) };
 
-    /// Returns what follows the part with which a text begins, or none if the text begins with no such part. It returns
-    /// as `read` does, but need not make the part.
+    /// Returns what follows the part with which a text begins, or none if the text begins with no
+    /// such part. It returns as `read` does, but need not make the part.
     ///
-    /// Errors: out of memory only.
+    /// Errors: only out of memory.
     fn skip(alloc: Global, text: &[u8]) -> Result<Option<&[u8]>, AllocError>
         ensures { IfOk result (λ found. MatchOption found (StandsNone is_part spelled text.now)
             (λ rest. StandsSome is_part spelled text.now rest.now)) }
@@ -36,13 +38,15 @@ pub trait Part: Drop {
         }
     }
 
-    /// Adds the bytes at the end of a text. The one fault is want of memory; the text then ends with a first part of
-    /// them.
+    /// Adds the bytes at the end of a text.
+    ///
+    /// Errors: only out of memory; the text then ends with a first part of the bytes.
     fn write(&self, out: &mut Vec<u8>) -> Result<(), AllocError>
         ensures written { OnOk result (out.new.items ≡ out.old.items ++ spelled self.now) }
         ensures is { OnOk result (is_part self.now) };
 
-    /// The bytes of a part say where it ends. The call does nothing: its contract is what is known.
+    /// States that the bytes of a part determine where it ends. The call does nothing: its contract
+    /// is what is known.
     fn spells()
         ensures { IsSpelling spelled };
 }

@@ -14,7 +14,7 @@ use pb_data::{Bytes, Items, Text};
 use pb_place::RelativePath;
 use std::alloc::{AllocError, Global};
 
-/// The parts of a record of format 2, in the order in which they stand in it.
+/// The parts of a record of format 2, in the order of its text.
 type NumberedParts = (
     u64,
     (
@@ -26,7 +26,7 @@ type NumberedParts = (
 /// The files of a folder.
 type Files = Items<(RelativePath, Bytes)>;
 
-/// The parts of a record of format 1, in the order in which they stand in it.
+/// The parts of a record of format 1, in the order of its text.
 type CopiedParts = (
     Text,
     (
@@ -35,7 +35,7 @@ type CopiedParts = (
     ),
 );
 
-/// The part that a text is, before the line `end` and nothing after it.
+/// Returns the part of a text that consists of a part and the line `end`.
 fn whole<T: Part>(alloc: Global, text: &[u8]) -> Result<Option<T>, AllocError>
     ensures { IfOk result (λ found. MatchOption found ((x : T) → T.is_part x → text.now ≡ T.spelled x ++ line (codes "end") → ⊥) (λ x. T.is_part x × (text.now ≡ T.spelled x ++ line (codes "end")))) }
 {
@@ -53,7 +53,7 @@ fn whole<T: Part>(alloc: Global, text: &[u8]) -> Result<Option<T>, AllocError>
     }
 }
 
-/// A record of format 2, of its parts.
+/// Returns a record of format 2, made of its parts.
 fn numbered_of(parts: NumberedParts) -> Record
     ensures { result ≡ numbered_of parts }
 {
@@ -68,7 +68,7 @@ fn numbered_of(parts: NumberedParts) -> Record
     }
 }
 
-/// A record of format 1, of its parts.
+/// Returns a record of format 1, made of its parts.
 fn copied_of(parts: CopiedParts) -> Record
     ensures { result ≡ copied_of parts }
 {
@@ -83,7 +83,7 @@ fn copied_of(parts: CopiedParts) -> Record
     }
 }
 
-/// The record of format 2 whose text this is behind its first line.
+/// Returns the record of format 2 with this text after its first line.
 fn read_numbered(alloc: Global, text: &[u8]) -> Result<Option<Record>, AllocError>
     ensures { IfOk result (λ found. MatchOption found ((r : Record) → Says (line (codes "record 2") ++ text.now) r → ⊥) (λ r. Says (line (codes "record 2") ++ text.now) r)) }
 {
@@ -94,7 +94,7 @@ fn read_numbered(alloc: Global, text: &[u8]) -> Result<Option<Record>, AllocErro
     }
 }
 
-/// The record of format 1 whose text this is behind its first line.
+/// Returns the record of format 1 with this text after its first line.
 fn read_copied(alloc: Global, text: &[u8]) -> Result<Option<Record>, AllocError>
     ensures { IfOk result (λ found. MatchOption found ((r : Record) → Says (line (codes "record 1") ++ text.now) r → ⊥) (λ r. Says (line (codes "record 1") ++ text.now) r)) }
 {
@@ -105,7 +105,7 @@ fn read_copied(alloc: Global, text: &[u8]) -> Result<Option<Record>, AllocError>
     }
 }
 
-/// The record that a text is, by the format that its first line names.
+/// Returns the record of a text, by the format in its first line.
 fn read_by_format(alloc: Global, text: &[u8]) -> Result<Option<Record>, AllocError>
     ensures { IfOk result (λ found. MatchOption found ((r : Record) → Says text.now r → ⊥) (λ r. Says text.now r)) }
 {
@@ -118,8 +118,10 @@ fn read_by_format(alloc: Global, text: &[u8]) -> Result<Option<Record>, AllocErr
     Ok(None)
 }
 
-/// The record that a text is, and none where it is that of no record: a text is read exactly where it is what
-/// `write_record` writes. Our own format, of two kinds; the first line says which. The one fault is want of memory.
+/// Returns the record of a text, or none if the text is not that of a record: it must be exactly
+/// what `write_record` writes. The format is our own, in two versions, named in the first line.
+///
+/// Errors: only out of memory.
 pub fn read_record(alloc: Global, text: &[u8]) -> Result<Option<Record>, AllocError>
     ensures reads { IfOk result (λ found. Reads text.now found) }
     ensures found { IfOk result (λ found. (read : List ℕ → Option Record) → IsReading read → found ≡ read text.now) }

@@ -1,11 +1,12 @@
-//! What is kept of a unit that was built.
+//! What is recorded of a unit that was built.
 
 use crate::asked::Asked;
 use pb_data::{Bytes, Items, Text, TryCopy};
 use pb_place::{PathText, RelativePath};
 use std::alloc::{AllocError, Global};
 
-/// Something that a unit's answer depends on beside its command and the units that it reaches.
+/// The name of something on which a unit's answer depends besides its command and the units that it
+/// reaches.
 #[derive(Debug, Drop)]
 pub enum InputName {
     /// A file, or all files below a folder.
@@ -14,33 +15,36 @@ pub enum InputName {
     Variable(Text),
 }
 
-/// Something beside its command and the units that it reaches on which a unit's answer rests, with its value.
+/// Something on which a unit's answer depends besides its command and the units that it reaches,
+/// with its value.
 #[derive(Drop)]
 pub enum Input {
     /// A file, and its bytes.
     File(PathText, Bytes),
-    /// A path where no file is, and the files below it, each by its path inside that folder.
+    /// A path without a file, and the files below it, each with its path relative to that folder.
     Tree(PathText, Items<(RelativePath, Bytes)>),
-    /// A variable of the environment, and its text where it is set.
+    /// A variable of the environment, and its text, if it is set.
     Value(Text, Option<Text>),
 }
 
-/// The units that a unit needs, as they were. Which of the two it is says the format of the record.
+/// The units that a unit needs, as they were. The format of the record determines which of the two
+/// it is.
 #[derive(Drop)]
 pub enum Needed {
-    /// Format 1: the keys of all units that are reached, each with the files of its output folder.
+    /// Format 1: the keys of all units that the unit reaches, each with the files of its output
+    /// folder.
     Copies(Items<(Text, Items<(RelativePath, Bytes)>)>),
-    /// Format 2: the record's own run number, and the keys of the units that are needed, each with the run number of
-    /// its record.
+    /// Format 2: the record's own run number, and the keys of the needed units, each with the run
+    /// number of its record.
     Numbers(u64, Items<(Text, u64)>),
 }
 
-/// What is kept of a unit that was built.
+/// What is recorded of a unit that was built.
 #[derive(Drop)]
 pub struct Record {
     /// The unit's key.
     pub key: Text,
-    /// What was asked of the child.
+    /// What was requested of the child.
     pub asked: Asked,
     /// The inputs with their values.
     pub inputs: Items<Input>,

@@ -1,20 +1,20 @@
-//! How much room the text of a record takes at most, so that it is made once. Nothing rests on it: where it were less,
-//! the text would grow.
+//! An upper bound for the length of a record's text, so that memory for it is taken once. No proof
+//! depends on it: if it were too small, the text would grow.
 
 use crate::asked::Asked;
 use crate::record::{Input, Needed, Record};
 use pb_data::{Bytes, Items, Text};
 use pb_place::{PathText, RelativePath};
 
-/// The room of a number and of the line feeds around it: 20 digits at most.
+/// The room for a number and the line feeds around it: at most 20 digits.
 const LINE: usize = 22;
 
-/// The room of a block with so many bytes.
+/// Returns the room for a block with n bytes.
 fn block(length: usize) -> usize {
     length.saturating_add(LINE)
 }
 
-/// The room of texts.
+/// Returns the room for texts.
 fn texts(texts: &[Text]) -> usize {
     let mut room = LINE;
     for text in texts {
@@ -23,7 +23,7 @@ fn texts(texts: &[Text]) -> usize {
     room
 }
 
-/// The room of paths.
+/// Returns the room for paths.
 fn paths(paths: &[PathText]) -> usize {
     let mut room = LINE;
     for path in paths {
@@ -32,7 +32,7 @@ fn paths(paths: &[PathText]) -> usize {
     room
 }
 
-/// The room of names with their values.
+/// Returns the room for names with their values.
 fn pairs(pairs: &[(Text, Text)]) -> usize {
     let mut room = LINE;
     for pair in pairs {
@@ -42,7 +42,7 @@ fn pairs(pairs: &[(Text, Text)]) -> usize {
     room
 }
 
-/// The room of files.
+/// Returns the room for files.
 fn files(files: &[(RelativePath, Bytes)]) -> usize {
     let mut room = LINE;
     for file in files {
@@ -52,7 +52,7 @@ fn files(files: &[(RelativePath, Bytes)]) -> usize {
     room
 }
 
-/// The room of an input's value.
+/// Returns the room for an input's value.
 fn value(input: &Input) -> usize {
     match input {
         Input::File(path, bytes) => {
@@ -68,7 +68,8 @@ fn value(input: &Input) -> usize {
     }
 }
 
-/// The room of inputs, each with a line for its kind and one that may say whether it is there.
+/// Returns the room for inputs, each with a line for its kind and one for whether its text is
+/// there.
 fn inputs(inputs: &[Input]) -> usize {
     let mut room = LINE;
     for input in inputs {
@@ -77,7 +78,7 @@ fn inputs(inputs: &[Input]) -> usize {
     room
 }
 
-/// The room of needed units with their files.
+/// Returns the room for needed units with their files.
 fn copies(copies: &[(Text, Items<(RelativePath, Bytes)>)]) -> usize {
     let mut room = LINE;
     for copy in copies {
@@ -87,7 +88,7 @@ fn copies(copies: &[(Text, Items<(RelativePath, Bytes)>)]) -> usize {
     room
 }
 
-/// The room of needed units with their numbers, and of the record's own.
+/// Returns the room for needed units with their numbers, and for the record's own number.
 fn numbers(needs: &[(Text, u64)]) -> usize {
     let mut room = LINE + LINE;
     for need in needs {
@@ -98,7 +99,7 @@ fn numbers(needs: &[(Text, u64)]) -> usize {
     room
 }
 
-/// The room of what was asked.
+/// Returns the room for a request.
 fn asked(asked: &Asked) -> usize {
     block(asked.program.as_bytes().len())
         .saturating_add(texts(asked.words.as_slice()))
@@ -110,7 +111,7 @@ fn asked(asked: &Asked) -> usize {
         .saturating_add(paths(asked.reads.as_slice()))
 }
 
-/// The room of the needed units.
+/// Returns the room for the needed units.
 fn needed(needed: &Needed) -> usize {
     match needed {
         Needed::Copies(those) => copies(those.as_slice()),
@@ -118,7 +119,7 @@ fn needed(needed: &Needed) -> usize {
     }
 }
 
-/// The room of a record, with its first line and its last.
+/// Returns the room for a record, with its first and its last line.
 pub(crate) fn room_for(kept: &Record) -> usize {
     block(kept.key.as_bytes().len())
         .saturating_add(asked(&kept.asked))

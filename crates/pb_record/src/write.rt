@@ -15,7 +15,7 @@ use pb_data::{Bytes, Items, Text};
 use pb_place::RelativePath;
 use std::alloc::{AllocError, Global};
 
-/// Adds what stands in front of the needed units.
+/// Adds what comes before the needed units.
 fn push_front(out: &mut Vec<u8>, kept: &Record) -> Result<(), AllocError>
     ensures written { OnOk result (out.new.items ≡ out.old.items ++ (block kept.now.key ⨾ asked_bytes kept.now.asked ⨾ listed input_bytes kept.now.inputs)) }
     ensures is { OnOk result (IsUtf8 kept.now.key × IsAsked kept.now.asked × AllByRecursion IsInput kept.now.inputs) }
@@ -26,7 +26,7 @@ fn push_front(out: &mut Vec<u8>, kept: &Record) -> Result<(), AllocError>
     Ok(())
 }
 
-/// Adds what stands behind the needed units.
+/// Adds what comes after the needed units.
 fn push_end(out: &mut Vec<u8>, kept: &Record) -> Result<(), AllocError>
     ensures { OnOk result (out.new.items ≡ out.old.items ++ (block kept.now.stdout ⨾ block kept.now.stderr ⨾ line (codes "end"))) }
 {
@@ -89,7 +89,7 @@ fn push_record(out: &mut Vec<u8>, kept: &Record) -> Result<(), AllocError>
     }
 }
 
-/// The text of a record, for which room is made once.
+/// Returns the text of a record, and takes memory for it once.
 fn text_of(alloc: Global, kept: &Record) -> Result<Bytes, AllocError>
     ensures { IfOk result (λ text. Says text kept.now) }
 {
@@ -98,9 +98,11 @@ fn text_of(alloc: Global, kept: &Record) -> Result<Bytes, AllocError>
     Ok(Bytes::new(out))
 }
 
-/// The text of a record, from which `read_record` reads it again. Our own format; whether the needed units have
-/// numbers or copies of their files says which of the two kinds it is. A first part of the text, as a write that was
-/// torn leaves it, reads as none. The one fault is want of memory.
+/// Returns the text of a record, from which `read_record` reads it again. The format is our own, in
+/// two versions: with the numbers of the needed units, or with copies of their files. A proper
+/// first part of the text, as a torn write leaves it, reads as no record.
+///
+/// Errors: only out of memory.
 pub fn write_record(alloc: Global, kept: &Record) -> Result<Bytes, AllocError>
     ensures says { IfOk result (λ text. Says text kept.now) }
     ensures read { IfOk result (λ text. (read : List ℕ → Option Record) → IsReading read → read text ≡ Some kept.now) }

@@ -1,4 +1,4 @@
--- What is on, as it is asked.
+-- What is on: answers to questions about resolved features.
 use Rattle.std.specs.Prelude.{ℕ, Bool, false, List, [], Option, Some, None, slice_get, slice_index_or}
 use Rattle.pb_package.specs.declared.package.Side.{Side}
 use Rattle.pb_package.specs.declared.package.Side.TheVariants.{Target, Host}
@@ -23,7 +23,7 @@ abbrev pub enabled_of : Option Sides → Side → ℕ → Bool
 enabled_of None s n = false
 enabled_of (Some sides) s n = slice_index_or (part_of sides s).enabled n false
 
--- whether the package at a place is on at a side
+-- whether the package at an index is active on a side
 abbrev pub is_active : Features → ℕ → Side → Bool
 is_active features p s = active_of (slice_get features.packages p) s
 
@@ -31,6 +31,6 @@ is_active features p s = active_of (slice_get features.packages p) s
 abbrev pub features_at : Features → ℕ → Side → List (List ℕ)
 features_at features p s = names_of (slice_get features.packages p) s
 
--- whether its entry at a place is enabled there
+-- whether its entry at an index is enabled there
 abbrev pub is_enabled : Features → ℕ → Side → ℕ → Bool
 is_enabled features p s n = enabled_of (slice_get features.packages p) s n

@@ -1,4 +1,4 @@
-//! What is on in a workspace, as it is asked: each package, its features and its entries, on each side.
+//! What is on in a workspace: each package, its features and its entries, on each side.
 
 ghost use Rattle.std.specs.Prelude.{◌≡◌};
 ghost use Rattle.pb_closure.specs.Closure.{is_on};
@@ -7,35 +7,35 @@ ghost use Rattle.pb_resolved.specs.Features.{part_of, is_active, features_at, is
 use pb_data::{Items, Text};
 use pb_package::Side;
 
-/// What is on of a package, on one side.
+/// What is on in a package, on one side.
 #[derive(Drop)]
 pub struct Part {
-    /// Whether the package is on.
+    /// Whether the package is active.
     pub active: bool,
     /// The names of its features that are on, in byte order.
     pub features: Items<Text>,
-    /// For each of its entries, by its place, whether it is enabled.
+    /// For each of its entries, by its index, whether it is enabled.
     pub enabled: Items<bool>,
 }
 
-/// What is on of a package, on each side.
+/// What is on in a package, on each side.
 #[derive(Drop)]
 pub struct Sides {
-    /// What is made for the target.
+    /// On the side of the target.
     pub target: Part,
-    /// What is made for the host.
+    /// On the side of the host.
     pub host: Part,
 }
 
-/// What is on in a workspace, for each package by its place.
+/// What is on in a workspace, for each package by its index.
 #[derive(Drop)]
 pub struct Features {
-    /// For each package, by its place in the workspace.
+    /// For each package, by its index in the workspace.
     pub packages: Items<Sides>,
 }
 
 impl Sides {
-    /// What is on of the package on this side.
+    /// Returns what is on in the package on this side.
     fn part(&self, side: Side) -> &Part
         ensures { result.now ≡ part_of self.now side }
     {
@@ -47,7 +47,7 @@ impl Sides {
 }
 
 impl Features {
-    /// Whether the package at this place is on at this side. It takes no memory.
+    /// Returns whether the package at this index is active on this side. It takes no memory.
     pub fn active(&self, place: usize, side: Side) -> bool
         ensures { result ≡ is_active self.now place side }
     {
@@ -57,8 +57,8 @@ impl Features {
         }
     }
 
-    /// The names of the features that the package at this place has at this side, in byte order. It takes
-    /// no memory.
+    /// Returns the names of the features of the package at this index that are on on this side, in
+    /// byte order. It takes no memory.
     pub fn features_of(&self, place: usize, side: Side) -> &[Text]
         ensures { result.now ≡ features_at self.now place side }
     {
@@ -68,8 +68,8 @@ impl Features {
         }
     }
 
-    /// Whether an entry of the package at this place, by its own place, is enabled at this side. It takes
-    /// no memory.
+    /// Returns whether an entry of the package at this index, by its own index, is enabled on this
+    /// side. It takes no memory.
     pub fn enabled(&self, place: usize, side: Side, entry: usize) -> bool
         ensures { result ≡ is_enabled self.now place side entry }
     {
@@ -80,7 +80,7 @@ impl Features {
     }
 }
 
-/// Whether a number is marked. None past the last is. It takes no memory.
+/// Returns whether a number is marked. No number past the last is. It takes no memory.
 pub fn is_marked(marks: &[bool], number: usize) -> bool
     ensures { result ≡ is_on marks.now number }
 {

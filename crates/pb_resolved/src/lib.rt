@@ -1,5 +1,5 @@
-//! What is on in a workspace: which packages, features and entries, on each of two sides (The Cargo Book, Features,
-//! resolver 2). `pb_feature` finds it.
+//! What is on in a workspace: which packages, features and entries, on each of two sides (The Cargo
+//! Book, Features, resolver 2). `pb_feature` computes it.
 #![tactic(auto)]
 
 pub mod features;

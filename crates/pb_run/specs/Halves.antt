@@ -1,4 +1,4 @@
--- What holds of the outside while units of a build begin and answer, any number of them in flight.
+-- What is true of the outside world while units of a build begin and answer, with any number of them in flight.
 use Rattle.std.specs.Prelude.{◌≡◌, ◌≢◌, ◌∷◌, [], ℕ, Bool, true, false, not, List, Option, Some, None, IfSome, slice_get, take, length}
 use Rattle.std.specs.FinMap as finite
 use Rattle.std.specs.List.{flat_map}
@@ -35,12 +35,13 @@ use Rattle.pb_store.specs.Folder.{HasNeeds}
 use Rattle.pb_store.specs.Differences.{IsReplayed}
 use Rattle.pb_unit.specs.declared.plan.Planned.{Planned}
 
--- What a build rests on: a sound folder of records and a child that is honest; or nothing, where no unit that has not begun has a record.
+-- what a build rests on: a sound folder of records and an honest child; or nothing, and then no unit that has not
+-- begun has a record
 pub data Footing : Type 0 where
   OnRecords : Footing
   OnNothing : Footing
 
--- what the facts of a build are about: what it rests on, the child, how things are compiled, the project, and the sources
+-- what the facts of a build are about: its footing, the child, the setup, the project and the sources
 pub record Basis : Type 0 where
   pub footing : Footing
   pub child : Answers
@@ -51,24 +52,24 @@ pub record Basis : Type 0 where
 abbrev pub basis : Footing → Answers → Setup → Project → World → Basis
 basis footing child setup project sources = record { footing = footing; child = child; setup = setup; project = project; sources = sources }
 
--- what each unit gives from nothing
+-- the outcome of each unit in a clean build
 abbrev pub outcomes_in : Basis → List Outcome
 outcomes_in b = outcomes b.child b.setup b.project b.sources
 
--- the command and the view of the unit at a place, from the outcomes of the units before it
+-- the command of the unit at an index, after the outcomes of the units before it (below, its view)
 abbrev pub command_in : Basis → ℕ → Planned → Command
 command_in b place u = command_after b.setup b.project (take place (outcomes_in b)) u
 
 abbrev pub view_in : Basis → ℕ → Planned → World
 view_in b place u = view_of (take place (outcomes_in b)) b.sources u
 
--- the records that count
+-- the records that count in a world
 abbrev pub records_in : Basis → World → Standing
 records_in b w = records (records_folder b.project) w
 
 -- The units that have answered and are good.
 
--- the outcome of the unit at a place is good: what its run said is noted, and its files stand in its folder
+-- the outcome of the unit at an index is good: its directives are noted, and its files are in its output folder
 pub record StandsGood (b : Basis) (done : List (Option (List Directive))) (w : World) (place : ℕ) : Type 0 where
   pub unit : Planned
   pub there : unit_at b.project place ≡ Some unit
@@ -79,7 +80,8 @@ pub record StandsGood (b : Basis) (done : List (Option (List Directive))) (w : W
   pub noted : slice_get done place ≡ Some directives
   pub holds : files_in unit.out w.files ≡ files
 
--- the unit at a place has a grounded record with a number, of what its command reads, and nothing differs from it
+-- the unit at an index has a grounded record with a number; the record reads the same folders as the unit, and nothing
+-- differs from it
 pub record HasRecord (b : Basis) (w : World) (place : ℕ) : Type 0 where
   pub unit : Planned
   pub there : unit_at b.project place ≡ Some unit
@@ -91,26 +93,28 @@ pub record HasRecord (b : Basis) (w : World) (place : ℕ) : Type 0 where
   pub reads : kept.asked.reads ≡ reads_of b.project unit
   pub same : IsSame reading (records_folder b.project) unit.key (command_in b place unit) w kept
 
--- What is kept while units begin and answer.
+-- What stays true while units begin and answer.
 
--- the child is honest on the command of each unit, in the unit's view
+-- the child is honest on the command of each unit, in each world with these sources in which it sees the unit's view
 abbrev pub IsHonestOnUnits : Basis → Type 0
 IsHonestOnUnits b = (place : ℕ) (u : Planned) (w : World) → unit_at b.project place ≡ Some u → from_nothing b.project.workspace.target w ≡ b.sources
     → seen_by (command_in b place u) w ≡ view_in b place u → IsHonest judge b.child (command_in b place u) w
 
--- the folder of records is sound, its records have and name only numbers below the next one, and each unit that has answered and is good has its record
+-- the folder of records is sound; all numbers in its records are below the next number; and each unit that has answered
+-- and is good has its record
 pub record HoldsRecords (b : Basis) (states : List (State BadUnit)) (next : Option ℕ) (w : World) : Type 0 where
   pub honest : IsHonestOnUnits b
   pub sound : Sound reading judge b.child (records_folder b.project) w.files
   pub ahead : IsAhead (records_in b w) next
   pub recorded : (place : ℕ) → is_good_at (slice_get states place) ≡ true → HasRecord b w place
 
--- so it is over records; over nothing no unit that has not begun has a record
+-- over records, these facts are true; over nothing, no unit that has not begun has a record
 abbrev pub HoldsBy : Footing → Basis → List (State BadUnit) → Option ℕ → World → Type 0
 HoldsBy OnRecords b states next w = HoldsRecords b states next w
 HoldsBy OnNothing b states next w = (place : ℕ) (u : Planned) → unit_at b.project place ≡ Some u → slice_get states place ≡ Some Untouched → records_in b w u.key ≡ None
 
--- while units are in these states: as many are noted as there are states; the sources are as they were; each good unit stands, and all that it reaches is good; and the records are as the footing says
+-- what is true while units are in these states: there is a note for each state; the sources are unchanged; each good
+-- unit has its files, and all that it reaches is good; and the records are as the footing requires
 pub record Keeps (b : Basis) (states : List (State BadUnit)) (done : List (Option (List Directive))) (next : Option ℕ) (w : World) : Type 0 where
   pub long : length done ≡ length states
   pub sources_stay : from_nothing b.project.workspace.target w ≡ b.sources
@@ -131,11 +135,11 @@ key_at project place = key_in (unit_at project place)
 abbrev pub needed_keys : Project → Planned → List (List ℕ)
 needed_keys project u = flat_map (key_at project) u.needs
 
--- a unit that has begun, by its parts, but for what differed
+-- a unit that has begun, made of its parts, without a difference
 abbrev pub begun_with : List ℕ → Command → Awaited → Begun
 begun_with key c by = record { unit = key; command = c; difference = None; awaited = by }
 
--- its child, where it has one
+-- its child, if it has one
 abbrev pub child_in : Awaited → Option Launched
 child_in (awaited.Child launched) = Some launched
 child_in (awaited.Record again) = None
@@ -143,12 +147,13 @@ child_in (awaited.Record again) = None
 abbrev pub child_of : Begun → Option Launched
 child_of begun = child_in begun.awaited
 
--- nothing differs from its record, which has no run number
+-- nothing differs from the unit's record, and that record has no run number
 abbrev pub awaits_number : Awaited → Bool
 awaits_number (awaited.Child launched) = false
 awaits_number (awaited.Record again) = not again.numbered
 
--- its child is in flight: it was spawned for this command, saw this, found its folder empty, and all this stood still since
+-- the unit's child is in flight: it was spawned for this command, it saw this view, it found its folder empty, and
+-- none of this has changed since
 pub record IsInFlight (child : Answers) (c : Command) (view : World) (ticket : ℕ) (flying : List ChildInFlight) (still : ℕ → Type 0) : Type 0 where
   pub spawned : World
   pub flies : child_at ticket flying ≡ Some (child_spawned (child c) c spawned ticket)
@@ -156,7 +161,8 @@ pub record IsInFlight (child : Answers) (c : Command) (view : World) (ticket : �
   pub emptied : inside_out c.out spawned.files ≡ finite.empty
   pub stands : still ticket
 
--- a record of it may be kept with this number: none stands in its place, no record names the number, it is below the next one, and what the unit needs has its records
+-- a record of the unit may be kept with this number: it has no record now, no record names the number, the number is
+-- below the next one, and the units that it needs have their records
 pub record AwaitsRecord (b : Basis) (u : Planned) (number : ℕ) (next : Option ℕ) (w : World) : Type 0 where
   pub gone : records_in b w u.key ≡ None
   pub unnamed : NoneNames (records_in b w) number
@@ -167,49 +173,51 @@ abbrev pub AwaitsBy : Footing → Basis → Planned → ℕ → Option ℕ → W
 AwaitsBy OnRecords b u number next w = AwaitsRecord b u number next w
 AwaitsBy OnNothing b u number next w = Unit {0}
 
--- nothing differs from its record
+-- nothing differs from the unit's record
 abbrev pub IsUnchanged : Footing → Basis → Planned → Command → World → Type 0
 IsUnchanged OnRecords b u c w = (r : Record) × IsSame reading (records_folder b.project) u.key c w r
 IsUnchanged OnNothing b u c w = ⊥
 
--- it has a child; or nothing differs from its record, and what it carries is what that gives again
+-- either the unit has a child, or nothing differs from its record and it carries what that record replays
 abbrev pub WaitsBy : Basis → Planned → Command → World → Awaited → Option ℕ → World → List ChildInFlight → (ℕ → Type 0) → Type 0
 WaitsBy b u c view (awaited.Child launched) next w flying still = IsInFlight b.child c view launched.ticket flying still × AwaitsBy b.footing b u launched.number next w
 WaitsBy b u c view (awaited.Record again) next w flying still = IsUnchanged b.footing b u c w × IsReplayed (records_in b w u.key) again
 
--- the unit at a place has begun so
+-- the unit at an index has begun in this way
 pub record IsBegun (b : Basis) (place : ℕ) (begun : Begun) (next : Option ℕ) (w : World) (flying : List ChildInFlight) (still : ℕ → Type 0) : Type 0 where
   pub unit : Planned
   pub there : unit_at b.project place ≡ Some unit
   pub command : begun.command ≡ command_in b place unit
   pub waits : WaitsBy b unit begun.command (view_in b place unit) begun.awaited next w flying still
 
--- the child of a unit that has begun, where it has one, writes into this folder
+-- the child of a unit that has begun, if it has one, writes into this folder
 abbrev pub WritesTo : List ℕ → Option Launched → List ChildInFlight → Type 0
 WritesTo out None flying = Unit {0}
 WritesTo out (Some launched) flying = IfSome (child_at launched.ticket flying) (λ spawned. spawned.command.out ≡ Some out)
 
--- what was kept still for each ticket but this child's stays so, where no change of these paths touches what its child sees, if it has one in flight
+-- each other ticket that stood still before stands still after, unless a change of these paths touches what the child
+-- of that ticket sees
 abbrev pub KeepsOthersStill : Option Launched → (List ℕ → Bool) → List ChildInFlight → (ℕ → Type 0) → (ℕ → Type 0) → Type 0
 KeepsOthersStill launched inside flying before after =
     (ticket : ℕ) → IfSome launched (λ its. ticket ≢ its.ticket) → ((v w : World) → ChangesOnly inside v w → StandsStill ticket flying v w) → before ticket → after ticket
 
--- What the halves start from.
+-- What each step starts from.
 
--- the unit at a place can begin: it has not, and all that it reaches has answered and is good
+-- the unit at an index can begin: it has not begun, and all that it reaches has answered and is good
 pub record CanBegin (b : Basis) (states : List (State BadUnit)) (done : List (Option (List Directive))) (place : ℕ) (u : Planned) (next : Option ℕ) (w : World) : Type 0 where
   pub keeps : Keeps b states done next w
   pub untouched : slice_get states place ≡ Some Untouched
   pub reaches : are_good states u.reaches ≡ true
 
--- it can answer: it has begun so
+-- the unit at an index can answer: it has begun in this way
 pub record CanAnswer (b : Basis) (states : List (State BadUnit)) (done : List (Option (List Directive))) (place : ℕ) (u : Planned) (begun : Begun) (next : Option ℕ) (w : World) (flying : List ChildInFlight) (still : ℕ → Type 0) : Type 0 where
   pub keeps : Keeps b states done next w
   pub state : slice_get states place ≡ Some begun_state
   pub reaches : are_good states u.reaches ≡ true
   pub begun_so : IsBegun b place begun next w flying still
 
--- another unit has begun than this one, and all that it reaches is good; if both have a child, their tickets and run numbers differ
+-- another unit has begun, and all that it reaches is good; if both units have a child, their tickets and run numbers
+-- differ
 pub record BeginsApart (b : Basis) (states : List (State BadUnit)) (place : ℕ) (launched : Option Launched) (other : ℕ) (its : Begun) (next : Option ℕ) (w : World) (flying : List ChildInFlight) (still : ℕ → Type 0) : Type 0 where
   pub another : other ≢ place
   pub unit : Planned

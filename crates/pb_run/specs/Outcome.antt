@@ -1,4 +1,4 @@
--- The outcomes of units, one by one: each is made of those of the units before it.
+-- The outcomes of units, one by one: each follows from those of the units before it.
 use Rattle.std.specs.Prelude.{ℕ, Bool, true, false, if◌then◌else◌, List, [], ◌∷◌, ◌++◌, map, Option, Some, None, Result, Ok, Err, slice_get, ◌≡◌, take}
 use Rattle.std.specs.FinMap as finite
 use Rattle.std.specs.List.{list_all}
@@ -24,7 +24,8 @@ use Rattle.pb_run.specs.declared.ran.Ran.{Ran}
 use Rattle.pb_unit.specs.declared.plan.Planned.{Planned}
 use Rattle.pb_unit_messages.specs.Telling.{good_messages, bad_messages, said_by}
 
--- what a unit gives: nothing as yet; the files of its output folder, a script's directives, and what it tells; or why it is bad, and what it tells
+-- the outcome of a unit: none yet; good, with the files of its output folder, a script's directives and its messages;
+-- or bad, with the reason and its messages
 pub data Outcome : Type 0 where
   Waiting : Outcome
   Good : (files : Map) (directives : Option (List Directive)) (messages : List Message) → Outcome
@@ -39,7 +40,7 @@ abbrev pub is_good_at : Option Outcome → Bool
 is_good_at None = false
 is_good_at (Some o) = is_good o
 
--- a table whose entries are each made from the entries before it
+-- a table in which each entry is made from the entries before it
 abbrev pub tabled_from : {U A : Type 0} → (List A → U → A) → List A → List U → List A
 tabled_from step done [] = done
 tabled_from step done (u ∷ us) = tabled_from step (done ++ step done u ∷ []) us
@@ -53,32 +54,32 @@ abbrev pub files_at : Option Outcome → Map
 files_at (Some (Good files directives messages)) = files
 files_at _ = finite.empty
 
--- the files of the units at these places, over others
+-- the files of the units at these indices, over other files
 abbrev pub with_made : List Outcome → List ℕ → Map → Map
 with_made done [] m = m
 with_made done (place ∷ places) m = over (files_at (slice_get done place)) (with_made done places m)
 
--- the sources, and the files of each unit that this one reaches
+-- the sources, with the files of each unit that this one reaches
 abbrev pub view_of : List Outcome → World → Planned → World
 view_of done sources u = record sources { files = with_made done u.reaches sources.files }
 
 -- The judgement.
 
--- what comes of a unit whose child gave this answer
+-- what comes of a unit whose child produced this answer
 abbrev pub ran_by : Project → Planned → Ended → Result Answered UnitFault → Ran
 ran_by project u e (Ok a) = record { started = true; bad = None; directives = a.directives; messages = good_messages project u e.stderr a.directives }
 ran_by project u e (Err fault) = record { started = true; bad = Some record { fault = fault; said = said_by u.unit.what fault e }; directives = None; messages = bad_messages u.unit.what fault e }
 
--- the inputs found in an answer; none where it is bad
+-- the inputs found in an answer; none if it is bad
 abbrev pub names_in : Result Answered UnitFault → List InputName
 names_in (Ok a) = a.inputs
 names_in (Err fault) = []
 
--- what comes of it, with the inputs
+-- what comes of the unit, with its inputs
 abbrev pub judgement_by : Project → Planned → Ended → Result Answered UnitFault → Judgement
 judgement_by project u e a = record { ran = ran_by project u e a; names = names_in a }
 
--- what came of a unit for which no child was started
+-- what comes of a unit, marked as not started
 abbrev pub unstarted : Ran → Ran
 unstarted ran = record { started = false; bad = ran.bad; directives = ran.directives; messages = ran.messages }
 
@@ -86,15 +87,15 @@ abbrev pub outcome_from : Option BadUnit → Map → Option (List Directive) →
 outcome_from None files directives messages = Good files directives messages
 outcome_from (Some bad) files directives messages = Bad bad messages
 
--- what a unit gave that came to this and has these files
+-- the outcome of a unit from what came of it and its files
 abbrev pub outcome_by : Map → Ran → Outcome
 outcome_by files ran = outcome_from ran.bad files ran.directives ran.messages
 
--- what comes of a unit whose child ended so and left these files
+-- what comes of a unit whose child ended in this way and left these files
 abbrev pub ran_of : Project → Planned → Command → Ended → Map → Ran
 ran_of project u c e files = ran_by project u e (answered_of project u c e (file_at (dep_info_of project u) files))
 
--- the reply of a child to a unit's command, judged
+-- the outcome of a unit from the reply of a child to its command
 abbrev pub judged : Project → Planned → Command → Reply → Outcome
 judged project u c r = outcome_by (replied_files u.out r) (ran_of project u c (ended_by r) (replied_files u.out r))
 
@@ -109,11 +110,12 @@ directives_in (Bad bad messages) = None
 abbrev pub directives_of : List Outcome → List (Option (List Directive))
 directives_of done = map directives_in done
 
--- a unit's command, after these outcomes
+-- the command of a unit, after these outcomes
 abbrev pub command_after : Setup → Project → List Outcome → Planned → Command
 command_after setup project done u = command_of setup project u (directives_of done)
 
--- the outcome of a unit from those before it: it waits where a need is not good; else it is the reply of the child to the unit's command in the unit's view, judged
+-- the outcome of a unit from those before it: it waits if a unit that it needs is not good; else it is the outcome of
+-- the child's reply to the unit's command in the unit's view
 abbrev pub outcome_of : Answers → Setup → Project → World → List Outcome → Planned → Outcome
 outcome_of child setup project sources done u =
     if list_all (λ place. is_good_at (slice_get done place)) u.needs then judged project u (command_after setup project done u) (child (command_after setup project done u) (view_of done sources u)) else Waiting
@@ -122,7 +124,7 @@ outcome_of child setup project sources done u =
 abbrev pub outcomes : Answers → Setup → Project → World → List Outcome
 outcomes child setup project sources = tabled (outcome_of child setup project sources) project.plan.planned
 
--- the outcome of a unit is made of those of the units before it
+-- the outcome of each unit follows from those of the units before it
 abbrev pub Unfolds : Type 0
 Unfolds = (child : Answers) (setup : Setup) (project : Project) (sources : World) (i : ℕ) (u : Planned) → slice_get project.plan.planned i ≡ Some u
     → slice_get (outcomes child setup project sources) i ≡ Some (outcome_of child setup project sources (take i (outcomes child setup project sources)) u)

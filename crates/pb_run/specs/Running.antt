@@ -1,4 +1,4 @@
--- What one unit's step does: it begins, with a child or without; it answers; and both in turn.
+-- What one unit's step does: it begins, with or without a child; it answers; and both, one after the other.
 use Rattle.std.specs.Prelude.{◌≡◌, ◌⊎◌, ℕ, Bool, List, Option, Some, None, Result, Ok, MatchResult, ◌++◌, ◌∷◌, if◌then◌else◌, is_some, [], map, Err, IsOk, IfOk, IfErr, IfSome, ◌≢◌, ◌+◌, true, IsTrue, IsSome, MatchOption, OnOk, length, max, slice_set, false, slice_get}
 use Rattle.std.specs.FinMap as finite
 use Rattle.pb_answer.specs.declared.bad_unit.BadUnit.{BadUnit}
@@ -53,7 +53,8 @@ use Rattle.pb_store.specs.declared.store.Store.{Store}
 use Rattle.pb_unit.specs.declared.plan.Planned.{Planned}
 use Rattle.pb_unit_messages.specs.Telling.{unit_lines}
 
--- a child flies that was spawned in a world which differs from the old one at these paths only; its folder was empty then, and what it sees has stood still since (`still`)
+-- a child is in flight that was spawned in a world that differs from the old one at these paths only; its folder was
+-- empty then, and what it sees has not changed since (`still`)
 pub record IsSpawned (inside : List ℕ → Bool) (child : Answers) (c : Command) (old : World) (ticket : ℕ) (flying : List ChildInFlight) (still : ℕ → Type 0) : Type 0 where
   pub spawned : World
   pub only : ChangesOnly inside old spawned
@@ -63,7 +64,7 @@ pub record IsSpawned (inside : List ℕ → Bool) (child : Answers) (c : Command
 
 -- The calls, one by one.
 
--- what a step says of its calls: which it made where it ended well, and which where it tells a fault
+-- the calls of a step: those of a success, and those of each fault
 abbrev pub Calls : {T E : Type 0} → (T → Counts → Counts → Type 0) → (E → Counts → Counts → Type 0) → Result T E → Counts → Counts → Type 0
 Calls Makes Ends result old new = MatchResult result (λ x. Makes x old new) (λ e. Ends e old new)
 
@@ -71,14 +72,14 @@ Calls Makes Ends result old new = MatchResult result (λ x. Makes x old new) (λ
 abbrev pub OneCall : {T : Type 0} → T → Counts → Counts → Type 0
 OneCall x old new = new ≡ past_call old
 
--- the one call, which removes what stands at this path, failed; out of memory, it or none was made
+-- the one call, which removes this path, failed; out of memory, it may or may not have been made
 abbrev pub RemovalEnds : List ℕ → StepFault → Counts → Counts → Type 0
 RemovalEnds path (step.Store (store.Place fault)) old new = Fails fault (call.Remove path) old new
 RemovalEnds path (step.Store store.NumbersSpent) old new = ⊥
 RemovalEnds path (step.Store store.OutOfMemory) old new = (new ≡ old) ⊎ (new ≡ past_call old)
 RemovalEnds path (step.Start fault) old new = ⊥
 
--- the same of a removal that needs a run number: if none is left, no call was made
+-- the same for a removal that needs a run number: if no number is left, no call was made
 abbrev pub DropEnds : List ℕ → StepFault → Counts → Counts → Type 0
 DropEnds path (step.Store store.NumbersSpent) old new = new ≡ old
 DropEnds path e old new = RemovalEnds path e old new
@@ -88,104 +89,112 @@ pub record Spawns (child : Answers) (c : Command) (ticket : ℕ) (old new : Coun
   pub spawned : World
   pub counted : new ≡ counted_spawn (child_spawned (child c) c spawned) (Ok ticket) old
 
--- the spawn failed with this fault, and counts as one start; out of memory, no call was made, or this one
+-- the spawn failed with this fault and counts as one start; out of memory, the spawn may or may not have been made
 abbrev pub SpawnStops : StepFault → Counts → Counts → Type 0
 SpawnStops (step.Store (store.Place fault)) old new = ⊥
 SpawnStops (step.Store store.NumbersSpent) old new = ⊥
 SpawnStops (step.Store store.OutOfMemory) old new = (new ≡ old) ⊎ (new ≡ past_call (one_start old))
 SpawnStops (step.Start fault) old new = new ≡ past_start_fault fault (one_start old)
 
--- The calls in turn.
+-- Several calls, one after the other.
 
--- one call was made, which empties the folder, and then the child was spawned
+-- one call emptied the folder, and then the child was spawned
 abbrev pub SpawnsAnew : Answers → Command → ℕ → Counts → Counts → Type 0
 SpawnsAnew child c ticket old new = Spawns child c ticket (past_call old) new
 
--- two calls were made, which remove the record and empty the folder, and then the child was spawned; that they come in this order is said of those that fail (`LaunchEnds`)
+-- two calls removed the record and emptied the folder, and then the child was spawned; their order is stated for calls
+-- that fail (`LaunchEnds`)
 abbrev pub Launches : Answers → Command → ℕ → Counts → Counts → Type 0
 Launches child c ticket old new = SpawnsAnew child c ticket (past_call old) new
 
--- the folder's removal ended it, or after it the spawn
+-- the step failed at the removal of the folder, or after it at the spawn
 abbrev pub AnewEnds : List ℕ → StepFault → Counts → Counts → Type 0
 AnewEnds folder e old new = RemovalEnds folder e old new ⊎ SpawnStops e (past_call old) new
 
--- the removal of the record at this path ended it, or after it that of the folder, or after both the spawn
+-- the step failed at the removal of the record at this path, or after it at that of the folder, or after both at the
+-- spawn
 abbrev pub LaunchEnds : List ℕ → List ℕ → StepFault → Counts → Counts → Type 0
 LaunchEnds path folder e old new = DropEnds path e old new ⊎ AnewEnds folder e (past_call old) new
 
 -- The records.
 
--- the record is gone, or, after a fault, stands as it did; the folder of records stays sound, and the next number ahead of all
+-- the record is gone, or, after a fault, may be unchanged; the folder of records stays sound, and the next number stays
+-- above all others
 pub record DropsFor {T : Type 0} (child : Answers) (folder key : List ℕ) (result : Result T StepFault) (before now : Option ℕ) (old new : World) : Type 0 where
   pub sound : (judge : Judge) → Sound reading judge child folder old.files → Sound reading judge child folder new.files
   pub stands : MatchResult result (λ x. records folder new key ≡ None) (λ e. Leaves None (records folder old key) (records folder new key))
   pub ahead : IsAhead (records folder old) before → IsAhead (records folder new) now
 
--- the child of this ticket has ended with this answer: it flies no more, a failure is counted, and its folder alone changed. If what it sees stood still since its spawn, it left what was fixed then
+-- the child of this ticket has ended with this answer: it is no longer in flight, a failure is counted, and only its
+-- folder changed. If what it sees has not changed since its spawn, it left what was fixed then
 pub record HasEnded (ticket : ℕ) (answer : Result Ended StartFault) (well stood : Type 0) (before after : World) (old new : Counts) : Type 0 where
   pub counted : new ≡ counted_finish ticket answer old
   pub answered : well → IsOk answer
   pub only : IfSome (child_at ticket old.starts.flying) (λ spawned. ChangesOnlyInSome spawned.command.out before after)
   pub lands : stood → IfOk answer (λ ended. IfSome (child_at ticket old.starts.flying) (λ spawned. LandsAs spawned before ended after))
 
--- the child of a unit has ended so, where it has one; else nothing was done, and its record gives the answer again
+-- the child of a unit has ended in this way, if the unit has one; else nothing was done, and the answer is what its
+-- record replays
 abbrev pub EndsBy : Awaited → Result Ended StartFault → Type 0 → (ℕ → Type 0) → World → World → Counts → Counts → Type 0
 EndsBy (awaited.Child launched) answer well still before after old new = HasEnded launched.ticket answer well (still launched.ticket) before after old new
 EndsBy (awaited.Record again) answer well still before after old new = (after ≡ before) × (new ≡ old) × (answer ≡ Ok again.ended)
 
--- what came of a unit, where no child was started for it
+-- what came of a unit; without a child, it is marked as not started
 abbrev pub ran_from : Awaited → Ran → Ran
 ran_from (awaited.Child launched) ran = ran
 ran_from (awaited.Record again) ran = unstarted ran
 
--- what came of a unit is the judgement of this answer, by the files that then stood: of the one that its child gave, or that its record gives again
+-- what came of a unit is the judgement of this answer and of the files of this world
 abbrev pub IsJudged : Project → Planned → Command → Awaited → Ended → World → Ran → Type 0
 IsJudged project u c by ended w ran = ran ≡ ran_from by (ran_of project u c ended w.files)
 
 -- The record of a unit that is good.
 
--- the names of the inputs in an answer, by the files that then stood
+-- the names of the inputs in an answer, with these files
 abbrev pub names_of : Project → Planned → Command → Ended → Map → List InputName
 names_of project u c ended files = names_in (answered_of project u c ended (file_at (dep_info_of project u) files))
 
--- of its child's answer: its command, the inputs that the answer names, with the values that they have in this world, this run number, the numbers that the records of the needed units have, and the streams
+-- the record of a child's answer: the command, the inputs that the answer names with their values in this world, this
+-- run number, the run numbers of the needed units, and the streams
 abbrev pub record_of : Project → Planned → Command → ℕ → Ended → World → Record
 record_of project u c number ended w =
     kept_of (records_folder project) u.key c (map (input_in c.target w) (names_of project u c ended w.files)) number (numbered (records (records_folder project) w) (needed_keys project u)) ended
 
--- what stands in its record's place once it has answered so, in this world: of one with a child its record; of one without the record that was there, which has got the next number if it had none
+-- the record of a unit after this answer: with a child, the record of that answer; without one, the record that was
+-- there, with the next number if it had none
 abbrev pub record_left : Project → Planned → Command → Awaited → Ended → Option ℕ → World → Option Record
 record_left project u c (awaited.Child launched) ended next w = Some (record_of project u c launched.number ended w)
 record_left project u c (awaited.Record again) ended next w =
     if again.numbered then records (records_folder project) w u.key else migrated next (numbered (records (records_folder project) w) (needed_keys project u)) (records (records_folder project) w u.key)
 
--- where no child was started, the answer that is given again is that of this record
+-- if no child was started, the answer is what this record replays
 abbrev pub GivesRecord : Option Record → Awaited → Type 0
 GivesRecord found (awaited.Child launched) = Unit {0}
 GivesRecord found (awaited.Record again) = IsReplayed found again
 
--- What is called once the answer is there.
+-- The calls after the answer.
 
--- the dep-info of a unit is read, where it has one
+-- the dep-info of a unit is read, if it has one
 abbrev pub dep_info_looked : Option (List ℕ) → List Call
 dep_info_looked None = []
 dep_info_looked (Some path) = call.Read path ∷ []
 
--- where its child was started, its record is kept; else a record that has no run number is given one
+-- if a child was started, its record is kept; else a record without a run number gets one
 abbrev pub recorded_called : Project → Planned → Command → World → List InputName → Awaited → List Call
 recorded_called project u c w names (awaited.Child launched) = kept_called (records_folder project) u.key c.target w names
 recorded_called project u c w names (awaited.Record again) = if again.numbered then [] else migrated_called (records_folder project) u.key w
 
--- but for a unit that is bad
+-- the same calls, but none for a bad unit
 abbrev pub judged_called : Project → Planned → Command → World → Awaited → Judgement → List Call
 judged_called project u c w by j = if is_some j.ran.bad then [] else recorded_called project u c w j.names by
 
--- first the dep-info; and what is called next is by the judgement of the answer
+-- first the dep-info is read; the next calls depend on the judgement of the answer
 abbrev pub answered_called : Project → Planned → Command → World → Awaited → Ended → List Call
 answered_called project u c w by ended =
     dep_info_looked (dep_info_of project u) ++ judged_called project u c w by (judgement_by project u ended (answered_of project u c ended (file_at (dep_info_of project u) w.files)))
 
--- after an answer just these calls were made, in this order, and a number may be missing only to a record that is given again; where a child gave none, no call was made, and the fault is the child's
+-- after an answer exactly these calls were made, in this order; only a record that is replayed can lack a number; if
+-- the child produced no answer, no call was made, and the fault is the child's
 abbrev pub CallsBehind : {T : Type 0} → Awaited → (Ended → List Call) → Result Ended StartFault → Result T StepFault → Counts → Counts → Type 0
 CallsBehind (awaited.Child launched) calls (Ok ended) result old new = StepMakes result (calls ended) old new
 CallsBehind (awaited.Record again) calls (Ok ended) result old new = NumbersInTurn result (calls ended) old new
@@ -195,97 +204,101 @@ CallsBehind by calls (Err fault) result old new = (new ≡ old) × IfErr result 
 abbrev pub Differs : Project → Planned → Command → World → Type 0
 Differs project u c w = (difference : Difference) × FirstDifference (records_folder project) u.key c w (Some difference)
 
--- the calls by which a unit is looked at for a difference, and the counters after them
+-- the calls that compare a unit with its record (below, the counters after them)
 abbrev pub unit_looks : Project → Planned → Command → World → List Call
 unit_looks project u c w = unit_looked (records_folder project) u.key c w
 
 abbrev pub past_look : Project → Planned → Command → World → Counts → Counts
 past_look project u c w old = past_calls (unit_looks project u c w) old
 
--- the unit has begun: with a child if it reports a difference; else it carries what its record replays
+-- the unit has begun: with a child if it reports a difference; else with what its record replays
 pub record BeginsUnit (tells : Bool) (child : Answers) (project : Project) (u : Planned) (c : Command) (before now : Store) (old new : At) (begun : Begun) : Type 0 where
-  -- it has the unit's key and command
+  -- it has the unit's key and its command
   pub unit : begun.unit ≡ u.key
   pub asks : begun.command ≡ c
   -- over a place that tells its maps the report is the first difference
   pub differs : IsTrue tells → FirstDifference (records_folder project) u.key begun.command old.world begun.difference
   pub spawned : is_some (child_of begun) ≡ is_some begun.difference
-  -- the child takes the next run number, is counted among those in flight, and writes into the unit's folder: it was spawned over an empty folder, and no text counts as the unit's record
+  -- the child takes the next run number, is counted as in flight, and writes into the unit's folder; when it was
+  -- spawned the folder was empty, and the unit had no record
   pub number : MatchOption (child_of begun) (now.next ≡ before.next) (λ launched. (before.next ≡ Some launched.number) × (now.next ≡ after launched.number))
   pub most : MatchOption (child_of begun) (new.most ≡ old.most) (λ launched. new.most ≡ max old.most (length old.counts.starts.flying + 1))
   pub writes : WritesTo u.out (child_of begun) new.counts.starts.flying
   pub launched : IsTrue tells → IfSome (child_of begun) (λ launched. IsSpawned (is_of (records_folder project) u.key) child begun.command old.world launched.ticket new.counts.starts.flying new.still)
   pub dropped : IsTrue tells → IsSome (child_of begun) → records (records_folder project) new.world u.key ≡ None
   pub launches : IsTrue tells → IfSome (child_of begun) (λ launched. Launches child begun.command launched.ticket (past_look project u begun.command old.world old.counts) new.counts)
-  -- without a child nothing changes, and no call comes after the look
+  -- without a child nothing changes, and no call comes after the comparison
   pub same : child_of begun ≡ None → new.world ≡ old.world
   pub looks : IsTrue tells → child_of begun ≡ None → new.counts ≡ past_look project u begun.command old.world old.counts
   pub carries : IsTrue tells → GivesRecord (records (records_folder project) old.world u.key) begun.awaited
 
--- a unit could not begin: it stopped at a call of its look; or something differs, and it stopped at one of the launch
+-- a unit could not begin: a call of its comparison failed; or something differs, and a call of the launch failed
 abbrev pub StopsToBegin : Project → Planned → Command → StepFault → World → Counts → Counts → Type 0
 StopsToBegin project u c fault w old new = StepStopsAt fault (unit_looks project u c w) old new ⊎ (Differs project u c w × LaunchEnds (place_of (records_folder project) u.key) u.out fault (past_look project u c w old) new)
 
 pub record FailsToBegin (tells : Bool) (project : Project) (u : Planned) (c : Command) (old new : At) (e : StepFault) : Type 0 where
   pub stops : IsTrue tells → StopsToBegin project u c e old.world old.counts new.counts
-  -- only where something differs does a call of the launch fail, does anything change, or is a spawn tried
+  -- a call of the launch fails, anything changes, or a spawn is tried only if something differs
   pub cause : IsTrue tells → starts e ≡ true → Differs project u c old.world
   pub spared : IsTrue tells → (new.world ≡ old.world) ⊎ Differs project u c old.world
   pub tried : IsTrue tells → (new.counts.starts ≡ old.counts.starts) ⊎ Differs project u c old.world
   pub most : new.most ≡ old.most
 
--- a build over true records, or over none, goes on as a unit begins
+-- what is true of a build over true records, or over none, stays true as a unit begins
 pub record BeginsBuild (b : Basis) (done : List (Option (List Directive))) (index : ℕ) (u : Planned) (result : Result Begun StepFault) (before now : Option ℕ) (old new : At) : Type 0 where
   pub begun : (states : List (State BadUnit)) → CanBegin b states done index u before old.world → IfOk result (λ begun. IsBegun b index begun now new.world new.counts.starts.flying new.still)
   pub keeps : (states : List (State BadUnit)) → CanBegin b states done index u before old.world → Keeps b (slice_set states index state.Begun) done now new.world
   pub others : (states : List (State BadUnit)) (other : ℕ) (its : Begun) → CanBegin b states done index u before old.world
       → BeginsApart b states index None other its before old.world old.counts.starts.flying old.still → IsBegun b other its now new.world new.counts.starts.flying new.still
 
--- Of each half.
+-- Of each step.
 
--- the store goes on: its folder is the same, its next number is too or was taken, and its numbers are those of its records where the half ended well
+-- the store keeps its folder; its next number is unchanged or was taken; and if the step ended well, its numbers are
+-- those of its records
 pub record KeepsStore {T : Type 0} (tells : Bool) (result : Result T StepFault) (before now : Store) (new : At) : Type 0 where
   pub folder : now.folder ≡ before.folder
   pub next : TakesNumber before.next now.next
   pub numbers : IsTrue tells → OnOk result (HasNumbers (records before.folder new.world) now.numbers)
 
--- only this unit's folder and record change; the other children fly on, and stand still if no change of these paths touches what they see; at most one call failed, and it was the last
+-- only this unit's folder and record change; the other children stay in flight, and stand still unless a change of
+-- these paths touches what they see; at most one call failed, and it was the last
 pub record ChangesUnit {T : Type 0} (folder key : List ℕ) (ended : Option Launched) (Goes : T → Starts → Starts → Type 0) (May : StepFault → Starts → Starts → Type 0) (result : Result T StepFault) (old new : At) : Type 0 where
   pub only : ChangesOnly (is_of folder key) old.world new.world
   pub still : KeepsOthersStill ended (is_of folder key) old.counts.starts.flying old.still new.still
   pub stay : (ticket : ℕ) (its : ChildInFlight) → IfSome ended (λ launched. ticket ≢ launched.ticket) → child_at ticket old.counts.starts.flying ≡ Some its → child_at ticket new.counts.starts.flying ≡ Some its
   pub takes : StepTakes Goes May result old.counts new.counts
 
--- how the beginning of a unit leaves the starts
+-- what the beginning of a unit does to the starts
 abbrev pub Begins : Begun → Starts → Starts → Type 0
 Begins begun old new = BeginsBy (child_of begun) old new
 
--- what has begun is this unit, for a command of it
+-- what has begun is this unit, with a command of it
 pub record IsOf (project : Project) (u : Planned) (begun : Begun) : Type 0 where
   pub unit : begun.unit ≡ u.key
   pub asks : IsCommandOf project u begun.command
 
--- the answer was there, and then this held, of the world and the counters at that moment
+-- the answer came, and then this was true of the world and the counters at that moment
 pub record AnswersThen (by : Awaited) (answer : Result Ended StartFault) (well : Type 0) (old : At) (Then : World → Counts → Type 0) : Type 0 where
   pub world : World
   pub counts : Counts
   pub ends : EndsBy by answer well old.still old.world world old.counts counts
   pub comes : Then world counts
 
--- what came of a unit is the judgement of its child's answer, or, without a child, of what its record replays; and a good one leaves the record of `record_left`
+-- what came of a unit is the judgement of its child's answer, or, without a child, of what its record replays; a good
+-- unit leaves the record of `record_left`
 pub record AnswersUnit (tells : Bool) (project : Project) (u : Planned) (begun : Begun) (before now : Store) (old new : At) (ran : Ran) : Type 0 where
   pub started : ran.started ≡ is_some (child_of begun)
   pub directives : directives_in (outcome_by finite.empty ran) ≡ ran.directives
   pub judged : IsTrue tells → (ended : Ended) × AnswersThen begun.awaited (Ok ended) (IsTrue true) old (λ w counts. IsJudged project u begun.command begun.awaited ended w ran)
   pub kept : IsTrue tells → is_some ran.bad ≡ false → (ended : Ended) × AnswersThen begun.awaited (Ok ended) (IsTrue true) old (λ w counts.
       records (records_folder project) new.world u.key ≡ record_left project u begun.command begun.awaited ended before.next w)
-  -- a bad unit leaves the place of its record as it is, and takes no number
+  -- a bad unit leaves its record as it is, and takes no number
   pub unkept : IsSome ran.bad → ChangesOnly (is_at_or_below u.out) old.world new.world
   pub bad : IsSome ran.bad → now.next ≡ before.next
-  -- a good one takes the next number where its record had none
+  -- a good unit takes the next number if its record had none
   pub taken : IsTrue tells → awaits_number begun.awaited ≡ true → lacks_number (records (records_folder project) old.world u.key) ≡ true → is_some ran.bad ≡ false → TakesNext before.next now.next
 
--- how it ended, well or with a fault: after the answer only these calls came, and changed the unit's record alone
+-- how the answer ended, well or with a fault: after it only these calls came, and they changed only the unit's record
 pub record EndsUnit {T : Type 0} (tells : Bool) (project : Project) (u : Planned) (begun : Begun) (result : Result T StepFault) (before now : Store) (old new : At) : Type 0 where
   pub lands : IsTrue tells → (answer : Result Ended StartFault) × AnswersThen begun.awaited answer (IsOk result) old (λ w counts.
       ChangesOnly (is_at_or_below (place_of (records_folder project) u.key)) w new.world × CallsBehind begun.awaited (answered_called project u begun.command w begun.awaited) answer result counts new.counts)
@@ -294,7 +307,7 @@ pub record EndsUnit {T : Type 0} (tells : Bool) (project : Project) (u : Planned
   pub untaken : awaits_number begun.awaited ≡ false → now.next ≡ before.next
   pub most : new.most ≡ old.most
 
--- a build over true records, or over none, goes on as a unit answers
+-- what is true of a build over true records, or over none, stays true as a unit answers
 pub record AnswersBuild (b : Basis) (index : ℕ) (u : Planned) (begun : Begun) (result : Result Ran StepFault) (before now : Option ℕ) (old new : At) : Type 0 where
   pub outcome : (states : List (State BadUnit)) (done : List (Option (List Directive))) → CanAnswer b states done index u begun before old.world old.counts.starts.flying old.still
       → IfOk result (λ ran. slice_get (outcomes_in b) index ≡ Some (outcome_by (files_in u.out new.world.files) ran))
@@ -304,13 +317,13 @@ pub record AnswersBuild (b : Basis) (index : ℕ) (u : Planned) (begun : Begun) 
   pub others : (states : List (State BadUnit)) (done : List (Option (List Directive))) (other : ℕ) (its : Begun) → CanAnswer b states done index u begun before old.world old.counts.starts.flying old.still
       → BeginsApart b states index (child_of begun) other its before old.world old.counts.starts.flying old.still → IsBegun b other its now new.world new.counts.starts.flying new.still
 
--- and as its answer is dropped
+-- and as a unit's answer is dropped
 pub record DropsBuild (b : Basis) (index : ℕ) (u : Planned) (begun : Begun) (next : Option ℕ) (old new : At) : Type 0 where
   pub keeps : (states : List (State BadUnit)) (done : List (Option (List Directive))) → CanAnswer b states done index u begun next old.world old.counts.starts.flying old.still → Keeps b states done next new.world
   pub others : (states : List (State BadUnit)) (done : List (Option (List Directive))) (other : ℕ) (its : Begun) → CanAnswer b states done index u begun next old.world old.counts.starts.flying old.still
       → BeginsApart b states index (child_of begun) other its next old.world old.counts.starts.flying old.still → IsBegun b other its next new.world new.counts.starts.flying new.still
 
--- all that is said of the beginning of a unit, but for the key in its error
+-- all that we promise of the beginning of a unit, without the key in its error
 pub record HasBegun (tells : Bool) (child : Answers) (setup : Setup) (project : Project) (done : List (Option (List Directive))) (index : ℕ) (u : Planned) (result : Result Begun StepFault) (before now : Store) (old new : At) : Type 0 where
   pub begins : IfOk result (BeginsUnit tells child project u (command_of setup project u done) before now old new)
   pub fails : IfErr result (FailsToBegin tells project u (command_of setup project u done) old new)
@@ -326,11 +339,11 @@ pub record HasAnswered (tells : Bool) (child : Answers) (project : Project) (ind
   pub store : KeepsStore tells result before now new
   pub changes : ChangesUnit (records_folder project) u.key (child_of begun) (Lands (child_of begun)) (MayAnswer before.next (child_of begun)) result old new
 
--- what came of a unit, with its message lines and with what differed
+-- what came of a unit, with its message lines and its difference
 abbrev pub told_of : Project → Planned → Option Difference → Ran → Outcome
 told_of project u difference ran = record { fault = ran.bad; directives = ran.directives; lines = unit_lines project u ran.started ran.messages; started = ran.started; difference = difference }
 
--- an answer is given with its lines, unless memory for them is refused; and a fault is given as it is
+-- an answer is returned with its lines, unless memory runs out; a fault is returned as it is
 abbrev pub TellsAnswer : Project → Planned → Option Difference → Result Ran StepFault → Result Outcome StepFault → Type 0
 TellsAnswer project u difference (Ok ran) result = MatchResult result (λ outcome. outcome ≡ told_of project u difference ran) (λ e. e ≡ step.Store store.OutOfMemory)
 TellsAnswer project u difference (Err fault) result = result ≡ Err fault
@@ -341,7 +354,7 @@ pub record HasTold (tells : Bool) (child : Answers) (project : Project) (index :
   pub answered : HasAnswered tells child project index u begun answer before now old new
   pub told : TellsAnswer project u begun.difference answer result
 
--- it could not begin; or it began, and then answered, over the store and the place as they stood between
+-- the unit could not begin; or it began, and then answered over the store and the place as they were in between
 abbrev pub RunsUnit : {P : Type 0} → (P → At) → Bool → Answers → Setup → Project → List (Option (List Directive)) → ℕ → Planned → Result Outcome StepFault → Store → Store → P → P → Type 0
 RunsUnit {P} at tells child setup project done index u result before now old new =
     ((fault : StepFault) × (result ≡ Err fault) × HasBegun tells child setup project done index u (Err fault) before now (at old) (at new))

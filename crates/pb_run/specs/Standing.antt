@@ -1,4 +1,4 @@
--- What a build asks of a project.
+-- What a build requires of a project.
 use Rattle.std.specs.Prelude.{◌≡◌, ◌≢◌, ◌<◌, ◌⊎◌, ◌↔◌, ℕ, true, false, List, Option, Some, Contains, slice_get}
 use Rattle.std.specs.List.{AllByRecursion}
 use Rattle.pb_directive.specs.declared.directive.Directive.{Directive}
@@ -15,15 +15,15 @@ use Rattle.pb_package.specs.declared.package.Package.{Package}
 use Rattle.pb_project.specs.declared.project.Project.{Project}
 use Rattle.pb_project.specs.declared.project.Setup.{Setup}
 
--- a command is that of a unit, after some runs
+-- a command is one of this unit, after some runs
 abbrev pub IsCommandOf : Project → Planned → Command → Type 0
 IsCommandOf project u c = (setup : Setup) × (done : List (Option (List Directive))) × (c ≡ command_of setup project u done)
 
--- the folder of the records of a project's units: the profile's, in the target folder
+-- the folder of the records of a project's units: the profile's folder, inside the target folder
 abbrev pub records_folder : Project → List ℕ
 records_folder project = profile_folder project.workspace project.profile
 
--- the folder of a unit that a unit needs, or one that such a unit reads
+-- the folder of a unit that this unit needs, or a folder that such a unit reads
 pub record IsReadByNeed (project : Project) (u : Planned) (f : List ℕ) : Type 0 where
   pub place : ℕ
   pub needed : Contains u.needs place
@@ -31,7 +31,8 @@ pub record IsReadByNeed (project : Project) (u : Planned) (f : List ℕ) : Type 
   pub there : slice_get project.plan.planned place ≡ Some need
   pub own_or_read : (f ≡ need.out) ⊎ Contains (reads_of project need) f
 
--- what a build requires of a project: its workspace is settled, and its plan is one. The other fields say what follows for its units: their packages, order, folders and keys, and what they need and read
+-- what a build requires of a project: its workspace is settled, and its plan is a plan of it. The other fields follow
+-- from that for its units: their packages, order, folders and keys, and what they need and read
 pub record IsInOrder (project : Project) : Type 0 where
   pub settled : IsSettled project.workspace
   pub selection : Selection

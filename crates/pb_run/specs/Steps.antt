@@ -1,4 +1,5 @@
--- How a step of one unit ends: which call failed, with which fault, after how many starts; with the unit's name and without it.
+-- How a step of one unit ends: which call failed, with which fault, after how many starts; with and without the unit's
+-- name.
 use Rattle.std.specs.Prelude.{◌≡◌, ℕ, List, Result, Ok, Err, ◌≢◌, ◌⊎◌, ◌++◌, ◌∷◌, [], Bool, true, false, Option, Some, None, IfErr, MatchResult, IsSome}
 use Rattle.pb_answer.specs.declared.fault.BuildFault.{BuildFault}
 use Rattle.pb_answer.specs.declared.fault.BuildFault.TheVariants.{Plan, Toolchain, Child, Device, Sink}
@@ -24,21 +25,21 @@ use Rattle.pb_run.specs.declared.faults.StepFault.TheVariants as step
 use Rattle.pb_store.specs.Calls.{FailedLast}
 use Rattle.pb_store.specs.declared.fault.StoreFault.TheVariants as store
 
--- the fault of a child, as a step's; out of memory is the store's
+-- a child's fault as a step's fault; out of memory is the store's
 abbrev pub started : StartFault → StepFault
 started start.CannotStart = step.Start start.CannotStart
 started start.Died = step.Start start.Died
 started start.Capture = step.Start start.Capture
 started start.OutOfMemory = step.Store store.OutOfMemory
 
--- a step's fault as the build's: with the unit's key; out of memory has none
+-- a step's fault as the build's fault, with the unit's key; out of memory has no key
 abbrev pub named : List ℕ → StepFault → BuildFault
 named unit (step.Store (store.Place fault)) = Device unit (device.Place fault)
 named unit (step.Store store.NumbersSpent) = Device unit device.NumbersSpent
 named unit (step.Store store.OutOfMemory) = build.OutOfMemory
 named unit (step.Start fault) = Child unit fault
 
--- the build's fault without the key; no step ends with one of the last three
+-- the build's fault without its key; no step ends with one of the last three
 abbrev pub fault_in : BuildFault → StepFault
 fault_in (Device unit (device.Place fault)) = step.Store (store.Place fault)
 fault_in (Device unit device.NumbersSpent) = step.Store store.NumbersSpent
@@ -52,7 +53,7 @@ abbrev pub bare : {T : Type 0} → Result T BuildFault → Result T StepFault
 bare (Ok x) = Ok x
 bare (Err e) = Err (fault_in e)
 
--- the fault is one of this unit: the key that it has is the unit's, or it is out of memory
+-- the fault is one of this unit: it has the unit's key, or it is out of memory
 abbrev pub IsOfUnit : List ℕ → BuildFault → Type 0
 IsOfUnit key (Device unit fault) = unit ≡ key
 IsOfUnit key build.OutOfMemory = Unit {0}
@@ -61,7 +62,7 @@ IsOfUnit key (Plan refusal) = ⊥
 IsOfUnit key Toolchain = ⊥
 IsOfUnit key Sink = ⊥
 
--- a fault of a call on files or variables as one of a build, with the name that is given; out of memory has none
+-- a fault of a call on files or variables as a build's fault, with this name; out of memory has no name
 abbrev pub device_fault : List ℕ → PlaceFault → BuildFault
 device_fault unit place.Read = Device unit (device.Place place.Read)
 device_fault unit place.List = Device unit (device.Place place.List)
@@ -74,16 +75,16 @@ device_fault unit place.OutOfMemory = build.OutOfMemory
 abbrev pub NoStart : {T : Type 0} → T → Starts → Starts → Type 0
 NoStart x old new = new ≡ old
 
--- The halves of a unit's run.
+-- The two steps of a unit.
 
--- one start more is counted, and a child with this ticket, which no other had, is the last in flight
+-- one more start is counted, and a child with this ticket, which no other child had, is the last in flight
 pub record IsLifted (ticket : ℕ) (old new : Starts) : Type 0 where
   pub child : ChildInFlight
   pub its : child.ticket ≡ ticket
   pub free : is_flying ticket old.flying ≡ false
   pub lifted : new ≡ record old { count = up old.count; flying = old.flying ++ child ∷ [] }
 
--- how the beginning of a unit leaves the starts, and how its answer does
+-- what the beginning of a unit does to the starts (below, what its answer does)
 abbrev pub BeginsBy : Option Launched → Starts → Starts → Type 0
 BeginsBy None old new = new ≡ old
 BeginsBy (Some launched) old new = IsLifted launched.ticket old new
@@ -95,63 +96,71 @@ LandsBy (Some launched) old new = new ≡ record old { flying = without launched
 abbrev pub Lands : {T : Type 0} → Option Launched → T → Starts → Starts → Type 0
 Lands launched x old new = LandsBy launched old new
 
--- a child's end was asked for, where there is one, and the answer dropped
+-- the end of the child was awaited, if there is a child, and its answer dropped
 abbrev pub Drops : Option Launched → Counts → Counts → Type 0
 Drops None old new = new ≡ old
 Drops (Some launched) old new = (result : Result Ended StartFault) × (new ≡ counted_finish launched.ticket result old) × IfErr result (λ e. e ≢ start.OutOfMemory → (e ≡ start.Died) ⊎ (e ≡ start.Capture))
 
--- Calls on files and variables in turn.
+-- Several calls on files and variables.
 
--- one of these calls failed, with the fault that is told: those before it went well, and it was the last; where memory was refused, the first few of them were made; no other fault is told
+-- one of these calls failed with this fault: those before it succeeded, and it was the last; out of memory, some first
+-- calls of the list were made; no other fault is possible
 abbrev pub StopsAt : BuildFault → List Call → Counts → Counts → Type 0
 StopsAt (Device unit (device.Place fault)) calls old new = FailsAt fault calls old new
 StopsAt build.OutOfMemory calls old new = MakesSome calls old new
 StopsAt e calls old new = ⊥
 
--- where a step ended well, just these calls were made; else it stopped at one of them. Since each may fail, with the fault of its kind and at its turn, they are told in their order
+-- if a step ended well, exactly these calls were made; else it stopped at one of them. They are listed in their order,
+-- since each may fail with the fault of its kind
 abbrev pub MakesInTurn : {T : Type 0} → Result T BuildFault → List Call → Counts → Counts → Type 0
 MakesInTurn result calls old new = MatchResult result (λ x. new ≡ past_calls calls old) (λ e. StopsAt e calls old new)
 
--- the cause of a fault: the call failed with this very fault and was the last; or it is the store's own, or out of memory, and none failed
+-- the cause of a fault: the last call failed with this fault; or the fault is the store's own or out of memory, and no
+-- call failed
 abbrev pub StepCause : StepFault → Counts → Counts → Type 0
 StepCause (step.Store (store.Place fault)) old new = FailedLast (Called fault) old new
 StepCause (step.Store store.NumbersSpent) old new = new.failures ≡ old.failures
 StepCause (step.Store store.OutOfMemory) old new = new.failures ≡ old.failures
 StepCause (step.Start fault) old new = FailedLast (Started fault) old new
 
--- the counters after a step: where it ended well, no call failed, and the starts went so; else it may end with this fault after these starts, and the fault has its cause
+-- the counters after a step: if it ended well, no call failed, and the starts changed as `Goes` requires; else `May`
+-- allows the fault and the starts, and the fault has its cause
 abbrev pub StepTakes : {T : Type 0} → (T → Starts → Starts → Type 0) → (StepFault → Starts → Starts → Type 0) → Result T StepFault → Counts → Counts → Type 0
 StepTakes Goes May result old new = MatchResult result (λ x. (new.failures ≡ old.failures) × Goes x old.starts new.starts) (λ e. May e old.starts new.starts × StepCause e old new)
 
--- the faults with which a unit may fail to begin, by the next run number, and the starts after each: those before, or one more if the spawn was tried; no child more flies
+-- the faults with which a unit may fail to begin, and the starts after each: unchanged, or one more if the spawn was
+-- tried; no further child is in flight
 abbrev pub MayBegin : Option ℕ → StepFault → Starts → Starts → Type 0
 MayBegin next (step.Store (store.Place fault)) old new = (fault ≢ place.Write) × (new ≡ old)
 MayBegin next (step.Store store.NumbersSpent) old new = (next ≡ None) × (new ≡ old)
 MayBegin next (step.Store store.OutOfMemory) old new = (new ≡ old) ⊎ (new ≡ up_starts old)
 MayBegin next (step.Start fault) old new = (fault ≡ start.CannotStart) × (new ≡ up_starts old)
 
--- of the one call that removes the files of a folder
+-- the faults of the one call that removes the files of a folder
 abbrev pub MayRemove : StepFault → Starts → Starts → Type 0
 MayRemove (step.Store (store.Place fault)) old new = (fault ≡ place.Remove) × (new ≡ old)
 MayRemove (step.Store store.NumbersSpent) old new = ⊥
 MayRemove (step.Store store.OutOfMemory) old new = new ≡ old
 MayRemove (step.Start fault) old new = ⊥
 
--- of those that come after the child's end, or in its place: they read and write files, list folders and read variables
+-- the faults of the calls after the child's end, or without a child: they read and write files, list folders and read
+-- variables
 abbrev pub MayFollow : StepFault → Starts → Starts → Type 0
 MayFollow (step.Store (store.Place fault)) old new = (fault ≢ place.Remove) × (new ≡ old)
 MayFollow (step.Store store.NumbersSpent) old new = ⊥
 MayFollow (step.Store store.OutOfMemory) old new = new ≡ old
 MayFollow (step.Start fault) old new = ⊥
 
--- of those that ask for the child's end, read the dep-info, and keep or renew the record; a run number is missing only to a record, where none is left
+-- the faults of the calls that await the child's end, read the dep-info, and keep or renew the record; a run number is
+-- missing only for a record, and only if none is left
 abbrev pub MayAnswer : Option ℕ → Option Launched → StepFault → Starts → Starts → Type 0
 MayAnswer next launched (step.Store (store.Place fault)) old new = (fault ≢ place.Remove) × LandsBy launched old new
 MayAnswer next launched (step.Store store.NumbersSpent) old new = (next ≡ None) × (launched ≡ None) × (new ≡ old)
 MayAnswer next launched (step.Store store.OutOfMemory) old new = LandsBy launched old new
 MayAnswer next launched (step.Start fault) old new = IsSome launched × ((fault ≡ start.Died) ⊎ (fault ≡ start.Capture)) × LandsBy launched old new
 
--- the fault is of what is done only where something differs: a run number is taken, the record and the files are removed, the child is spawned
+-- the fault comes from a step that is made only if something differs: a run number is taken, the record and the files
+-- are removed, the child is spawned
 abbrev pub starts : StepFault → Bool
 starts (step.Store (store.Place place.Remove)) = true
 starts (step.Store (store.Place fault)) = false
@@ -159,28 +168,30 @@ starts (step.Store store.NumbersSpent) = true
 starts (step.Store store.OutOfMemory) = false
 starts (step.Start fault) = true
 
--- the cause of a build's fault, whatever name it has
+-- the cause of a build's fault, whatever its name is
 abbrev pub HasCause : BuildFault → Counts → Counts → Type 0
 HasCause fault old new = StepCause (fault_in fault) old new
 
--- the same of a build's fault
+-- the same for a build's fault
 abbrev pub is_of_start : BuildFault → Bool
 is_of_start fault = starts (fault_in fault)
 
--- Calls in turn.
+-- Several calls.
 
--- one of these calls failed with the fault: those before it went well, and it was the last; out of memory, the first few of them were made
+-- one of these calls failed with the fault: those before it succeeded, and it was the last; out of memory, some first
+-- calls of the list were made
 abbrev pub StepStopsAt : StepFault → List Call → Counts → Counts → Type 0
 StepStopsAt (step.Store (store.Place fault)) calls old new = FailsAt fault calls old new
 StepStopsAt (step.Store store.NumbersSpent) calls old new = ⊥
 StepStopsAt (step.Store store.OutOfMemory) calls old new = MakesSome calls old new
 StepStopsAt (step.Start fault) calls old new = ⊥
 
--- where a step ended well, just these calls were made; else it stopped at one of them
+-- if a step ended well, exactly these calls were made; else it stopped at one of them
 abbrev pub StepMakes : {T : Type 0} → Result T StepFault → List Call → Counts → Counts → Type 0
 StepMakes result calls old new = MatchResult result (λ x. new ≡ past_calls calls old) (λ e. StepStopsAt e calls old new)
 
--- of a step that may give a record a run number likewise; where none is left, it stopped before the record was written again
+-- the same for a step that may give a record a run number; if no number is left, it stopped before the record was
+-- rewritten
 abbrev pub NumberingStopsAt : StepFault → List Call → Counts → Counts → Type 0
 NumberingStopsAt (step.Store store.NumbersSpent) calls old new = (before : List Call) × (path : List ℕ) × (calls ≡ before ++ call.Write path ∷ []) × (new ≡ past_calls before old)
 NumberingStopsAt e calls old new = StepStopsAt e calls old new
@@ -190,14 +201,14 @@ NumbersInTurn result calls old new = MatchResult result (λ x. new ≡ past_call
 
 -- What a step does to the place.
 
--- it only looks: nothing changes but the counters
+-- a step only looks: nothing changes but the counters
 pub record StepLooks {T : Type 0} (May : StepFault → Starts → Starts → Type 0) (result : Result T StepFault) (old new : At) : Type 0 where
   pub world : new.world ≡ old.world
   pub most : new.most ≡ old.most
   pub still : KeepsStill old.still new.still
   pub takes : StepTakes NoStart May result old.counts new.counts
 
--- it changes files of these paths alone, and starts no child
+-- a step changes only files of these paths, and starts no child
 pub record StepChanges {T : Type 0} (inside : List ℕ → Bool) (May : StepFault → Starts → Starts → Type 0) (result : Result T StepFault) (old new : At) : Type 0 where
   pub only : ChangesOnly inside old.world new.world
   pub most : new.most ≡ old.most

@@ -11,7 +11,7 @@ use pb_store::{Difference, Replayed};
 /// A child process that was spawned for a unit.
 #[derive(Debug, Drop)]
 pub struct Launched {
-    /// The ticket by which its end is asked for.
+    /// The ticket with which its end is awaited.
     pub ticket: u64,
     /// The run number of the unit's record, if its answer is good.
     pub number: u64,
@@ -29,18 +29,21 @@ pub enum Awaited {
 /// A unit that has begun.
 #[derive(Drop)]
 pub struct Begun {
-    /// Its key, copied before its child was spawned: no copy of it can fail while the child is in flight.
+    /// Its key, copied before its child was spawned, so that no copy can fail while the child is in
+    /// flight.
     pub unit: Text,
     /// Its command.
     pub command: Command,
-    /// The first difference from its record, for which its child was spawned. None if nothing differs.
+    /// The first difference from its record, for which its child was spawned. None if nothing
+    /// differs.
     pub difference: Option<Difference>,
-    /// The end of its child. If nothing differs from its record, what the record replays, so that it is read once.
+    /// The end of its child, or what its record replays. The record is kept here so that it is read
+    /// once.
     pub awaited: Awaited,
 }
 
 impl Begun {
-    /// Returns whether a child was spawned for it.
+    /// Returns whether the unit has a child.
     pub fn has_child(&self) -> bool
         ensures { result ≡ is_some (child_of self.now) }
     {
@@ -50,7 +53,7 @@ impl Begun {
         }
     }
 
-    /// Returns the ticket by which the end of its child is asked for, if it has a child.
+    /// Returns the ticket with which the end of the unit's child is awaited, if it has a child.
     pub fn ticket(&self) -> Option<u64>
         ensures { result ≡ option_map (λ (l : Launched). l.ticket) (child_of self.now) }
     {
@@ -60,7 +63,8 @@ impl Begun {
         }
     }
 
-    /// Returns the run number of its record, if it has a child and its answer is good.
+    /// Returns the run number that the unit's record gets if its answer is good, if the unit has a
+    /// child.
     pub fn number(&self) -> Option<u64>
         ensures { result ≡ option_map (λ (l : Launched). l.number) (child_of self.now) }
     {

@@ -1,4 +1,4 @@
-//! The faults of a step of a unit, without the unit's name, and with it.
+//! The faults of a step of a unit, without and with the unit's name.
 
 ghost use Rattle.std.specs.Prelude.{◌≡◌};
 ghost use Rattle.pb_run.specs.Steps.{device_fault, named, started};
@@ -10,16 +10,16 @@ use pb_data::Text;
 use pb_place::{PlaceFault, StartFault};
 use pb_store::StoreFault;
 
-/// Why a step of a unit ended, without the unit's name.
+/// Why a step of a unit failed, without the unit's name.
 #[derive(Clone, Copy)]
 pub enum StepFault {
-    /// A call of the store failed, or a call on files or variables, or memory was refused.
+    /// A call of the store failed, or a call on files or variables; or memory ran out.
     Store(StoreFault),
-    /// The unit's child could not be started, or gave no answer.
+    /// The unit's child could not be started, or did not answer.
     Start(StartFault),
 }
 
-/// Returns the fault of a call on files or variables, as a step's.
+/// Returns the fault of a call on files or variables as a step's fault.
 pub(crate) fn stored(fault: PlaceFault) -> StepFault
     ensures { result ≡ step_fault.Store (stored fault) }
 {
@@ -29,7 +29,7 @@ pub(crate) fn stored(fault: PlaceFault) -> StepFault
     }
 }
 
-/// Returns the fault of a child that gave no answer, as a step's.
+/// Returns the fault of a child as a step's fault.
 pub(crate) fn started(fault: StartFault) -> StepFault
     ensures { result ≡ started fault }
 {
@@ -39,7 +39,7 @@ pub(crate) fn started(fault: StartFault) -> StepFault
     }
 }
 
-/// Returns the fault of a step with the unit's key. Out of memory has no name.
+/// Returns a step's fault as the build's fault, with the unit's key. Out of memory has no key.
 pub(crate) fn named(unit: Text, fault: StepFault) -> BuildFault
     ensures { result ≡ named unit fault }
 {
@@ -57,8 +57,8 @@ pub(crate) fn named(unit: Text, fault: StepFault) -> BuildFault
     }
 }
 
-/// Returns the fault of a call on files or variables. `unit` is the unit's key, or else the path or the variable's name.
-/// Out of memory has no name.
+/// Returns the fault of a call on files or variables as the build's fault. `unit` is the unit's
+/// key, or else the path or the variable's name. Out of memory has no name.
 pub fn deviceless(unit: Text, fault: PlaceFault) -> BuildFault
     ensures { result ≡ device_fault unit fault }
 {

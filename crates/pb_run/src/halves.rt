@@ -1,4 +1,5 @@
-//! A unit's run, in halves: it begins, with a child or without; it answers, or its answer is dropped. And both in turn.
+//! The two steps of a unit: it begins, with or without a child; it answers, or its answer is
+//! dropped. And both together.
 
 ghost use Rattle.std.specs.Prelude.{◌≡◌, ◌≢◌, ◌⊎◌, ℕ, true, List, Option, IsTrue, IfErr, IfOk, IfSome, Some, None, slice_get};
 ghost use Rattle.pb_command.specs.Command.{command_of};
@@ -35,7 +36,7 @@ use std::alloc::{AllocError, Global};
 /// What came of a unit.
 #[derive(Drop)]
 pub struct Outcome {
-    /// Why it is bad, and what its child wrote, if it is bad.
+    /// If it is bad, why, and what its child printed.
     pub fault: Option<BadUnit>,
     /// The directives of a build script's run that ended well.
     pub directives: Option<Directives>,
@@ -43,7 +44,7 @@ pub struct Outcome {
     pub lines: Text,
     /// Whether a child was started for it.
     pub started: bool,
-    /// The first difference from its record. None if nothing differed, and the record was replayed.
+    /// The first difference from its record. None if nothing differed and the record was replayed.
     pub difference: Option<Difference>,
 }
 
@@ -60,26 +61,30 @@ fn command(
     pb_command::command(alloc, setup, project.get(), unit, done)
 }
 
-/// Begins the unit at an index of the plan. It looks for what differs from the unit's record. If something differs and a
-/// run number is left, it removes the record, takes the number, empties the output folder and spawns the unit's child:
-/// three calls, in this order. If nothing differs, it changes nothing. The records of needed units are not read: the
-/// store has their numbers. `done` contains, for each unit of the plan, the directives of its build script's run, if it
-/// has answered.
+/// Begins the unit at an index of the plan.
 ///
-/// Clauses and fields with the premise `P.tells` are about a place whose files and variables contracts know. Over a real
-/// machine they say nothing, and the world that contracts see there is constant: what `changes` says of files is empty.
-/// What is said of calls, starts, children in flight, errors and run numbers holds there too.
+/// It first compares the unit with its record. If nothing differs, it changes nothing. If something
+/// differs and a run number is left, it takes the number and makes three calls, in this order: it
+/// removes the record, empties the output folder, and spawns the unit's child. It does not read the
+/// records of needed units, because the store has their numbers. `done` contains, for each unit of
+/// the plan, the directives of its build script's run, if it has answered.
 ///
-/// `build` is about a build that has kept what it rests on (`Keeps`), and a unit of it that has not begun and of which
-/// all that it reaches has answered and is good (`CanBegin`).
+/// Errors: each but `OutOfMemory` has the unit's key. If a call of the place failed, it was the
+/// last. After any error no new child is in flight, and the store may lack the numbers of its
+/// records.
 ///
-/// Errors: each but `OutOfMemory` has the unit's key. If a call of the place failed, it was the last. After any error no
-/// new child is in flight, and the store may have lost the numbers of its records.
-///
-/// - `Device` if a file, a folder or a variable cannot be read; if something differs, also if the record or the folder
-///   cannot be removed, or no run number is left.
+/// - `Device` if a file, a folder or a variable cannot be read; if something differs, also if the
+///   record or the folder cannot be removed, or if no run number is left.
 /// - `Child` if the child cannot be spawned.
 /// - `OutOfMemory`.
+///
+/// Clauses and fields with the premise `P.tells` are about a place whose files and variables
+/// contracts know. They say nothing about a real machine, and the world that contracts see there is
+/// constant, so what `changes` says about files is empty. What the contract says about calls,
+/// starts, children in flight, errors and run numbers is true there too.
+///
+/// `build` is about a build that satisfies `Keeps`, and a unit of it that satisfies `CanBegin`: it
+/// has not begun, and all that it reaches has answered and is good.
 #[tactic(auto, using(crate::proofs::Naming::naming_laws))]
 pub fn begin_unit<P: Place>(
     alloc: Global,
@@ -96,28 +101,32 @@ pub fn begin_unit<P: Place>(
     requires numbers { IsTrue P.tells →
         HasNumbers (records store.old.folder (P.at place.old).world) store.old.numbers }
 
-    // It has a child if it reports a difference, the first one; else it carries what its record replays.
+    // The unit has a child if it reports a difference, the first one; else it carries what its
+    // record replays.
     ensures begins { IfOk result (BeginsUnit P.tells P.child project.now unit.now
         (command_of setup.now project.now unit.now done.now) store.old store.new
         (P.at place.old) (P.at place.new)) }
 
-    // The error is this unit's, or out of memory. It is of the look; or something differs, and it is of the launch.
+    // The error is this unit's or out of memory. It comes from the comparison or, if something
+    // differs, the launch.
     ensures named { IfErr result (IsOfUnit unit.now.key) }
     ensures fails { IfErr (bare result) (FailsToBegin P.tells project.now unit.now
         (command_of setup.now project.now unit.now done.now) (P.at place.old) (P.at place.new)) }
 
-    // Over sound records, or over none: the unit has begun if this ends well, and the others keep what they wait for.
+    // Over sound records, or over none: the unit has begun if this ends well, and the others wait
+    // as before.
     ensures build { (footing : Footing) (sources : World) → IsTrue P.tells →
         BeginsBuild (basis footing P.child setup.now project.now sources) done.now index unit.now
         (bare result) store.old.next store.new.next (P.at place.old) (P.at place.new) }
 
-    // After a good end the store has its records' numbers. Only this unit's folder and record change.
+    // After a success the store has the numbers of its records. Only this unit's folder and record
+    // change.
     ensures store { KeepsStore P.tells (bare result) store.old store.new (P.at place.new) }
     ensures changes { ChangesUnit (records_folder project.now) unit.now.key None Begins
         (MayBegin store.old.next) (bare result) (P.at place.old) (P.at place.new) }
 {
     project.is_in_order();
-    // Every growth before the first call: a child that is in flight has its name.
+    // All memory is taken before the first call, so that each child in flight has its name.
     let key = match unit.key.copy(alloc) {
         Ok(key) => Key::new(key),
         Err(_) => return Err(BuildFault::OutOfMemory),
@@ -159,7 +168,7 @@ pub fn begin_unit<P: Place>(
     }
 }
 
-/// Returns the outcome of a unit by what came of it, with its message lines and with what differed.
+/// Returns the outcome of a unit: what came of it, its message lines, and its difference.
 fn told(
     alloc: Global,
     project: &OrderedProject,
@@ -181,22 +190,25 @@ fn told(
     })
 }
 
-/// Answers the unit at an index of the plan that has begun so, and makes its message lines. If the unit has a child,
-/// this waits for the child's end, reads its dep-info, judges the answer, and keeps the record if the answer is good.
-/// Else it judges the answer that the record replays, and gives a record of format 1 a run number. A record names the
-/// needed units by the numbers that the store has.
+/// Answers the unit at an index of the plan that has begun, and makes its message lines.
 ///
-/// Whatever it returns, the child is in flight no more, and the others fly on. The child's end changes only files inside
-/// the unit's folder, and what comes after it only the unit's record. A unit that is bad is no error; what is in the
-/// place of its record stays as it is.
+/// If the unit has a child, this waits for the child's end, reads its dep-info, judges the answer,
+/// and keeps the record if the answer is good. Else it judges the answer that the record replays,
+/// and gives a record of format 1 a run number. A record names the needed units by the numbers that
+/// the store has.
 ///
-/// Errors: each but `OutOfMemory` has the unit's key. If a call of the place failed, it was the last. The store may have
-/// lost the numbers of its records then.
+/// Whatever it returns, the unit's child is no longer in flight, and the other children still are.
+/// The child's end changes only files inside the unit's folder, and the calls after it change only
+/// the unit's record. A bad unit is not an error; its record stays as it is.
 ///
-/// - `Child` if the child gave no answer.
-/// - `Device` if a file, a folder or a variable cannot be read, or the record cannot be written, or no run number is left
-///   for a record that has none.
-/// - `OutOfMemory`. If memory is refused for the message lines alone, the record of a good unit is kept.
+/// Errors: each but `OutOfMemory` has the unit's key. If a call of the place failed, it was the
+/// last, and the store may lack the numbers of its records.
+///
+/// - `Child` if the child did not answer.
+/// - `Device` if a file, a folder or a variable cannot be read, if the record cannot be written, or
+///   if no run number is left for a record that has none.
+/// - `OutOfMemory`. If memory runs out only for the message lines, the record of a good unit is
+///   kept.
 #[tactic(auto, using(crate::proofs::Naming::naming_laws))]
 pub fn answer_unit<P: Place>(
     alloc: Global,
@@ -217,7 +229,7 @@ pub fn answer_unit<P: Place>(
     requires numbers { IsTrue P.tells →
         HasNumbers (records store.old.folder (P.at place.old).world) store.old.numbers }
 
-    // The unit has an answer, and the outcome or the error is that of this answer.
+    // The unit has an answer, and the outcome or the error is that of the answer.
     ensures told { HasTold P.tells P.child project.now index unit.now begun (bare result)
         store.old store.new (P.at place.old) (P.at place.new) }
     ensures named { IfErr result (IsOfUnit unit.now.key) }
@@ -248,19 +260,20 @@ pub fn answer_unit<P: Place>(
     }
 }
 
-/// Waits for the end of the child of a unit that has begun, if it has one, and drops the answer. The child is in flight
-/// no more, whatever the place answers, and the others fly on. Only the folder changes into which it writes. A call that
-/// fails counts.
+/// Waits for the end of the child of a unit that has begun, if it has one, and drops the answer.
+///
+/// Whatever the place answers, the child is no longer in flight, and the other children still are.
+/// Only the folder into which the child writes changes. A call that fails is counted.
 pub fn drop_unit<P: Place>(alloc: Global, place: &mut P, begun: &Begun)
     requires flies { IfSome (child_of begun.now)
         (λ launched. is_flying launched.ticket (P.at place.old).counts.starts.flying ≡ true) }
 
-    // A build over true records, or over none, stays so.
+    // What is true of a build over true records, or over none, stays true.
     ensures build { (b : Basis) (index : ℕ) (unit : Planned) (next : Option ℕ) →
         IsInOrder b.project → unit_at b.project index ≡ Some unit → IsTrue P.tells →
         DropsBuild b index unit begun.now next (P.at place.old) (P.at place.new) }
 
-    // Only the child's folder changes, and only this child is gone.
+    // Only the child's folder changes, and only this child is no longer in flight.
     ensures only { (out : List ℕ) →
         WritesTo out (child_of begun.now) (P.at place.old).counts.starts.flying →
         ChangesOnly (is_at_or_below out) (P.at place.old).world (P.at place.new).world }
@@ -278,8 +291,8 @@ pub fn drop_unit<P: Place>(alloc: Global, place: &mut P, begun: &Begun)
     let _ = place.finish(alloc, launched.ticket);
 }
 
-/// Runs the unit at an index of the plan: begins it, and takes its answer. Whatever it returns, its child is in flight no
-/// more.
+/// Runs the unit at an index of the plan: begins it, and answers it. Whatever it returns, the
+/// unit's child is no longer in flight.
 ///
 /// Errors: those of `begin_unit` and `answer_unit`.
 pub fn run_unit<P: Place>(

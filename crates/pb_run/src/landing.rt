@@ -1,4 +1,5 @@
-//! A unit that answers: its child's end, or its record again; the judgement; the record kept or renewed.
+//! How a unit answers: its child ends, or its record is replayed; the answer is judged; the record
+//! is kept or renewed.
 
 ghost use Rattle.std.specs.Prelude.{◌≡◌, ◌++◌, ℕ, true, List, Option, IsTrue, IsOk, IfOk, IfSome, MatchResult, OnOk, Ok, Err, Some, None, Result, slice_get};
 ghost use Rattle.std.specs.FinMap as finite;
@@ -31,7 +32,7 @@ use pb_store::{Key, Replayed, Store, StoreFault};
 use pb_unit::Planned;
 use std::alloc::{AllocError, Global};
 
-/// The fault of a step that was refused memory.
+/// The fault of a step for which memory ran out.
 const OUT_OF_MEMORY: StepFault = StepFault::Store(StoreFault::OutOfMemory);
 
 /// Waits for the end of the child of a unit.
@@ -51,7 +52,7 @@ fn finish<P: Place>(alloc: Global, place: &mut P, launched: &Launched) -> Result
         (λ spawned. ChangesOnlyInSome spawned.command.out (P.at place.old).world
         (P.at place.new).world) }
 
-    // The others fly on, and stand still.
+    // The other children stay in flight, and stand still.
     ensures most { (P.at place.new).most ≡ (P.at place.old).most }
     ensures still { StaysStillBut launched.now.ticket (P.at place.old).counts.starts.flying
         (P.at place.old).world (P.at place.new).world (P.at place.old).still
@@ -98,7 +99,7 @@ fn judged_now<P: Place>(
     }
 }
 
-/// Adds the key of the unit at a place.
+/// Adds the key of the unit at an index.
 fn push_key(
     alloc: Global,
     keys: &mut Items<Text>,
@@ -113,7 +114,7 @@ fn push_key(
     Ok(())
 }
 
-/// Adds the keys of the units at some places.
+/// Adds the keys of the units at some indices.
 fn push_keys(
     alloc: Global,
     keys: &mut Items<Text>,
@@ -141,7 +142,7 @@ fn needed_keys(
     Ok(keys)
 }
 
-/// Returns what came of a unit for which no child was started.
+/// Returns what came of a unit, marked as not started.
 fn unstarted(ran: Ran) -> Ran
     ensures { result ≡ unstarted ran }
 {
@@ -153,8 +154,8 @@ fn unstarted(ran: Ran) -> Ran
     }
 }
 
-/// Answers a unit that has a child: waits for its end, judges the answer, and keeps the record if it is good. After the
-/// child's end it changes the record's place alone.
+/// Answers a unit that has a child: waits for its end, judges the answer, and keeps the record if
+/// it is good. After the child's end only the unit's record changes.
 fn land<P: Place>(
     alloc: Global,
     place: &mut P,
@@ -201,7 +202,7 @@ fn land<P: Place>(
         Ok(judgement) => judgement,
         Err(fault) => return Err(fault),
     };
-    // A bad unit keeps no record.
+    // No record of a bad unit is kept.
     if judgement.ran.bad.is_some() {
         return Ok(judgement.ran);
     }
@@ -224,8 +225,9 @@ fn land<P: Place>(
     }
 }
 
-/// Answers a unit from whose record nothing differs: judges what the record gives again, and gives the record a run
-/// number if it has none. A record that has one is not read. Only the record's place changes.
+/// Answers a unit from whose record nothing differs: judges what the record replays, and gives the
+/// record a run number if it has none. A record with a number is not read. Only the unit's record
+/// changes.
 fn reuse<P: Place>(
     alloc: Global,
     place: &mut P,
@@ -272,7 +274,7 @@ fn reuse<P: Place>(
     if again.numbered {
         return Ok(ran);
     }
-    // What has moved is built again, and no record must name it.
+    // If something moved, the unit will be built again, and no record may name this one.
     if !place.stood_still(command) {
         return Ok(ran);
     }

@@ -1,4 +1,4 @@
-//! The launch of the child of a unit: the record is dropped, the folder emptied, the child spawned.
+//! The launch of a unit's child: the record is dropped, the folder emptied, and the child spawned.
 
 ghost use Rattle.std.specs.Prelude.{◌≡◌, ◌+◌, ℕ, true, Option, IsTrue, IfOk, MatchResult, Some, None, max, length};
 ghost use Rattle.pb_place.specs.Children.{child_at, child_spawned, StaysStill, KeepsStillOutside};
@@ -21,7 +21,7 @@ use std::alloc::Global;
 /// Spawns the child of a unit, by one call.
 #[tactic(auto, using(crate::proofs::Spawning::spawn_laws))]
 fn spawn<P: Place>(alloc: Global, place: &mut P, command: &Command) -> Result<u64, StepFault>
-    // The child flies, and stands still.
+    // The child is in flight, and stands still.
     ensures flies { IfOk result (λ ticket. child_at ticket (P.at place.new).counts.starts.flying
         ≡ Some (child_spawned (P.child command.now) command.now (P.at place.old).world ticket)) }
     ensures stands { IfOk result (λ ticket. (P.at place.new).still ticket) }
@@ -56,7 +56,7 @@ fn spawn_anew<P: Place>(
 ) -> Result<u64, StepFault>
     requires out { command.now.out ≡ Some out.now }
 
-    // The child flies, spawned over an empty folder, into which it writes.
+    // The child is in flight, was spawned over an empty folder, and writes into it.
     ensures spawned { IsTrue P.tells → IfOk result (λ ticket. IsSpawned (is_at_or_below out.now)
         P.child command.now (P.at place.old).world ticket (P.at place.new).counts.starts.flying
         (P.at place.new).still) }
@@ -78,7 +78,7 @@ fn spawn_anew<P: Place>(
     ensures calls { Calls (SpawnsAnew P.child command.now) (AnewEnds out.now) result
         (P.at place.old).counts (P.at place.new).counts }
 {
-    // Emptied before the child is there, so that nothing old counts as its own.
+    // The folder is emptied before the child is spawned, so that no old file counts as the child's.
     empty(alloc, place, out)?;
     match spawn(alloc, place, command) {
         Ok(ticket) => Ok(ticket),
@@ -86,8 +86,9 @@ fn spawn_anew<P: Place>(
     }
 }
 
-/// Launches the child of a unit from whose record something differs. If a run number is left, it removes the record, takes
-/// the number, empties the output folder and spawns the child: three calls, and no other.
+/// Launches the child of a unit from whose record something differs. If a run number is left, it
+/// takes the number and makes exactly three calls: it removes the record, empties the output folder
+/// and spawns the child.
 #[tactic(auto, using(crate::proofs::Spawning::launch_laws))]
 pub(crate) fn launch<P: Place>(
     alloc: Global,
@@ -103,7 +104,8 @@ pub(crate) fn launch<P: Place>(
     requires numbers { IsTrue P.tells →
         HasNumbers (records store.old.folder (P.at place.old).world) store.old.numbers }
 
-    // The child flies, with the next number, spawned over an empty folder, into which it writes.
+    // The child is in flight with the next number, was spawned over an empty folder, and writes
+    // into it.
     ensures number { IfOk result
         (λ launched. IsGiven launched.number store.old.next store.new.next) }
     ensures spawned { IsTrue P.tells → IfOk result (λ launched.
@@ -116,7 +118,7 @@ pub(crate) fn launch<P: Place>(
         ≡ max (P.at place.old).most (length (P.at place.old).counts.starts.flying + 1))
         (λ e. (P.at place.new).most ≡ (P.at place.old).most) }
 
-    // The record is gone; after a fault it is, or stands as it did. Only this unit's paths change.
+    // The record is gone; after a fault it is gone or unchanged. Only this unit's paths change.
     ensures record { IsTrue P.tells → DropsFor P.child store.old.folder key.now result
         store.old.next store.new.next (P.at place.old).world (P.at place.new).world }
     ensures store { KeepsStore P.tells result store.old store.new (P.at place.new) }
@@ -128,7 +130,8 @@ pub(crate) fn launch<P: Place>(
         (P.at place.old).counts (P.at place.new).counts }
 {
     let _ = key.as_text();
-    // The record goes before the folder is emptied: a build that ends between leaves no record that lies.
+    // The record is removed before the folder is emptied, so a build that ends in between leaves no
+    // false record.
     let number = match store.drop_record(alloc, place, key) {
         Ok(number) => number,
         Err(fault) => return Err(StepFault::Store(fault)),

@@ -1,5 +1,5 @@
-//! One unit of a build: how it begins, how its child's answer is judged, what it leaves. It hands out the flight table,
-//! which says which unit is begun and answered when.
+//! One unit of a build: how it begins, how its child's answer is judged, and what it leaves. It
+//! also exports the flight table, which determines when each unit begins and answers.
 #![tactic(auto)]
 
 pub mod begun;

@@ -5,8 +5,8 @@ use pb_project::Project;
 use pb_unit::Planned;
 use std::marker::Model;
 
-/// A project that is in order: its workspace is settled, its plan is one, and the units' folders lie apart by their keys.
-/// Contracts see the project.
+/// A project that is in order: its workspace is settled, its plan is a plan of it, and the units'
+/// folders are apart by their keys. Contracts see the project.
 #[derive(Drop)]
 pub struct OrderedProject {
     inside: Project,
@@ -27,7 +27,7 @@ impl OrderedProject {
     ghost use Rattle.std.specs.Prelude.{◌≡◌};
     ghost use Rattle.pb_run.specs.Standing.{IsInOrder};
 
-    /// Returns a project that is in order.
+    /// Returns the project as one that is in order.
     pub fn new(project: Project) -> OrderedProject
         requires { IsInOrder project }
         ensures { result ≡ project }
@@ -42,7 +42,7 @@ impl OrderedProject {
         &self.inside
     }
 
-    /// Returns the project, taken out.
+    /// Returns the project by value.
     pub fn into_project(self) -> Project
         ensures { result ≡ self }
     {
@@ -56,14 +56,15 @@ impl OrderedProject {
         self.inside.plan.planned.as_slice()
     }
 
-    /// Returns the names of the packages without a library to which enabled dependencies of its plan lead.
+    /// Returns the names of the packages without a library that enabled dependencies of its plan
+    /// name.
     pub fn without_library(&self) -> &[Text]
         ensures { result.now ≡ self.now.plan.without_library }
     {
         self.inside.plan.without_library()
     }
 
-    /// A law: it is in order. It does nothing.
+    /// A law: the project is in order. The function does nothing.
     pub fn is_in_order(&self)
         ensures { IsInOrder self.now }
     {

@@ -1,4 +1,4 @@
-//! What came of a unit, by the answer of its child.
+//! What comes of a unit from the answer of its child.
 
 ghost use Rattle.std.specs.Prelude.{◌≡◌, ◌≢◌, IfOk, IsTrue, Result, Ok, Err, true};
 ghost use Rattle.pb_judging.specs.Answers.{answered_of};
@@ -24,11 +24,11 @@ use std::alloc::{AllocError, Global};
 pub struct Ran {
     /// Whether a child process was started for it.
     pub started: bool,
-    /// Why it is bad, and what its child wrote, if it is bad.
+    /// If it is bad, why, and what its child printed.
     pub bad: Option<BadUnit>,
     /// The directives of a build script's run that ended well.
     pub directives: Option<Directives>,
-    /// What it reports.
+    /// Its messages.
     pub messages: Items<Message>,
 }
 
@@ -89,10 +89,10 @@ fn bad(
     })
 }
 
-/// Judges the answer of a unit's child. `dep_info` is the content of the unit's dep-info file, if it has one. The place
-/// says which paths the answer means.
+/// Returns the judgement of the answer of a unit's child. `dep_info` is the content of the unit's
+/// dep-info file, if it has one. The place determines which paths the answer means.
 ///
-/// Errors: out of memory only.
+/// Errors: only out of memory.
 pub fn judged<P: Place>(
     alloc: Global,
     place: &P,

@@ -1,4 +1,4 @@
-//! Single calls of the place, with the faults that a step tells of them.
+//! Single calls of the place, with the faults of a step.
 
 ghost use Rattle.std.specs.Prelude.{◌≡◌, IsTrue, IfOk, OnOk};
 ghost use Rattle.pb_command.specs.Judge.{file_at};
@@ -32,7 +32,7 @@ pub(crate) fn empty<P: Place>(
     }
 }
 
-/// Reads a file of a unit, where one is named, by one call.
+/// Reads a file of a unit, if there is a path, by one call.
 #[tactic(auto, using(crate::proofs::Causing::read_laws, crate::proofs::Calling::call_laws))]
 pub(crate) fn read_at<P: Place>(
     alloc: Global,

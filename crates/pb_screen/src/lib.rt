@@ -1,4 +1,4 @@
-//! Message lines as text, and the words of children, for those who sit at a terminal.
+//! Message lines as text, and the command lines of children, for people at a terminal.
 #![tactic(auto)]
 
 pub mod rendering;

@@ -1,4 +1,4 @@
-//! What is shown of a message line.
+//! The text that is shown for a message line.
 
 ghost use Rattle.std.specs.Prelude.{◌≡◌, ◌++◌, IfOk, codes, option_map, string_bytes};
 ghost use Rattle.serde_json.specs.View.{view};
@@ -17,7 +17,7 @@ fn text_at<'v>(value: &'v Value, path: &str) -> Option<&'v str>
     }
 }
 
-/// Returns the text at a path of a line; empty where there is none.
+/// Returns the text at a path of a line, or an empty text if there is none.
 fn text_or_none<'v>(value: &'v Value, path: &str) -> &'v str
     ensures { result.now ≡ text_or_none path.now (view value.now) }
 {
@@ -27,7 +27,7 @@ fn text_or_none<'v>(value: &'v Value, path: &str) -> &'v str
     }
 }
 
-/// Returns a line of a level and a text.
+/// Returns a line with a level and a text.
 fn told(alloc: Global, level: &str, text: &str) -> Result<String, AllocError>
     ensures { IfOk result (λ line. string_bytes line ≡ told level.now text.now) }
 {
@@ -38,7 +38,7 @@ fn told(alloc: Global, level: &str, text: &str) -> Result<String, AllocError>
     Ok(line)
 }
 
-/// Returns a line of the level and the text at these paths of a line.
+/// Returns a line with the level and the text at these paths of a line.
 fn told_at(alloc: Global, value: &Value, level: &str, text: &str) -> Result<String, AllocError>
     ensures { IfOk result
         (λ line. string_bytes line ≡ told_at level.now text.now (view value.now)) }
@@ -46,7 +46,8 @@ fn told_at(alloc: Global, value: &Value, level: &str, text: &str) -> Result<Stri
     told(alloc, text_or_none(value, level), text_or_none(value, text))
 }
 
-/// Returns what is shown of a diagnostic: the compiler's own text; where there is none, its level and its message.
+/// Returns the text of a diagnostic: the compiler's own, or its level and its message if there is
+/// none.
 fn diagnostic_shown(alloc: Global, value: &Value) -> Result<String, AllocError>
     ensures { IfOk result (λ text. string_bytes text ≡ diagnostic_shown (view value.now)) }
 {
@@ -56,7 +57,8 @@ fn diagnostic_shown(alloc: Global, value: &Value) -> Result<String, AllocError>
     }
 }
 
-/// Returns what is shown of a line: a diagnostic, or what a script warns of or calls an error; of any other nothing.
+/// Returns the text of a line: that of a diagnostic, or of a script's warning or error; nothing for
+/// any other line.
 fn value_shown(alloc: Global, value: &Value) -> Result<String, AllocError>
     ensures { IfOk result (λ text. string_bytes text ≡ value_shown (view value.now)) }
 {
@@ -70,9 +72,9 @@ fn value_shown(alloc: Global, value: &Value) -> Result<String, AllocError>
     Ok(String::new(alloc))
 }
 
-/// Returns what is shown of a line, without the line feed at its end: of what is no JSON nothing.
+/// Returns the text of a line, without the line feed at its end; nothing if the line is not JSON.
 ///
-/// Errors: AllocError if memory is refused.
+/// Errors: only out of memory.
 pub fn line_shown(alloc: Global, line: &str) -> Result<String, AllocError>
     ensures { IfOk result (λ text. string_bytes text ≡ line_shown line.now) }
 {

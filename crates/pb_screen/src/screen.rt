@@ -8,34 +8,34 @@ use crate::rendering::line_shown;
 use pb_place::{Out, write_all};
 use std::alloc::{AllocError, Global};
 
-/// A sink of message lines that can show them as text too, beside what it is a sink of.
+/// A sink of message lines that can also show them as text.
 pub trait Screen: Out {
-    /// How it is told whether to show lines: what it was, whether it is to show them, and what it is then.
+    /// How it is set to show lines: the sink before, whether it shows lines, and the sink after.
     ghost shows: { Self → Bool → Self → Type 0 };
 
-    /// Tells whether lines are shown from now on. What it has heard stays.
+    /// Sets whether lines are shown from now on. What the sink has received stays.
     fn show(&mut self, on: bool)
         ensures shows { shows self.old on self.new }
         ensures heard { Self.heard self.new ≡ Self.heard self.old };
 }
 
-/// A sink over another one, which hears all that this one does. If it is told to, it shows each whole line on a third
-/// sink, as soon as the other has taken it. A line that cannot be shown for want of memory is told as lost. That third
-/// sink may fail as it likes.
+/// A sink over another one, which receives all that this one receives. If it is set to do so, it
+/// shows each whole line on a third sink, as soon as the other sink has taken it. If memory runs
+/// out for a line, it reports that the line is lost. The third sink may fail in any way.
 #[derive(Drop)]
 pub struct Rendered<O, S> {
-    /// Who hears the lines.
+    /// The sink that receives the lines.
     out: O,
-    /// Where they are shown.
+    /// The sink on which they are shown.
     aside: S,
-    /// Whether they are.
+    /// Whether they are shown.
     on: bool,
-    /// What has been heard of a line that has not ended.
+    /// What was received of a line that has not ended.
     line: Vec<u8>,
     alloc: Global,
 }
 
-/// Shows what there is to show of a line.
+/// Shows the text of a line.
 fn show_line<S: Out>(alloc: Global, aside: &mut S, line: &[u8]) {
     let Ok(line) = str::from_utf8(line) else {
         return;
@@ -46,7 +46,7 @@ fn show_line<S: Out>(alloc: Global, aside: &mut S, line: &[u8]) {
     };
 }
 
-/// Adds bytes that were heard, and shows each line that they end.
+/// Adds received bytes, and shows each line that they end.
 fn follow<S: Out>(
     alloc: Global,
     aside: &mut S,

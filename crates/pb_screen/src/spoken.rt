@@ -1,4 +1,4 @@
-//! A place that says which children it starts.
+//! A place that names the children that it starts.
 
 ghost use Rattle.std.specs.Prelude.{◌≡◌, Bool};
 ghost use Rattle.pb_place.specs.At.{IsUnchanged};
@@ -9,30 +9,32 @@ use pb_place::{
 };
 use std::alloc::{AllocError, Global};
 
-/// A place that can say which children it starts, beside what it does.
+/// A place that can also name the children that it starts.
 pub trait Speaking: Place {
-    /// How it is told whether to say so: what it was, whether it is to say it, and what it is then.
+    /// How it is set to name children: the place before, whether it names them, and the place
+    /// after.
     ghost speaks: { Self → Bool → Self → Type 0 };
 
-    /// Tells whether children are named from now on. All else of the place stays.
+    /// Sets whether children are named from now on. Everything else of the place stays.
     fn speak(&mut self, on: bool)
         ensures speaks { speaks self.old on self.new }
         ensures at { IsUnchanged (Self.at self.old) (Self.at self.new) };
 }
 
-/// A place that does what another one does. If it is told to, it writes a line for each child before it is started, on a
-/// sink: its program and its words, as a shell takes them. That sink may fail as it likes.
+/// A place that does what another one does. If it is set to do so, it writes a line to a sink
+/// before each child is started: the program and its arguments, as a shell takes them. That sink
+/// may fail in any way.
 #[derive(Drop)]
 pub struct Spoken<P, S> {
-    /// Whose calls these are.
+    /// The place that makes the calls.
     inside: P,
-    /// Where children are named.
+    /// The sink to which children are named.
     aside: S,
-    /// Whether they are.
+    /// Whether they are named.
     on: bool,
 }
 
-/// Returns whether a shell takes a word as it is.
+/// Returns whether a shell takes an argument as it is.
 fn is_plain(word: &str) -> bool {
     !word.is_empty()
         && word.chars().all(|letter| {
@@ -40,7 +42,7 @@ fn is_plain(word: &str) -> bool {
         })
 }
 
-/// Adds a word as a shell takes it: in quotation marks, where it is not plain.
+/// Adds an argument as a shell takes it: in quotation marks if it is not plain.
 fn push_word(line: &mut String, word: &str) -> Result<(), AllocError> {
     if is_plain(word) {
         line.push_str(word)?;

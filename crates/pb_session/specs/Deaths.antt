@@ -1,4 +1,4 @@
--- How a start fails that is set to fail (our own choice).
+-- How a start fails if it is set to fail (our own choice).
 use Rattle.std.specs.Prelude.{ℕ, if◌then◌else◌, codes, List, Ok, Err}
 use Rattle.std.specs.Str.{bytes_eq}
 use Rattle.pb_place.specs.declared.place.StartFault.{StartFault}
@@ -8,7 +8,7 @@ use Rattle.pb_session.specs.declared.death.Death.{Death}
 use Rattle.pb_session.specs.declared.death.Death.TheVariants.{CannotStart, Died, Capture}
 use Rattle.pb_session.specs.declared.fault.BadSession.TheVariants.{BadForm}
 
--- the way of a name
+-- the way to fail that has this name
 abbrev pub death_named : List ℕ → Read Death
 death_named name =
     if bytes_eq name (codes "CannotStart") then Ok CannotStart
@@ -16,7 +16,7 @@ death_named name =
     else if bytes_eq name (codes "Capture") then Ok Capture
     else Err BadForm
 
--- what such a start answers: the fault of the same name
+-- the answer of such a start: the fault with the same name
 abbrev pub fault_of : Death → StartFault
 fault_of CannotStart = start.CannotStart
 fault_of Died = start.Died

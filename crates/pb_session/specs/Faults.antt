@@ -1,4 +1,4 @@
--- What is read of a session: a value, or why it is bad.
+-- What reading a session returns: a value, or why the session is bad.
 use Rattle.std.specs.Prelude.{Result}
 use Rattle.pb_data.specs.Gives as answers
 use Rattle.pb_place.specs.declared.path.PathFault.{PathFault}
@@ -13,7 +13,7 @@ Read A = Result A BadSession
 abbrev pub Gives : {A : Type 0} → Read A → Read A → Type 0
 Gives result answer = answers.Gives OutOfMemory (λ x. x) result answer
 
--- the result shows this answer, unless memory ran out
+-- the result corresponds to this answer, unless memory ran out
 abbrev pub GivesAs : {T A : Type 0} → (T → A) → Read T → Read A → Type 0
 GivesAs shows result answer = answers.Gives OutOfMemory shows result answer
 

@@ -9,15 +9,16 @@ use Rattle.pb_session.specs.declared.pick.PickBy.TheVariants.{First}
 use Rattle.pb_session.specs.declared.step.SessionStep.{SessionStep}
 use Rattle.pb_session.specs.declared.step.SessionStep.TheVariants.{Build}
 
--- what the one gives, and then what the other gives
+-- the steps of the first, and then those of the second
 abbrev pub both : Read (List SessionStep) → Read (List SessionStep) → Read (List SessionStep)
 both first second = first >>= (λ a. second >>= (λ b. Ok (a ++ b)))
 
--- some values and then others give the steps of the ones and then of the others
+-- the steps of two lists of values, one after the other, are the steps of the first and then those of the second
 abbrev pub StepsJoin : Type 0
 StepsJoin = (ds es : List Data) → steps_of (items_of (ds ++ es)) ≡ both (steps_of (items_of ds)) (steps_of (items_of es))
 
--- a build whose options are empty is asked for the manifest `/w/Cargo.toml` under the profile `dev`, with nothing selected or narrowed and one unit in flight at one time, and the first of the units that may begin does
+-- a build without options has the manifest `/w/Cargo.toml` and the profile `dev`, and selects and narrows nothing; at
+-- most one unit is in flight, and the first of the units that may begin does
 abbrev pub OptionsHaveDefaults : Type 0
 OptionsHaveDefaults = build_of (object no_members) ≡ Ok (Build (record {
   manifest = codes "/w/Cargo.toml";

@@ -1,4 +1,4 @@
--- Which numerals of JSON a session takes for numbers: those of digits alone.
+-- Which numerals of JSON a session accepts as numbers: those that consist of digits only.
 use Rattle.std.specs.Prelude.{◌≡◌, ◌<◌, ◌^◌, ℕ, true, List, length, slice_index, Option, option_map, Err}
 use Rattle.std.specs.Float.Numeral.{minus, scan_numeral}
 use Rattle.std.specs.Result.{OkIff}
@@ -10,25 +10,25 @@ use Rattle.pb_session.specs.Faults.{Read}
 use Rattle.pb_session.specs.Values.{number_of}
 use Rattle.pb_session.specs.declared.fault.BadSession.TheVariants.{BadForm}
 
--- the number that a session takes a numeral for, of which `serde_json` makes one of its numbers
+-- the number of a session for what `serde_json` makes of a numeral
 abbrev pub taken_as : Option Num → Read ℕ
 taken_as n = some_or BadForm (option_map number n) >>= number_of
 
 abbrev pub taken : List ℕ → Read ℕ
 taken numeral = taken_as (numeral_of numeral)
 
--- digits alone are the number that they write, where it is below 2 ^ 64, and else make a session bad
+-- a numeral of digits only is the number that it denotes, if that is below 2 ^ 64; else it makes a session bad
 abbrev pub DigitsAreTaken : Type 0
 DigitsAreTaken = (digits : List ℕ) → IsNumeral 10 digits → OkIff (taken digits) (digits_value 10 digits < 2 ^ 64) (digits_value 10 digits)
 
--- a minus makes a session bad, also before 0
+-- a minus makes a session bad, even before 0
 abbrev pub MinusIsBad : Type 0
 MinusIsBad = (numeral : List ℕ) → slice_index numeral 0 ≡ minus → taken numeral ≡ Err BadForm
 
--- so does a point, also before 0
+-- a point makes a session bad, even before 0
 abbrev pub PointIsBad : Type 0
 PointIsBad = (numeral : List ℕ) → (scan_numeral numeral).point ≡ true → taken numeral ≡ Err BadForm
 
--- and an exponent
+-- an exponent makes a session bad
 abbrev pub ExponentIsBad : Type 0
 ExponentIsBad = (numeral : List ℕ) → 0 < length (scan_numeral numeral).exponent → taken numeral ≡ Err BadForm

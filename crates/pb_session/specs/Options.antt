@@ -1,4 +1,4 @@
--- What a build of a session is asked for: an object whose keys are those of the options (our own choice).
+-- The options of a build of a session: an object whose keys are those of the options (our own choice).
 use Rattle.std.specs.Prelude.{ℕ, Bool, true, false, ◌&&◌, ◌||◌, if◌then◌else◌, codes, List, [], ◌∷◌, Option, Some, None, Ok, Err}
 use Rattle.std.specs.Str.{bytes_eq}
 use Rattle.serde_json.specs.Data.{Data, Items, no_items, item, Members, no_members, member}
@@ -35,7 +35,8 @@ texts_of d = array_of d >>= texts_in
 abbrev pub truth_of : Data → Read Bool
 truth_of d = some_or BadForm (as_bool d)
 
--- the value of a key; where the key is absent: no texts, false, this text, this number, the manifest `/w/Cargo.toml`
+-- the value of a key; the default of an absent key is: no texts, false, this text, this number, or the manifest
+-- `/w/Cargo.toml`
 abbrev pub texts_or_none : Option Data → Read (List (List ℕ))
 texts_or_none None = Ok []
 texts_or_none (Some d) = texts_of d
@@ -65,7 +66,8 @@ texts_at key d = texts_or_none (get key d)
 abbrev pub truth_at : List ℕ → Data → Read Bool
 truth_at key d = truth_or_false (get key d)
 
--- the profile is `dev` unless another is asked for, and one unit is in flight at one time unless more may be; the builder is called `cargo`, and build scripts are run by `mini --run`
+-- the default profile is `dev`, and by default one unit is in flight at a time; the builder is called `cargo`, and
+-- build scripts are run by `mini --run`
 abbrev pub options_in : Data → Read Options
 options_in d =
     manifest_or_default (get (codes "manifest") d) >>= (λ manifest.
@@ -96,14 +98,14 @@ options_in d =
       jobs = jobs;
     })))))))))))
 
--- what a build is asked for
+-- the options of a build
 abbrev pub options_of : Data → Read Options
 options_of d = some_or BadForm (as_object d) >>= (λ ms. if are_known ms then options_in d else Err BadForm)
 
 abbrev pub pick_of : Data → Read PickBy
 pick_of d = text_of d >>= pick_named
 
--- which of the units that may begin does: the first, unless another choice is asked for
+-- which of the units that may begin does: the first, unless another choice is requested
 abbrev pub pick_or_first : Option Data → Read PickBy
 pick_or_first None = Ok First
 pick_or_first (Some d) = pick_of d

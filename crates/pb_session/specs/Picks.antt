@@ -6,7 +6,7 @@ use Rattle.pb_session.specs.declared.pick.PickBy.{PickBy}
 use Rattle.pb_session.specs.declared.pick.PickBy.TheVariants.{First, Last}
 use Rattle.pb_session.specs.declared.fault.BadSession.TheVariants.{BadForm}
 
--- the choice of a name
+-- the choice that has this name
 abbrev pub pick_named : List ℕ → Read PickBy
 pick_named name =
     if bytes_eq name (codes "first") then Ok First

@@ -1,4 +1,4 @@
--- What serves private functions alone: the options of a build, read in parts.
+-- For private functions only: the options of a build, read in parts.
 use Rattle.std.specs.Prelude.{codes, None, Ok}
 use Rattle.serde_json.specs.Data.{Data}
 use Rattle.serde_json.specs.Find.{get}
@@ -11,7 +11,7 @@ use Rattle.pb_session.specs.declared.options.Featured.{Featured}
 use Rattle.pb_session.specs.declared.options.Targeted.{Targeted}
 use Rattle.pb_session.specs.declared.options.Tools.{Tools}
 
--- the parts of these options: the packages, their features and the profile, the targets and the units in flight
+-- the parts of these options: the packages; below, their features and the profile, the targets, and the units in flight
 abbrev pub asked_in : Data → Read Asked
 asked_in d =
     manifest_or_default (get (codes "manifest") d) >>= (λ manifest.
@@ -35,7 +35,7 @@ targeted_in d =
     number_or 1 (get (codes "jobs") d) >>= (λ jobs.
     Ok record { lib = lib; bins = bins; bin = bin; jobs = jobs }))))
 
--- options of their parts
+-- the options made of their parts
 abbrev pub joined : Asked → Featured → Targeted → Tools → Options
 joined asked featured targeted tools = record {
   manifest = asked.manifest;

@@ -1,4 +1,4 @@
-//! How a start fails that is set to fail.
+//! How a start fails if it is set to fail.
 
 ghost use Rattle.std.specs.Prelude.{◌≡◌, ◌≢◌};
 ghost use Rattle.pb_place.specs.declared.place.StartFault.TheVariants as start;
@@ -8,20 +8,21 @@ ghost use Rattle.pb_session.specs.Faults.{Gives};
 use crate::fault::BadSession;
 use pb_place::StartFault;
 
-/// How a start fails that is set to fail (our own choice). Want of memory is none of these ways, since it is no failure
-/// of the outside.
+/// How a start fails if it is set to fail (our own choice). Out of memory is not among these ways,
+/// since it is not a failure of the outside world.
 #[derive(Clone, Copy)]
 pub enum Death {
-    /// The program could not be started. Nothing is left.
+    /// The program could not be started. It leaves no file.
     CannotStart,
-    /// The child ended without a status. It leaves the first half, rounded down, of its reply's files, in byte order.
+    /// The child ended without a status. It leaves the first half, rounded down, of its reply's
+    /// files, in byte order.
     Died,
-    /// What the child wrote could not be taken in. It leaves the same half.
+    /// The child's output could not be captured. It leaves the same half.
     Capture,
 }
 
 impl Death {
-    /// What such a start answers: the fault of the same name.
+    /// Returns the answer of such a start: the fault with the same name.
     pub fn fault(&self) -> StartFault
         ensures fault { result ≡ fault_of self.now }
         ensures real { result ≢ start.OutOfMemory }
@@ -34,7 +35,7 @@ impl Death {
     }
 }
 
-/// The way of this name.
+/// Returns the way to fail that has this name.
 pub(crate) fn death_named(name: &str) -> Result<Death, BadSession>
     ensures { Gives result (death_named name.now) }
 {

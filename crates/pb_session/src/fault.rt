@@ -11,10 +11,11 @@ use thiserror::Error;
 /// Why a session file is refused.
 #[derive(Clone, Copy, Debug, PartialEq, Eq, Error)]
 pub enum BadSession {
-    /// The bytes are not UTF-8 or not JSON, or the JSON says no session, or a path in it is none.
+    /// The bytes are not UTF-8 or not JSON, the JSON is not a session, or a path in it is not a
+    /// path.
     #[error("bad session")]
     BadForm,
-    /// Memory was refused.
+    /// Memory ran out.
     #[error("out of memory")]
     OutOfMemory,
 }

@@ -1,4 +1,4 @@
-//! What a session file says: edits, failures that are prepared, and builds, and what each build is asked for.
+//! What a session file contains: edits, injected failures, and builds with their options.
 #![tactic(auto)]
 
 mod death;

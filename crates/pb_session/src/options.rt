@@ -1,4 +1,4 @@
-//! What a build of a session is asked for.
+//! The options of a build of a session.
 
 ghost use Rattle.std.specs.Prelude.{◌≡◌, ◌||◌, ◌∷◌, [], IfOk, codes};
 ghost use Rattle.std.specs.Str.{bytes_eq};
@@ -17,14 +17,14 @@ use pb_place::PathText;
 use serde_json::{Map, Value};
 use std::alloc::{AllocError, Global};
 
-/// Whether a key says for which packages a build is asked.
+/// Returns whether a key is about the packages of a build.
 fn is_of_packages(name: &str) -> bool
     ensures { result ≡ (bytes_eq name.now (codes "manifest") || bytes_eq name.now (codes "packages") || bytes_eq name.now (codes "workspace")) }
 {
     name == "manifest" || name == "packages" || name == "workspace"
 }
 
-/// Whether a key says with which features and in which profile.
+/// Returns whether a key is about the features and the profile.
 fn is_of_features(name: &str) -> bool
     ensures { result ≡ (bytes_eq name.now (codes "features") || bytes_eq name.now (codes "all_features") || bytes_eq name.now (codes "no_default_features") || bytes_eq name.now (codes "profile")) }
 {
@@ -34,21 +34,21 @@ fn is_of_features(name: &str) -> bool
         || name == "profile"
 }
 
-/// Whether a key says for which targets, and how they are built.
+/// Returns whether a key is about the targets, and how they are built.
 fn is_of_targets(name: &str) -> bool
     ensures { result ≡ (bytes_eq name.now (codes "lib") || bytes_eq name.now (codes "bins") || bytes_eq name.now (codes "bin") || bytes_eq name.now (codes "pick") || bytes_eq name.now (codes "jobs")) }
 {
     name == "lib" || name == "bins" || name == "bin" || name == "pick" || name == "jobs"
 }
 
-/// Whether a key of the options of a build is one that they may have.
+/// Returns whether the options of a build may have a key.
 fn is_known(name: &str) -> bool
     ensures { result ≡ is_known name.now }
 {
     is_of_packages(name) || is_of_features(name) || is_of_targets(name)
 }
 
-/// Whether the options of a build have no key but those that they may have.
+/// Returns whether the options of a build have only keys that they may have.
 fn are_known(map: &Map<String, Value>) -> bool
     ensures { result ≡ are_known (members_view map.now.entries) }
 {
@@ -60,7 +60,7 @@ fn are_known(map: &Map<String, Value>) -> bool
     true
 }
 
-/// The texts of a list.
+/// Returns the texts of a list.
 fn texts_in(alloc: Global, values: &[Value]) -> Result<Items<Text>, BadSession>
     ensures { Gives result (texts_in (items_view values.now)) }
 {
@@ -71,7 +71,7 @@ fn texts_in(alloc: Global, values: &[Value]) -> Result<Items<Text>, BadSession>
     Ok(texts)
 }
 
-/// A list of texts.
+/// Returns a list of texts.
 fn texts_of(alloc: Global, value: &Value) -> Result<Items<Text>, BadSession>
     ensures { Gives result (texts_of (view value.now)) }
 {
@@ -79,7 +79,7 @@ fn texts_of(alloc: Global, value: &Value) -> Result<Items<Text>, BadSession>
     Ok(texts)
 }
 
-/// The texts at a key, none where the key is absent.
+/// Returns the texts at a key, or none if the key is absent.
 fn texts_at(alloc: Global, key: &str, value: &Value) -> Result<Items<Text>, BadSession>
     ensures { Gives result (texts_at key.now (view value.now)) }
 {
@@ -89,7 +89,7 @@ fn texts_at(alloc: Global, key: &str, value: &Value) -> Result<Items<Text>, BadS
     }
 }
 
-/// A truth value.
+/// Returns a truth value.
 fn truth_of(value: &Value) -> Result<bool, BadSession>
     ensures { Gives result (truth_of (view value.now)) }
 {
@@ -99,7 +99,7 @@ fn truth_of(value: &Value) -> Result<bool, BadSession>
     }
 }
 
-/// The truth value at a key, false where the key is absent.
+/// Returns the truth value at a key, or false if the key is absent.
 fn truth_at(key: &str, value: &Value) -> Result<bool, BadSession>
     ensures { Gives result (truth_at key.now (view value.now)) }
 {
@@ -109,7 +109,7 @@ fn truth_at(key: &str, value: &Value) -> Result<bool, BadSession>
     }
 }
 
-/// The name of the profile, `dev` where the key `profile` is absent.
+/// Returns the name of the profile, or `dev` if the key `profile` is absent.
 fn profile_of(alloc: Global, value: &Value) -> Result<Text, BadSession>
     ensures { Gives result (text_or (codes "dev") (get (codes "profile") (view value.now))) }
 {
@@ -122,7 +122,7 @@ fn profile_of(alloc: Global, value: &Value) -> Result<Text, BadSession>
     }
 }
 
-/// How many units may be in flight at one time, 1 where the key `jobs` is absent.
+/// Returns how many units may be in flight at a time, or 1 if the key `jobs` is absent.
 fn jobs_of(value: &Value) -> Result<u64, BadSession>
     ensures { Gives result (number_or 1 (get (codes "jobs") (view value.now))) }
 {
@@ -132,7 +132,7 @@ fn jobs_of(value: &Value) -> Result<u64, BadSession>
     }
 }
 
-/// The path of the root manifest, by the value of the key `manifest`.
+/// Returns the path of the root manifest, from the value of the key `manifest`.
 fn manifest_of(alloc: Global, value: &Value) -> Result<PathText, BadSession>
     ensures { Gives result (manifest_or_default (get (codes "manifest") (view value.now))) }
 {
@@ -142,7 +142,7 @@ fn manifest_of(alloc: Global, value: &Value) -> Result<PathText, BadSession>
     }
 }
 
-/// The words that stand before the path of a build script.
+/// Returns the arguments before the path of a build script.
 fn runner_words(alloc: Global) -> Result<Items<Text>, AllocError>
     ensures { IfOk result (λ words. words ≡ codes "mini" ∷ codes "--run" ∷ []) }
 {
@@ -152,7 +152,7 @@ fn runner_words(alloc: Global) -> Result<Items<Text>, AllocError>
     Ok(words)
 }
 
-/// The packages that a build is asked for.
+/// The packages of a build.
 #[derive(Drop)]
 struct Asked {
     manifest: PathText,
@@ -160,7 +160,7 @@ struct Asked {
     workspace: bool,
 }
 
-/// With which features it is asked for them, and in which profile.
+/// The features and the profile of a build.
 #[derive(Drop)]
 struct Featured {
     features: Items<Text>,
@@ -169,7 +169,7 @@ struct Featured {
     profile: Text,
 }
 
-/// For which targets of theirs, and how many units may be in flight.
+/// The targets of a build, and how many units may be in flight.
 #[derive(Drop)]
 struct Targeted {
     lib: bool,
@@ -178,14 +178,14 @@ struct Targeted {
     jobs: u64,
 }
 
-/// Whom a build starts: what runs the build scripts, and the builder itself.
+/// The programs that a build starts: what runs the build scripts, and the builder itself.
 #[derive(Drop)]
 struct Tools {
     runner: Items<Text>,
     tool: Text,
 }
 
-/// The packages that a build is asked for.
+/// Returns the packages of a build.
 fn asked_in(alloc: Global, value: &Value) -> Result<Asked, BadSession>
     ensures { Gives result (asked_in (view value.now)) }
 {
@@ -199,7 +199,7 @@ fn asked_in(alloc: Global, value: &Value) -> Result<Asked, BadSession>
     })
 }
 
-/// With which features it is asked for them, and in which profile.
+/// Returns the features and the profile of a build.
 fn featured_in(alloc: Global, value: &Value) -> Result<Featured, BadSession>
     ensures { Gives result (featured_in (view value.now)) }
 {
@@ -215,7 +215,7 @@ fn featured_in(alloc: Global, value: &Value) -> Result<Featured, BadSession>
     })
 }
 
-/// For which targets of theirs, and how many units may be in flight.
+/// Returns the targets of a build, and how many units may be in flight.
 fn targeted_in(alloc: Global, value: &Value) -> Result<Targeted, BadSession>
     ensures { Gives result (targeted_in (view value.now)) }
 {
@@ -231,7 +231,7 @@ fn targeted_in(alloc: Global, value: &Value) -> Result<Targeted, BadSession>
     })
 }
 
-/// Whom a build starts.
+/// Returns the programs that a build starts.
 fn default_tools(alloc: Global) -> Result<Tools, AllocError>
     ensures { IfOk result (λ tools. tools ≡ record { runner = codes "mini" ∷ codes "--run" ∷ []; tool = codes "cargo" }) }
 {
@@ -240,7 +240,7 @@ fn default_tools(alloc: Global) -> Result<Tools, AllocError>
     Ok(Tools { runner, tool })
 }
 
-/// Options of their parts.
+/// Returns the options made of their parts.
 fn joined(asked: Asked, featured: Featured, targeted: Targeted, tools: Tools) -> Options
     ensures { result ≡ joined asked featured targeted tools }
 {
@@ -262,7 +262,7 @@ fn joined(asked: Asked, featured: Featured, targeted: Targeted, tools: Tools) ->
     }
 }
 
-/// The options of a build, whose keys are known.
+/// Returns the options of a build, if their keys are known.
 fn options_in(alloc: Global, value: &Value) -> Result<Options, BadSession>
     ensures { Gives result (options_in (view value.now)) }
 {
@@ -276,7 +276,7 @@ fn options_in(alloc: Global, value: &Value) -> Result<Options, BadSession>
     Ok(joined(asked, featured, targeted, tools))
 }
 
-/// The options of a build.
+/// Returns the options of a build.
 pub(crate) fn options_of(alloc: Global, value: &Value) -> Result<Options, BadSession>
     ensures { Gives result (options_of (view value.now)) }
 {
@@ -290,7 +290,7 @@ pub(crate) fn options_of(alloc: Global, value: &Value) -> Result<Options, BadSes
     options_in(alloc, value)
 }
 
-/// A choice among the units that may begin.
+/// Returns a choice among the units that may begin.
 fn pick_of(value: &Value) -> Result<PickBy, BadSession>
     ensures { Gives result (pick_of (view value.now)) }
 {
@@ -300,7 +300,7 @@ fn pick_of(value: &Value) -> Result<PickBy, BadSession>
     }
 }
 
-/// Which of the units that may begin does, the first of them where the key `pick` is absent.
+/// Returns which of the units that may begin does: the first if the key `pick` is absent.
 pub(crate) fn pick_in(value: &Value) -> Result<PickBy, BadSession>
     ensures { Gives result (pick_or_first (get (codes "pick") (view value.now))) }
 {

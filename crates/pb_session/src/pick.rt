@@ -14,7 +14,7 @@ pub enum PickBy {
     Last,
 }
 
-/// The choice of this name.
+/// Returns the choice that has this name.
 pub(crate) fn pick_named(name: &str) -> Result<PickBy, BadSession>
     ensures { Gives result (pick_named name.now) }
 {

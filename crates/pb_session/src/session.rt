@@ -15,7 +15,7 @@ use pb_data::Items;
 use serde_json::Value;
 use std::alloc::Global;
 
-/// The step that writes a file.
+/// Returns the step that writes a file.
 fn write_of(alloc: Global, value: &Value) -> Result<SessionStep, BadSession>
     ensures { Gives result (write_of (view value.now)) }
 {
@@ -24,7 +24,7 @@ fn write_of(alloc: Global, value: &Value) -> Result<SessionStep, BadSession>
     Ok(SessionStep::Write(path, text))
 }
 
-/// The step that sets a variable.
+/// Returns the step that sets a variable.
 fn set_of(alloc: Global, value: &Value) -> Result<SessionStep, BadSession>
     ensures { Gives result (set_of (view value.now)) }
 {
@@ -32,7 +32,7 @@ fn set_of(alloc: Global, value: &Value) -> Result<SessionStep, BadSession>
     Ok(SessionStep::Set(name, text))
 }
 
-/// The step that builds.
+/// Returns the step that builds.
 fn build_of(alloc: Global, value: &Value) -> Result<SessionStep, BadSession>
     ensures { Gives result (build_of (view value.now)) }
 {
@@ -41,7 +41,7 @@ fn build_of(alloc: Global, value: &Value) -> Result<SessionStep, BadSession>
     Ok(SessionStep::Build(options, pick))
 }
 
-/// The step that sets a start to fail.
+/// Returns the step that sets a start to fail.
 fn die_of(alloc: Global, value: &Value) -> Result<SessionStep, BadSession>
     ensures { Gives result (die_of (view value.now)) }
 {
@@ -50,7 +50,7 @@ fn die_of(alloc: Global, value: &Value) -> Result<SessionStep, BadSession>
     Ok(SessionStep::Die(key, death))
 }
 
-/// The step of this name.
+/// Returns the step that has this name.
 fn step_named(alloc: Global, name: &str, value: &Value) -> Result<SessionStep, BadSession>
     ensures { Gives result (step_named name.now (view value.now)) }
 {
@@ -75,7 +75,7 @@ fn step_named(alloc: Global, name: &str, value: &Value) -> Result<SessionStep, B
     }
 }
 
-/// A step: an object with one key, the step's name.
+/// Returns a step: an object with one key, the step's name.
 fn step_of(alloc: Global, value: &Value) -> Result<SessionStep, BadSession>
     ensures { Gives result (step_of (view value.now)) }
 {
@@ -89,7 +89,7 @@ fn step_of(alloc: Global, value: &Value) -> Result<SessionStep, BadSession>
     }
 }
 
-/// The steps of a list, in its order.
+/// Returns the steps of a list, in its order.
 fn steps_of(alloc: Global, values: &[Value]) -> Result<Items<SessionStep>, BadSession>
     ensures { Gives result (steps_of (items_view values.now)) }
 {
@@ -100,7 +100,7 @@ fn steps_of(alloc: Global, values: &[Value]) -> Result<Items<SessionStep>, BadSe
     Ok(steps)
 }
 
-/// The JSON value that some bytes are.
+/// Returns the JSON value of some bytes.
 #[tactic(auto, using(crate::proofs::Utf8::utf8_laws))]
 fn document_in(alloc: Global, bytes: &[u8]) -> Result<Value, BadSession>
     ensures { GivesAs (λ v. view v) result (document_in bytes.now) }
@@ -121,22 +121,27 @@ fn document_in(alloc: Global, bytes: &[u8]) -> Result<Value, BadSession>
     }
 }
 
-/// Reads a session file, which is of our own making: a JSON list of steps, each an object with one key.
+/// Returns the steps of a session file. Its form is our own: a JSON list of steps, each an object
+/// with one key.
 ///
-/// - `{"write":[PATH,TEXT]}` writes a file, `{"remove":PATH}` takes away a file and all below it;
-/// - `{"set":[NAME,VALUE]}` sets a variable, `{"unset":NAME}` takes it away;
-/// - `{"die":[KEY,KIND]}` lets the next start whose output folder has the name KEY fail in the way KIND, which is
-///   `CannotStart`, `Died` or `Capture`;
-/// - `{"fuse":N}` lets the Nth call fail that the next build makes to what lies outside it; 0 takes the fuse away;
-/// - `{"build":OPTIONS}` builds. OPTIONS is an object with any of the keys `manifest`, the path of the root
-///   manifest (else `/w/Cargo.toml`); `profile`, a text (else `dev`); `packages`, `features` and `bin`, lists of
-///   texts; `workspace`, `all_features`, `no_default_features`, `lib` and `bins`, truth values; `jobs`, a number (else
-///   1): how many units may be in flight at one time; `pick`, `first` (also where it is absent) or `last`: which of the
-///   units that may begin does. The builder is called `cargo`, and build scripts are run by `mini --run`.
+/// - `{"write":[PATH,TEXT]}` writes a file; `{"remove":PATH}` removes a file and all below it.
+/// - `{"set":[NAME,VALUE]}` sets a variable; `{"unset":NAME}` removes it.
+/// - `{"die":[KEY,KIND]}` lets the next start whose output folder has the name KEY fail in the way
+///   KIND: `CannotStart`, `Died` or `Capture`.
+/// - `{"fuse":N}` lets the Nth call fail that the next build makes to the outside world; 0 removes
+///   the fuse.
+/// - `{"build":OPTIONS}` builds. OPTIONS is an object with any of these keys: `manifest`, the path
+///   of the root manifest (default `/w/Cargo.toml`); `profile`, a text (default `dev`); `packages`,
+///   `features` and `bin`, lists of texts; `workspace`, `all_features`, `no_default_features`,
+///   `lib` and `bins`, truth values; `jobs`, how many units may be in flight at a time (default 1);
+///   `pick`, which of the units that may begin does, `first` (the default) or `last`. The builder
+///   is called `cargo`, and build scripts are run by `mini --run`.
 ///
-/// A path is an absolute text without byte 0. A number is digits alone, up to 18446744073709551615. Of a key that an object has twice the last value counts, as
-/// `serde_json` reads it. BadForm where the bytes are of any other form, and OutOfMemory where memory is
-/// refused.
+/// A path is an absolute text without byte 0. A number consists of digits only, and is at most
+/// 18446744073709551615. If an object has a key twice, the last value counts, as `serde_json` reads
+/// it.
+///
+/// Errors: `BadForm` if the bytes are of any other form; `OutOfMemory`.
 pub fn read_session(alloc: Global, bytes: &[u8]) -> Result<Items<SessionStep>, BadSession>
     ensures { Gives result (session_of bytes.now) }
 {

@@ -6,21 +6,22 @@ use pb_data::Text;
 use pb_package::Options;
 use pb_place::PathText;
 
-/// A step of a session: an edit of what lies outside the builder, a failure that is prepared there, or a build.
+/// A step of a session: an edit of the outside world, an injected failure, or a build.
 #[derive(Drop)]
 pub enum SessionStep {
     /// The file at this path has this text from now on.
     Write(PathText, Text),
-    /// The file at this path, and all files below it, are gone.
+    /// The file at this path, and all files below it, are removed.
     Remove(PathText),
-    /// The variable of this name has this value from now on. Any name and value is taken.
+    /// The variable of this name has this value from now on. Any name and value is accepted.
     Set(Text, Text),
     /// The variable of this name is not set from now on.
     Unset(Text),
     /// A build, and which of the units that may begin does.
     Build(Options, PickBy),
-    /// The next start whose output folder has this name fails in this way. Any name is taken.
+    /// The next start whose output folder has this name fails in this way. Any name is accepted.
     Die(Text, Death),
-    /// The call of this number that the next build makes to what lies outside it fails, counted from 1. 0: none does.
+    /// The call with this number, counted from 1, that the next build makes to the outside world
+    /// fails. 0: no call does.
     Fuse(u64),
 }

@@ -1,4 +1,4 @@
-//! What JSON values of a session say.
+//! What the JSON values of a session mean.
 
 ghost use Rattle.std.specs.Prelude.{◌≡◌, option_map, Ok, Err, IfOk, IfErr, ℕ, List};
 ghost use Rattle.pb_data.specs.Gives.{lifted};
@@ -13,7 +13,7 @@ use pb_place::PathText;
 use serde_json::{Map, Value};
 use std::alloc::Global;
 
-/// A text.
+/// Returns a text.
 pub(crate) fn text_of(alloc: Global, value: &Value) -> Result<Text, BadSession>
     ensures { Gives result (text_of (view value.now)) }
 {
@@ -26,8 +26,9 @@ pub(crate) fn text_of(alloc: Global, value: &Value) -> Result<Text, BadSession>
     }
 }
 
-/// A number of digits alone, up to 18446744073709551615. `serde_json` takes one with a sign, a point or an exponent, as
-/// `-0`, `1.0` and `1e1`, and one that is greater, for another kind of number.
+/// Returns a number of digits only, up to 18446744073709551615. For `serde_json` a numeral with a
+/// sign, a point or an exponent, as `-0`, `1.0` and `1e1`, and a greater one, is another kind of
+/// number.
 pub(crate) fn number_of(value: &Value) -> Result<u64, BadSession>
     ensures { Gives result (number_of (view value.now)) }
 {
@@ -37,7 +38,7 @@ pub(crate) fn number_of(value: &Value) -> Result<u64, BadSession>
     }
 }
 
-/// The path that a text says.
+/// Returns the path in a text.
 pub(crate) fn path_in(alloc: Global, text: &str) -> Result<PathText, BadSession>
     ensures { Gives result (path_in text.now) }
 {
@@ -45,7 +46,7 @@ pub(crate) fn path_in(alloc: Global, text: &str) -> Result<PathText, BadSession>
     Ok(path)
 }
 
-/// A path.
+/// Returns a path.
 pub(crate) fn path_of(alloc: Global, value: &Value) -> Result<PathText, BadSession>
     ensures { Gives result (path_of (view value.now)) }
 {
@@ -54,7 +55,7 @@ pub(crate) fn path_of(alloc: Global, value: &Value) -> Result<PathText, BadSessi
     Ok(path)
 }
 
-/// A list.
+/// Returns a list.
 pub(crate) fn array_of(value: &Value) -> Result<&[Value], BadSession>
     ensures ok { IfOk result (λ a. array_of (view value.now) ≡ Ok (items_view a.now)) }
     ensures err { IfErr result (λ e. array_of (view value.now) ≡ Err e) }
@@ -65,7 +66,7 @@ pub(crate) fn array_of(value: &Value) -> Result<&[Value], BadSession>
     }
 }
 
-/// The two texts of a list of two.
+/// Returns the two texts of a list of two.
 #[tactic(auto, using(crate::proofs::Pairs::pair_laws))]
 fn pair_in(alloc: Global, values: &[Value]) -> Result<(Text, Text), BadSession>
     ensures { Gives result (pair_in (items_view values.now)) }
@@ -80,7 +81,7 @@ fn pair_in(alloc: Global, values: &[Value]) -> Result<(Text, Text), BadSession>
     }
 }
 
-/// A list of two texts.
+/// Returns a list of two texts.
 pub(crate) fn pair_of(alloc: Global, value: &Value) -> Result<(Text, Text), BadSession>
     ensures { Gives result (pair_of (view value.now)) }
 {
@@ -88,7 +89,7 @@ pub(crate) fn pair_of(alloc: Global, value: &Value) -> Result<(Text, Text), BadS
     Ok(pair)
 }
 
-/// The member of an object that has one alone.
+/// Returns the member of an object with exactly one member.
 pub(crate) fn only_member(map: &Map<String, Value>) -> Option<(&str, &Value)>
     ensures { option_map (λ m. (m.0.now, view m.1.now)) result ≡ only_member (members_view map.now.entries) }
 {

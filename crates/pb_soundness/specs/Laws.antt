@@ -14,33 +14,34 @@ use Rattle.pb_soundness.specs.Sound.{Sound, IsTrueRecord}
 abbrev pub Unnamed : Standing → List ℕ → ℕ → Type 0
 Unnamed at key number = (other : List ℕ) (r : Record) → at other ≡ Some r → Contains (needs_of r) (key, number) → ⊥
 
--- what became of the unit of a key: nothing counts in its record's place; its record and its files are as they were; or a record stands there of which this is said, with a number with which nothing named it
+-- what happened to a unit: no record counts for it; or its record and its files are unchanged; or it has a record for
+-- which `Said` is true, with a number that no record named for it
 pub data Became (read : Reading) (folder : List ℕ) (old new : Map) (Said : List ℕ → Record → Type 0) (key : List ℕ) : Type 0 where
   gone : record_at read folder new key ≡ None → Became read folder old new Said key
   stays : record_at read folder new key ≡ record_at read folder old key → files_in (out_of folder key) new ≡ files_in (out_of folder key) old → Became read folder old new Said key
   renewed : (r : Record) (number : ℕ) → record_at read folder new key ≡ Some r → number_of r ≡ Some number → Unnamed (record_at read folder old) key number → Said key r → Became read folder old new Said key
 
--- sound, where each record is gone, is as it was, or is a true one with a number of its own
+-- A folder stays sound if each record is gone, is unchanged, or is a true one with a number of its own.
 abbrev pub StaysSound : Type 0
 StaysSound = (read : Reading) (judge : Judge) (child : Answers) (folder : List ℕ) (old new : Map)
     → ((key : List ℕ) → Became read folder old new (IsTrueRecord judge child folder (record_at read folder new) new) key) → Sound read judge child folder old → Sound read judge child folder new
 
--- a change outside the folder
+-- It stays sound after a change outside the folder.
 abbrev pub OutsideLaw : Type 0
 OutsideLaw = (read : Reading) (judge : Judge) (child : Answers) (folder : List ℕ) (old new : Map) → ((q : List ℕ) → is_at_or_below folder q ≡ true → finite.get new q ≡ finite.get old q)
     → Sound read judge child folder old → Sound read judge child folder new
 
--- a change at or below the output folder of a unit in whose record's place nothing counts
+-- It stays sound after a change at or below the output folder of a unit without a record that counts.
 abbrev pub InOutputLaw : Type 0
 InOutputLaw = (read : Reading) (judge : Judge) (child : Answers) (folder : List ℕ) (old new : Map) (key : List ℕ) → is_path folder ≡ true → is_key key ≡ true
     → record_at read folder old key ≡ None → AgreeBut (is_at_or_below (out_of folder key)) old new → Sound read judge child folder old → Sound read judge child folder new
 
--- the text in a record's place is removed or becomes one that counts as none
+-- It stays sound if the text of a record is removed, or becomes one that does not count.
 abbrev pub WithoutRecordLaw : Type 0
 WithoutRecordLaw = (read : Reading) (judge : Judge) (child : Answers) (folder : List ℕ) (old new : Map) (key : List ℕ) → is_path folder ≡ true → is_key key ≡ true
     → record_at read folder new key ≡ None → AgreeBut (is_at_or_below (place_of folder key)) old new → Sound read judge child folder old → Sound read judge child folder new
 
--- a true record of format 2 is put in a record's place, with a number with which no record that counts names its unit
+-- It stays sound if a true record of format 2 is written, with a number by which no record that counts names its unit.
 abbrev pub PutLaw : Type 0
 PutLaw = (read : Reading) (judge : Judge) (child : Answers) (folder : List ℕ) (old new : Map) (key : List ℕ) (r : Record) (number : ℕ) → is_path folder ≡ true → is_key key ≡ true
     → record_at read folder new key ≡ Some r → number_of r ≡ Some number → Unnamed (record_at read folder old) key number → AgreeBut (is_at_or_below (place_of folder key)) old new

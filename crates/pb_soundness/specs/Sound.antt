@@ -1,4 +1,4 @@
--- True records, and a profile folder whose records are true.
+-- True records, and a profile folder in which all records are true.
 use Rattle.std.specs.Prelude.{◌≡◌, ◌<◌, ◌↔◌, ℕ, List, map, Some, Contains, pos}
 use Rattle.std.specs.FinMap as finite
 use Rattle.pb_place.specs.Folders.{files_in}
@@ -12,7 +12,7 @@ use Rattle.pb_soundness.specs.Inputs.{Judge, Agrees, SameBelow, contents, name_o
 use Rattle.pb_soundness.specs.Records.{Reading, out_of, record_at}
 use Rattle.pb_soundness.specs.Grounded.{Standing, Grounded, Reaches}
 
--- the files of a reply in an output folder, in which nothing stood before
+-- the files of a reply in an output folder that was empty before
 abbrev pub replied_files : List ℕ → Reply → Map
 replied_files out r = files_in out (put_files out r.files finite.empty)
 
@@ -24,21 +24,24 @@ pub record Backs (judge : Judge) (r : Record) (out : List ℕ) (made : Map) (rep
   pub stderr : reply.stderr ≡ r.stderr
   pub files : replied_files out reply ≡ made
 
--- each unit in these copies has the files there that it has in the world
+-- each unit in these copies has the same files in the world
 abbrev pub HoldsCopies : List ℕ → List (List ℕ × List (List ℕ × List ℕ)) → Map → Type 0
 HoldsCopies folder copies m = (need : List ℕ) (files : List (List ℕ × List ℕ)) → Contains copies (need, files) → contents (out_of folder need) m ≡ files
 
--- of a record with copies: each unit named has its folder among the `reads`; and in every view that agrees with the inputs and the copies the child's reply backs the record
+-- a true record with copies: the folder of each named unit is among the `reads`; and the child's reply backs the record
+-- in each view that agrees with the inputs and the copies
 pub record TrueCopies (judge : Judge) (child : Answers) (folder : List ℕ) (made : Map) (r : Record) (out : List ℕ) (copies : List (List ℕ × List (List ℕ × List ℕ))) : Type 0 where
   pub read : (need : List ℕ) (files : List (List ℕ × List ℕ)) → Contains copies (need, files) → Contains r.asked.reads (out_of folder need)
   pub gives : (x : World) → Agrees r.asked.target r.inputs x → HoldsCopies folder copies x.files → Backs judge r out made (reply_in child (command_of r.asked) x)
 
--- of a grounded record: its `reads` are the folders of the units that it reaches; and in every view that agrees with the inputs and holds below `reads` what stands there, the child's reply backs it
+-- a grounded record: its `reads` are the folders of the units that it reaches; and the child's reply backs it in each
+-- view that agrees with the inputs and has the present files below `reads`
 pub record Rests (judge : Judge) (child : Answers) (folder : List ℕ) (at : Standing) (files : Map) (key : List ℕ) (r : Record) : Type 0 where
   pub reads : (f : List ℕ) → Contains r.asked.reads f ↔ ((v : List ℕ) × Reaches at key v × (f ≡ out_of folder v))
   pub gives : (x : World) → Agrees r.asked.target r.inputs x → SameBelow r.asked.reads files x.files → Backs judge r (out_of folder key) (files_in (out_of folder key) files) (reply_in child (command_of r.asked) x)
 
--- of a record with numbers: each unit named has its folder among the `reads` and a number less than the record's; and where the record is grounded, it rests on what stands
+-- a true record with numbers: the folder of each named unit is among the `reads`, and its number is less than the
+-- record's; and if the record is grounded, it rests on the present files
 pub record TrueNumbers (judge : Judge) (child : Answers) (folder : List ℕ) (at : Standing) (files : Map) (key : List ℕ) (r : Record) (number : ℕ) (needs : List (List ℕ × ℕ)) : Type 0 where
   pub read : (need : List ℕ) (n : ℕ) → Contains needs (need, n) → Contains r.asked.reads (out_of folder need)
   pub less : (need : List ℕ) (n : ℕ) → Contains needs (need, n) → n < number
@@ -48,7 +51,7 @@ abbrev pub TrueBy : Judge → Answers → List ℕ → Standing → Map → List
 TrueBy judge child folder at files key r (Copies copies) = TrueCopies judge child folder (files_in (out_of folder key) files) r (out_of folder key) copies
 TrueBy judge child folder at files key r (Numbers number needs) = TrueNumbers judge child folder at files key r number needs
 
--- a record is true in the place of this key
+-- a record is true as the record of this key
 pub record IsTrueRecord (judge : Judge) (child : Answers) (folder : List ℕ) (at : Standing) (files : Map) (key : List ℕ) (r : Record) : Type 0 where
   pub says : TrueBy judge child folder at files key r r.needed
 

@@ -7,9 +7,10 @@ ghost use Rattle.pb_soundness.specs.Laws.{StaysSound, OutsideLaw, InOutputLaw, W
 ghost use Rattle.pb_soundness.specs.Numbers.{NumberWaitsLaw, StaysAheadLaw, GivenAheadLaw, NextIsNewLaw};
 ghost use Rattle.pb_soundness.specs.Reuse.{GroundsLaw, ReuseLaw, RenewLaw, SparesLaw, PutGroundsLaw};
 
-/// A profile folder stays sound where each record is gone, is as it was, or is a true one with a number of its own. So
-/// it does under a change outside it, under one in the output folder of a unit in whose record's place nothing counts,
-/// where a record is removed or becomes none, and where a true record is put.
+/// A profile folder stays sound if each record is gone, is unchanged, or is a true one with a
+/// number of its own. So it does after a change outside it; after a change in the output folder of
+/// a unit without a record that counts; if a record is removed or no longer counts; and if a true
+/// record is written.
 pub fn soundness_stays()
     ensures stays { StaysSound }
     ensures outside { OutsideLaw }
@@ -18,9 +19,10 @@ pub fn soundness_stays()
     ensures put { PutLaw }
 {}
 
-/// Where there is no difference, and all that the command reads is grounded, the unit is grounded and its record and
-/// its folder are what its child would give. A record of an honest child's reply may be put over whatever stood there.
-/// Grounded units stay grounded where a unit is done again that they do not reach.
+/// If nothing differs, and all that the command reads is grounded, the unit is grounded, and its
+/// record and its folder are what its child would answer. A record of an honest child's reply may
+/// replace whatever was there. Grounded units stay grounded if a unit that they do not reach is
+/// built again.
 pub fn records_are_reused()
     ensures grounds { GroundsLaw }
     ensures reuse { ReuseLaw }
@@ -29,21 +31,22 @@ pub fn records_are_reused()
     ensures put_grounds { PutGroundsLaw }
 {}
 
-/// What other units do while a unit's child is in flight leaves what it is shown, its record and its files.
+/// What other units do while a unit's child is in flight changes neither what the child sees, nor
+/// the unit's record and files.
 pub fn others_stay_apart()
     ensures others { OthersLaw }
     ensures waits { NumberWaitsLaw }
 {}
 
-/// The next run number is above all that records name, and stays so.
+/// The next run number is above all numbers that records have or name, and stays so.
 pub fn numbers_stay_ahead()
     ensures stays { StaysAheadLaw }
     ensures given { GivenAheadLaw }
     ensures new { NextIsNewLaw }
 {}
 
-/// `reading`, by which records are read from their files, gives each text the record that it says, or none. By
-/// `texts_have_one_reading` of `pb_record` it is the only function that does.
+/// `reading`, with which records are read from their files, returns the record of each text, or
+/// none. By `texts_have_one_reading` of `pb_record` it is the only function that does.
 pub fn records_have_a_reading()
     ensures { IsReading reading }
 {}

@@ -1,5 +1,5 @@
-//! Sound folders of records: definitions and laws alone. What a record in its place promises, when it stands for what
-//! its unit would give, and what keeps a profile folder sound.
+//! Sound folders of records: only definitions and laws. What a record promises, when it is what its
+//! unit would answer, and what keeps a profile folder sound.
 #![tactic(auto)]
 
 mod laws;

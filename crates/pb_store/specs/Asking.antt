@@ -1,4 +1,4 @@
--- What a command asks beside what was asked: its parts in order, and its variables by name.
+-- What two commands differ in: their parts in order, and their variables by name.
 use Rattle.std.specs.Prelude.{◌≡◌, ◌++◌, ◌∷◌, ◌&&◌, if◌then◌else◌, true, ℕ, List, [], Option, Some, None}
 use Rattle.std.specs.Str.{bytes_eq}
 use Rattle.std.specs.Ordering.{nat_cmp, is_lt}
@@ -11,11 +11,11 @@ use Rattle.pb_record.specs.declared.asked.Asked.{Asked}
 use Rattle.pb_store.specs.declared.difference.CommandPart.{CommandPart}
 use Rattle.pb_store.specs.declared.difference.CommandPart.TheVariants.{Program, Words, Folder, Out, Target, Toolchain, Reads}
 
--- the parts of a command, its variables apart, in the order in which they are compared
+-- the parts of a command, without its variables, in the order in which they are compared
 abbrev pub parts : List CommandPart
 parts = Program ∷ Words ∷ Folder ∷ Out ∷ Target ∷ Toolchain ∷ Reads ∷ []
 
--- this part of a command is the one that was asked
+-- this part of a command is equal to the recorded one
 abbrev pub SamePart : Asked → Command → CommandPart → Type 0
 SamePart a c Program = a.program ≡ c.program
 SamePart a c Words = a.words ≡ c.words
@@ -29,14 +29,16 @@ SamePart a c Reads = a.reads ≡ c.reads
 abbrev pub lesser : List ℕ → List ℕ → List ℕ
 lesser name other = if is_lt (slice_cmp nat_cmp other name) then other else name
 
--- the first variables of two rows are not the same, and this is the lesser of their names; or one row has no variable, and this is the name of the other's first
+-- the first variables of two rows differ, and this is the lesser of their names; or one row is empty, and this is the
+-- name of the first variable of the other
 abbrev pub IsNextName : List (List ℕ × List ℕ) → List (List ℕ × List ℕ) → List ℕ → Type 0
 IsNextName [] [] name = ⊥
 IsNextName [] (y ∷ ys) name = name ≡ y.0
 IsNextName (x ∷ xs) [] name = name ≡ x.0
 IsNextName (x ∷ xs) (y ∷ ys) name = (x ≡ y → ⊥) × (name ≡ lesser x.0 y.0)
 
--- the first name at which two rows of variables, each sorted by name, are not the same: both begin with the same variables, and go on with this name
+-- the first name at which two rows of variables, each sorted by name, differ: both begin with the same variables, and
+-- this is the next name
 pub record IsFirstName (row other : List (List ℕ × List ℕ)) (name : List ℕ) : Type 0 where
   pub before : List (List ℕ × List ℕ)
   pub after : List (List ℕ × List ℕ)
@@ -45,16 +47,16 @@ pub record IsFirstName (row other : List (List ℕ × List ℕ)) (name : List �
   pub other_place : other ≡ before ++ behind
   pub next : IsNextName after behind name
 
--- of this name two rows of variables do not say the same, and of each lesser name they do
+-- two rows of variables differ at this name, and agree at each lesser name
 pub record IsLeastName (row other : List (List ℕ × List ℕ)) (name : List ℕ) : Type 0 where
   pub here : find (slice_cmp nat_cmp) name row ≡ find (slice_cmp nat_cmp) name other → ⊥
   pub below : (less : List ℕ) → slice_cmp nat_cmp less name ≡ Less → find (slice_cmp nat_cmp) less row ≡ find (slice_cmp nat_cmp) less other
 
--- Of two rows that are sorted by name, the first name at which they are not the same is the least of which they do not say the same.
+-- In two rows that are sorted by name, the first name at which they differ is the least name at which they differ.
 abbrev pub FirstNameIsFirst : Type 0
 FirstNameIsFirst = (row other : List (List ℕ × List ℕ)) (name : List ℕ) → are_sorted row ≡ true → are_sorted other ≡ true → IsFirstName row other name → IsLeastName row other name
 
--- the first name at which two rows of variables are not the same, found variable by variable
+-- the first name at which two rows of variables differ, found variable by variable
 abbrev pub first_name : List (List ℕ × List ℕ) → List (List ℕ × List ℕ) → Option (List ℕ)
 first_name [] [] = None
 first_name [] (y ∷ ys) = Some y.0

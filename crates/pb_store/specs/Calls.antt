@@ -17,7 +17,7 @@ use Rattle.pb_store.specs.declared.fault.OpenFault.TheVariants as open_fault
 use Rattle.pb_store.specs.declared.fault.StoreFault.{StoreFault}
 use Rattle.pb_store.specs.declared.fault.StoreFault.TheVariants.{Place, NumbersSpent, OutOfMemory}
 
--- a fault of the place as one of the store; want of memory stays so
+-- a fault of the place as a fault of the store; out of memory stays out of memory
 abbrev pub stored : PlaceFault → StoreFault
 stored place.Read = Place place.Read
 stored place.List = Place place.List
@@ -26,7 +26,7 @@ stored place.Remove = Place place.Remove
 stored place.Variable = Place place.Variable
 stored place.OutOfMemory = OutOfMemory
 
--- a fault of a call of the place on this path as one of opening; want of memory stays so
+-- a fault of a call of the place on this path as a fault of opening; out of memory stays out of memory
 abbrev pub opened : List ℕ → PlaceFault → OpenFault
 opened path place.Read = open_fault.Place path place.Read
 opened path place.List = open_fault.Place path place.List
@@ -35,17 +35,19 @@ opened path place.Remove = open_fault.Place path place.Remove
 opened path place.Variable = open_fault.Place path place.Variable
 opened path place.OutOfMemory = open_fault.OutOfMemory
 
--- a call failed, with this fault, and none came after it
+-- a call failed with this fault, and no call came after it
 abbrev pub FailedLast : Failure → Counts → Counts → Type 0
 FailedLast failure old new = (new.failures ≡ up old.failures) × (new.late ≡ 0) × (new.last ≡ Some failure)
 
--- where the fault is one of a call, that call failed with this very fault and was the last; where it is the store's own, or want of memory, none failed
+-- if the fault is one of a call, that call failed with this fault and was the last; if it is the store's own, or out of
+-- memory, no call failed
 abbrev pub HasCause : StoreFault → Counts → Counts → Type 0
 HasCause (Place fault) old new = FailedLast (Called fault) old new
 HasCause NumbersSpent old new = new.failures ≡ old.failures
 HasCause OutOfMemory old new = new.failures ≡ old.failures
 
--- what a call of the store says of the counters: it starts no child; where it ended well, no call failed; else it may tell this fault, which has its cause
+-- what a call of the store does to the counters: it starts no child; if it ended well, no call failed; else its fault
+-- is a possible one and has its cause
 abbrev pub Takes : {T : Type 0} → (StoreFault → Type 0) → Result T StoreFault → Counts → Counts → Type 0
 Takes May result old new = (new.starts ≡ old.starts) × MatchResult result (λ x. new.failures ≡ old.failures) (λ e. May e × HasCause e old new)
 
@@ -55,67 +57,69 @@ MayRead (Place fault) = fault ≡ place.Read
 MayRead NumbersSpent = ⊥
 MayRead OutOfMemory = Unit {0}
 
--- of one that looks at inputs: it reads files, lists folders and reads variables
+-- the faults of a call that looks at inputs: it reads files, lists folders and reads variables
 abbrev pub MayLook : StoreFault → Type 0
 MayLook (Place fault) = (fault ≡ place.Read) ⊎ ((fault ≡ place.List) ⊎ (fault ≡ place.Variable))
 MayLook NumbersSpent = ⊥
 MayLook OutOfMemory = Unit {0}
 
--- of one that removes a record
+-- the faults of a call that removes a record
 abbrev pub MayRemove : StoreFault → Type 0
 MayRemove (Place fault) = fault ≡ place.Remove
 MayRemove NumbersSpent = ⊥
 MayRemove OutOfMemory = Unit {0}
 
--- of one that takes a run number first: it tells that none is left exactly where none is
+-- the faults of a call that takes a run number first: it reports that none is left if and only if none is
 abbrev pub MayDrop : Option ℕ → StoreFault → Type 0
 MayDrop None NumbersSpent = Unit {0}
 MayDrop None (Place fault) = ⊥
 MayDrop None OutOfMemory = ⊥
 MayDrop (Some number) e = MayRemove e
 
--- of one that writes a record
+-- the faults of a call that writes a record
 abbrev pub MayWrite : StoreFault → Type 0
 MayWrite (Place fault) = fault ≡ place.Write
 MayWrite NumbersSpent = ⊥
 MayWrite OutOfMemory = Unit {0}
 
--- of one that looks at inputs, and then writes a record
+-- the faults of a call that looks at inputs, and then writes a record
 abbrev pub MayKeep : StoreFault → Type 0
 MayKeep (Place fault) = (fault ≡ place.Write) ⊎ MayLook (Place fault)
 MayKeep NumbersSpent = ⊥
 MayKeep OutOfMemory = Unit {0}
 
--- of one that takes a run number after it has read, and writes a record: it tells that none is left only where none is
+-- the faults of a call that reads, takes a run number, and writes a record: it reports that none is left only if none
+-- is
 abbrev pub MayMigrate : Option ℕ → StoreFault → Type 0
 MayMigrate next (Place fault) = (fault ≡ place.Write) ⊎ (fault ≡ place.Read)
 MayMigrate next NumbersSpent = next ≡ None
 MayMigrate next OutOfMemory = Unit {0}
 
--- the cause of a fault of opening: the call on this path failed, with this fault, and was the last; or memory was refused, and none failed
+-- the cause of a fault of opening: the call on this path failed with this fault and was the last; or memory ran out,
+-- and no call failed
 abbrev pub FailsToOpen : OpenFault → Counts → Counts → Type 0
 FailsToOpen (open_fault.Place path fault) old new = ((fault ≡ place.List) ⊎ (fault ≡ place.Read)) × FailedLast (Called fault) old new × (named_in new ≡ path)
 FailsToOpen open_fault.OutOfMemory old new = new.failures ≡ old.failures
 
--- what opening says of the counters: it starts no child; where it ended well, no call failed; else its fault has its cause
+-- what opening does to the counters: it starts no child; if it ended well, no call failed; else its fault has its cause
 abbrev pub TakesOpen : {T : Type 0} → Result T OpenFault → Counts → Counts → Type 0
 TakesOpen result old new = (new.starts ≡ old.starts) × MatchResult result (λ x. new.failures ≡ old.failures) (λ e. FailsToOpen e old new)
 
--- this one call failed, with this fault; none was made where the fault is the store's own, and one at most where memory was refused
+-- this one call failed with this fault; if the fault is the store's own, no call was made; out of memory, at most one
 abbrev pub EndsOnce : Call → StoreFault → Counts → Counts → Type 0
 EndsOnce call (Place fault) old new = Fails fault call old new
 EndsOnce call NumbersSpent old new = new ≡ old
 EndsOnce call OutOfMemory old new = (new ≡ old) ⊎ (new ≡ past_call old)
 
--- this one call of the place was made, and how it ended is told
+-- this one call of the place was made, and its failure is reported
 abbrev pub CallsOnce : {T : Type 0} → Call → Result T StoreFault → Counts → Counts → Type 0
 CallsOnce call result old new = MatchResult result (λ x. new ≡ past_call old) (λ e. EndsOnce call e old new)
 
--- if a write failed, it was that of this file
+-- if a write failed, it was the write of this file
 abbrev pub FailsToWrite : {T : Type 0} → List ℕ → Result T StoreFault → Counts → Type 0
 FailsToWrite path result new = IfErr result (λ e. e ≡ Place place.Write → new.failing ≡ Some (call.Write path))
 
--- a call that looks: it reads a file, lists a folder or reads a variable
+-- the fault of a call that looks: it reads a file, lists a folder or reads a variable
 abbrev pub is_look : PlaceFault → Bool
 is_look place.Read = true
 is_look place.List = true
@@ -124,37 +128,39 @@ is_look place.Remove = false
 is_look place.Variable = true
 is_look place.OutOfMemory = false
 
--- the call that failed was one that looks
+-- the call that failed was a call that looks
 abbrev pub looked : StoreFault → Bool
 looked (Place fault) = is_look fault
 looked NumbersSpent = false
 looked OutOfMemory = false
 
--- a record could not be read, one of these files
+-- one of these files is a record that could not be read
 abbrev pub ReadsOneOf : List (List ℕ) → OpenFault → Type 0
 ReadsOneOf paths (open_fault.Place at fault) = (fault ≡ place.Read) × Contains paths at × (ends_as_record at ≡ true)
 ReadsOneOf paths open_fault.OutOfMemory = Unit {0}
 
--- the folder could not be listed, or a record directly in it not be read
+-- the folder could not be listed, or a record directly in it could not be read
 abbrev pub OpensBy : Bool → List ℕ → World → OpenFault → Type 0
 OpensBy tells folder w (open_fault.Place at fault) = ((fault ≡ place.List) × (at ≡ folder)) ⊎ ((fault ≡ place.Read) × (ends_as_record at ≡ true) × (IsTrue tells → Contains (listed_directly folder w) at))
 OpensBy tells folder w open_fault.OutOfMemory = Unit {0}
 
--- it only looks: nothing changes but the counters; a call that failed was the last, and told one of these faults
+-- a call only looks: nothing changes but the counters; a call of the place that failed was the last, with one of these
+-- faults
 pub record OnlyLooks {T : Type 0} (May : StoreFault → Type 0) (result : Result T StoreFault) (old new : At) : Type 0 where
   pub world : new.world ≡ old.world
   pub most : new.most ≡ old.most
   pub still : KeepsStill old.still new.still
   pub takes : Takes May result old.counts new.counts
 
--- opening likewise
+-- the same for opening
 pub record OnlyOpens {T : Type 0} (result : Result T OpenFault) (old new : At) : Type 0 where
   pub world : new.world ≡ old.world
   pub most : new.most ≡ old.most
   pub still : KeepsStill old.still new.still
   pub takes : TakesOpen result old.counts new.counts
 
--- it changes files of these paths alone, and starts no child; a call that failed was the last, and told one of these faults
+-- a call changes only files of these paths, and starts no child; a call of the place that failed was the last, with one
+-- of these faults
 pub record ChangesOnlyAt {T : Type 0} (inside : List ℕ → Bool) (May : StoreFault → Type 0) (result : Result T StoreFault) (old new : At) : Type 0 where
   pub only : ChangesOnly inside old.world new.world
   pub most : new.most ≡ old.most

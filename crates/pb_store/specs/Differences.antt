@@ -1,4 +1,4 @@
--- What differs first of a unit, in this order; and what its record replays if nothing does.
+-- The first difference of a unit, in this order; and what its record replays if nothing differs.
 use Rattle.std.specs.Prelude.{◌≡◌, ◌++◌, ◌∷◌, ◌&&◌, ℕ, Bool, true, false, List, [], Option, Some, None, pos, is_some, option_map}
 use Rattle.std.specs.List.{AllByRecursion}
 use Rattle.std.specs.Str.{bytes_eq}
@@ -23,7 +23,7 @@ use Rattle.pb_store.specs.declared.replaying.Compared.{Compared}
 use Rattle.pb_store.specs.declared.replaying.Compared.TheVariants.{Differs, Same}
 use Rattle.pb_store.specs.declared.replaying.Replayed.{Replayed}
 
--- the first of a row of which this does not hold: it holds of all before it; and what is told of it
+-- the first item of a row for which this is false, as it is reported: for all items before it this is true
 pub record IsFirst {A B : Type 0} (Holds : A → Type 0) (told : A → B) (row : List A) (b : B) : Type 0 where
   pub before : List A
   pub here : A
@@ -33,7 +33,7 @@ pub record IsFirst {A B : Type 0} (Holds : A → Type 0) (told : A → B) (row :
   pub fails : Holds here → ⊥
   pub tells : b ≡ told here
 
--- it holds of all of a row, or this is told of the first of which it does not
+-- this is true for all items of a row; or this is the name of the first item for which it is false
 abbrev pub FirstOrAll : {A : Type 0} → ((List ℕ × A) → Type 0) → List (List ℕ × A) → Option (List ℕ) → Type 0
 FirstOrAll Holds row None = AllByRecursion Holds row
 FirstOrAll Holds row (Some b) = IsFirst Holds (λ x. x.0) row b
@@ -42,20 +42,20 @@ FirstOrAll Holds row (Some b) = IsFirst Holds (λ x. x.0) row b
 abbrev pub IsPresent : List ℕ → World → inputs.Input → Type 0
 IsPresent target w i = input_in target w (name_of i) ≡ i
 
--- what is told of a row of inputs: none where each has its present value, else the name of the first that has not
+-- the report on a row of inputs: none if each has its present value, else the name of the first that has not
 abbrev pub FirstInput : List ℕ → List inputs.Input → World → Option InputName → Type 0
 FirstInput target row w None = Agrees target row w
 FirstInput target row w (Some name) = IsFirst (IsPresent target w) name_of row name
 
--- the record of a needed unit has the number with which it is named
+-- the record of a needed unit has the number by which it is named
 abbrev pub HasNumber : Standing → (List ℕ × ℕ) → Type 0
 HasNumber at need = number_if (at need.0) ≡ Some need.1
 
--- the folder of a needed unit has the files that are named; a text that is no path in a folder names none
+-- the folder of a needed unit contains the named files; a text that is no relative path names no unit
 abbrev pub HasFiles : List ℕ → Map → (List ℕ × List (List ℕ × List ℕ)) → Type 0
 HasFiles folder files need = (is_relative need.0 ≡ true) × (contents (out_of folder need.0) files ≡ need.1)
 
--- by the record's own format, the needed units are as it names them; and the first that is not, in the order in which the record names them
+-- the needed units are as the record names them, by its format (below, the first that is not, in the record's order)
 abbrev pub AreNeeded : List ℕ → Standing → Map → Needed → Type 0
 AreNeeded folder at files (Copies copies) = AllByRecursion (HasFiles folder files) copies
 AreNeeded folder at files (Numbers number needs) = AllByRecursion (HasNumber at) needs
@@ -70,7 +70,8 @@ pub record IsAsRecorded (folder : List ℕ) (at : Standing) (c : commands.Comman
   pub inputs : Agrees c.target r.inputs w
   pub needed : AreNeeded folder at w.files r.needed
 
--- what differs first from a record: a part of its command, the variables apart; then a variable; then an input; then a needed unit
+-- the first difference from a record: a part of its command, variables apart; then a variable; then an input; then a
+-- needed unit
 abbrev pub DiffersFrom : List ℕ → Standing → commands.Command → World → Record → Difference → Type 0
 DiffersFrom folder at c w r NoRecord = ⊥
 DiffersFrom folder at c w r (Command part) = IsFirst (SamePart r.asked c) (λ p. p) parts part
@@ -78,12 +79,12 @@ DiffersFrom folder at c w r (Pair name) = AsksAs r.asked c × IsFirstName r.aske
 DiffersFrom folder at c w r (Input name) = (command_of r.asked ≡ c) × IsFirst (IsPresent c.target w) name_of r.inputs name
 DiffersFrom folder at c w r (Dependency need) = (command_of r.asked ≡ c) × Agrees c.target r.inputs w × FirstNeed folder at w.files r.needed need
 
--- what is told of a record: none where nothing differs from it, else the first difference
+-- the report on a record: none if nothing differs from it, else the first difference
 abbrev pub FirstFrom : List ℕ → Standing → commands.Command → World → Record → Option Difference → Type 0
 FirstFrom folder at c w r None = IsAsRecorded folder at c w r
 FirstFrom folder at c w r (Some d) = DiffersFrom folder at c w r d
 
--- what is told of a unit: that no record counts in its place, or what is told of the record there
+-- the report on a unit: that it has no record that counts, or the report on its record
 abbrev pub FirstOf : List ℕ → Standing → commands.Command → World → Option Record → Option Difference → Type 0
 FirstOf folder at c w None found = found ≡ Some NoRecord
 FirstOf folder at c w (Some r) found = FirstFrom folder at c w r found
@@ -91,25 +92,26 @@ FirstOf folder at c w (Some r) found = FirstFrom folder at c w r found
 abbrev pub FirstDifference : List ℕ → List ℕ → commands.Command → World → Option Difference → Type 0
 FirstDifference folder key c w found = FirstOf folder (records folder w) c w (records folder w key) found
 
--- where a record names units by copies, it names each by a path in a folder
+-- if a record names units by copies, it names each by a relative path
 abbrev pub NamesPaths : Needed → Type 0
 NamesPaths (Copies copies) = AllByRecursion (λ c. is_relative c.0 ≡ true) copies
 NamesPaths (Numbers number needs) = Unit {0}
 
--- nothing differs of a unit, for some command that would build it again
+-- nothing differs from a unit's record for some command
 abbrev pub NothingDiffers : List ℕ → List ℕ → World → Type 0
 NothingDiffers folder key w = (c : commands.Command) × FirstDifference folder key c w None
 
--- If nothing differs of a unit, its record says what a child would answer; and nothing differs if it does, unless it names a unit by no path.
+-- If nothing differs from a unit's record, the record contains what a child would answer. The converse is true unless
+-- the record names a unit by a text that is no path.
 pub record UnchangedIsSame : Type 0 where
   pub same : (folder key : List ℕ) (c : commands.Command) (w : World) → FirstDifference folder key c w None → (r : Record) × IsSame reading folder key c w r
   pub none : (folder key : List ℕ) (c : commands.Command) (w : World) (r : Record) → IsSame reading folder key c w r → NamesPaths r.needed → FirstDifference folder key c w None
 
--- A unit has one first difference, or none, in one world.
+-- A unit has at most one first difference in one world.
 abbrev pub DifferencesAreOne : Type 0
 DifferencesAreOne = (folder key : List ℕ) (c : commands.Command) (w : World) (found other : Option Difference) → FirstDifference folder key c w found → FirstDifference folder key c w other → found ≡ other
 
--- whether two lists of files are the same
+-- whether two lists of files are equal
 abbrev pub same_files : List (List ℕ × List ℕ) → List (List ℕ × List ℕ) → Bool
 same_files [] [] = true
 same_files [] (y ∷ ys) = false
@@ -120,20 +122,20 @@ same_files (x ∷ xs) (y ∷ ys) = (bytes_eq x.0 y.0 && bytes_eq x.1 y.1) && sam
 abbrev pub replayed : Record → Replayed
 replayed r = record { ended = record { status = pos 0; stdout = r.stdout; stderr = r.stderr }; numbered = is_some (number_of r) }
 
--- this is what the record that counts in a unit's place gives again
+-- this is what the record that counts for a unit replays
 abbrev pub IsReplayed : Option Record → Replayed → Type 0
 IsReplayed found again = option_map replayed found ≡ Some again
 
--- the difference that a comparison tells; none where nothing differs
+-- the difference that a comparison reports; none if nothing differs
 abbrev pub difference_in : Compared → Option Difference
 difference_in (Differs difference) = Some difference
 difference_in (Same again) = None
 
--- where nothing differs, what a comparison carries is what the record gives again
+-- if nothing differs, a comparison carries what the record replays
 abbrev pub CarriesReplayed : Option Record → Compared → Type 0
 CarriesReplayed found (Differs difference) = Unit {0}
 CarriesReplayed found (Same again) = IsReplayed found again
 
--- a record gives this answer again
+-- a record replays this answer
 abbrev pub IsAnswered : Option Record → Ended → Type 0
 IsAnswered found ended = option_map (λ (r : Record). (replayed r).ended) found ≡ Some ended

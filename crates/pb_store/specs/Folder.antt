@@ -1,4 +1,4 @@
--- What each call of the store makes of the records of its folder, and of the run numbers that it has.
+-- What each call of the store does to the records of its folder, and to its run numbers.
 use Rattle.std.specs.Prelude.{◌≡◌, ℕ, List, Option, Some, None, ◌⊎◌, pos, ◌↔◌, ◌<◌, true, map, Contains, Bool, false, not, is_some, Result, IfErr, if◌then◌else◌, max, Err, OnOk, MatchResult}
 use Rattle.std.specs.FinMap as finite
 use Rattle.std.specs.List.{fold}
@@ -30,20 +30,21 @@ use Rattle.pb_store.specs.declared.fault.StoreFault.TheVariants.{Place, NumbersS
 use Rattle.pb_store.specs.declared.replaying.Compared.{Compared}
 use Rattle.pb_store.specs.declared.store.Store.{Store}
 
--- the number that a table has of a key, if it has one
+-- the run number of a key in a table, if there is one
 abbrev pub number_in : List (List ℕ × Option ℕ) → List ℕ → Option ℕ
 number_in table key = option_and_then (λ (number : Option ℕ). number) (value_at key table)
 
--- a table has of each key the number of the record that counts in its place, and none where none counts or it has none
+-- a table contains the run number of each record that counts, by its key, and no other number
 abbrev pub HasNumbers : Standing → List (List ℕ × Option ℕ) → Type 0
 HasNumbers at table = (key : List ℕ) → number_in table key ≡ number_if (at key)
 
--- a folder of one of these units, or one that its record reads
+-- a folder of one of these units, or one that the record of such a unit reads
 pub data ReadBy (at : Standing) (folder : List ℕ) (needs : List (List ℕ)) (f : List ℕ) : Type 0 where
   itself : (need : List ℕ) → Contains needs need → f ≡ out_of folder need → ReadBy at folder needs f
   further : (need : List ℕ) (s : Record) → Contains needs need → at need ≡ Some s → Contains s.asked.reads f → ReadBy at folder needs f
 
--- each needed unit has a record of format 2 with a number less than the one given, and what the command reads are their folders and what their records read
+-- each needed unit has a record of format 2 with a number below this one; the command reads the folders of these units
+-- and what their records read
 pub record HasNeeds (at : Standing) (folder : List ℕ) (reads : List (List ℕ)) (needs : List (List ℕ)) (number : ℕ) : Type 0 where
   pub stand : (need : List ℕ) → Contains needs need → (s : Record) × (at need ≡ Some s) × ((n : ℕ) × (number_of s ≡ Some n) × (n < number))
   pub reads_are : (f : List ℕ) → Contains reads f ↔ ReadBy at folder needs f
@@ -56,7 +57,8 @@ or_zero (Some n) = n
 abbrev pub numbered : Standing → List (List ℕ) → List (List ℕ × ℕ)
 numbered at needs = map (λ (need : List ℕ). (need, or_zero (number_if (at need)))) needs
 
--- in the view that the world gives the child is honest on the command, its reply is good, has these input names and streams, and its files are those that stand in the unit's folder
+-- in the view of this world the child is honest on the command; its reply is good, with these input names and streams;
+-- and its files are those in the unit's folder
 pub record IsEarned (judge : Judge) (child : Answers) (folder key : List ℕ) (c : Command) (names : List InputName) (ended : Ended) (w : World) : Type 0 where
   pub honest : IsHonest judge child c w
   pub good : judge c (reply_in child c w) ≡ Some names
@@ -69,17 +71,19 @@ pub record IsEarned (judge : Judge) (child : Answers) (folder key : List ℕ) (c
 abbrev pub kept_of : List ℕ → List ℕ → Command → List Input → ℕ → List (List ℕ × ℕ) → Ended → Record
 kept_of folder key c inputs number pairs ended = record { key = key; asked = of_parts c (out_of folder key); inputs = inputs; needed = Numbers number pairs; stdout = ended.stdout; stderr = ended.stderr }
 
--- what stands in a record's place after a call that may have put one there: none counts, what did before, or that one
+-- the record of a unit after a call that may have put one there: none that counts, the one before, or the new one
 abbrev pub Leaves : Option Record → Option Record → Option Record → Type 0
 Leaves put old new = (new ≡ None) ⊎ ((new ≡ old) ⊎ (new ≡ put))
 
--- what makes a kept record true: the answer is earned, the needed units have their records, and no record names the number
+-- what makes a kept record true: its answer is earned, the needed units have their records, and no record names its
+-- number
 pub record IsKept (judge : Judge) (child : Answers) (folder key : List ℕ) (c : Command) (needs : List (List ℕ)) (names : List InputName) (ended : Ended) (number : ℕ) (w : World) : Type 0 where
   pub earned : IsEarned judge child folder key c names ended w
   pub needs_stand : HasNeeds (records folder w) folder c.reads needs number
   pub unnamed : NoneNames (records folder w) number
 
--- a record may be put in its place: it holds the reply of an honest child in the present view, names what stands, and has a number with which no record that counts names its unit
+-- a record may be put into the folder: it contains the reply of an honest child in the present view; it names present
+-- records; and no record that counts names its unit by its number
 pub record MayPut (read : Reading) (judge : Judge) (child : Answers) (folder key : List ℕ) (w : World) (r : Record) (number : ℕ) : Type 0 where
   pub honest : IsHonest judge child (command_of r.asked) w
   pub agree : Agrees r.asked.target r.inputs w
@@ -91,16 +95,16 @@ pub record MayPut (read : Reading) (judge : Judge) (child : Answers) (folder key
   pub numbered : number_of r ≡ Some number
   pub unnamed : Unnamed (record_at read folder w.files) key number
 
--- the record with a number and the needed units with theirs, in place of copies
+-- the record with a number and the numbers of the needed units, instead of copies
 abbrev pub numbered_record : Record → ℕ → List (List ℕ × ℕ) → Record
 numbered_record r number pairs = record { key = r.key; asked = r.asked; inputs = r.inputs; needed = Numbers number pairs; stdout = r.stdout; stderr = r.stderr }
 
--- a record counts in a unit's place, and it is of format 1: it has no number
+-- a unit has a record that counts, and it is of format 1: it has no number
 abbrev pub lacks_number : Option Record → Bool
 lacks_number None = false
 lacks_number (Some r) = not (is_some (number_of r))
 
--- what becomes of the record in a unit's place: one with a number of its own stays as it is, and one without is written again with the next number
+-- the record after a migration: one with a number stays as it is, and one without is rewritten with the next number
 abbrev pub migrated_by : Option ℕ → Option ℕ → List (List ℕ × ℕ) → Record → Option Record
 migrated_by (Some own) next pairs r = Some r
 migrated_by None (Some number) pairs r = Some (numbered_record r number pairs)
@@ -110,7 +114,8 @@ abbrev pub migrated : Option ℕ → List (List ℕ × ℕ) → Option Record �
 migrated next pairs None = None
 migrated next pairs (Some r) = migrated_by (number_of r) next pairs r
 
--- what makes a migrated record true: it has no difference, its child is honest, what the command reads is grounded, the needed units have their records, and no record names the number
+-- what makes a migrated record true: nothing differs from it, its child is honest, what its command reads is grounded,
+-- the needed units have their records, and no record names its number
 pub record IsMigrated (judge : Judge) (child : Answers) (folder key : List ℕ) (c : Command) (needs : List (List ℕ)) (number : ℕ) (w : World) (r : Record) : Type 0 where
   pub same : IsSame reading folder key c w r
   pub honest : IsHonest judge child c w
@@ -122,17 +127,17 @@ pub record IsMigrated (judge : Judge) (child : Answers) (folder key : List ℕ) 
 abbrev pub TakesNext : Option ℕ → Option ℕ → Type 0
 TakesNext old new = (number : ℕ) × (old ≡ Some number) × (new ≡ after number)
 
--- the next number is as it was, or was taken
+-- the next number is unchanged, or was taken
 abbrev pub TakesNumber : Option ℕ → Option ℕ → Type 0
 TakesNumber old new = (new ≡ old) ⊎ TakesNext old new
 
--- what becomes of the next number: it is not taken where a look failed, and it is where the write failed
+-- a migration and the next number: the number is not taken if a look failed, and it is taken if the write failed
 pub record MigratesNext (result : Result Unit StoreFault) (old new : Option ℕ) : Type 0 where
   pub next : TakesNumber old new
   pub before : IfErr result (λ e. looked e ≡ true → new ≡ old)
   pub used : IfErr result (λ e. e ≡ Place Write → TakesNext old new)
 
--- the greatest number that a record has or names; 0 where it has none
+-- the greatest number that a record has or names; 0 if there is none
 abbrev pub greatest_named : Needed → ℕ
 greatest_named (Copies copies) = 0
 greatest_named (Numbers number needs) = max number (fold (λ g (pair : List ℕ × ℕ). max g pair.1) 0 needs)
@@ -141,14 +146,14 @@ abbrev pub greatest_if : Option Record → ℕ
 greatest_if None = 0
 greatest_if (Some r) = greatest_named r.needed
 
--- the greatest number that a record at a path has or names, whatever its key is
+-- the greatest number that the record at a path has or names, whatever its key is
 abbrev pub greatest_at : Map → List ℕ → ℕ
 greatest_at m path = if ends_as_record path then greatest_if (read_text reading (finite.get m path)) else 0
 
 abbrev pub greatest_of : Map → List (List ℕ) → ℕ
 greatest_of m paths = fold (λ g path. max g (greatest_at m path)) 0 paths
 
--- the next run number: one above the greatest, so 1 where no record has or names any; none where that is the last
+-- the next run number: one above the greatest, so 1 if no record has or names any; none if the greatest is the last
 abbrev pub next_in : List ℕ → World → Option ℕ
 next_in folder w = after (greatest_of w.files (listed_directly folder w))
 
@@ -158,26 +163,28 @@ pub record OpensStore (folder : List ℕ) (w : World) (store : Store) : Type 0 w
   pub ahead : IsAhead (records folder w) store.next
   pub numbers : HasNumbers (records folder w) store.numbers
 
--- what differs first of a unit, or none, and then what its record gives again
+-- the first difference of a unit, or none and what its record replays
 pub record Compares (folder key : List ℕ) (c : Command) (w : World) (compared : Compared) : Type 0 where
   pub first : FirstDifference folder key c w (difference_in compared)
   pub carries : CarriesReplayed (records folder w key) compared
 
--- the number that was next is given, and the one after it is next
+-- this number was next and was taken, and the one after it is next
 abbrev pub IsGiven : ℕ → Option ℕ → Option ℕ → Type 0
 IsGiven number old new = (old ≡ Some number) × (new ≡ after number)
 
--- what stands in a record's place after a call that was to leave this there: just that; after a fault none, what did before, or that
+-- the record of a unit after a call that was to leave this one: this one; after a fault none, the one before, or this
+-- one
 abbrev pub Stands : {T : Type 0} → Result T StoreFault → Option Record → Option Record → Option Record → Type 0
 Stands result put old new = MatchResult result (λ x. new ≡ put) (λ e. Leaves put old new)
 
--- a record is removed from its place
+-- a record is removed
 pub record RemovesRecord (child : Answers) (folder key : List ℕ) (result : Result Unit StoreFault) (old new : World) : Type 0 where
   pub sound : (judge : Judge) → Sound reading judge child folder old.files → Sound reading judge child folder new.files
   pub stands : Stands result None (records folder old key) (records folder new key)
   pub ahead : (next : Option ℕ) → IsAhead (records folder old) next → IsAhead (records folder new) next
 
--- a record is dropped: the folder stays sound, the next number ahead of all, and the numbers are those of the records where it went well
+-- a record is dropped: the folder stays sound, and the next number stays above all others; if it went well, the numbers
+-- are those of the records
 pub record DropsRecord (child : Answers) (key : List ℕ) (result : Result ℕ StoreFault) (old new : Store) (before now : World) : Type 0 where
   pub sound : (judge : Judge) → Sound reading judge child old.folder before.files → Sound reading judge child old.folder now.files
   pub stands : Stands result None (records old.folder before key) (records old.folder now key)
@@ -185,13 +192,13 @@ pub record DropsRecord (child : Answers) (key : List ℕ) (result : Result ℕ S
   pub numbers : OnOk result (HasNumbers (records old.folder now) new.numbers)
   pub spent : old.next ≡ None → now ≡ before
 
--- a record is put in its place
+-- a record is put into the folder
 pub record PutsRecord (child : Answers) (folder key : List ℕ) (r : Record) (result : Result Unit StoreFault) (old new : World) : Type 0 where
   pub sound : (judge : Judge) (number : ℕ) → MayPut reading judge child folder key old r number → Sound reading judge child folder old.files → Sound reading judge child folder new.files
   pub stands : Stands result (Some r) (records folder old key) (records folder new key)
   pub ahead : (next : Option ℕ) → NamesBefore next r → IsAhead (records folder old) next → IsAhead (records folder new) next
 
--- a record is kept: likewise, where its answer is earned and its number was given
+-- a record is kept: the same, if its answer is earned and its number was taken
 pub record KeepsRecord (child : Answers) (key : List ℕ) (c : Command) (needs : List (List ℕ)) (names : List InputName) (ended : Ended) (number : ℕ) (result : Result Unit StoreFault) (old new : Store) (before now : World) : Type 0 where
   pub sound : (judge : Judge) → IsKept judge child old.folder key c needs names ended number before → Sound reading judge child old.folder before.files → Sound reading judge child old.folder now.files
   pub stands : Stands result (Some (kept_of old.folder key c (map (input_in c.target before) names) number (numbered (records old.folder before) needs) ended)) (records old.folder before key) (records old.folder now key)
@@ -199,7 +206,8 @@ pub record KeepsRecord (child : Answers) (key : List ℕ) (c : Command) (needs :
   pub numbers : OnOk result (HasNumbers (records old.folder now) new.numbers)
   pub looked : IfErr result (λ e. looked e ≡ true → now ≡ before)
 
--- a record without a number gets the next one, and any other stays: the folder stays sound where nothing differs from the record and its number was given
+-- a record without a number gets the next one, and any other stays; the folder stays sound under the conditions of
+-- `IsMigrated`
 pub record MigratesRecord (child : Answers) (key : List ℕ) (needs : List (List ℕ)) (result : Result Unit StoreFault) (old new : Store) (before now : World) : Type 0 where
   pub sound : (judge : Judge) (c : Command) (r : Record) → ((number : ℕ) → old.next ≡ Some number → IsMigrated judge child old.folder key c needs number before r) → Sound reading judge child old.folder before.files → Sound reading judge child old.folder now.files
   pub stands : Stands result (migrated old.next (numbered (records old.folder before) needs) (records old.folder before key)) (records old.folder before key) (records old.folder now key)

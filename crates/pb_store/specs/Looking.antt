@@ -1,4 +1,4 @@
--- Where a call of the store looks and writes, how often and in which order: the calls of the place, in turn, each with what it is given.
+-- The calls that each call of the store makes of the place, with their arguments, in their order.
 use Rattle.std.specs.Prelude.{◌≡◌, ◌⊎◌, ◌++◌, ◌∷◌, ◌==◌, ◌&&◌, if◌then◌else◌, ℕ, Bool, true, false, map, List, [], Option, Some, None, Result, Err, MatchResult, Decides}
 use Rattle.std.specs.Cmp.Lexicographic.{pointwise}
 use Rattle.std.specs.FinMap as finite
@@ -30,17 +30,19 @@ use Rattle.pb_store.specs.declared.fault.OpenFault.TheVariants as open_fault
 use Rattle.pb_store.specs.declared.fault.StoreFault.{StoreFault}
 use Rattle.pb_store.specs.declared.fault.StoreFault.TheVariants.{Place, NumbersSpent, OutOfMemory}
 
--- where a call failed, it was one of these; where memory was refused, the first few of them were made; no other fault is told
+-- if a call failed, it was one of these; out of memory, some first calls of the list were made; no other fault is
+-- possible
 abbrev pub StopsAt : StoreFault → List Call → Counts → Counts → Type 0
 StopsAt (Place fault) calls old new = FailsAt fault calls old new
 StopsAt NumbersSpent calls old new = ⊥
 StopsAt OutOfMemory calls old new = MakesSome calls old new
 
--- where it ended well, these calls were made, and no more; else it stopped at one of them. Every call is counted, and the one that failed is kept, so the list is told in its order
+-- if it ended well, these calls were made, and no more; else it stopped at one of them. Every call is counted, and the
+-- one that failed is kept, so the list has an order
 abbrev pub Looks : {T : Type 0} → Result T StoreFault → List Call → Counts → Counts → Type 0
 Looks result calls old new = MatchResult result (λ x. new ≡ past_calls calls old) (λ e. StopsAt e calls old new)
 
--- of opening likewise
+-- the same for opening
 abbrev pub OpeningStopsAt : OpenFault → List Call → Counts → Counts → Type 0
 OpeningStopsAt (open_fault.Place path fault) calls old new = FailsAt fault calls old new
 OpeningStopsAt open_fault.OutOfMemory calls old new = MakesSome calls old new
@@ -48,33 +50,34 @@ OpeningStopsAt open_fault.OutOfMemory calls old new = MakesSome calls old new
 abbrev pub OpensLooking : {T : Type 0} → Result T OpenFault → List Call → Counts → Counts → Type 0
 OpensLooking result calls old new = MatchResult result (λ x. new ≡ past_calls calls old) (λ e. OpeningStopsAt e calls old new)
 
--- of a row, what is looked at for each item in turn, up to and with the first that differs
+-- the calls for each item of a row in turn, up to and including the first that differs
 abbrev pub looked_up_to : {A : Type 0} → (A → Bool) → (A → List Call) → List A → List Call
 looked_up_to is_same look [] = []
 looked_up_to is_same look (x ∷ xs) = look x ++ (if is_same x then looked_up_to is_same look xs else [])
 
--- a file of the sources is read; at or below the target folder none is
+-- a file of the sources is read; a file at or below the target folder is not
 abbrev pub source_looked : List ℕ → List ℕ → List Call
 source_looked target path = if is_at_or_below target path then [] else call.Read path ∷ []
 
--- where no file is there, the folder is listed, but for what is at or below the target folder, and then each file listed is read
+-- if the path has no file, it is listed as a folder, without what is at or below the target folder; then each listed
+-- file is read
 abbrev pub folder_looked : List ℕ → World → List ℕ → Option (List ℕ) → List Call
 folder_looked target w path (Some bytes) = []
 folder_looked target w path None = call.ListOutside path target ∷ map call.Read (listed path (removed target w))
 
--- for an input: of a path the file, or the folder; of a variable its value
+-- the calls for an input: for a path its file, or its folder; for a variable its value
 abbrev pub name_looked : List ℕ → World → InputName → List Call
 name_looked target w (Path path) = source_looked target path ++ folder_looked target w path (finite.get (from_nothing target w).files path)
 name_looked target w (Variable name) = call.Variable name ∷ []
 
--- two texts, or none, are the same
+-- two optional texts are equal
 abbrev pub same_text : Option (List ℕ) → Option (List ℕ) → Bool
 same_text None None = true
 same_text None (Some other) = false
 same_text (Some text) None = false
 same_text (Some text) (Some other) = bytes_eq text other
 
--- two inputs are the same: their kind, their name and their value
+-- two inputs are equal: their kind, their name and their value
 abbrev pub same_input : Input → Input → Bool
 same_input (File path bytes) (File other others) = bytes_eq path other && bytes_eq bytes others
 same_input (File path bytes) (Tree other others) = false
@@ -90,71 +93,72 @@ same_input (Value name text) (Value other second) = bytes_eq name other && same_
 unfoldable pub is_present : List ℕ → World → Input → Bool
 is_present target w i = same_input (input_in target w (name_of i)) i
 
--- the inputs of a record, up to and with the first whose value is not the present one
+-- the calls for the inputs of a record, up to and including the first whose value is not the present one
 abbrev pub inputs_looked : List ℕ → World → List Input → List Call
 inputs_looked target w inputs = looked_up_to (is_present target w) (λ i. name_looked target w (name_of i)) inputs
 
--- the folder of a unit is listed, and then each file there is read; a text that is no path in a folder names none
+-- the folder of a unit is listed, and then each file there is read; a text that is no relative path names no unit
 abbrev pub out_looked : List ℕ → World → List ℕ → List Call
 out_looked folder w key = if is_relative key then call.List (out_of folder key) ∷ map call.Read (listed (out_of folder key) w) else []
 
--- a needed unit has the files with which a record names it
+-- a needed unit has the files by which a record names it
 unfoldable pub has_files : List ℕ → Map → List ℕ × List (List ℕ × List ℕ) → Bool
 has_files folder files need = is_relative need.0 && same_files (contents (out_of folder need.0) files) need.1
 
--- the units that a record names by copies, up to and with the first that is not as it names it
+-- the calls for the units that a record names by copies, up to and including the first that differs
 abbrev pub copies_looked : List ℕ → World → List (List ℕ × List (List ℕ × List ℕ)) → List Call
 copies_looked folder w copies = looked_up_to (has_files folder w.files) (λ need. out_looked folder w need.0) copies
 
--- for the units that it names by number it looks nowhere: their numbers are held
+-- units that a record names by number need no call: the store has their numbers
 abbrev pub needed_looked : List ℕ → World → Needed → List Call
 needed_looked folder w (Copies copies) = copies_looked folder w copies
 needed_looked folder w (Numbers number needs) = []
 
--- its inputs, and then, where each has its present value, the units that it names
+-- the calls for the inputs of a record, and then, if each has its present value, for the units that it names
 unfoldable pub around_looked : List ℕ → List ℕ → World → Record → List Call
 around_looked folder target w r = inputs_looked target w r.inputs ++ (if list_all (is_present target w) r.inputs then needed_looked folder w r.needed else [])
 
 abbrev pub same_texts : List (List ℕ) → List (List ℕ) → Bool
 same_texts texts others = pointwise (pointwise ◌==◌) texts others
 
--- a command is the one that was asked, part for part, and variable for variable
+-- a command is equal to the recorded one, part for part, and variable for variable
 unfoldable pub is_asked : Asked → commands.Command → Bool
 is_asked a c = bytes_eq a.program c.program && (same_texts a.words c.words && (bytes_eq a.folder c.folder && (same_text (Some a.out) c.out && (bytes_eq a.target c.target && (bytes_eq a.toolchain c.toolchain && (same_texts a.reads c.reads && same_files a.pairs c.pairs))))))
 
--- for a record: nothing where its command is another
+-- the calls for a record: none if its command differs
 unfoldable pub from_looked : List ℕ → commands.Command → World → Record → List Call
 from_looked folder c w r = if is_asked r.asked c then around_looked folder c.target w r else []
 
--- for a unit: the place of its record is read, and then it is looked where the record that counts there leads
+-- the calls for a unit: its record is read, and then come the calls for the record, if it counts
 unfoldable pub unit_looked : List ℕ → List ℕ → commands.Command → World → List Call
 unit_looked folder key c w = call.Read (place_of folder key) ∷ option_map_or (from_looked folder c w) (records folder w key) []
 
--- those of some files that have the name of a record are read, in their order
+-- of these files, those with the name of a record are read, in their order
 abbrev pub records_looked : List (List ℕ) → List Call
 records_looked paths = map call.Read (filter ends_as_record paths)
 
--- to open a folder the files directly in it are listed, and then each record directly in it is read, in the order of the listing
+-- to open a folder, the files directly in it are listed, and then each record directly in it is read, in the listed
+-- order
 abbrev pub opened_looked : List ℕ → World → List Call
 opened_looked folder w = call.ListDirectly folder ∷ records_looked (listed_directly folder w)
 
--- it is looked at each of some inputs, in their order
+-- the calls for each of these inputs, in their order
 abbrev pub names_looked : List ℕ → World → List InputName → List Call
 names_looked target w names = looked_up_to (λ name. true) (name_looked target w) names
 
--- to keep a record it is looked at the inputs, and then it is written in its place
+-- to keep a record, the calls for its inputs are made, and then the record is written
 abbrev pub kept_called : List ℕ → List ℕ → List ℕ → World → List InputName → List Call
 kept_called folder key target w names = names_looked target w names ++ (call.Write (place_of folder key) ∷ [])
 
--- to migrate a record its place is read; if a record without a number counts there, it is written again
+-- to migrate a record, its file is read; if it is a record that counts and has no number, it is written again
 abbrev pub migrated_called : List ℕ → List ℕ → World → List Call
 migrated_called folder key w = call.Read (place_of folder key) ∷ (if lacks_number (records folder w key) then call.Write (place_of folder key) ∷ [] else [])
 
--- these calls were made, and more only if a run number was left
+-- the calls of the first list were made, and no run number was left; or those of the second list were made
 abbrev pub LooksOrSpent : {T : Type 0} → Result T StoreFault → List Call → List Call → Counts → Counts → Type 0
 LooksOrSpent result first calls old new = ((result ≡ Err NumbersSpent) × (new ≡ past_calls first old)) ⊎ Looks result calls old new
 
--- The tests by which it is said how far it looks decide just that by which a difference is told.
+-- The tests that decide how far the store looks agree with the definitions of a difference.
 pub record TestsDecide : Type 0 where
   pub input : (target : List ℕ) (w : World) (i : Input) → Decides (is_present target w i) (IsPresent target w i)
   pub copies : (folder : List ℕ) (files : Map) (need : List ℕ × List (List ℕ × List ℕ)) → Decides (has_files folder files need) (HasFiles folder files need)

@@ -1,4 +1,5 @@
--- What serves private functions alone: the files below a folder, read one by one; and how the numbers of records are gathered and looked up.
+-- For private functions only: the files below a folder are read one by one, and the numbers of records are collected
+-- and looked up.
 use Rattle.std.specs.Prelude.{◌≡◌, ◌&&◌, ℕ, if◌then◌else◌, true, map, max, List, [], ◌∷◌, Option, Some, None}
 use Rattle.std.specs.FinMap as finite
 use Rattle.std.specs.List.{fold}
@@ -14,34 +15,34 @@ use Rattle.pb_soundness.specs.Records.{ends_as_record, is_key, number_of, place_
 use Rattle.pb_store.specs.Folder.{number_in, or_zero}
 use Rattle.pb_store.specs.Looking.{looked_up_to}
 
--- two things that are both there
+-- two texts as a pair, if both are there
 abbrev pub both_of : Option (List ℕ) → Option (List ℕ) → Option (List ℕ × List ℕ)
 both_of (Some relative) (Some bytes) = Some (relative, bytes)
 both_of (Some relative) None = None
 both_of None found = None
 
--- the file at a path, by its path in a folder
+-- the file at a path, with its path relative to a folder
 abbrev pub file_in : List ℕ → Map → List ℕ → Option (List ℕ × List ℕ)
 file_in folder files path = both_of (inside folder path) (finite.get files path)
 
--- it is read where it is below the folder
+-- the file is read if it is below the folder
 abbrev pub file_looked : List ℕ → Option (List ℕ) → List Call
 file_looked path None = []
 file_looked path (Some relative) = call.Read path ∷ []
 
--- the files at these paths, in their order
+-- the calls for the files at these paths, in their order
 abbrev pub files_looked : List ℕ → List (List ℕ) → List Call
 files_looked folder paths = looked_up_to (λ path. true) (λ path. file_looked path (inside folder path)) paths
 
--- a needed unit has, by a table of numbers, the one with which it is named
+-- in a table of numbers, a needed unit has the number by which it is named
 abbrev pub IsHeld : List (List ℕ × Option ℕ) → (List ℕ × ℕ) → Type 0
 IsHeld numbers need = number_in numbers need.0 ≡ Some need.1
 
--- the needed units with the numbers that a table has of them
+-- the needed units with their numbers from a table
 abbrev pub numbered_by : List (List ℕ × Option ℕ) → List (List ℕ) → List (List ℕ × ℕ)
 numbered_by numbers needs = map (λ (need : List ℕ). (need, or_zero (number_in numbers need))) needs
 
--- the greatest run number that a record has or names, by what it says of numbers; 0 if there is no record, or if it has none
+-- the greatest run number that a record has or names; 0 if there is no record, or if it has no number
 abbrev pub greatest_said : Option (ℕ × List (List ℕ × ℕ)) → ℕ
 greatest_said None = 0
 greatest_said (Some (own, needs)) = max own (fold (λ g (pair : List ℕ × ℕ). max g pair.1) 0 needs)
@@ -55,16 +56,16 @@ abbrev pub own_said : Option (ℕ × List (List ℕ × ℕ)) → Option ℕ
 own_said None = None
 own_said (Some (own, needs)) = Some own
 
--- with the number of a record that was read at a path, by what it says of numbers
+-- the table with the number of a record that was read at a path, from its parsed numbers
 abbrev pub noted_told : List ℕ → List ℕ → Option Numbers → List (List ℕ × Option ℕ) → List (List ℕ × Option ℕ)
 noted_told folder path None numbers = numbers
 noted_told folder path (Some said) numbers = if is_key said.key && bytes_eq (place_of folder said.key) path then with_entry numbers said.key (own_said said.numbered) else numbers
 
--- with the number of a record that was read at a path, where that is the place of its key
+-- the table with the number of a record that was read at a path, if that is the path of its key
 abbrev pub noted : List ℕ → List ℕ → Option Record → List (List ℕ × Option ℕ) → List (List ℕ × Option ℕ)
 noted folder path None numbers = numbers
 noted folder path (Some r) numbers = if is_key r.key && bytes_eq (place_of folder r.key) path then with_entry numbers r.key (number_of r) else numbers
 
--- and where the path has the name of a record's
+-- the same, if the path has the name of a record
 abbrev pub noted_at : List ℕ → Map → List (List ℕ × Option ℕ) → List ℕ → List (List ℕ × Option ℕ)
 noted_at folder m numbers path = if ends_as_record path then noted folder path (read_text reading (finite.get m path)) numbers else numbers

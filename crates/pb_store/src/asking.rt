@@ -1,4 +1,4 @@
-//! What a command asks beside what was asked: the first part that is another, and the first variable.
+//! What differs between a command and the recorded one: the first part, and the first variable.
 
 ghost use Rattle.std.specs.Prelude.{◌≡◌, ◌&&◌, Decides, IfOk, MatchOption, Some, option_map};
 ghost use Rattle.std.specs.Str.{bytes_eq};
@@ -12,7 +12,7 @@ use pb_place::{Command, PathText};
 use pb_record::Asked;
 use std::alloc::{AllocError, Global};
 
-/// The parts of a command, its variables apart, in order.
+/// The parts of a command, without its variables, in order.
 const PARTS: &[CommandPart] = &[
     CommandPart::Program,
     CommandPart::Words,
@@ -23,7 +23,7 @@ const PARTS: &[CommandPart] = &[
     CommandPart::Reads,
 ];
 
-/// Returns whether two lists of texts are the same.
+/// Returns whether two lists of texts are equal.
 #[tactic(auto, using(pb_record::proofs::CommandLemmas::texts_same))]
 fn are_same_texts(texts: &[Text], others: &[Text]) -> bool
     ensures { Decides result (texts.now ≡ others.now) }
@@ -31,7 +31,7 @@ fn are_same_texts(texts: &[Text], others: &[Text]) -> bool
     texts == others
 }
 
-/// Returns whether two lists of paths are the same.
+/// Returns whether two lists of paths are equal.
 #[tactic(auto, using(pb_record::proofs::CommandLemmas::texts_same))]
 fn are_same_paths(paths: &[PathText], others: &[PathText]) -> bool
     ensures { Decides result (paths.now ≡ others.now) }
@@ -49,7 +49,7 @@ fn has_out(out: &PathText, other: &Option<PathText>) -> bool
     }
 }
 
-/// Returns whether a part of a command is the one that was asked.
+/// Returns whether a part of a command is equal to the recorded one.
 fn is_same_part(asked: &Asked, command: &Command, part: CommandPart) -> bool
     ensures { Decides result (SamePart asked.now command.now part) }
 {
@@ -64,7 +64,8 @@ fn is_same_part(asked: &Asked, command: &Command, part: CommandPart) -> bool
     }
 }
 
-/// Returns the first part of a command, its variables apart, that is another than what was asked. It takes no memory.
+/// Returns the first part of a command, apart from its variables, that differs from the recorded
+/// one. It takes no memory.
 pub(crate) fn first_part(asked: &Asked, command: &Command) -> Option<CommandPart>
     ensures { MatchOption result (AsksAs asked.now command.now)
         (IsFirst (SamePart asked.now command.now) (λ part. part) parts) }
@@ -84,14 +85,14 @@ fn lesser<'a>(name: &'a Text, other: &'a Text) -> &'a Text
     if other.cmp(name).is_lt() { other } else { name }
 }
 
-/// Returns whether two variables are the same, by name and by text.
+/// Returns whether two variables are equal, by name and by text.
 fn is_same_variable(pair: &(Text, Text), other: &(Text, Text)) -> bool
     ensures { result ≡ bytes_eq pair.now.0 other.now.0 && bytes_eq pair.now.1 other.now.1 }
 {
     pair.0.as_bytes() == other.0.as_bytes() && pair.1.as_bytes() == other.1.as_bytes()
 }
 
-/// Returns the first name at which two rows of variables are not the same. It takes no memory.
+/// Returns the first name at which two rows of variables differ. It takes no memory.
 fn first_name<'a>(pairs: &'a [(Text, Text)], others: &'a [(Text, Text)]) -> Option<&'a Text>
     ensures { option_map (λ name. name.now) result ≡ first_name pairs.now others.now }
 {
@@ -115,8 +116,8 @@ fn first_name<'a>(pairs: &'a [(Text, Text)], others: &'a [(Text, Text)]) -> Opti
     }
 }
 
-/// Returns the name of the first variable, in byte order of names, that one of two rows sets and the other does not, or
-/// sets to another text. Both rows are sorted by name.
+/// Returns the first name, in byte order, at which two rows of variables differ: only one row has
+/// the name, or the texts differ. Both rows are sorted by name.
 #[tactic(auto, using(crate::proofs::Names::name_laws))]
 pub(crate) fn first_variable(
     alloc: Global,

@@ -1,4 +1,4 @@
-//! The present value of an input compared with the recorded one, without holding both.
+//! The present value of an input is compared with the recorded one without having both in memory.
 
 ghost use Rattle.std.specs.Prelude.{◌≡◌, ◌∷◌, ◌&&◌, [], map, IsTrue, IfOk, Decides};
 ghost use Rattle.std.specs.FinMap as finite;
@@ -22,7 +22,7 @@ use pb_place::{PathText, Place, RelativePath};
 use pb_record::Input;
 use std::alloc::Global;
 
-/// Returns whether two files are the same.
+/// Returns whether two files are equal.
 fn is_same_file(file: &(RelativePath, Bytes), other: &(RelativePath, Bytes)) -> bool
     ensures { result ≡ bytes_eq file.now.0 other.now.0 && bytes_eq file.now.1 other.now.1 }
 {
@@ -30,16 +30,16 @@ fn is_same_file(file: &(RelativePath, Bytes), other: &(RelativePath, Bytes)) -> 
         && file.1.as_slice() == other.1.as_slice()
 }
 
-/// The comparison of some files with the recorded ones, as far as it has come.
+/// The comparison of some files with the recorded ones, so far.
 #[derive(Drop)]
 struct Matching<'a> {
-    /// Whether all files so far were the recorded ones.
+    /// Whether all files so far are equal to the recorded ones.
     same: bool,
-    /// The recorded ones that are left.
+    /// The recorded files that are left.
     left: &'a [(RelativePath, Bytes)],
 }
 
-/// Returns how a comparison goes on with one file more.
+/// Returns the comparison after one more file.
 fn with_file<'a>(matching: Matching<'a>, file: &(RelativePath, Bytes)) -> Matching<'a>
     ensures { (more : Files) → matched result more ≡ matched matching.entry (file.now ∷ more) }
 {
@@ -55,15 +55,16 @@ fn with_file<'a>(matching: Matching<'a>, file: &(RelativePath, Bytes)) -> Matchi
     }
 }
 
-/// Returns the outcome of a comparison that has no file left.
+/// Returns the result of a comparison that has no file left.
 fn outcome(matching: &Matching<'_>) -> bool
     ensures { result ≡ matched matching.now [] }
 {
     matching.same && matching.left.is_empty()
 }
 
-/// Returns whether the files at these paths, by their paths in a folder, are the recorded ones. It holds one of them at a
-/// time. It also reads those behind the first that differs.
+/// Returns whether the files at these paths, with their paths relative to a folder, are the
+/// recorded ones. It has one file in memory at a time. It also reads the files after the first that
+/// differs.
 fn are_files_at<P: Place>(
     alloc: Global,
     place: &mut P,
@@ -91,7 +92,8 @@ fn are_files_at<P: Place>(
     Ok(outcome(&matching))
 }
 
-/// Returns whether the sources below a folder, by their paths in it and in byte order, are the recorded ones.
+/// Returns whether the sources below a folder, with their paths relative to it and in byte order,
+/// are the recorded ones.
 #[tactic(auto, using(crate::proofs::Present::sources_in, crate::proofs::Firsts::files_same))]
 fn are_sources<P: Place>(
     alloc: Global,
@@ -116,7 +118,8 @@ fn are_sources<P: Place>(
     }
 }
 
-/// Returns whether the files below a folder, by their paths in it and in byte order, are the recorded ones.
+/// Returns whether the files below a folder, with their paths relative to it and in byte order, are
+/// the recorded ones.
 #[tactic(auto, using(crate::proofs::Present::files_in_it, crate::proofs::Firsts::files_same))]
 pub(crate) fn are_files<P: Place>(
     alloc: Global,
@@ -140,8 +143,8 @@ pub(crate) fn are_files<P: Place>(
     }
 }
 
-/// Returns whether a path is a file with these bytes. If no file is there, it looks at the folder, as the reading of the
-/// present value does.
+/// Returns whether a path is a file with these bytes. If there is no file, it looks at the folder,
+/// as the reading of the present value does.
 fn is_file_present<P: Place>(
     alloc: Global,
     place: &mut P,
@@ -218,7 +221,8 @@ fn is_value_present<P: Place>(
     }
 }
 
-/// Returns whether an input has its present value. Nothing at or below the target folder is looked at.
+/// Returns whether an input has its present value. It looks at nothing at or below the target
+/// folder.
 pub(crate) fn is_present<P: Place>(
     alloc: Global,
     place: &mut P,

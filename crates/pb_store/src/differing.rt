@@ -1,4 +1,4 @@
-//! What differs of a unit since its record was kept.
+//! What differs from the record of a unit since it was kept.
 
 ghost use Rattle.std.specs.Prelude.{◌≡◌, ◌∷◌, [], true, false, IsTrue, IfOk, MatchOption, Decides};
 ghost use Rattle.pb_place.specs.declared.call.Call.TheVariants as call;
@@ -66,7 +66,7 @@ fn first_input<P: Place>(
     Ok(None)
 }
 
-/// Returns the path of a unit's output folder, or none if a text is no path in a folder.
+/// Returns the path of a unit's output folder, or none if the text is not a relative path.
 fn out_path(alloc: Global, folder: &PathText, key: &Text) -> Result<Option<PathText>, AllocError>
     ensures { IfOk result (λ found. MatchOption found (is_relative key.now ≡ false)
         (λ path. (is_relative key.now ≡ true) × (path ≡ out_of folder.now key.now))) }
@@ -77,7 +77,7 @@ fn out_path(alloc: Global, folder: &PathText, key: &Text) -> Result<Option<PathT
     }
 }
 
-/// Returns whether the folder of a needed unit has the files that are named.
+/// Returns whether the folder of a needed unit contains the named files.
 fn has_files<P: Place>(
     alloc: Global,
     place: &mut P,
@@ -100,7 +100,7 @@ fn has_files<P: Place>(
     are_files(alloc, place, &out, need.1.as_slice())
 }
 
-/// Returns the key of the first needed unit whose folder has not the files that are named.
+/// Returns the key of the first needed unit whose folder does not contain the named files.
 fn first_copy<P: Place>(
     alloc: Global,
     place: &mut P,
@@ -130,8 +130,9 @@ fn first_copy<P: Place>(
     Ok(None)
 }
 
-/// Returns the key of the first needed unit that is not as the record names it, by the record's own format. The numbers
-/// that the store has stand for the records of the units that it names by number.
+/// Returns the key of the first needed unit that is not as the record names it, by the record's
+/// format. For units that are named by number, the store's numbers are used instead of their
+/// records.
 #[tactic(auto, using(crate::proofs::Held::first_by_number))]
 fn first_need<P: Place>(
     alloc: Global,
@@ -158,7 +159,7 @@ fn first_need<P: Place>(
     }
 }
 
-/// Returns the first difference in what the command is not: an input, or a needed unit.
+/// Returns the first difference apart from the command: an input, or a needed unit.
 fn first_around<P: Place>(
     alloc: Global,
     place: &mut P,
@@ -215,12 +216,13 @@ fn first_from<P: Place>(
 }
 
 impl Store {
-    /// Returns what differs first between a unit and its record, for a command that would build it again, or the
-    /// recorded answer if nothing differs. It reads and compares each input in turn, up to the first that differs. It
-    /// does not read the records of needed units, since the store has their run numbers. Our own rule of when a unit is
-    /// built again.
+    /// Returns the first difference between a unit and its record, for a command that would build
+    /// it again, or the recorded answer if nothing differs. It reads and compares each input in
+    /// turn, up to the first that differs. It does not read the records of needed units, because
+    /// the store has their run numbers. When a unit is built again is our own rule.
     ///
-    /// Errors: `Place` if a file cannot be read, a folder not listed or a variable not read; `OutOfMemory`.
+    /// Errors: `Place` if a file or a variable cannot be read, or a folder cannot be listed;
+    /// `OutOfMemory`.
     pub fn compare<P: Place>(
         &self,
         alloc: Global,
@@ -244,7 +246,8 @@ impl Store {
             Ok(None) => return Ok(Compared::Differs(Difference::NoRecord)),
             Err(fault) => return Err(fault),
         };
-        // Lent first, and then used up: the streams are carried on, and no second look reads them.
+        // The record is borrowed first and consumed then: its streams are passed on and not read
+        // again.
         match first_from(alloc, place, &self.folder, &self.numbers, command, &kept) {
             Ok(Some(difference)) => {
                 drop(kept);
@@ -258,7 +261,8 @@ impl Store {
         }
     }
 
-    /// Returns what differs first between a unit and its record, or none. It looks where `compare` looks.
+    /// Returns the first difference between a unit and its record, or none. It makes the same calls
+    /// as `compare`.
     ///
     /// Errors: those of `compare`.
     pub fn differs<P: Place>(
@@ -292,7 +296,8 @@ impl Store {
 
     /// Returns the recorded answer of a unit, if `differs` returned none.
     ///
-    /// Errors: `Place` if the record cannot be read, or if it has been removed since; `OutOfMemory`.
+    /// Errors: `Place` if the record cannot be read, or if it has been removed since;
+    /// `OutOfMemory`.
     pub fn replay<P: Place>(
         &self,
         alloc: Global,
@@ -304,7 +309,8 @@ impl Store {
         ensures ended { IsTrue P.tells →
             IfOk result (IsAnswered (records self.now.folder (P.at place.old).world key.now)) }
 
-        // It only reads the record. Over a place that does not tell its maps the record may be gone.
+        // It only reads the record. Over a place that does not tell its maps the record may be
+        // gone.
         ensures quiet { IsTrue P.tells →
             OnlyLooks MayRead result (P.at place.old) (P.at place.new) }
         ensures looks { IsTrue P.tells →

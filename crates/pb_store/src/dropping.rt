@@ -1,4 +1,4 @@
-//! A record that is dropped, and the run number that is given for the next one.
+//! A record is dropped, and the run number of the next one is taken.
 
 ghost use Rattle.std.specs.Prelude.{◌≡◌, IsTrue, MatchResult, OnOk, OnErr};
 ghost use Rattle.pb_place.specs.declared.call.Call.TheVariants as call;
@@ -27,7 +27,7 @@ pub(crate) fn number_after(number: u64) -> Option<u64>
     }
 }
 
-/// Removes what stands at a path.
+/// Removes a path.
 fn remove<P: Place>(alloc: Global, place: &mut P, path: &PathText) -> Result<(), StoreFault>
     ensures ok { IsTrue P.tells →
         OnOk result ((P.at place.new).world ≡ removed path.now (P.at place.old).world) }
@@ -72,11 +72,12 @@ fn remove_record<P: Place>(
 }
 
 impl Store {
-    /// Removes the record of a unit, and returns the run number of its next one. If no number is left, it removes
-    /// nothing. After an error no number is taken, and the record exists or not. The contract then promises nothing
-    /// about the run numbers in the store.
+    /// Removes the record of a unit, and returns the run number of its next record. If no number is
+    /// left, it removes nothing. After an error no number is taken, the record exists or not, and
+    /// the contract promises nothing about the run numbers in the store.
     ///
-    /// Errors: `NumbersSpent` if and only if no number is left; `Place` if the record cannot be removed; `OutOfMemory`.
+    /// Errors: `NumbersSpent` if and only if no number is left; `Place` if the record cannot be
+    /// removed; `OutOfMemory`.
     pub fn drop_record<P: Place>(
         &mut self,
         alloc: Global,
@@ -102,14 +103,14 @@ impl Store {
         ensures calls { CallsOnce (call.Remove (place_of self.old.folder key.now)) result
             (P.at place.old).counts (P.at place.new).counts }
     {
-        // The number first: if none is left, nothing is removed.
+        // The number comes first: if none is left, nothing is removed.
         let number = match self.next {
             None => return Err(StoreFault::NumbersSpent),
             Some(number) => number,
         };
         note(alloc, &mut self.numbers, key.as_text(), None)?;
         remove_record(alloc, place, &self.folder, key)?;
-        // Counted only once the record is gone.
+        // The number is taken only after the record is gone.
         self.next = number_after(number);
         Ok(number)
     }

@@ -12,16 +12,16 @@ pub enum StoreFault {
     /// A call of the place failed.
     #[error("{}", .0)]
     Place(PlaceFault),
-    /// No run number is left: a record of the folder names 18446744073709551615, or that number was given. Nothing
-    /// was removed.
+    /// No run number is left: a record of the folder names 18446744073709551615, or that number was
+    /// taken. Nothing was removed.
     #[error("no run number is left")]
     NumbersSpent,
-    /// Memory was refused.
+    /// Memory ran out.
     #[error("out of memory")]
     OutOfMemory,
 }
 
-/// Returns the fault of a call of the place. Want of memory stays so.
+/// Returns the fault of a call of the place as one of the store. Out of memory stays out of memory.
 pub(crate) fn stored(fault: PlaceFault) -> StoreFault
     ensures { result ≡ stored fault }
 {
@@ -34,15 +34,17 @@ pub(crate) fn stored(fault: PlaceFault) -> StoreFault
 /// Why a store cannot be opened.
 #[derive(Debug, Drop, Error)]
 pub enum OpenFault {
-    /// The call of the place on this path failed: the folder could not be listed, or a record not read.
+    /// The call of the place on this path failed: the folder could not be listed, or a record could
+    /// not be read.
     #[error("{}", .1)]
     Place(PathText, PlaceFault),
-    /// Memory was refused.
+    /// Memory ran out.
     #[error("out of memory")]
     OutOfMemory,
 }
 
-/// Returns the fault of a call of the place on this path. Want of memory stays so.
+/// Returns the fault of a call of the place on this path as one of opening. Out of memory stays out
+/// of memory.
 pub(crate) fn opened(path: PathText, fault: PlaceFault) -> OpenFault
     ensures { result ≡ opened path fault }
 {

@@ -1,4 +1,4 @@
-//! The present values of inputs, beside the recorded ones.
+//! The present values of inputs.
 
 ghost use Rattle.std.specs.Prelude.{◌≡◌, ◌∷◌, IsTrue, IfOk, List, [], map};
 ghost use Rattle.std.specs.FinMap as finite;
@@ -19,8 +19,8 @@ use pb_place::{PathText, Place, RelativePath};
 use pb_record::{Input, InputName};
 use std::alloc::Global;
 
-/// Returns the bytes of a file of the sources, or none if no file is there. If the path is at or below the target
-/// folder, it returns none and does not ask the place.
+/// Returns the bytes of a file of the sources, or none if there is no file. If the path is at or
+/// below the target folder, it returns none without a call.
 #[tactic(auto, using(crate::proofs::Present::source_laws))]
 pub(crate) fn source_at<P: Place>(
     alloc: Global,
@@ -45,7 +45,8 @@ pub(crate) fn source_at<P: Place>(
     }
 }
 
-/// Returns the file at a path, by its path in a folder, or none if the path is not below the folder or no file is there.
+/// Returns the file at a path, with its path relative to a folder, or none if the path is not below
+/// the folder or there is no file.
 pub(crate) fn file_at<P: Place>(
     alloc: Global,
     place: &mut P,
@@ -70,7 +71,7 @@ pub(crate) fn file_at<P: Place>(
     }
 }
 
-/// Returns the files at these paths, by their paths in a folder.
+/// Returns the files at these paths, with their paths relative to a folder.
 fn files_at<P: Place>(
     alloc: Global,
     place: &mut P,
@@ -137,7 +138,7 @@ pub(crate) fn paths_below<P: Place>(
     }
 }
 
-/// Returns the sources below a folder, by their paths in it, in byte order.
+/// Returns the sources below a folder, with their paths relative to it, in byte order.
 #[tactic(auto, using(crate::proofs::Present::sources_in))]
 fn sources_in<P: Place>(
     alloc: Global,
@@ -236,7 +237,8 @@ fn value_now<P: Place>(
     }
 }
 
-/// Returns the input of this name with its present value: nothing at or below the target folder is looked at.
+/// Returns the input of this name with its present value. It looks at nothing at or below the
+/// target folder.
 fn input_now<P: Place>(
     alloc: Global,
     place: &mut P,

@@ -1,4 +1,4 @@
-//! The record of a unit that was built, kept with the run number that was given for it.
+//! The record of a unit that was built is kept, with the run number that was taken for it.
 
 ghost use Rattle.std.specs.Prelude.{◌≡◌, true, IsTrue, IfOk, OnOk, OnErr, Some, map};
 ghost use Rattle.pb_place.specs.declared.call.Call.TheVariants as call;
@@ -56,7 +56,7 @@ fn write<P: Place>(
     }
 }
 
-/// Writes a record in its unit's place.
+/// Writes the record of its unit.
 pub(crate) fn put_record<P: Place>(
     alloc: Global,
     place: &mut P,
@@ -88,7 +88,8 @@ pub(crate) fn put_record<P: Place>(
     }
 }
 
-/// Returns what a command asks that writes into the unit's folder, and whose variables are sorted.
+/// Returns the request of a command that writes into the unit's folder and whose variables are
+/// sorted.
 #[tactic(auto, using(crate::proofs::Earned::asked_laws))]
 fn asked_of(
     alloc: Global,
@@ -106,7 +107,7 @@ fn asked_of(
     }
 }
 
-/// Returns copies of what a record is made of: the unit's key, its command, its child's streams.
+/// Returns copies of the parts of a record: the unit's key, its command, and its child's streams.
 fn copied_of(
     alloc: Global,
     folder: &PathText,
@@ -131,7 +132,7 @@ fn copied_of(
     Ok((copied, asked, stdout, stderr))
 }
 
-/// Returns the record of a unit, of copies of its key, its command and its child's streams.
+/// Returns the record of a unit, made of copies of its key, its command and its child's streams.
 fn kept_of(
     alloc: Global,
     folder: &PathText,
@@ -160,8 +161,8 @@ fn kept_of(
     })
 }
 
-/// Returns the record of a unit: the inputs with their present values, and the needed units with the numbers of their
-/// records.
+/// Returns the record of a unit: the inputs with their present values, and the needed units with
+/// the numbers of their records.
 #[tactic(auto, using(crate::proofs::Held::numbered_held))]
 fn kept_now<P: Place>(
     alloc: Global,
@@ -186,7 +187,7 @@ fn kept_now<P: Place>(
         Looks result (names_looked command.now.target (P.at place.old).world names.now)
         (P.at place.old).counts (P.at place.new).counts }
 {
-    // Read before the write, so that the record says what stands now.
+    // The values are read before the write, so that the record contains the present ones.
     let inputs = present(alloc, place, &command.target, names)?;
     let numbers = match numbered(alloc, numbers, needs) {
         Ok(numbers) => numbers,
@@ -198,7 +199,8 @@ fn kept_now<P: Place>(
     }
 }
 
-/// Looks whether an input has moved since the child of a command was spawned. Variables stand still.
+/// Lets the place check whether an input has moved since the child of a command was spawned.
+/// Variables never move.
 fn watch<P: Place>(
     alloc: Global,
     place: &mut P,
@@ -213,8 +215,8 @@ fn watch<P: Place>(
     }
 }
 
-/// Returns whether all that the child of a command read has stood still since it was spawned: these inputs, and what the
-/// units wrote in whose folders it reads.
+/// Returns whether nothing that the child of a command read has moved since it was spawned: these
+/// inputs, and what units wrote into the folders that it reads.
 fn stood_still<P: Place>(
     alloc: Global,
     place: &mut P,
@@ -230,8 +232,8 @@ fn stood_still<P: Place>(
     Ok(place.stood_still(command))
 }
 
-/// Writes a record in its unit's place, if all that the child of its command read has stood still. It is asked for once
-/// the record is made: what changes later differs from the values that it has.
+/// Writes the record of its unit, if nothing that the child of its command read has moved. It asks
+/// after the record was made: what changes later differs from the recorded values.
 fn put_still<P: Place>(
     alloc: Global,
     place: &mut P,
@@ -260,16 +262,22 @@ fn put_still<P: Place>(
 }
 
 impl Store {
-    /// Keeps the record of a unit whose answer is good, with the number that `drop_record` returned. The command
-    /// writes into the unit's folder, and its variables are sorted by name, each once. `needs` are the keys of the
-    /// units that the unit needs, in plan order. `names` are the inputs found in its answer: their present values are
-    /// read and kept. After an error the unit has no record, its old one, or the new one. The contract then promises
-    /// nothing about the run numbers in the store.
+    /// Keeps the record of a unit whose answer is good, with the number that `drop_record`
+    /// returned.
     ///
-    /// If something that the child read has moved since it was spawned (`Place::watch`), no record is written, since the
-    /// child may not have read the present values. That never happens at a place that tells its maps.
+    /// `needs` are the keys of the units that the unit needs, in plan order. `names` are the inputs
+    /// found in its answer: their present values are read and recorded. After an error the unit has
+    /// no record, its old one, or the new one, and the contract promises nothing about the run
+    /// numbers in the store.
     ///
-    /// Errors: `Place` if an input cannot be read or the record not written; `OutOfMemory`.
+    /// Errors: `Place` if an input cannot be read or the record cannot be written; `OutOfMemory`.
+    ///
+    /// Requires: the command writes into the unit's folder, and its variables are sorted by name,
+    /// each name once.
+    ///
+    /// If something that the child read has moved since it was spawned (`Place::watch`), no record
+    /// is written, because the child may not have read the present values. That never happens at a
+    /// place that tells its maps.
     pub fn keep<P: Place>(
         &mut self,
         alloc: Global,
@@ -319,7 +327,7 @@ impl Store {
             Ok(kept) => kept,
             Err(fault) => return Err(fault),
         };
-        // Noted before the write: after it nothing else is called.
+        // The number is noted before the write: no call comes after it.
         match note(alloc, &mut self.numbers, text, Some(number)) {
             Ok(()) => {}
             Err(fault) => {

@@ -1,4 +1,4 @@
-//! A record of format 1 that becomes one of format 2.
+//! A record of format 1 becomes one of format 2.
 
 ghost use Rattle.std.specs.Prelude.{◌≡◌, ◌∷◌, [], Some, false, is_some, IsTrue};
 ghost use Rattle.pb_place.specs.declared.call.Call.TheVariants as call;
@@ -19,7 +19,7 @@ use pb_place::Place;
 use pb_record::{Needed, Record};
 use std::alloc::Global;
 
-/// Returns a record with a number, and the needed units with theirs, in place of copies.
+/// Returns a record with a number and the numbers of the needed units, instead of copies.
 fn numbered_record(kept: Record, number: u64, numbers: Items<(Text, u64)>) -> Record
     ensures { result ≡ numbered_record kept number numbers }
 {
@@ -34,7 +34,7 @@ fn numbered_record(kept: Record, number: u64, numbers: Items<(Text, u64)>) -> Re
 }
 
 impl Store {
-    /// Writes the record of a unit, which has no number, with the next number in its place.
+    /// Rewrites the record of a unit, which has no number, with the next number.
     fn renumber<P: Place>(
         &mut self,
         alloc: Global,
@@ -84,7 +84,8 @@ impl Store {
                 return Err(fault);
             }
         }
-        // Before the write: a torn one may have used the number, and the record stands or not.
+        // The number is taken before the write: a torn write may have used it, and the record
+        // exists or not.
         self.next = number_after(number);
         match put_record(alloc, place, &self.folder, key, &kept) {
             Ok(()) => {
@@ -98,14 +99,15 @@ impl Store {
         }
     }
 
-    /// Gives a unit's record of format 1 the next run number, names the needed units with their numbers, and writes it
-    /// in its place as format 2. If the record is of format 2, or none counts, it changes nothing. `needs` are the keys
-    /// of the units that the unit needs, in plan order. After an error the unit has its old record, none, or the new
-    /// one. If the write failed, the number is taken; else it may be. The contract then promises nothing about the run
-    /// numbers in the store.
+    /// Gives a unit's record of format 1 the next run number, names the needed units by their
+    /// numbers, and rewrites the record in format 2. If the record is of format 2, or none counts,
+    /// it changes nothing. `needs` are the keys of the units that the unit needs, in plan order.
+    /// After an error the unit has its old record, none, or the new one. If the write failed, the
+    /// number is taken; else it may be. The contract then promises nothing about the run numbers in
+    /// the store.
     ///
-    /// Errors: `NumbersSpent` only if the record is of format 1 and no number is left, and then nothing changes;
-    /// `Place` if the record cannot be read or written; `OutOfMemory`.
+    /// Errors: `NumbersSpent` only if the record is of format 1 and no number is left, and then
+    /// nothing changes; `Place` if the record cannot be read or written; `OutOfMemory`.
     pub fn migrate<P: Place>(
         &mut self,
         alloc: Global,
@@ -116,7 +118,8 @@ impl Store {
         requires numbers { IsTrue P.tells →
             HasNumbers (records self.old.folder (P.at place.old).world) self.old.numbers }
 
-        // A record without a number gets the next one. After an error it has it, is unchanged, or is gone.
+        // A record without a number gets the next one. After an error it has got it, is unchanged,
+        // or is gone.
         ensures record { IsTrue P.tells →
             MigratesRecord P.child key.now needs.now result self.old self.new
             (P.at place.old).world (P.at place.new).world }

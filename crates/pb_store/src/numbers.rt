@@ -1,4 +1,4 @@
-//! The run numbers that a store holds, so that no record is read once more for its number.
+//! The run numbers in a store, so that no record is read again for its number.
 
 ghost use Rattle.std.specs.Prelude.{◌≡◌, ◌&&◌, Decides, IfErr, IfOk, OnErr, OnOk, Some};
 ghost use Rattle.std.specs.Str.{bytes_eq};
@@ -17,7 +17,7 @@ use pb_place::PathText;
 use pb_record::Numbers;
 use std::alloc::{AllocError, Global};
 
-/// Returns the run number that a table has of a unit, or none.
+/// Returns the run number of a unit in a table, or none.
 fn number_in(numbers: &Table<Option<u64>>, key: &Text) -> Option<u64>
     ensures { result ≡ number_in numbers.now key.now }
 {
@@ -37,14 +37,14 @@ fn is_number(found: Option<u64>, number: u64) -> bool
     }
 }
 
-/// Returns whether a needed unit has the number with which it is named.
+/// Returns whether a needed unit has the number by which it is named.
 fn is_held(numbers: &Table<Option<u64>>, need: &(Text, u64)) -> bool
     ensures { Decides result (IsHeld numbers.now need.now) }
 {
     is_number(number_in(numbers, &need.0), need.1)
 }
 
-/// Returns the key of the first needed unit that has not the number with which it is named.
+/// Returns the key of the first needed unit that does not have the number by which it is named.
 pub(crate) fn first_number(
     alloc: Global,
     numbers: &Table<Option<u64>>,
@@ -73,7 +73,7 @@ fn or_zero(found: Option<u64>) -> u64
     }
 }
 
-/// Returns a needed unit with its number in a table.
+/// Returns a needed unit with its number from a table.
 fn numbered_one(
     alloc: Global,
     numbers: &Table<Option<u64>>,
@@ -85,7 +85,7 @@ fn numbered_one(
     Ok((name, or_zero(number_in(numbers, key))))
 }
 
-/// Returns the needed units with the numbers that are held of them.
+/// Returns the needed units with their numbers from a table.
 pub(crate) fn numbered(
     alloc: Global,
     numbers: &Table<Option<u64>>,
@@ -100,7 +100,9 @@ pub(crate) fn numbered(
     Ok(pairs)
 }
 
-/// Notes the number of a unit's record, or that it has none. It fails only with `OutOfMemory`.
+/// Notes the number of a unit's record, or that it has none.
+///
+/// Errors: only `OutOfMemory`.
 pub(crate) fn note(
     alloc: Global,
     numbers: &mut Table<Option<u64>>,
@@ -121,7 +123,7 @@ pub(crate) fn note(
     }
 }
 
-/// Returns whether a path is the place of a unit's record.
+/// Returns whether a path is that of a unit's record.
 fn is_place(
     alloc: Global,
     folder: &PathText,
@@ -149,8 +151,9 @@ fn own_number(said: &Numbers) -> Option<u64>
     }
 }
 
-/// Notes the number of a record that was read at a path, if that is the place of its key. It fails only with
-/// `OutOfMemory`.
+/// Notes the number of a record that was read at a path, if that is the path of its key.
+///
+/// Errors: only `OutOfMemory`.
 pub(crate) fn note_read(
     alloc: Global,
     numbers: &mut Table<Option<u64>>,

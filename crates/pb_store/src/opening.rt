@@ -28,7 +28,7 @@ fn greater(number: u64, other: u64) -> u64
     number.max(other)
 }
 
-/// Returns the greatest of the numbers with which units are named, or 0 if there is none.
+/// Returns the greatest of the numbers by which units are named, or 0 if there is none.
 #[tactic(auto, using(crate::proofs::Ahead::most_step))]
 fn greatest_among(needs: &[(Text, u64)]) -> u64
     ensures { result ≡ fold (λ g pair. max g pair.1) 0 needs.now }
@@ -40,7 +40,8 @@ fn greatest_among(needs: &[(Text, u64)]) -> u64
     greatest
 }
 
-/// Returns the greatest of a record's own number and those with which it names units, or 0 if it has none.
+/// Returns the greatest of a record's own number and those by which it names units, or 0 if it has
+/// none.
 fn greatest_said(numbered: &Option<(u64, Items<(Text, u64)>)>) -> u64
     ensures { result ≡ greatest_said numbered.now }
 {
@@ -53,7 +54,8 @@ fn greatest_said(numbered: &Option<(u64, Items<(Text, u64)>)>) -> u64
     }
 }
 
-/// Returns the greatest number that a record has or names, or 0 if there is no record, or if it has none.
+/// Returns the greatest number that a record has or names, or 0 if there is no record, or if it has
+/// none.
 fn greatest_told(found: &Option<Numbers>) -> u64
     ensures { result ≡ greatest_told found.now }
 {
@@ -63,7 +65,7 @@ fn greatest_told(found: &Option<Numbers>) -> u64
     }
 }
 
-/// Returns what the record that a text is says of numbers, or none if the text is not that of a record.
+/// Returns the numbers of the record of a text, or none if the text is not that of a record.
 fn numbers_in(alloc: Global, text: &Option<Bytes>) -> Result<Option<Numbers>, AllocError>
     ensures { IfOk result (λ found. found ≡ option_map numbers_of (read_text reading text.now)) }
 {
@@ -76,7 +78,8 @@ fn numbers_in(alloc: Global, text: &Option<Bytes>) -> Result<Option<Numbers>, Al
     }
 }
 
-/// Returns the greatest number that the record at a path has or names. If the record counts there, its number is noted.
+/// Returns the greatest number that the record at a path has or names. If the record counts, its
+/// number is noted.
 #[tactic(auto, using(crate::proofs::Numbered::number_laws))]
 fn read_greatest<P: Place>(
     alloc: Global,
@@ -118,8 +121,8 @@ fn read_greatest<P: Place>(
     }
 }
 
-/// Returns the greatest number that a file gives: if it has a record's name, the greatest that the record has or names.
-/// If the record counts there, its number is noted.
+/// Returns the greatest number of a file: if it has the name of a record, the greatest that the
+/// record has or names. If the record counts, its number is noted.
 fn greatest_at<P: Place>(
     alloc: Global,
     place: &mut P,
@@ -144,8 +147,8 @@ fn greatest_at<P: Place>(
     read_greatest(alloc, place, folder, numbers, path)
 }
 
-/// Returns the greatest number that the records among these files have or name. The numbers of those that count are
-/// noted.
+/// Returns the greatest number that the records among these files have or name. The numbers of
+/// those that count are noted.
 fn greatest_of<P: Place>(
     alloc: Global,
     place: &mut P,
@@ -165,7 +168,7 @@ fn greatest_of<P: Place>(
 {
     let mut greatest = 0;
     for path in paths.into_vec() {
-        // Every record, also one in another key's place, may name the greatest number.
+        // Every record may name the greatest number, even one at another key's path.
         let number = greatest_at(alloc, place, folder, numbers, path)?;
         greatest = greater(greatest, number);
     }
@@ -173,11 +176,13 @@ fn greatest_of<P: Place>(
 }
 
 impl Store {
-    /// Returns the store of a profile folder. It reads each record directly in the folder once. A text that is not that
-    /// of a record is none. The next run number is one above the greatest that a record contains, also a record in the
-    /// place of another key. It is 1 if no record contains one.
+    /// Returns the store of a profile folder. It reads each record directly in the folder once. A
+    /// text that is not that of a record counts as none. The next run number is one above the
+    /// greatest that a record contains, even a record at the path of another key. It is 1 if no
+    /// record contains one.
     ///
-    /// Errors: `Place` with the path, if the folder cannot be listed or a record not read; `OutOfMemory`.
+    /// Errors: `Place` with the path, if the folder cannot be listed or a record cannot be read;
+    /// `OutOfMemory`.
     pub fn open<P: Place>(
         alloc: Global,
         place: &mut P,

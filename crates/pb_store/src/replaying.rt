@@ -1,4 +1,4 @@
-//! What a unit's record gives again, if nothing differs.
+//! What a unit's record replays if nothing differs.
 
 ghost use Rattle.std.specs.Prelude.{◌≡◌};
 ghost use Rattle.pb_store.specs.Differences.{replayed};
@@ -8,25 +8,26 @@ use crate::keeping::number_of;
 use pb_place::Ended;
 use pb_record::Record;
 
-/// What a unit's record gives again: how its child ended, and whether the record has a run number.
+/// What a unit's record replays: how its child ended, and whether the record has a run number.
 #[derive(Debug, Drop)]
 pub struct Replayed {
-    /// Status 0, which each answer that is kept has, and the two streams.
+    /// Status 0, which each kept answer has, and the two streams.
     pub ended: Ended,
-    /// Whether the record has a run number. One of format 1 has none, and `migrate` gives it one.
+    /// Whether the record has a run number. A record of format 1 has none, and `migrate` gives it
+    /// one.
     pub numbered: bool,
 }
 
-/// The outcome of the comparison of a unit with its record.
+/// The result of the comparison of a unit with its record.
 #[derive(Debug, Drop)]
 pub enum Compared {
-    /// This differs first.
+    /// The first difference.
     Differs(Difference),
-    /// Nothing differs, and the record gives this again in place of the unit's child.
+    /// Nothing differs, and the record replays this instead of the unit's child.
     Same(Replayed),
 }
 
-/// Returns what a record gives again. The record is used up, so that its streams are not copied.
+/// Returns what a record replays. It consumes the record, so that the streams are not copied.
 pub(crate) fn again(kept: Record) -> Replayed
     ensures { result ≡ replayed kept }
 {

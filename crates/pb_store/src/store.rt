@@ -14,16 +14,17 @@ use pb_place::{PathText, Place, RelativePath};
 use pb_record::{Record, read_record};
 use std::alloc::{AllocError, Global};
 
-/// The records of a profile folder: their run numbers, and those that are left. It holds no record.
+/// The run numbers of the records of a profile folder, and those that are left. It contains no
+/// record.
 #[derive(Debug, Drop)]
 pub struct Store {
     /// The profile folder.
     pub folder: PathText,
-    /// The next run number. It is above each that a record of the folder names, and above each that was given since
-    /// the store was opened. None if no number is left.
+    /// The next run number. It is above each number that a record of the folder names, and above
+    /// each that was taken since the store was opened. None if no number is left.
     pub next: Option<u64>,
-    /// The run numbers of the records that count in the folder, by the units' keys. After a call that failed as it
-    /// removed or wrote a record, nothing is promised of them.
+    /// The run numbers of the records that count in the folder, by the units' keys. After a failed
+    /// removal or write of a record, contracts promise nothing about them.
     pub numbers: Table<Option<u64>>,
 }
 
@@ -62,7 +63,7 @@ pub(crate) fn text_of<P: Place>(
     }
 }
 
-/// Returns the text in the place of a unit's record.
+/// Returns the text of a unit's record file.
 fn text_at<P: Place>(
     alloc: Global,
     place: &mut P,
@@ -83,7 +84,7 @@ fn text_at<P: Place>(
     text_of(alloc, place, &path)
 }
 
-/// Returns the record that a text is, or none if the text is not that of a record.
+/// Returns the record of a text, or none if the text is not that of a record.
 fn read_text(alloc: Global, text: &Option<Bytes>) -> Result<Option<Record>, AllocError>
     ensures { IfOk result (λ found. found ≡ read_text reading text.now) }
 {
@@ -96,7 +97,7 @@ fn read_text(alloc: Global, text: &Option<Bytes>) -> Result<Option<Record>, Allo
     }
 }
 
-/// Returns a record if it is of this key.
+/// Returns a record if it has this key.
 fn if_of_key(found: Option<Record>, key: &Key) -> Option<Record>
     ensures { result ≡ if_of_key key.now found }
 {
@@ -113,7 +114,7 @@ fn if_of_key(found: Option<Record>, key: &Key) -> Option<Record>
     }
 }
 
-/// Returns the record that counts in the place of a unit.
+/// Returns the record that counts for a unit.
 #[tactic(auto, unfolding(pb_soundness::specs::Records::record_at))]
 pub(crate) fn record_at<P: Place>(
     alloc: Global,

@@ -10,10 +10,10 @@ use crate::teller::tell_key;
 use pb_place::{PathText, Place, PlaceFault};
 use std::alloc::{AllocError, Global};
 
-/// The most folders above that are looked at.
+/// The greatest number of folders above that are examined.
 const MOST_FOLDERS: usize = 16;
 
-/// Whether `members` of a root manifest means a folder. A `*` may stand for slashes too here.
+/// Returns whether `members` of a root manifest matches a folder. Here a `*` matches slashes too.
 fn lists(alloc: Global, page: &Page, folder: &PathText) -> Result<bool, AllocError> {
     let root = page.path.folder(alloc)?;
     for pattern in texts_of(alloc, page, "members")?.as_slice() {
@@ -44,7 +44,7 @@ fn tell_if_listed(
     Ok(())
 }
 
-/// The manifest in a folder, if it is there.
+/// Returns the manifest in a folder, if there is one.
 fn manifest_in<P: Place>(
     alloc: Global,
     place: &mut P,

@@ -1,4 +1,4 @@
-//! Notes on a manifest that is not there: who asks for it.
+//! Notes on a missing manifest: who asks for it.
 
 ghost use Rattle.pb_tool_notes.specs.Looks.{LooksAgain};
 
@@ -45,7 +45,7 @@ fn tell_ask(
     }
 }
 
-/// ` (near: NAME)` for a folder beside one that is not there.
+/// Returns ` (near: NAME)` for a folder beside a missing one.
 fn near_folder<P: Place>(
     alloc: Global,
     place: &mut P,
@@ -63,7 +63,7 @@ fn near_folder<P: Place>(
     Ok(near(alloc, folder.last_part(), names.as_slice())?)
 }
 
-/// Adds that a path is a folder's, with a manifest in it, if it is.
+/// Adds that a path is a folder with a manifest in it, if it is one.
 fn tell_folder<P: Place>(
     alloc: Global,
     place: &mut P,
@@ -82,7 +82,7 @@ fn tell_folder<P: Place>(
     Ok(())
 }
 
-/// Adds who asks for a manifest that is not there.
+/// Adds who asks for a missing manifest.
 pub(crate) fn tell_missing<P: Place>(
     alloc: Global,
     place: &mut P,

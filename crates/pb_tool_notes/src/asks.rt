@@ -14,11 +14,11 @@ pub(crate) enum Role {
     Root,
     /// The root's `members` names its folder.
     Member,
-    /// An entry leads there.
+    /// An entry names it.
     Entry,
 }
 
-/// That a manifest is asked for.
+/// The fact that a manifest is asked for.
 #[derive(Drop)]
 pub(crate) struct Ask {
     /// Why.
@@ -29,15 +29,15 @@ pub(crate) struct Ask {
     pub table: Text,
     /// The entry's key.
     pub key: Text,
-    /// The name that the package is to have; the key, if no other is written.
+    /// The name that the package must have: the key, if no other is written.
     pub name: Text,
-    /// What its version has to match; the empty text if nothing is written.
+    /// What its version must match; empty if nothing is written.
     pub version: Text,
     /// The path of the manifest that is asked for.
     pub path: PathText,
 }
 
-/// An ask without an entry.
+/// Returns an ask without an entry.
 fn plain_ask(alloc: Global, role: Role, by: &PathText, path: PathText) -> Result<Ask, AllocError> {
     Ok(Ask {
         role,
@@ -50,14 +50,14 @@ fn plain_ask(alloc: Global, role: Role, by: &PathText, path: PathText) -> Result
     })
 }
 
-/// That the root is asked for.
+/// Returns the ask for the root.
 pub(crate) fn root_ask(alloc: Global, root: &PathText) -> Result<Ask, AllocError> {
     let path = root.copy(alloc)?;
     plain_ask(alloc, Role::Root, root, path)
 }
 
 impl Ask {
-    /// That the root asks for a member.
+    /// Returns the ask of the root for a member.
     pub(crate) fn member(
         alloc: Global,
         root: &PathText,
@@ -67,12 +67,13 @@ impl Ask {
     }
 }
 
-/// Whether a manifest asks for another.
+/// Returns whether a manifest asks for another.
 pub(crate) fn is_asked(asks: &[Ask], by: &PathText, path: &PathText) -> bool {
     asks.iter().any(|ask| ask.by.as_str() == by.as_str() && ask.path.as_str() == path.as_str())
 }
 
-/// The path of the manifest in a folder that is written in a manifest; none if the text is no path.
+/// Returns the path of the manifest in a folder that is named in a manifest, or none if the text is
+/// not a path.
 fn manifest_in(
     alloc: Global,
     from: &PathText,
@@ -91,7 +92,7 @@ fn manifest_in(
     }
 }
 
-/// What an entry asks for: by itself, or by the root's entry that it takes.
+/// Returns what an entry asks for: by itself, or by the root's entry that it inherits.
 fn ask_of(
     alloc: Global,
     page: &Page,
@@ -122,7 +123,7 @@ fn ask_of(
     }))
 }
 
-/// The entry of `[workspace.dependencies]` of a key, if it is a table.
+/// Returns the entry at a key of `[workspace.dependencies]`, if it is a table.
 pub(crate) fn shared_entry<'a>(root: &'a Page, key: &str) -> Option<&'a Table> {
     root.table_at("workspace")
         .and_then(|workspace| workspace.get("dependencies"))
@@ -163,7 +164,8 @@ fn push_asks(
     Ok(())
 }
 
-/// What a manifest asks for by its entries. Without a root it is the root itself.
+/// Returns what a manifest asks for by its entries. Without a root, the manifest is the root
+/// itself.
 pub(crate) fn asks_of(
     alloc: Global,
     root: Option<&Page>,

@@ -1,4 +1,4 @@
-//! A note on packages that depend on one another: one circle, in order.
+//! A note on packages that depend on one another: one cycle, in order.
 
 use crate::asks::Role;
 use crate::note::Notes;
@@ -6,10 +6,10 @@ use crate::pages::Pages;
 use pb_data::Text;
 use std::alloc::{AllocError, Global};
 
-/// The most packages of a circle that are gone through.
+/// The greatest number of packages of a cycle that are visited.
 const MOST_STEPS: usize = 64;
 
-/// A step of a way through packages.
+/// A step of a path through packages.
 #[derive(Clone, Copy)]
 struct Step<'a> {
     /// The package's name.
@@ -20,7 +20,7 @@ struct Step<'a> {
     before: usize,
 }
 
-/// Whether a name is that of one of some steps, but for the first of all.
+/// Returns whether one of some steps, except the very first, has a name.
 fn is_reached(steps: &[Step], name: &str) -> bool {
     match steps.split_first() {
         Some((_, rest)) => rest.iter().any(|step| step.name == name),
@@ -28,12 +28,12 @@ fn is_reached(steps: &[Step], name: &str) -> bool {
     }
 }
 
-/// Whether a name is among some texts.
+/// Returns whether a name is among some texts.
 fn is_among(names: &[Text], name: &str) -> bool {
     names.iter().any(|one| one.as_str() == name)
 }
 
-/// Adds the packages of a circle to which the entries of a manifest lead, unless they were reached.
+/// Adds the packages of a cycle that the entries of a manifest name, unless they were reached.
 fn push_next<'a>(
     pages: &'a Pages,
     names: &[Text],
@@ -55,7 +55,7 @@ fn push_next<'a>(
     Ok(())
 }
 
-/// The names on the way to the last of some steps, the last first.
+/// Returns the names on the path to the last of some steps, the last first.
 fn way_back<'a>(
     alloc: Global,
     steps: &[Step<'a>],
@@ -78,7 +78,7 @@ fn way_back<'a>(
     Ok(names)
 }
 
-/// Adds a way, from its end to its beginning.
+/// Adds a path, from its end to its beginning.
 fn tell_way(alloc: Global, notes: &mut Notes, names: &[&str]) -> Result<(), AllocError> {
     let mut text = String::new(alloc);
     for name in names.iter().rev() {
@@ -90,7 +90,7 @@ fn tell_way(alloc: Global, notes: &mut Notes, names: &[&str]) -> Result<(), Allo
     notes.say(alloc, text.as_str())
 }
 
-/// The number of the first of some steps but the first that is of a name.
+/// Returns the number of the first step after the very first that has a name.
 fn step_of(steps: &[Step], name: &str) -> Option<usize> {
     for (number, step) in steps.iter().enumerate() {
         if number > 0 && step.name == name {
@@ -100,7 +100,7 @@ fn step_of(steps: &[Step], name: &str) -> Option<usize> {
     None
 }
 
-/// Adds a shortest circle through the first of some packages that depend on one another.
+/// Adds a shortest cycle through the first of some packages that depend on one another.
 pub(crate) fn tell_circle(
     alloc: Global,
     notes: &mut Notes,

@@ -10,10 +10,10 @@ use pb_data::Text;
 use std::alloc::{AllocError, Global};
 use toml::{Table, Value};
 
-/// The most features of a package, or of an entry, that are looked at.
+/// The greatest number of features of a package, or of an entry, that are examined.
 const MOST_FEATURES: usize = 256;
 
-/// The keys of the table at a key of a manifest.
+/// Returns the keys of the table at a key of a manifest.
 fn keys_at<'a>(keys: &mut Vec<&'a str>, page: &'a Page, table: &str) -> Result<(), AllocError> {
     if let Some(entries) = page.table_at(table) {
         for (key, _value) in entries {
@@ -23,7 +23,7 @@ fn keys_at<'a>(keys: &mut Vec<&'a str>, page: &'a Page, table: &str) -> Result<(
     Ok(())
 }
 
-/// The keys of the dependencies of a package.
+/// Returns the keys of the dependencies of a package.
 fn entries_of(alloc: Global, page: &Page) -> Result<Vec<&str>, AllocError> {
     let mut keys = Vec::new(alloc);
     keys_at(&mut keys, page, "dependencies")?;
@@ -31,12 +31,12 @@ fn entries_of(alloc: Global, page: &Page) -> Result<Vec<&str>, AllocError> {
     Ok(keys)
 }
 
-/// Whether a value is an entry that is optional.
+/// Returns whether a value is an entry that is optional.
 fn is_optional(value: &Value) -> bool {
     matches!(value.get("optional").and_then(Value::as_bool), Some(true))
 }
 
-/// Whether a package has an optional dependency.
+/// Returns whether a package has an optional dependency.
 fn has_optional(page: &Page, key: &str) -> bool {
     for table in ["dependencies", "build-dependencies"] {
         if let Some(entries) = page.table_at(table) {
@@ -50,7 +50,7 @@ fn has_optional(page: &Page, key: &str) -> bool {
     false
 }
 
-/// The names of the features of a package: those that are written, and its optional dependencies.
+/// Returns the names of the features of a package: the written ones, and its optional dependencies.
 fn features_of(alloc: Global, page: &Page) -> Result<Vec<&str>, AllocError> {
     let mut names = Vec::new(alloc);
     keys_at(&mut names, page, "features")?;
@@ -62,12 +62,12 @@ fn features_of(alloc: Global, page: &Page) -> Result<Vec<&str>, AllocError> {
     Ok(names)
 }
 
-/// Whether a name is among some.
+/// Returns whether a name is among some names.
 fn is_among(name: &str, names: &[&str]) -> bool {
     names.iter().any(|one| *one == name)
 }
 
-/// The manifest to which an entry of another leads.
+/// Returns the manifest that an entry of another manifest names.
 fn page_of_entry<'a>(pages: &'a Pages, page: &Page, key: &str) -> Option<&'a Page> {
     let ask = pages.asks.iter().find(|ask| ask.by.as_str() == page.path.as_str()
         && ask.key.as_str() == key);
@@ -77,7 +77,8 @@ fn page_of_entry<'a>(pages: &'a Pages, page: &Page, key: &str) -> Option<&'a Pag
     }
 }
 
-/// `NAME has no feature F (near: ..)`, if the package has none; the empty text if it has.
+/// Returns `NAME has no feature F (near: ..)`, if the package lacks the feature, else an empty
+/// text.
 fn lacks(alloc: Global, page: &Page, feature: &str) -> Result<String, AllocError> {
     let names = features_of(alloc, page)?;
     if is_among(feature, names.as_slice()) || feature == "default" {
@@ -192,7 +193,7 @@ fn tell_items(
     Ok(())
 }
 
-/// Adds each item of a feature that names what is not there.
+/// Adds each item of a feature that names something missing.
 pub(crate) fn tell_all_items(
     alloc: Global,
     notes: &mut Notes,
@@ -208,7 +209,7 @@ pub(crate) fn tell_all_items(
     Ok(())
 }
 
-/// The value of the entry of an ask.
+/// Returns the value of the entry of an ask.
 fn entry_of<'a>(page: &'a Page, ask: &Ask) -> Option<&'a Value> {
     match page.table_at(ask.table.as_str()) {
         Some(entries) => entries.get(ask.key.as_str()),
@@ -264,7 +265,7 @@ pub(crate) fn tell_entries(
     Ok(())
 }
 
-/// The names of the features of all packages.
+/// Returns the names of the features of all packages.
 fn all_features(alloc: Global, pages: &Pages) -> Result<Vec<&str>, AllocError> {
     let mut names = Vec::new(alloc);
     for page in pages.pages.as_slice() {
@@ -275,7 +276,7 @@ fn all_features(alloc: Global, pages: &Pages) -> Result<Vec<&str>, AllocError> {
     Ok(names)
 }
 
-/// Whether a package has a feature.
+/// Returns whether a package has a feature.
 fn has_feature(alloc: Global, page: &Page, feature: &str) -> Result<bool, AllocError> {
     let names = features_of(alloc, page)?;
     Ok(is_among(feature, names.as_slice()))
@@ -330,7 +331,7 @@ fn tell_asked_of(
     }
 }
 
-/// Adds what is known of each requested feature.
+/// Adds what is known about each requested feature.
 pub(crate) fn tell_requested(
     alloc: Global,
     notes: &mut Notes,

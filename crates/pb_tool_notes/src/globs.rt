@@ -1,4 +1,4 @@
-//! The folders that `members` means.
+//! The folders that `members` matches.
 
 ghost use Rattle.pb_tool_notes.specs.Looks.{LooksAgain};
 
@@ -9,8 +9,8 @@ use pb_place::{PathText, Place, PlaceFault};
 use std::alloc::{AllocError, Global};
 use toml::Value;
 
-/// The next row of the table of what matches, for one more byte of a pattern: whether the bytes until then match the
-/// first bytes of a name, for each number of these.
+/// Returns the next row of the match table, for one more byte of a pattern: for each n, whether the
+/// pattern so far matches the first n bytes of a name.
 fn next_row(alloc: Global, row: &[bool], byte: u8, name: &str) -> Result<Vec<bool>, AllocError> {
     let mut next = Vec::new(alloc);
     let mut corner = row.first().copied().unwrap_or(false);
@@ -29,7 +29,7 @@ fn next_row(alloc: Global, row: &[bool], byte: u8, name: &str) -> Result<Vec<boo
     Ok(next)
 }
 
-/// Whether a name matches a part of a pattern: `*` stands for any bytes, `?` for one.
+/// Returns whether a name matches a part of a pattern: `*` matches any bytes, `?` one byte.
 pub(crate) fn matches_part(alloc: Global, part: &str, name: &str) -> Result<bool, AllocError> {
     let mut row = Vec::new(alloc);
     row.push(true)?;
@@ -42,12 +42,12 @@ pub(crate) fn matches_part(alloc: Global, part: &str, name: &str) -> Result<bool
     Ok(row.last().copied().unwrap_or(false))
 }
 
-/// Whether a part of a pattern stands for more than one name.
+/// Returns whether a part of a pattern may match more than one name.
 pub(crate) fn is_glob(part: &str) -> bool {
     part.contains('*') || part.contains('?')
 }
 
-/// Adds the folders of some whose names match a part.
+/// Adds those of some folders whose names match a part.
 fn push_matching(
     alloc: Global,
     folders: &mut Vec<PathText>,
@@ -62,7 +62,7 @@ fn push_matching(
     Ok(())
 }
 
-/// The folders in some folders that a part of a pattern means.
+/// Returns the folders in some folders that match a part of a pattern.
 fn folders_by<P: Place>(
     alloc: Global,
     place: &mut P,
@@ -84,7 +84,7 @@ fn folders_by<P: Place>(
     Ok(next)
 }
 
-/// The folders that a pattern means.
+/// Returns the folders that match a pattern.
 fn folders_of<P: Place>(
     alloc: Global,
     place: &mut P,
@@ -107,10 +107,10 @@ fn folders_of<P: Place>(
     Ok(folders)
 }
 
-/// The most texts of a list that are looked at.
+/// The greatest number of texts of a list that are examined.
 const MOST_TEXTS: usize = 256;
 
-/// The first texts of a list of `[workspace]` in a root manifest.
+/// Returns the first texts of a list of `[workspace]` in a root manifest.
 pub(crate) fn texts_of<'a>(
     alloc: Global,
     page: &'a Page,
@@ -129,7 +129,7 @@ pub(crate) fn texts_of<'a>(
     Ok(texts)
 }
 
-/// Whether a folder is at or below one of some that are written out.
+/// Returns whether a folder is at or below one of some folders that are written out.
 fn is_excluded(
     alloc: Global,
     root: &PathText,
@@ -146,7 +146,7 @@ fn is_excluded(
     Ok(false)
 }
 
-/// Adds those of the folders that a pattern means that `exclude` does not leave out.
+/// Adds the folders that match a pattern and that `exclude` does not exclude.
 fn push_kept(
     alloc: Global,
     all: &mut Vec<PathText>,
@@ -163,7 +163,7 @@ fn push_kept(
     Ok(())
 }
 
-/// The folders that `members` of a root manifest means.
+/// Returns the folders that `members` of a root manifest matches.
 pub(crate) fn member_folders<P: Place>(
     alloc: Global,
     place: &mut P,

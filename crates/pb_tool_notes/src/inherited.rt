@@ -1,4 +1,4 @@
-//! Notes on keys that are not there to inherit.
+//! Notes on missing keys that a package inherits.
 
 use crate::asks::shared_entry;
 use crate::note::Notes;
@@ -9,7 +9,7 @@ use crate::teller::tell_key;
 use std::alloc::{AllocError, Global};
 use toml::{Table, Value};
 
-/// Whether a value is taken from the workspace.
+/// Returns whether a value is inherited from the workspace.
 fn takes(value: &Value) -> bool {
     match value.as_table() {
         Some(table) => is_taken(table),
@@ -17,7 +17,7 @@ fn takes(value: &Value) -> bool {
     }
 }
 
-/// Whether the root gives a key of a package.
+/// Returns whether the root has a key of a package.
 fn gives_key(root: &Page, key: &str) -> bool {
     root.table_at("workspace")
         .and_then(|table| table.get("package"))
@@ -26,7 +26,7 @@ fn gives_key(root: &Page, key: &str) -> bool {
         .is_some()
 }
 
-/// Whether the root gives an entry.
+/// Returns whether the root has an entry.
 fn gives_entry(root: &Page, key: &str) -> bool {
     root.table_at("workspace")
         .and_then(|table| table.get("dependencies"))
@@ -35,7 +35,7 @@ fn gives_entry(root: &Page, key: &str) -> bool {
         .is_some()
 }
 
-/// Adds each key of a package that it takes, and the root does not give.
+/// Adds each key that a package inherits and the root does not have.
 fn tell_keys(
     alloc: Global,
     notes: &mut Notes,
@@ -56,7 +56,7 @@ fn tell_keys(
     Ok(())
 }
 
-/// Adds each entry of a table that a package takes, and the root does not give.
+/// Adds each entry of a table that a package inherits and the root does not have.
 fn tell_entries(
     alloc: Global,
     notes: &mut Notes,
@@ -80,7 +80,7 @@ fn tell_entries(
     Ok(())
 }
 
-/// Adds each key and entry of a package that it takes, and the root does not give.
+/// Adds each key and entry that a package inherits and the root does not have.
 fn tell_page(alloc: Global, notes: &mut Notes, root: &Page, page: &Page) -> Result<(), AllocError> {
     if let Some(keys) = page.table_at("package") {
         tell_keys(alloc, notes, root, page, keys)?;
@@ -89,7 +89,7 @@ fn tell_page(alloc: Global, notes: &mut Notes, root: &Page, page: &Page) -> Resu
     tell_entries(alloc, notes, root, page, "build-dependencies")
 }
 
-/// Adds each key that is taken from the workspace, and not there.
+/// Adds each key that is inherited from the workspace and missing there.
 pub(crate) fn tell_no_inherited(
     alloc: Global,
     notes: &mut Notes,
@@ -111,7 +111,7 @@ pub(crate) fn tell_no_inherited(
     Ok(())
 }
 
-/// Adds each entry that takes one of the workspace whose source is not supported.
+/// Adds each entry that inherits one of the workspace whose source is not supported.
 pub(crate) fn tell_taken_sources(
     alloc: Global,
     notes: &mut Notes,

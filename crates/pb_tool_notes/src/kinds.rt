@@ -1,4 +1,4 @@
-//! Notes on values that may not be where they are.
+//! Notes on values that are not allowed at their keys.
 
 use crate::note::Notes;
 use crate::page::Page;
@@ -9,7 +9,7 @@ use pb_manifest::letters::is_name;
 use std::alloc::{AllocError, Global};
 use toml::{Table, Value};
 
-/// Adds each value of a table that may not be where it is.
+/// Adds each value of a table that is not allowed at its key.
 fn tell_values(
     alloc: Global,
     notes: &mut Notes,
@@ -36,7 +36,7 @@ fn tell_values(
     Ok(())
 }
 
-/// Whether a table is of the profiles.
+/// Returns whether a table is one of the profiles' tables.
 fn is_of_profiles(kind: Kind) -> bool {
     matches!(
         kind,
@@ -44,7 +44,7 @@ fn is_of_profiles(kind: Kind) -> bool {
     )
 }
 
-/// Adds each value outside `[profile]` that may not be where it is.
+/// Adds each value outside `[profile]` that is not allowed at its key.
 pub(crate) fn tell_bad_kinds(
     alloc: Global,
     notes: &mut Notes,
@@ -62,12 +62,12 @@ pub(crate) fn tell_bad_kinds(
     Ok(())
 }
 
-/// Whether a profile is there without being written.
+/// Returns whether a profile exists without being written.
 fn is_built_in(name: &str) -> bool {
     matches!(name, "dev" | "release" | "test" | "bench")
 }
 
-/// What is wrong with a profile, if it is not one of its values; the empty text if nothing is.
+/// Returns what is wrong with a profile apart from its values, or an empty text if nothing is.
 fn wrong_with(name: &str, profile: &Table) -> &'static str {
     if is_built_in(name) {
         return "";
@@ -84,7 +84,7 @@ fn wrong_with(name: &str, profile: &Table) -> &'static str {
     ""
 }
 
-/// Adds each custom profile that may not be.
+/// Adds each custom profile that is not allowed.
 fn tell_profiles(
     alloc: Global,
     notes: &mut Notes,
@@ -104,7 +104,8 @@ fn tell_profiles(
     Ok(())
 }
 
-/// Adds each value of `[profile]` that may not be where it is, and each custom profile that may not be.
+/// Adds each value of `[profile]` that is not allowed at its key, and each custom profile that is
+/// not allowed.
 pub(crate) fn tell_bad_profiles(
     alloc: Global,
     notes: &mut Notes,

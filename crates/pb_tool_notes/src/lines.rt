@@ -1,16 +1,16 @@
-//! In which line of a manifest a key is written.
+//! The line of a manifest in which a key is written.
 
 use std::alloc::{AllocError, Global};
 
 /// How far a text has been read, line by line.
 #[derive(Drop)]
 struct Reading {
-    /// The way of the last header, as `bin[2]`.
+    /// The key path of the last header, as `bin[2]`.
     header: String,
     /// How many headers `[[bin]]` have been read.
     binaries: usize,
-    /// The quotation marks that end the text of several lines in which the next line begins; the empty text if it
-    /// begins in none.
+    /// The quotation marks that end the text of several lines in which the next line begins; empty
+    /// if it begins in none.
     quotes: &'static str,
 }
 
@@ -27,7 +27,7 @@ fn push_key(way: &mut String, key: &str) -> Result<(), AllocError> {
     Ok(())
 }
 
-/// Takes in a header.
+/// Notes a header.
 fn read_header(alloc: Global, reading: &mut Reading, line: &str) -> Result<(), AllocError> {
     let mut way = String::new(alloc);
     if let Some(rest) = line.strip_prefix("[[") {
@@ -44,7 +44,8 @@ fn read_header(alloc: Global, reading: &mut Reading, line: &str) -> Result<(), A
     Ok(())
 }
 
-/// The quotation marks of a text of several lines that a line leaves open.
+/// Returns the quotation marks of a text of several lines that begins in a line and does not end
+/// there.
 fn left_open(line: &str) -> &'static str {
     for quotes in ["\"\"\"", "'''"] {
         if line.matches(quotes).count() % 2 == 1 {
@@ -54,7 +55,8 @@ fn left_open(line: &str) -> &'static str {
     ""
 }
 
-/// The way of what a line says: of a header that of its table, of a key that of its value; else the empty text.
+/// Returns the key path of a line: for a header that of its table, for a key that of its value;
+/// else an empty text.
 fn way_of_line(alloc: Global, reading: &mut Reading, line: &str) -> Result<String, AllocError> {
     if !reading.quotes.is_empty() {
         if line.contains(reading.quotes) {
@@ -79,7 +81,7 @@ fn way_of_line(alloc: Global, reading: &mut Reading, line: &str) -> Result<Strin
     Ok(way)
 }
 
-/// Whether a way is one that begins another.
+/// Returns whether a key path begins another.
 fn begins(short: &str, long: &str) -> bool {
     match long.strip_prefix(short) {
         Some(rest) => rest.starts_with('.') || rest.starts_with('['),
@@ -87,8 +89,8 @@ fn begins(short: &str, long: &str) -> bool {
     }
 }
 
-/// The line, from 1, in which the value at a way or a part of it is written, or else what it lies in; 0 if there is
-/// none.
+/// Returns the line, from 1, in which the value at a key path or a part of it is written, or else
+/// the line of what contains it, or 0 if there is none.
 pub(crate) fn line_of(alloc: Global, text: &str, way: &str) -> Result<usize, AllocError> {
     let mut reading = Reading {
         header: String::new(alloc),

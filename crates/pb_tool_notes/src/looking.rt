@@ -75,7 +75,7 @@ fn tell_manifest(
     Ok(())
 }
 
-/// Whether a package links a native library, and its manifest names no build script.
+/// Returns whether a package links a native library and its manifest names no build script.
 fn wants_script(page: &Page) -> bool {
     match page.table_at("package") {
         Some(keys) => !text_at(keys, "links").is_empty() && text_at(keys, "build").is_empty(),
@@ -123,7 +123,7 @@ fn tell_scripts<P: Place>(
     Ok(())
 }
 
-/// Adds what is known of a refusal of the loader that no other call of the place serves.
+/// Adds what is known about a refusal of the loader without a further call of the place.
 fn tell_load(
     alloc: Global,
     notes: &mut Notes,
@@ -148,7 +148,7 @@ fn tell_load(
     }
 }
 
-/// Adds what is known of a refusal of the loader.
+/// Adds what is known about a refusal of the loader.
 fn tell_workspace<P: Place>(
     alloc: Global,
     place: &mut P,
@@ -173,7 +173,7 @@ fn tell_workspace<P: Place>(
     }
 }
 
-/// Adds what is known of a refusal of features.
+/// Adds what is known about a refusal of features.
 fn tell_features(
     alloc: Global,
     notes: &mut Notes,
@@ -189,7 +189,7 @@ fn tell_features(
     Ok(())
 }
 
-/// Adds what is known of a profile that gives no settings.
+/// Adds what is known about a profile without settings.
 fn tell_profile(
     alloc: Global,
     notes: &mut Notes,
@@ -209,7 +209,7 @@ fn tell_profile(
     }
 }
 
-/// Adds what is known of a refusal of the plan.
+/// Adds what is known about a refusal of the plan.
 fn tell_plan<P: Place>(
     alloc: Global,
     place: &mut P,
@@ -259,7 +259,7 @@ fn tell_root_above<P: Place>(
     }
 }
 
-/// Adds what a build passes over: keys, binaries that are asked for, patterns of `members`.
+/// Adds what a build ignores: keys, requested binaries, patterns of `members`.
 fn tell_passed_over<P: Place>(
     alloc: Global,
     place: &mut P,
@@ -275,10 +275,10 @@ fn tell_passed_over<P: Place>(
     tell_binaries(alloc, place, notes, pages, options)
 }
 
-/// Returns notes on a workspace that the loader refuses, or of which nothing is selected.
+/// Returns notes on a workspace that the loader refuses, or in which nothing is selected.
 ///
-/// Like the other three, it reads manifests again, lists folders, and asks whether files are there, and it does nothing
-/// else. If a call fails or memory is refused, it returns the notes that it has until then.
+/// Like the other three, it only reads manifests again, lists folders, and checks whether files
+/// exist. If a call fails or memory runs out, it returns the notes that it has until then.
 pub fn notes_on_load<P: Place>(
     alloc: Global,
     place: &mut P,
@@ -329,8 +329,9 @@ pub fn notes_on_plan<P: Place>(
     notes
 }
 
-/// Returns notes on what a build passes over: keys of manifests that nothing reads, binaries that are requested and not
-/// there, patterns of `members` that match no package, a workspace above that lists the package.
+/// Returns notes on what a build ignores: keys of manifests that nothing reads, requested binaries
+/// that are missing, patterns of `members` that match no package, a workspace above that lists the
+/// package.
 pub fn notes_on_build<P: Place>(alloc: Global, place: &mut P, options: &Options) -> Notes
     ensures { LooksAgain (P.at place.old) (P.at place.new) }
 {

@@ -7,7 +7,8 @@ use pb_data::{Bytes, Items};
 use pb_place::{PathText, Place, PlaceFault};
 use std::alloc::Global;
 
-/// Returns the first bytes of a file, one more than a manifest may have, or none if no file is there.
+/// Returns the first bytes of a file, one more than a manifest may have, or none if no file is
+/// there.
 pub(crate) fn read<P: Place>(
     alloc: Global,
     place: &mut P,

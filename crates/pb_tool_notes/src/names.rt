@@ -11,10 +11,10 @@ use pb_manifest::{ManifestFault, Requirement, Version};
 use std::alloc::{AllocError, Global};
 use toml::{Table, Value};
 
-/// What a name may have.
+/// The characters that a name may have.
 const NAME: &str = "ASCII letters, digits, - and _";
 
-/// Adds a name that may not be, if it is one.
+/// Adds a name that is not allowed, if it is one.
 fn tell_name(
     alloc: Global,
     notes: &mut Notes,
@@ -47,7 +47,7 @@ fn tell_own_name(
     tell_name(alloc, notes, page, spot, "name", is_right, NAME)
 }
 
-/// Adds each key of entries that is no name.
+/// Adds each key of entries that is not a name.
 fn tell_entry_keys(
     alloc: Global,
     notes: &mut Notes,
@@ -70,7 +70,7 @@ fn tell_entry_keys(
     Ok(())
 }
 
-/// Adds each name of a table that may not be.
+/// Adds each name of a table that is not allowed.
 fn tell_names_of(
     alloc: Global,
     notes: &mut Notes,
@@ -102,7 +102,7 @@ fn tell_names_of(
     }
 }
 
-/// Adds each name that may not be.
+/// Adds each name that is not allowed.
 pub(crate) fn tell_bad_names(
     alloc: Global,
     notes: &mut Notes,
@@ -115,7 +115,7 @@ pub(crate) fn tell_bad_names(
     Ok(())
 }
 
-/// Whether a version is refused.
+/// Returns whether a version is refused.
 fn is_bad_version(alloc: Global, text: &str) -> Result<bool, AllocError> {
     match Version::read(alloc, Text::from_str(alloc, text)?) {
         Err(ManifestFault::BadVersion) => Ok(true),
@@ -123,7 +123,7 @@ fn is_bad_version(alloc: Global, text: &str) -> Result<bool, AllocError> {
     }
 }
 
-/// Whether a requirement is refused.
+/// Returns whether a requirement is refused.
 fn is_bad_requirement(alloc: Global, text: &str) -> Result<bool, AllocError> {
     match Requirement::read(alloc, Text::from_str(alloc, text)?) {
         Err(ManifestFault::BadVersion) => Ok(true),
@@ -131,7 +131,7 @@ fn is_bad_requirement(alloc: Global, text: &str) -> Result<bool, AllocError> {
     }
 }
 
-/// What is wrong with a version that is refused.
+/// Returns what is wrong with a version that is refused.
 fn wrong_version(text: &str) -> &'static str {
     match text.split('.').count() {
         1 => "has no second and third number",
@@ -164,7 +164,7 @@ fn tell_version(
     Ok(())
 }
 
-/// Adds that a text at a key is no requirement, if it is refused.
+/// Adds that a text at a key is not a requirement, if it is refused.
 fn tell_requirement(
     alloc: Global,
     notes: &mut Notes,
@@ -182,7 +182,7 @@ fn tell_requirement(
     Ok(())
 }
 
-/// Adds each entry that is a requirement alone, and is refused.
+/// Adds each entry that is only a requirement and is refused.
 fn tell_requirements(
     alloc: Global,
     notes: &mut Notes,
@@ -219,7 +219,7 @@ pub(crate) fn tell_bad_versions(
     Ok(())
 }
 
-/// Whether an item of a feature has one of its four forms.
+/// Returns whether an item of a feature has one of its four forms.
 fn is_item(text: &str) -> bool {
     match text.split_once('/') {
         Some((name, feature)) => {
@@ -232,7 +232,7 @@ fn is_item(text: &str) -> bool {
     }
 }
 
-/// Adds each item of a feature that has none of the forms.
+/// Adds each item of a feature that has none of these forms.
 fn tell_items(
     alloc: Global,
     notes: &mut Notes,

@@ -1,4 +1,4 @@
-//! A note, and the notes of a refusal.
+//! A note, and the notes on a refusal.
 
 ghost use Rattle.std.specs.Prelude.{◌≡◌, ◌<◌, ◌++◌, ◌∷◌, [], All, IfOk, IsTrue, ◌↔◌, OnOk, string_bytes, codes};
 ghost use Rattle.pb_tool_notes.specs.Notes.{IsPlain, lines_of};
@@ -7,28 +7,28 @@ use pb_data::{Items, Text};
 use std::alloc::{AllocError, Global};
 use std::marker::Model;
 
-/// The most notes of one refusal.
+/// The greatest number of notes on one refusal.
 pub const MOST_NOTES: usize = 10;
 
-/// The most bytes of a note.
+/// The greatest number of bytes of a note.
 const LONGEST: usize = 400;
 
-/// A fact about a refusal, and where it is found.
+/// A fact about a refusal, and its position.
 #[derive(Drop)]
 pub(crate) struct Note<'a> {
-    /// The path of a manifest; the empty text if the fact is about none.
+    /// The path of a manifest; empty if the fact is not about one.
     pub path: &'a str,
     /// The line, from 1; 0 if it is not known.
     pub line: usize,
     /// The column, from 1; 0 if it is not known.
     pub column: usize,
-    /// The whole way to a key, as `dependencies.util.path`; the empty text if it is about none.
+    /// The whole key path, as `dependencies.util.path`; empty if the fact is not about a key.
     pub key: &'a str,
     /// The fact.
     pub text: &'a str,
 }
 
-/// Adds where a fact is found: `in PATH[, line N[, column N]][, key KEY]: `.
+/// Adds the position of a fact: `in PATH[, line N[, column N]][, key KEY]: `.
 fn push_where(alloc: Global, out: &mut String, note: &Note) -> Result<(), AllocError> {
     out.push_str("in ")?;
     out.push_str(note.path)?;
@@ -47,7 +47,7 @@ fn push_where(alloc: Global, out: &mut String, note: &Note) -> Result<(), AllocE
     out.push_str(": ")
 }
 
-/// The whole text of a note: `[in PATH[, line N[, column N]][, key KEY]: ]TEXT`.
+/// Returns the whole text of a note: `[in PATH[, line N[, column N]][, key KEY]: ]TEXT`.
 fn whole(alloc: Global, note: &Note) -> Result<String, AllocError> {
     let mut out = String::new(alloc);
     if !note.path.is_empty() {
@@ -57,7 +57,8 @@ fn whole(alloc: Global, note: &Note) -> Result<String, AllocError> {
     Ok(out)
 }
 
-/// A text in which `?` stands for each control character, and `..` for what is beyond its longest.
+/// Returns a text with `?` for each control character, and `..` for what exceeds the greatest
+/// length.
 fn plain_text(alloc: Global, text: &str) -> Result<String, AllocError> {
     let mut out = String::new(alloc);
     for letter in text.chars() {
@@ -70,14 +71,14 @@ fn plain_text(alloc: Global, text: &str) -> Result<String, AllocError> {
     Ok(out)
 }
 
-/// Whether a text has no control character below the blank.
+/// Returns whether a text contains no control character below the blank.
 fn is_plain(text: &str) -> bool
     ensures { IsTrue result ↔ All IsPlain text.now }
 {
     text.as_bytes().iter().all(|byte| *byte > 31)
 }
 
-/// The notes of a refusal: at most ten texts without line feeds. Contracts see the texts.
+/// The notes on a refusal: at most ten texts without line feeds. Contracts see the texts.
 #[derive(Drop)]
 pub struct Notes {
     inside: Items<Text>,
@@ -106,12 +107,13 @@ impl Notes {
         }
     }
 
-    /// Returns whether there are as many as there may be.
+    /// Returns whether there are as many notes as allowed.
     pub(crate) fn is_full(&self) -> bool {
         self.inside.len() >= MOST_NOTES
     }
 
-    /// Adds a text, if it has no line feed and there are fewer than ten. If memory is refused, it is left out.
+    /// Adds a text, if it has no line feed and there are fewer than ten. If memory runs out, the
+    /// text is left out.
     fn push(&mut self, text: String) {
         if self.inside.len() < MOST_NOTES && is_plain(text.as_str()) {
             let _ = self.inside.push(Text::new(text));
@@ -120,7 +122,7 @@ impl Notes {
 
     /// Adds a note.
     ///
-    /// Errors: memory is refused.
+    /// Errors: only out of memory.
     pub(crate) fn add(&mut self, alloc: Global, note: &Note) -> Result<(), AllocError> {
         if self.is_full() {
             return Ok(());
@@ -130,9 +132,9 @@ impl Notes {
         Ok(())
     }
 
-    /// Adds a fact that is about no manifest alone.
+    /// Adds a fact that is not about one manifest.
     ///
-    /// Errors: memory is refused.
+    /// Errors: only out of memory.
     pub(crate) fn say(&mut self, alloc: Global, text: &str) -> Result<(), AllocError> {
         self.add(
             alloc,
@@ -154,9 +156,9 @@ impl Notes {
         self.inside.as_slice()
     }
 
-    /// Returns a line `note: TEXT` for each.
+    /// Returns a line `note: TEXT` for each note.
     ///
-    /// Errors: memory is refused.
+    /// Errors: only out of memory.
     pub fn lines(&self, alloc: Global) -> Result<String, AllocError>
         ensures { IfOk result (λ text. string_bytes text ≡ lines_of self.now) }
     {
@@ -175,7 +177,7 @@ fn push_line(out: &mut String, text: &str) -> Result<(), AllocError>
     Ok(())
 }
 
-/// A line for each text.
+/// Returns a line for each text.
 fn lines_of(alloc: Global, texts: &[Text]) -> Result<String, AllocError>
     ensures { IfOk result (λ text. string_bytes text ≡ lines_of texts.now) }
 {

@@ -1,4 +1,5 @@
-//! The manifests of a workspace, read again: the root's, its members', and those to which path dependencies lead.
+//! The manifests of a workspace, read again: the root's, its members', and those that path
+//! dependencies name.
 
 ghost use Rattle.pb_tool_notes.specs.Looks.{LooksAgain};
 
@@ -10,10 +11,10 @@ use pb_data::TryCopy;
 use pb_place::{PathText, Place, PlaceFault};
 use std::alloc::{AllocError, Global};
 
-/// The most manifests that are read again.
+/// The greatest number of manifests that are read again.
 const MOST_PAGES: usize = 257;
 
-/// The most asks that are followed.
+/// The greatest number of asks that are followed.
 const MOST_ASKS: usize = 1024;
 
 /// The manifests that were read again, and who asks for which.
@@ -26,25 +27,25 @@ pub(crate) struct Pages {
 }
 
 impl Pages {
-    /// The manifest at a path, if it was read.
+    /// Returns the manifest at a path, if it was read.
     pub(crate) fn at(&self, path: &str) -> Option<&Page> {
         self.pages.iter().find(|page| page.path.as_str() == path)
     }
 
-    /// The manifest of a package, by its name.
+    /// Returns the manifest of a package, by its name.
     pub(crate) fn named(&self, name: &str) -> Option<&Page> {
         self.pages
             .iter()
             .find(|page| page.package_text("name") == name)
     }
 
-    /// The root manifest, if it was read.
+    /// Returns the root manifest, if it was read.
     pub(crate) fn root(&self) -> Option<&Page> {
         self.pages.first()
     }
 }
 
-/// Adds a manifest, and whom it asks for by its dependencies.
+/// Adds a manifest, and what it asks for by its dependencies.
 fn take_in(alloc: Global, pages: &mut Pages, page: Page) -> Result<(), AllocError> {
     let asks = asks_of(alloc, pages.pages.first(), &page)?;
     for ask in asks {
@@ -56,7 +57,7 @@ fn take_in(alloc: Global, pages: &mut Pages, page: Page) -> Result<(), AllocErro
     Ok(())
 }
 
-/// Reads a manifest, if it is there.
+/// Reads a manifest, if it exists.
 pub(crate) fn page_at<P: Place>(
     alloc: Global,
     place: &mut P,
@@ -92,7 +93,7 @@ fn read_at<P: Place>(
     }
 }
 
-/// The path of the ask of a number, if there are so many.
+/// Returns the path of the nth ask, if there are that many.
 fn path_of(alloc: Global, pages: &Pages, number: usize) -> Result<Option<PathText>, AllocError> {
     match pages.asks.get(number) {
         Some(ask) => Ok(Some(ask.path.copy(alloc)?)),
@@ -153,8 +154,8 @@ fn read_root<P: Place>(
     Ok(())
 }
 
-/// Reads the manifests of a workspace again, in so far as they are there. If a call fails or memory is refused, those
-/// that were read until then.
+/// Reads the manifests of a workspace again, as far as they exist. If a call fails or memory runs
+/// out, returns those that were read until then.
 pub(crate) fn pages_of<P: Place>(alloc: Global, place: &mut P, root: &PathText) -> Pages
     ensures { LooksAgain (P.at place.old) (P.at place.new) }
 {

@@ -1,4 +1,4 @@
-//! Notes on two manifests that do not go together.
+//! Notes on two manifests that conflict.
 
 use crate::asks::{Ask, Role};
 use crate::note::Notes;
@@ -10,7 +10,7 @@ use pb_manifest::{ManifestFault, Requirement, Version};
 use std::alloc::{AllocError, Global};
 use toml::{Table, Value};
 
-/// The version of a package, its own or the one that it takes from the root.
+/// Returns the version of a package, its own or the one that it inherits from the root.
 fn version_of<'a>(pages: &'a Pages, page: &'a Page) -> &'a str {
     let own = page.package_text("version");
     if !own.is_empty() {
@@ -30,7 +30,7 @@ fn version_of<'a>(pages: &'a Pages, page: &'a Page) -> &'a str {
     }
 }
 
-/// A version or a requirement that was read, or memory that was refused.
+/// Returns a version or a requirement that was read, or that memory ran out.
 fn read<T: Drop>(found: Result<T, ManifestFault>) -> Result<Option<T>, AllocError> {
     match found {
         Ok(found) => Ok(Some(found)),
@@ -39,7 +39,7 @@ fn read<T: Drop>(found: Result<T, ManifestFault>) -> Result<Option<T>, AllocErro
     }
 }
 
-/// Whether a version does not match a requirement. What cannot be read matches.
+/// Returns whether a version does not match a requirement. What cannot be read counts as a match.
 fn is_mismatch(alloc: Global, requirement: &str, version: &str) -> Result<bool, AllocError> {
     let requirement = read(Requirement::read(alloc, Text::from_str(alloc, requirement)?))?;
     let version = read(Version::read(alloc, Text::from_str(alloc, version)?))?;
@@ -70,7 +70,7 @@ fn tell_entry(
     }
 }
 
-/// Adds each entry that leads to a package of another version.
+/// Adds each entry that names a package of another version.
 pub(crate) fn tell_versions(
     alloc: Global,
     notes: &mut Notes,
@@ -93,7 +93,7 @@ pub(crate) fn tell_versions(
     Ok(())
 }
 
-/// Adds each entry that leads to a package of another name.
+/// Adds each entry that names a package of another name.
 pub(crate) fn tell_names(
     alloc: Global,
     notes: &mut Notes,
@@ -135,7 +135,7 @@ fn tell_twins(
     Ok(())
 }
 
-/// Adds each two manifests that have the same text at a key of `[package]`.
+/// Adds each pair of manifests that have the same text at a key of `[package]`.
 pub(crate) fn tell_same(
     alloc: Global,
     notes: &mut Notes,
@@ -152,10 +152,10 @@ pub(crate) fn tell_same(
     Ok(())
 }
 
-/// The most binaries that are compared.
+/// The greatest number of binaries that are compared.
 const MOST_BINARIES: usize = 256;
 
-/// The place, from 1, of the first of some binaries with a name; 0 if there is none.
+/// Returns the index, from 1, of the first of some binaries with a name, or 0 if there is none.
 fn first_named(binaries: &[Value], name: &str) -> usize {
     let mut number = 0usize;
     for one in binaries {
@@ -169,7 +169,7 @@ fn first_named(binaries: &[Value], name: &str) -> usize {
     0
 }
 
-/// Adds each binary of a list that has the name of one before it.
+/// Adds each binary of a list that has the name of an earlier one.
 fn tell_same_names(
     alloc: Global,
     notes: &mut Notes,
@@ -196,7 +196,7 @@ fn tell_same_names(
     Ok(())
 }
 
-/// The `[[bin]]` of a manifest.
+/// Returns the `[[bin]]` of a manifest.
 fn binaries_of(table: &Table) -> &[Value] {
     match table.get("bin").and_then(Value::as_array) {
         Some(values) => values.as_slice(),
@@ -204,7 +204,7 @@ fn binaries_of(table: &Table) -> &[Value] {
     }
 }
 
-/// Adds each `[[bin]]` that has the name of one before it.
+/// Adds each `[[bin]]` that has the name of an earlier one.
 pub(crate) fn tell_same_binaries(
     alloc: Global,
     notes: &mut Notes,

@@ -9,7 +9,8 @@ use crate::teller::{tell_key, tell_page};
 use std::alloc::{AllocError, Global};
 use toml::Table;
 
-/// The names of the profiles of a root manifest, and of those that are there without being written.
+/// Returns the names of the profiles of a root manifest, and of those that exist without being
+/// written.
 fn names_of(alloc: Global, page: &Page) -> Result<Vec<&str>, AllocError> {
     let mut names = Vec::new(alloc);
     for name in ["dev", "release", "test", "bench"] {
@@ -23,7 +24,7 @@ fn names_of(alloc: Global, page: &Page) -> Result<Vec<&str>, AllocError> {
     Ok(names)
 }
 
-/// Whether a name is among some.
+/// Returns whether a name is among some names.
 fn is_among(name: &str, names: &[&str]) -> bool {
     names.iter().any(|one| *one == name)
 }
@@ -53,7 +54,7 @@ fn tell_inherits(
     Ok(())
 }
 
-/// Adds which profile is not there.
+/// Adds which profile is missing.
 pub(crate) fn tell_no_profile(
     alloc: Global,
     notes: &mut Notes,
@@ -72,7 +73,7 @@ pub(crate) fn tell_no_profile(
     tell_inherits(alloc, notes, page, names.as_slice())
 }
 
-/// From which profile one inherits; the empty text if it is from none.
+/// Returns the profile from which a profile inherits, or an empty text if there is none.
 fn inherits_of<'a>(profiles: &'a Table, name: &str) -> &'a str {
     match profiles.get(name).and_then(|value| value.as_table()) {
         Some(profile) => text_at(profile, "inherits"),
@@ -80,10 +81,10 @@ fn inherits_of<'a>(profiles: &'a Table, name: &str) -> &'a str {
     }
 }
 
-/// The most profiles that a way through `inherits` goes on.
+/// The greatest number of profiles on a path through `inherits`.
 const LONGEST_WAY: usize = 32;
 
-/// Adds the way of `inherits` from a profile, until one comes again.
+/// Adds the path through `inherits` from a profile, until a profile repeats.
 pub(crate) fn tell_inherits_cycle(
     alloc: Global,
     notes: &mut Notes,

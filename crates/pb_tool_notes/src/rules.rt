@@ -1,9 +1,9 @@
-//! What may be at a key of a manifest: a row for each key that a build reads, or that cargo knows (The Cargo Book,
-//! Manifest Format, Profiles, Specifying Dependencies, Workspaces).
+//! What is allowed at a key of a manifest: a row for each key that a build reads, or that cargo
+//! knows (The Cargo Book, Manifest Format, Profiles, Specifying Dependencies, Workspaces).
 
 use toml::{Table, Value};
 
-/// Which table of a manifest a table is.
+/// The kind of a table of a manifest.
 #[derive(Clone, Copy, PartialEq, Eq)]
 pub(crate) enum Kind {
     /// The manifest itself.
@@ -38,7 +38,8 @@ pub(crate) enum Kind {
     Override,
 }
 
-/// A key and its rule a line. `+` after a rule: `{ workspace = true }` may be there too. `any`: no rule reads it.
+/// A line for each key, with its rule. `+` after a rule: `{ workspace = true }` is allowed too.
+/// `any`: no rule reads it.
 const TOP: &str =
     "package table\nlib table\nbin tables\ndependencies table\nbuild-dependencies table\nfeatures table\nprofile table\nworkspace table\ndev-dependencies any\ntarget any\npatch any\nreplace any\nexample any\ntest any\nbench any\nbadges any\nlints any\nhints any\ncargo-features any\n";
 
@@ -69,7 +70,7 @@ const PROFILE: &str =
 const OVERRIDE: &str =
     "opt-level level\ndebug debug\nsplit-debuginfo any\nstrip strip\ndebug-assertions truth\noverflow-checks truth\nlto lto\npanic panic\nincremental any\ncodegen-units units\nrpath truth\nrustflags any\ntrim-paths any\ncodegen-backend any\nhint-mostly-unused any\n";
 
-/// The rows of the keys that a table may have; the empty text if each key may be there.
+/// Returns the rows of the keys that a table may have, or an empty text if each key is allowed.
 pub(crate) fn rows_of(kind: Kind) -> &'static str {
     match kind {
         Kind::Top => TOP,
@@ -87,7 +88,7 @@ pub(crate) fn rows_of(kind: Kind) -> &'static str {
     }
 }
 
-/// The rule of a key among some rows.
+/// Returns the rule of a key among some rows.
 fn row_of(rows: &'static str, key: &str) -> Option<&'static str> {
     for row in rows.lines() {
         if let Some((name, rule)) = row.split_once(' ') {
@@ -99,7 +100,7 @@ fn row_of(rows: &'static str, key: &str) -> Option<&'static str> {
     None
 }
 
-/// The rule of a key in a table; none if nothing reads it.
+/// Returns the rule of a key in a table, or none if nothing reads the key.
 pub(crate) fn rule_of(kind: Kind, key: &str) -> Option<&'static str> {
     match kind {
         Kind::Entries | Kind::SharedEntries => Some("entry"),
@@ -109,7 +110,7 @@ pub(crate) fn rule_of(kind: Kind, key: &str) -> Option<&'static str> {
     }
 }
 
-/// Whether a value is a list of texts.
+/// Returns whether a value is a list of texts.
 fn is_texts(value: &Value) -> bool {
     match value.as_array() {
         Some(values) => values.iter().all(|one| one.as_str().is_some()),
@@ -117,7 +118,7 @@ fn is_texts(value: &Value) -> bool {
     }
 }
 
-/// Whether a value is a list of tables.
+/// Returns whether a value is a list of tables.
 fn is_tables(value: &Value) -> bool {
     match value.as_array() {
         Some(values) => values.iter().all(|one| one.as_table().is_some()),
@@ -125,7 +126,7 @@ fn is_tables(value: &Value) -> bool {
     }
 }
 
-/// Whether a value is one of these texts, which commas separate.
+/// Returns whether a value is one of these texts, separated by commas.
 fn is_word(value: &Value, words: &str) -> bool {
     match value.as_str() {
         Some(text) => words.split(',').any(|word| word == text),
@@ -133,7 +134,7 @@ fn is_word(value: &Value, words: &str) -> bool {
     }
 }
 
-/// Whether a value is a number from the first to the last.
+/// Returns whether a value is a number from the first to the last.
 fn is_between(value: &Value, first: i64, last: i64) -> bool {
     match value.as_integer() {
         Some(number) => first <= number && number <= last,
@@ -141,12 +142,12 @@ fn is_between(value: &Value, first: i64, last: i64) -> bool {
     }
 }
 
-/// Whether a table says `workspace = true`.
+/// Returns whether a table contains `workspace = true`.
 pub(crate) fn is_taken(table: &Table) -> bool {
     matches!(table.get("workspace").and_then(Value::as_bool), Some(true))
 }
 
-/// Whether a value may be there, by a rule about a type.
+/// Returns whether a value is allowed by a rule about a type.
 fn fits_type(rule: &str, value: &Value) -> bool {
     match rule {
         "text" => value.is_str(),
@@ -162,7 +163,7 @@ fn fits_type(rule: &str, value: &Value) -> bool {
     }
 }
 
-/// Whether a value may be there, by a rule about some values.
+/// Returns whether a value is allowed by a rule about some values.
 fn fits_values(rule: &str, value: &Value) -> bool {
     match rule {
         "edition" => is_word(value, "2015,2018,2021,2024"),
@@ -184,7 +185,7 @@ fn fits_values(rule: &str, value: &Value) -> bool {
     }
 }
 
-/// Whether a value may be there.
+/// Returns whether a value is allowed.
 pub(crate) fn fits(rule: &str, value: &Value) -> bool {
     match rule.strip_suffix('+') {
         Some(own) => match value.as_table() {
@@ -195,7 +196,7 @@ pub(crate) fn fits(rule: &str, value: &Value) -> bool {
     }
 }
 
-/// What may be there, in words.
+/// Returns what is allowed, in words.
 pub(crate) fn expected(rule: &str) -> &'static str {
     match rule.strip_suffix('+').unwrap_or(rule) {
         "text" => "a text",

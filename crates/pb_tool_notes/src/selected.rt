@@ -1,4 +1,4 @@
-//! Notes on packages and binaries that are asked for and not there.
+//! Notes on packages and binaries that are requested and missing.
 
 ghost use Rattle.pb_tool_notes.specs.Looks.{LooksAgain};
 
@@ -16,7 +16,7 @@ use pb_place::{PathText, Place, PlaceFault};
 use std::alloc::{AllocError, Global};
 use toml::Value;
 
-/// The names of the packages of a workspace.
+/// Returns the names of the packages of a workspace.
 fn names_of(alloc: Global, pages: &Pages) -> Result<Vec<&str>, AllocError> {
     let mut names = Vec::new(alloc);
     for page in pages.pages.as_slice() {
@@ -28,12 +28,12 @@ fn names_of(alloc: Global, pages: &Pages) -> Result<Vec<&str>, AllocError> {
     Ok(names)
 }
 
-/// Whether a name is among some.
+/// Returns whether a name is among some names.
 fn is_among(name: &str, names: &[&str]) -> bool {
     names.iter().any(|one| *one == name)
 }
 
-/// Adds each name of `-p` that is no package's.
+/// Adds each name of `-p` that is not the name of a package.
 fn tell_requested(
     alloc: Global,
     notes: &mut Notes,
@@ -54,7 +54,7 @@ fn tell_requested(
     Ok(())
 }
 
-/// Whether the manifest of a folder that is written in the root is asked for.
+/// Returns whether the manifest of a folder that is named in the root is asked for.
 fn is_known(alloc: Global, asks: &[Ask], root: &PathText, written: &str) -> bool {
     match root.join(alloc, written) {
         Ok(folder) => match folder.join(alloc, "Cargo.toml") {
@@ -65,7 +65,7 @@ fn is_known(alloc: Global, asks: &[Ask], root: &PathText, written: &str) -> bool
     }
 }
 
-/// Adds each folder of `default-members` that no manifest was read in.
+/// Adds each folder of `default-members` in which no manifest was read.
 fn tell_defaults(
     alloc: Global,
     notes: &mut Notes,
@@ -91,7 +91,7 @@ fn tell_defaults(
     Ok(())
 }
 
-/// Adds which package is asked for and is no member.
+/// Adds which requested package is not a member.
 pub(crate) fn tell_no_package(
     alloc: Global,
     notes: &mut Notes,
@@ -161,7 +161,7 @@ fn push_written(alloc: Global, names: &mut Vec<Text>, page: &Page) -> Result<(),
     Ok(())
 }
 
-/// The names of the binaries of all packages.
+/// Returns the names of the binaries of all packages.
 fn binaries_of<P: Place>(
     alloc: Global,
     place: &mut P,
@@ -177,7 +177,7 @@ fn binaries_of<P: Place>(
     Ok(names)
 }
 
-/// The texts of some.
+/// Returns the texts in a list.
 fn texts_in(alloc: Global, names: &[Text]) -> Result<Vec<&str>, AllocError> {
     let mut texts = Vec::new(alloc);
     for name in names {
@@ -215,7 +215,7 @@ fn tell_required(
     Ok(())
 }
 
-/// Adds what is known of a binary that is asked for.
+/// Adds what is known about a requested binary.
 fn tell_binary(
     alloc: Global,
     notes: &mut Notes,
@@ -238,7 +238,7 @@ fn tell_binary(
     Ok(())
 }
 
-/// Adds what is known of each binary that is asked for.
+/// Adds what is known about each requested binary.
 pub(crate) fn tell_binaries<P: Place>(
     alloc: Global,
     place: &mut P,
@@ -259,7 +259,7 @@ pub(crate) fn tell_binaries<P: Place>(
     Ok(())
 }
 
-/// Whether a pattern means a member that was read. A `*` may stand for slashes too here.
+/// Returns whether a pattern matches a member that was read. Here a `*` matches slashes too.
 fn is_met(
     alloc: Global,
     pages: &Pages,
@@ -281,7 +281,7 @@ fn is_met(
     Ok(false)
 }
 
-/// Adds each pattern of `members` that means no package.
+/// Adds each pattern of `members` that matches no package.
 pub(crate) fn tell_patterns(
     alloc: Global,
     notes: &mut Notes,
@@ -300,7 +300,7 @@ pub(crate) fn tell_patterns(
     Ok(())
 }
 
-/// How many packages were read.
+/// Returns how many packages were read.
 fn count_of(pages: &Pages) -> usize {
     pages
         .pages

@@ -1,4 +1,4 @@
-//! The tables of a manifest, each with the whole way to it.
+//! The tables of a manifest, each with its whole key path.
 
 use crate::rules::Kind;
 use std::alloc::{AllocError, Global};
@@ -7,15 +7,15 @@ use toml::{Table, Value};
 /// A table of a manifest.
 #[derive(Drop)]
 pub(crate) struct Spot<'a> {
-    /// The whole way to it, as `bin[2]`; the empty text for the manifest itself.
+    /// Its whole key path, as `bin[2]`; empty for the manifest itself.
     pub way: String,
     /// The table.
     pub table: &'a Table,
-    /// Which it is.
+    /// Its kind.
     pub kind: Kind,
 }
 
-/// The way from a way to a key.
+/// Returns a key path with one more key.
 pub(crate) fn way_to(alloc: Global, way: &str, key: &str) -> Result<String, AllocError> {
     if way.is_empty() {
         return String::from_str(alloc, key);
@@ -23,7 +23,7 @@ pub(crate) fn way_to(alloc: Global, way: &str, key: &str) -> Result<String, Allo
     format!(in alloc; "{way}.{key}")
 }
 
-/// Adds the table at a key, if it is one.
+/// Adds the value at a key, if it is a table.
 fn push_at<'a>(
     alloc: Global,
     spots: &mut Vec<Spot<'a>>,
@@ -151,7 +151,8 @@ fn push_workspace<'a>(
     Ok(())
 }
 
-/// The tables of a manifest that a build reads, in the order in which it reads them, after the manifest itself.
+/// Returns the tables of a manifest that a build reads, in the order in which it reads them, after
+/// the manifest itself.
 pub(crate) fn spots_of(alloc: Global, table: &Table) -> Result<Vec<Spot<'_>>, AllocError> {
     let mut spots = Vec::new(alloc);
     spots.push(Spot {

@@ -7,7 +7,7 @@ use crate::spots::way_to;
 use std::alloc::{AllocError, Global};
 use toml::Value;
 
-/// Adds a note on the value at a key of the table at a way.
+/// Adds a note on the value at a key of the table at a key path.
 pub(crate) fn tell_key(
     alloc: Global,
     notes: &mut Notes,
@@ -52,7 +52,7 @@ pub(crate) fn tell_page(
     )
 }
 
-/// What a value is: `2021 is a number`, `it is a table`.
+/// Returns what a value is: `2021 is a number`, `it is a table`.
 pub(crate) fn shown(alloc: Global, value: &Value) -> Result<String, AllocError> {
     match value {
         Value::String(text) => format!(in alloc; "\"{}\" is a text", text.as_str()),

@@ -1,11 +1,11 @@
-//! Notes on a manifest that is no TOML, or too large.
+//! Notes on a manifest that is not TOML, or too large.
 
 use crate::note::{Note, Notes};
 use crate::page::{GREATEST_LENGTH, Page};
 use crate::teller::tell_page;
 use std::alloc::{AllocError, Global};
 
-/// The line and the column, both from 1, of what comes after some bytes. A column counts characters.
+/// Returns the line and the column, both from 1, after some bytes. A column counts characters.
 fn position(before: &[u8]) -> (usize, usize) {
     let mut line = 1usize;
     let mut column = 1usize;
@@ -20,7 +20,7 @@ fn position(before: &[u8]) -> (usize, usize) {
     (line, column)
 }
 
-/// How many bytes come before the fault that the reader finds.
+/// Returns how many bytes come before the fault that the reader finds.
 fn start_of(fault: &toml::de::Error) -> usize {
     match fault.span() {
         Some(range) => range.start,
@@ -28,7 +28,7 @@ fn start_of(fault: &toml::de::Error) -> usize {
     }
 }
 
-/// Adds where TOML's reader stops, and its own sentence.
+/// Adds the position at which TOML's reader stops, and its message.
 fn tell_reader(alloc: Global, notes: &mut Notes, page: &Page) -> Result<(), AllocError> {
     let text = page.text();
     let fault = match toml::table_from_str(alloc, text) {
@@ -52,7 +52,7 @@ fn tell_reader(alloc: Global, notes: &mut Notes, page: &Page) -> Result<(), Allo
     )
 }
 
-/// Adds where a manifest is no TOML.
+/// Adds the position at which a manifest is not TOML.
 pub(crate) fn tell_not_toml(
     alloc: Global,
     notes: &mut Notes,

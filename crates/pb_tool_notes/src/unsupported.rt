@@ -9,7 +9,7 @@ use crate::teller::tell_key;
 use std::alloc::{AllocError, Global};
 use toml::{Table, Value};
 
-/// Why the source of an entry is not supported; the empty text if it is.
+/// Returns why the source of an entry is not supported, or an empty text if it is.
 fn wrong_source(value: &Value) -> &'static str {
     let Some(entry) = value.as_table() else {
         return "it has no path";
@@ -61,7 +61,7 @@ pub(crate) fn tell_tables(
     Ok(())
 }
 
-/// Adds where resolver 1 is asked for.
+/// Adds where resolver 1 is requested.
 pub(crate) fn tell_resolver(
     alloc: Global,
     notes: &mut Notes,
@@ -134,7 +134,7 @@ pub(crate) fn tell_crate_types(
     }
 }
 
-/// The keys of some rows.
+/// Returns the keys of some rows.
 fn keys_of(alloc: Global, rows: &'static str) -> Result<Vec<&'static str>, AllocError> {
     let mut keys = Vec::new(alloc);
     for row in rows.lines() {

@@ -23,7 +23,7 @@ abbrev pub success_status : Bool → ℕ
 success_status true = 0
 success_status false = 101
 
--- 0 where all units are good, else 101
+-- 0 if all units are good, else 101
 abbrev pub status_of : Result Summary BuildFault → ℕ
 status_of (Ok summary) = success_status summary.success
 status_of (Err fault) = 101
@@ -33,11 +33,12 @@ abbrev pub notes_of : List (List ℕ) → List ℕ
 notes_of [] = []
 notes_of (name ∷ names) = codes "note: " ++ name ++ codes " has no library\n" ++ notes_of names
 
--- the line of a unit of this key that is built again, since this path, which its child read, was changed while the child was at work
+-- the line for a unit that will be built again, because a path that its child read was changed while the child was at
+-- work
 abbrev pub moved_note : List ℕ → List ℕ → List ℕ
 moved_note path key = codes "note: " ++ path ++ codes " was changed while " ++ key ++ codes " was built: it will be built again\n"
 
--- a unit's key is the name of its output folder
+-- a line for each such unit; a unit's key is the name of its output folder
 abbrev pub moved_notes : List Moved → List ℕ
 moved_notes [] = []
 moved_notes (one ∷ others) = moved_note one.path (last_part one.out) ++ moved_notes others
@@ -46,7 +47,8 @@ moved_notes (one ∷ others) = moved_note one.path (last_part one.out) ++ moved_
 abbrev pub error_of : Result Summary BuildFault → List ℕ
 error_of answer = codes "error: " ++ result_line answer ++ codes "\n"
 
--- what is told if memory is refused for why a build failed, for notes of either kind, for reasons, for what a child said, or for what a fault is about
+-- what is written if memory runs out for the reason of a failure (below: for notes, moved files, reasons, a child's
+-- output, and the detail of a fault)
 abbrev pub why_lost : List ℕ
 why_lost = codes "error: out of memory for why the build failed\n"
 
@@ -68,27 +70,31 @@ detail_lost = codes "note: out of memory for what the fault is about\n"
 abbrev pub look_lost : List ℕ
 look_lost = codes "note: out of memory for the notes\n"
 
--- what is told behind a build: nothing where all its units are good; else why it failed, or that memory was refused for that
+-- what is written after a build: nothing if all its units are good; else why it failed, or that memory ran out for that
 abbrev pub TellsWhy : ℕ → Result Summary BuildFault → Heard → Heard → Type 0
 TellsWhy zero answer old new = new ≡ old
 TellsWhy (suc status) answer old new = Tells (error_of answer) old new ⊎ Tells why_lost old new
 
--- where a build came to its end and it is asked for: why it started what it started, or that memory was refused for that; else nothing
+-- what is written if a build ended without a fault and its reasons are requested: why it started what it started, or
+-- that memory ran out for that; else nothing
 abbrev pub TellsReasons : Bool → Result Summary BuildFault → Heard → Heard → Type 0
 TellsReasons false answer old new = new ≡ old
 TellsReasons true (Err fault) old new = new ≡ old
 TellsReasons true (Ok summary) old new = Tells (explanation summary) old new ⊎ Tells reasons_lost old new
 
--- where a build came to its end: what its bad unit's child wrote that no message line holds, or that memory was refused for that; where it wrote nothing, and else, nothing
+-- what is written if a build ended without a fault: what its bad unit's child printed that no message line contains, or
+-- that memory ran out for that; nothing if it printed nothing
 abbrev pub TellsSaid : Result Summary BuildFault → Heard → Heard → Type 0
 TellsSaid (Err fault) old new = new ≡ old
 TellsSaid (Ok summary) old new = TellsOr said_lost (said_by_bad summary.bad summary.said) old new
 
--- what the fault of a build is about, or that memory was refused for that; where there is none, or it has nothing but its name, nothing
+-- what is written about the fault of a build: its detail, or that memory ran out for that; nothing if it has no more
+-- than a name
 abbrev pub TellsDetail : Result Summary BuildFault → Heard → Heard → Type 0
 TellsDetail answer old new = TellsOr detail_lost (detail answer) old new
 
--- what a build that gave this ends with: its status; and beside the output why children were started, where that is asked for, what a failing child said, what the fault is about, and why the build failed
+-- how a build with this answer ends: with its status; and beside the output, why children were started if that is
+-- requested, what a failing child printed, the detail of the fault, and why the build failed
 pub record Concludes (explain : Bool) (answer : Result Summary BuildFault) (notes : List (List ℕ)) (status : ℕ) (old new : Heard) : Type 0 where
   pub told : status ≡ status_of answer
   pub explained : Heard
@@ -108,13 +114,14 @@ pub record Looked (old new : Moment) : Type 0 where
   pub most : new.most ≡ old.most
   pub heard : new.heard ≡ old.heard
 
--- A second look, for notes on a build that was refused or came to its end. After a fault there is none.
+-- A second look, for notes on a build that was refused or ended without a fault. After any other fault there is none.
 abbrev pub LooksOver : Result Summary BuildFault → List (List ℕ) → Moment → Moment → Type 0
 LooksOver (Ok summary) notes old new = Looked old new
 LooksOver (Err (build.Plan refusal)) notes old new = Looked old new
 LooksOver (Err fault) notes old new = (new ≡ old) × (notes ≡ [])
 
--- what is written before a build: notes of the packages that its plan names, or that memory was refused for them; nothing where it names none, or there is no plan
+-- what is written before a build: notes on the packages without a library in its plan, or that memory ran out for them;
+-- nothing if there are no such packages, or no plan
 abbrev pub NotesOf : Result BuildPlan BuildFault → Heard → Heard → Type 0
 NotesOf (Ok plan) old new = TellsOr notes_lost (notes_of plan.project.plan.without_library) old new
 NotesOf (Err fault) old new = new ≡ old
@@ -124,7 +131,8 @@ abbrev pub folder_of : Result BuildPlan BuildFault → Option (List ℕ)
 folder_of (Ok plan) = Some plan.environment.target
 folder_of (Err fault) = None
 
--- A build was planned, and that plan carried out, and the place was asked for nothing else but a second look. `moved` is the list of the place behind it.
+-- A build was planned, that plan was carried out, and no further call was made but those of a second look. `moved` is
+-- the list of the place after it.
 pub record BuildsTold (tells : Bool) (child : Answers) (Guards : Option (List ℕ) → Counts → Heard → Heard → Type 0) (moved : List Moved) (options : Options) (explain : Bool) (status : ℕ) (old new : Moment) (said_before said_after : Heard) : Type 0 where
   -- its plan
   pub plan : Result BuildPlan BuildFault
@@ -133,7 +141,8 @@ pub record BuildsTold (tells : Bool) (child : Answers) (Guards : Option (List �
   -- what was written beside the output first: notes on its packages without a library
   pub noted : Heard
   pub notes : NotesOf plan said_before noted
-  -- its target folder was guarded then: the place's counters stood as the plan had left them, so no child was started yet
+  -- then its target folder was guarded: the place's counters were as the plan had left them, so no child was started
+  -- yet
   pub held : Heard
   pub guards : Guards (folder_of plan) planned.counts noted held
   -- the plan was carried out
@@ -145,9 +154,9 @@ pub record BuildsTold (tells : Bool) (child : Answers) (Guards : Option (List �
   pub notes_again : List (List ℕ)
   pub are_notes : AreNotes notes_again
   pub looked : LooksOver answer notes_again built new
-  -- all that has changed under a child at work is told. In the maps nothing has.
+  -- all that has changed while a child was at work is reported. Over a place that tells its maps nothing has.
   pub stood : IsTrue tells → moved ≡ []
   pub marked : Heard
   pub marks : TellsOr moved_lost (moved_notes moved) held marked
-  -- what is told behind it
+  -- what is written after the build
   pub concluded : Concludes explain answer notes_again status marked said_after

@@ -1,4 +1,5 @@
--- What is told of a build that failed beside its result line, in which a fault has its name: what else the fault has, which is what it is about (our own choice of words).
+-- What is written about a failed build besides its result line, which contains the name of the fault: the rest of the
+-- fault (our own choice of words).
 use Rattle.std.specs.Prelude.{ℕ, codes, List, [], ◌∷◌, ◌++◌, Option, Some, None, Result, Ok, Err}
 use Rattle.std.specs.Fmt.{decimal}
 use Rattle.pb_answer.specs.declared.fault.BuildFault.{BuildFault}
@@ -22,7 +23,7 @@ use Rattle.pb_project.specs.declared.fault.UnitFault.TheVariants as unit
 use Rattle.pb_unit.specs.declared.fault.PlanFault.{PlanFault}
 use Rattle.pb_unit.specs.declared.fault.PlanFault.TheVariants as plan
 
--- of a line of a script's output, its number
+-- for a line of a script's output, its number
 abbrev pub line_note : ℕ → List ℕ
 line_note number = codes "note: line " ++ decimal number ++ codes " of its output\n"
 
@@ -33,7 +34,7 @@ line_detail (line.BadValue number) = line_note number
 line_detail (line.BadFlag number) = line_note number
 line_detail line.OutOfMemory = []
 
--- of an input in the target folder, its path
+-- for an input in the target folder, its path
 abbrev pub unit_detail : UnitFault → List ℕ
 unit_detail (unit.Directive fault) = line_detail fault
 unit_detail (unit.ForeignInput path) = codes "note: " ++ path ++ codes " lies in the target folder\n"
@@ -46,18 +47,18 @@ bad_detail (Some bad) = unit_detail bad.1
 abbrev pub key_note : List ℕ → List ℕ → List ℕ
 key_note path key = codes "note: in " ++ path ++ codes ", key " ++ key ++ codes "\n"
 
--- of a manifest its path, and the key that the fault names
+-- for a bad manifest, its path and the key that the fault names
 abbrev pub manifest_detail : List ℕ → ManifestFault → List ℕ
 manifest_detail path (manifest.BadKind key) = key_note path (spelled key)
 manifest_detail path fault = codes "note: in " ++ path ++ codes "\n"
 
--- of a manifest that may not be read, where it was looked for
+-- for a manifest that was not found, the path at which it was sought
 abbrev pub load_detail : LoadFault → List ℕ
 load_detail (load.NoManifest path) = codes "note: no manifest at " ++ path ++ codes "\n"
 load_detail (load.Manifest path fault) = manifest_detail path fault
 load_detail fault = []
 
--- names, each with a blank before it
+-- names, each after a blank
 abbrev pub spaced : List (List ℕ) → List ℕ
 spaced [] = []
 spaced (name ∷ names) = codes " " ++ name ++ spaced names
@@ -65,7 +66,7 @@ spaced (name ∷ names) = codes " " ++ name ++ spaced names
 abbrev pub circle_note : List (List ℕ) → List ℕ
 circle_note names = codes "note: the packages are" ++ spaced names ++ codes "\n"
 
--- of packages that depend on one another, their names
+-- for packages that depend on one another, their names
 abbrev pub plan_detail : PlanFault → List ℕ
 plan_detail (plan.Cycle names) = circle_note names
 plan_detail fault = []
@@ -75,7 +76,7 @@ refusal_detail (refusal.Load fault) = load_detail fault
 refusal_detail (refusal.Feature fault) = []
 refusal_detail (refusal.Plan fault) = plan_detail fault
 
--- of a call that failed, which it was
+-- for a call that failed, which call it was
 abbrev pub place_detail : PlaceFault → List ℕ
 place_detail place.Read = codes "note: a file could not be read\n"
 place_detail place.List = codes "note: a folder could not be listed\n"
@@ -93,7 +94,7 @@ fault_detail (build.Plan why) = refusal_detail why
 fault_detail (build.Device unit fault) = device_detail fault
 fault_detail fault = []
 
--- of a build that failed; nothing where the fault has nothing but its name
+-- for a build that failed; nothing if the fault has no more than a name
 abbrev pub detail : Result Summary BuildFault → List ℕ
 detail (Ok summary) = bad_detail summary.bad
 detail (Err fault) = fault_detail fault

@@ -4,11 +4,12 @@ use Rattle.pb_place.specs.Counts.{Counts}
 use Rattle.pb_place.specs.Sinks.{Heard}
 use Rattle.pb_tool_program.specs.Writing.{Tells}
 
--- what is told where another build has the folder
+-- what is written if another build has the folder
 abbrev pub waiting : List ℕ
 waiting = codes "note: another build has the target folder: waiting\n"
 
--- a guard was asked for this folder, or for none, while the place's counters stood so; where another build has it, that is told, as far as the sink takes it, and then it was waited for
+-- the guard was asked for this folder, or for none, while the place had these counters; if another build has the
+-- folder, that was written, as far as the sink took it, and then the guard waited
 abbrev pub Guarded : {G : Type 0} → (G → List ℕ → Counts → Heard → Bool → G → Type 0) → (G → Counts → Heard → G → Type 0) → G → G → Option (List ℕ) → Counts → Heard → Heard → Type 0
 Guarded asks waits old new None counts before after = (new ≡ old) × (after ≡ before)
 Guarded {G} asks waits old new (Some folder) counts before after =

@@ -1,4 +1,4 @@
--- What the program tells of the name of an error.
+-- What the program writes about the name of an error.
 use Rattle.std.specs.Prelude.{◌≡◌, ◌⊎◌, ℕ, Bool, if◌then◌else◌, codes, List, [], ◌++◌, Option, Some, None, Err}
 use Rattle.pb_answer.specs.declared.fault.BuildFault.TheVariants as build_fault
 use Rattle.pb_explained.specs.Entries.{near_in, text_in}
@@ -7,25 +7,25 @@ use Rattle.pb_place.specs.Sinks.{Heard}
 use Rattle.pb_tool_program.specs.Building.{error_of}
 use Rattle.pb_tool_program.specs.Writing.{Writes, Tells}
 
--- a text is written as output, with status 0, or 1 where that fails
+-- a text is written as output; the status is 0, or 1 if that fails
 abbrev pub Prints : List ℕ → ℕ → Heard → Heard → Type 0
 Prints text status old new = (whole : Bool) × Writes whole text old new × (status ≡ (if whole then 0 else 1))
 
--- the name that is near, if there is one
+-- the most similar name, if there is one
 abbrev pub near_told : Option (List ℕ) → List ℕ
 near_told None = []
 near_told (Some near) = codes " (near: " ++ near ++ codes ")"
 
--- what is told where no error has a name
+-- what is written if no error has a name
 abbrev pub no_such_name : Option (List ℕ) → List ℕ → List ℕ
 no_such_name near name = codes "error: no error has the name " ++ name ++ near_told near ++ codes "\n"
 
--- no error has this name: that is told, or that memory was refused for it
+-- no error has this name: that is written, or that memory ran out for it
 abbrev pub Unmeant : Option (List ℕ) → List ℕ → ℕ → Heard → Heard → Type 0
 Unmeant near name status said_before said_after =
     (status ≡ 1) × Tells (no_such_name near name) said_before said_after ⊎ (status ≡ 101) × Tells (error_of (Err build_fault.OutOfMemory)) said_before said_after
 
--- what a page says of a name is output; where it says nothing, that is told beside it
+-- the text of a page about a name is output; if the page has none, that is written beside the output
 abbrev pub MeansText : Option (List ℕ) → Option (List ℕ) → List ℕ → ℕ → Heard → Heard → Heard → Heard → Type 0
 MeansText (Some text) near name status old new said_before said_after = (said_after ≡ said_before) × Prints text status old new
 MeansText None near name status old new said_before said_after = (new ≡ old) × Unmeant near name status said_before said_after

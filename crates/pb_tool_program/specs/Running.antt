@@ -1,4 +1,4 @@
--- What the whole program does: what its words ask for is done, and nothing else.
+-- What the whole program does: what its arguments request, and nothing else.
 use Rattle.std.specs.Prelude.{◌≡◌, ◌⊎◌, ℕ, Bool, true, false, List, Option, Some, None, IsTrue, IfOk, Result, Ok, Err}
 use Rattle.std.specs.FinMap as map
 use Rattle.pb_place.specs.Counts.{Counts, counted}
@@ -26,7 +26,8 @@ use Rattle.pb_tool_program.specs.Writing.{Tells}
 
 -- Sessions.
 
--- the session of these bytes was run: with status 0 its lines were written and nothing was said beside them; with 1 it is told to be bad, and of its lines only those were written that came before memory was refused or the sink failed
+-- the session of these bytes was run. With status 0 its lines were written, and nothing beside them. With status 1 it
+-- is reported as bad, and only the lines from before memory ran out or the sink failed were written
 pub record RunsSession (bytes : List ℕ) (status : ℕ) (old new said_before said_after : Heard) : Type 0 where
   pub ends : (status ≡ 0) ⊎ (status ≡ 1)
   pub written : status ≡ 0 → SessionWritten true bytes old new
@@ -35,17 +36,18 @@ pub record RunsSession (bytes : List ℕ) (status : ℕ) (old new said_before sa
   pub untouched : session_of bytes ≡ Err BadForm → new ≡ old
   pub told : status ≡ 1 → Refused said_before said_after
 
--- a bad session: it is told so, and nothing is written
+-- a bad session: it is reported as bad, and nothing is output
 abbrev pub IsBad : ℕ → Heard → Heard → Heard → Heard → Type 0
 IsBad status old new said_before said_after = (status ≡ 1) × (new ≡ old) × Refused said_before said_after
 
--- what comes of a session's file that gave this when it was read: a file that is not there, or cannot be read, is a bad session
+-- what follows when a session's file was read with this result: a file that does not exist, or cannot be read, is a bad
+-- session
 abbrev pub RunsFound : Result (Option (List ℕ)) PlaceFault → ℕ → Heard → Heard → Heard → Heard → Type 0
 RunsFound (Ok (Some bytes)) status old new said_before said_after = RunsSession bytes status old new said_before said_after
 RunsFound (Ok None) status old new said_before said_after = IsBad status old new said_before said_after
 RunsFound (Err fault) status old new said_before said_after = IsBad status old new said_before said_after
 
--- the session of a file was run: the file was read, once, and the place was asked for nothing else
+-- the session of a file was run: the file was read once, and no further call was made
 pub record RunsFile (tells : Bool) (path : List ℕ) (status : ℕ) (old new : Moment) (said_before said_after : Heard) : Type 0 where
   pub same : IsTrue tells → new.world ≡ old.world
   pub most : new.most ≡ old.most
@@ -54,9 +56,10 @@ pub record RunsFile (tells : Bool) (path : List ℕ) (status : ℕ) (old new : M
   pub is_file : IsTrue tells → IfOk found (λ bytes. bytes ≡ map.get old.world.files path)
   pub comes : RunsFound found status old.heard new.heard said_before said_after
 
--- Words that ask for nothing.
+-- Arguments that request nothing.
 
--- what is told to words that ask for nothing: help or the version, as output; what is wrong with them, or that memory was refused, beside it
+-- what is written for arguments that request nothing: help or the version, as output; what is wrong with them, or that
+-- memory ran out, beside the output
 abbrev pub Explains : Unasked → ℕ → Heard → Heard → Heard → Heard → Type 0
 Explains (Help text) status old new said_before said_after = (said_after ≡ said_before) × Prints text status old new
 Explains (Wrong text) status old new said_before said_after = (status ≡ 1) × (new ≡ old) × Tells text said_before said_after
@@ -64,23 +67,26 @@ Explains OutOfMemory status old new said_before said_after = (status ≡ 101) ×
 
 -- The program.
 
--- what is shown of a build beside its lines was told before it: to the place whether to name its children, and to the sink of the lines whether to show them as text
+-- what a build shows beside its lines was set before it: whether the place names its children, and whether the sink of
+-- the lines shows them as text
 abbrev pub IsTold : {P O : Type 0} → (P → Bool → P → Type 0) → (O → Bool → O → Type 0) → P → O → Shown → Type 0
 IsTold {P} {O} Speaks Shows place out shown = ((told : P) × Speaks place shown.verbose told) × ((told : O) × Shows out shown.render told)
 
--- what words ask for, or why they ask for nothing
+-- what arguments request, or why they request nothing
 abbrev pub AsksOrNot : List (List ℕ) → Here → Result Asked Unasked → Type 0
 AsksOrNot words here (Ok asked) = Asks words here asked
 AsksOrNot words here (Err unasked) = Unasks words here.folder unasked
 
--- what comes of that: the build that is asked for, or the session; else the place is not touched. A build alone asks the guard for a folder. What is shown of it beside its lines changes nothing else: `BuildsTold` looks at `explain` alone.
+-- what follows from that: the requested build or session; else the place is not used. Only a build asks the guard for a
+-- folder. What it shows beside its lines changes nothing else: `BuildsTold` depends on `explain` only.
 abbrev pub Does : Bool → Answers → (Option (List ℕ) → Counts → Heard → Heard → Type 0) → (Shown → Type 0) → Page → List Moved → Result Asked Unasked → ℕ → Moment → Moment → Heard → Heard → Type 0
 Does tells child Guards Told page moved (Ok (Build options shown)) status old new said_before said_after = Told shown × BuildsTold tells child Guards moved options shown.explain status old new said_before said_after
 Does tells child Guards Told page moved (Ok (Session path)) status old new said_before said_after = RunsFile tells path status old new said_before said_after × Guards None old.counts said_before said_before
 Does tells child Guards Told page moved (Ok (Explain name)) status old new said_before said_after = (new ≡ record old { heard = new.heard }) × Means page name status old.heard new.heard said_before said_after × Guards None old.counts said_before said_before
 Does tells child Guards Told page moved (Err unasked) status old new said_before said_after = (new ≡ record old { heard = new.heard }) × Explains unasked status old.heard new.heard said_before said_after × Guards None old.counts said_before said_before
 
--- the program did what these words ask for, where it runs; `moved` is what its place lists behind it
+-- the program did what these arguments request, with the folder and the processors of `here`; `moved` is the list of
+-- its place afterwards
 abbrev pub Runs : Bool → Answers → (Option (List ℕ) → Counts → Heard → Heard → Type 0) → (Shown → Type 0) → Page → List Moved → List (List ℕ) → Here → ℕ → Moment → Moment → Heard → Heard → Type 0
 Runs tells child Guards Told page moved words here status old new said_before said_after =
     (meant : Result Asked Unasked) × AsksOrNot words here meant × Does tells child Guards Told page moved meant status old new said_before said_after

@@ -1,4 +1,4 @@
--- What the session program says of its input, and how it ends.
+-- What the session program reports of its input, and how it ends.
 use Rattle.std.specs.Prelude.{◌≡◌, ◌⊎◌, ℕ, Bool, codes, List, [], ◌∷◌, ◌++◌, Ok}
 use Rattle.std.specs.Io.KnownBytes.{Appends}
 use Rattle.std.specs.FinMap as map
@@ -13,15 +13,15 @@ use Rattle.pb_session.specs.Sessions.{session_of}
 use Rattle.pb_session.specs.declared.step.SessionStep.{SessionStep}
 use Rattle.pb_tool_program.specs.Writing.{Writes}
 
--- what is told of a bad session
+-- what is written about a bad session
 abbrev pub bad_session : List ℕ
 bad_session = codes "error: bad session\n"
 
--- the session is reported to be bad; or the sink failed, and took a first part of these bytes, not all
+-- the session is reported as bad; or the sink failed, and took some first bytes of that, not all
 abbrev pub Refused : Heard → Heard → Type 0
 Refused old new = (Appends old.taken new.taken bad_session × (new.faults ≡ old.faults)) ⊎ (TakesPart bad_session old.taken new.taken × (new.faults ≡ up old.faults))
 
--- a result line for each answer, with a line feed behind it
+-- a result line for each answer, each followed by a line feed
 abbrev pub lines_of : List Answer → List ℕ
 lines_of [] = []
 lines_of (answer ∷ answers) = result_line answer.result ++ codes "\n" ++ lines_of answers
@@ -30,24 +30,26 @@ lines_of (answer ∷ answers) = result_line answer.result ++ codes "\n" ++ lines
 abbrev pub small_compiler : Answers
 small_compiler c w = answered c.words c.pairs w
 
--- before the first step: no file, no variable, no call of the place, no answer, and no failure prepared
+-- before the first step: no file, no variable, no call of the place, no answer, and no injected failure
 abbrev pub at_first : Heard → Point
 at_first heard = record { moment = record { world = record { files = map.empty; variables = map.empty }; counts = no_calls; most = 0; heard = heard }; answers = []; fuse = 0; deaths = [] }
 
--- the steps were taken in turn, the message lines of one build after those of another; and then a result line for each was written, all of these lines or the first bytes of them, not all, at which the sink failed
+-- the steps were taken in turn, and each build wrote its message lines; then a result line for each build was written:
+-- all these lines, or some first bytes, not all, at which the sink failed
 abbrev pub Written : Bool → List SessionStep → Heard → Heard → Type 0
 Written whole steps before after = (end : Point) × Course small_compiler steps (at_first before) end × Writes whole (lines_of end.answers) end.moment.heard after
 
--- the bytes say a session, and its lines were written
+-- the bytes are those of a session, and its lines were written
 abbrev pub SessionWritten : Bool → List ℕ → Heard → Heard → Type 0
 SessionWritten whole bytes before after = (steps : List SessionStep) × (session_of bytes ≡ Ok steps) × Written whole steps before after
 
--- memory was refused: at a step, and those before it were taken in turn; or behind the last, and no result line was written
+-- memory ran out: at a step, after those before it were taken in turn; or after the last step, and no result line was
+-- written
 abbrev pub Stopped : List SessionStep → Heard → Heard → Type 0
 Stopped steps before after =
     ((left : Point) × Breaks small_compiler steps (at_first before) left × (after ≡ left.moment.heard))
     ⊎ ((end : Point) × Course small_compiler steps (at_first before) end × (after ≡ end.moment.heard))
 
--- nothing was written; or the bytes say a session, which was run until memory was refused
+-- nothing was written; or the bytes are those of a session, which was run until memory ran out
 abbrev pub SessionStopped : List ℕ → Heard → Heard → Type 0
 SessionStopped bytes before after = (after ≡ before) ⊎ ((steps : List SessionStep) × (session_of bytes ≡ Ok steps) × Stopped steps before after)

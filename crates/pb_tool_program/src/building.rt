@@ -25,7 +25,7 @@ use pb_place::{Moved, Out, PathText, Place, write_all};
 use pb_tool_notes::{Notes, notes_on_build, notes_on_features, notes_on_load, notes_on_plan};
 use std::alloc::{AllocError, Global};
 
-/// The status of a build: 0 where all its units are good, else 101.
+/// Returns the status of a build: 0 if all its units are good, else 101.
 fn status_of(answer: &Result<Summary, BuildFault>) -> u8
     ensures { result ≡ status_of answer.now }
 {
@@ -35,7 +35,7 @@ fn status_of(answer: &Result<Summary, BuildFault>) -> u8
     }
 }
 
-/// Adds the line that a package has no library.
+/// Adds a line for a package without a library.
 fn push_note(notes: &mut String, name: &str) -> Result<(), AllocError>
     ensures { OnOk result (string_bytes notes.new ≡ string_bytes notes.old ++ codes "note: " ++ name.now ++ codes " has no library\n") }
 {
@@ -45,7 +45,7 @@ fn push_note(notes: &mut String, name: &str) -> Result<(), AllocError>
     Ok(())
 }
 
-/// A line for each package to which an enabled dependency leads and that has no library.
+/// Returns a line for each package without a library that an enabled dependency names.
 fn notes_of(alloc: Global, names: &[Text]) -> Result<String, AllocError>
     ensures { IfOk result (λ notes. string_bytes notes ≡ notes_of names.now) }
 {
@@ -56,7 +56,7 @@ fn notes_of(alloc: Global, names: &[Text]) -> Result<String, AllocError>
     Ok(notes)
 }
 
-/// Returns the line of a unit that is built again.
+/// Returns the line of a unit that will be built again.
 fn moved_note(alloc: Global, path: &str, key: &str) -> Result<String, AllocError>
     ensures { IfOk result (λ text. string_bytes text ≡ moved_note path.now key.now) }
 {
@@ -67,7 +67,7 @@ fn moved_note(alloc: Global, path: &str, key: &str) -> Result<String, AllocError
     Ok(text)
 }
 
-/// Adds the line of a unit that is built again.
+/// Adds the line of a unit that will be built again.
 fn push_moved(alloc: Global, notes: &mut String, moved: &Moved) -> Result<(), AllocError>
     ensures { OnOk result (string_bytes notes.new
         ≡ string_bytes notes.old ++ moved_note moved.now.path (last_part moved.now.out)) }
@@ -77,7 +77,8 @@ fn push_moved(alloc: Global, notes: &mut String, moved: &Moved) -> Result<(), Al
     Ok(())
 }
 
-/// Returns a line for each unit that is built again, since something that its child read was changed meanwhile.
+/// Returns a line for each unit that will be built again because something that its child read was
+/// changed meanwhile.
 fn moved_notes(alloc: Global, moved: &[Moved]) -> Result<String, AllocError>
     ensures { IfOk result (λ notes. string_bytes notes ≡ moved_notes moved.now) }
 {
@@ -88,7 +89,8 @@ fn moved_notes(alloc: Global, moved: &[Moved]) -> Result<String, AllocError>
     Ok(notes)
 }
 
-/// Tells what was changed during a build. If memory is refused for that, a line says so, which takes none.
+/// Writes what was changed during a build. If memory runs out for that, it writes a line that needs
+/// no memory.
 fn mark<E: Out>(alloc: Global, err: &mut E, moved: &[Moved])
     ensures { TellsOr moved_lost (moved_notes moved.now) (E.heard err.old) (E.heard err.new) }
 {
@@ -104,7 +106,7 @@ fn mark<E: Out>(alloc: Global, err: &mut E, moved: &[Moved])
     };
 }
 
-/// The line that tells why a build failed.
+/// Returns the line that says why a build failed.
 fn error_of(alloc: Global, answer: &Result<Summary, BuildFault>) -> Result<String, AllocError>
     ensures { IfOk result (λ line. string_bytes line ≡ error_of answer.now) }
 {
@@ -114,9 +116,9 @@ fn error_of(alloc: Global, answer: &Result<Summary, BuildFault>) -> Result<Strin
     Ok(line)
 }
 
-/// Tells which packages that are depended on have no library, as a build's plan names them. Where it names none,
-/// nothing is told, nor where there is no plan: the build then says why. Where memory is refused, that is told, which
-/// takes none.
+/// Writes which packages that are depended on have no library, by the build's plan. It writes
+/// nothing if there are none, or if there is no plan: the build then reports why. If memory runs
+/// out, it writes a line that needs no memory.
 fn note<E: Out>(alloc: Global, err: &mut E, plan: &Result<BuildPlan, BuildFault>)
     ensures { NotesOf plan.now (E.heard err.old) (E.heard err.new) }
 {
@@ -137,14 +139,14 @@ fn note<E: Out>(alloc: Global, err: &mut E, plan: &Result<BuildPlan, BuildFault>
     };
 }
 
-/// Tells that another build has the target folder.
+/// Writes that another build has the target folder.
 fn tell_waiting<E: Out>(err: &mut E)
     ensures { Tells waiting (E.heard err.old) (E.heard err.new) }
 {
     let _ = write_all(err, b"note: another build has the target folder: waiting\n");
 }
 
-/// Takes a folder. Where another build has it, a line says so, and this one waits.
+/// Takes a folder. If another build has it, this writes a line and waits.
 fn take<P: Place, G: Guard<P, E>, E: Out>(guard: &mut G, place: &P, err: &mut E, folder: &PathText)
     ensures { Guarded G.asks G.waits guard.old guard.new (Some folder.now) (P.at place.now).counts (E.heard err.old) (E.heard err.new) }
 {
@@ -154,7 +156,7 @@ fn take<P: Place, G: Guard<P, E>, E: Out>(guard: &mut G, place: &P, err: &mut E,
     }
 }
 
-/// Takes the target folder of a build's plan. Where there is no plan, no folder is asked for.
+/// Takes the target folder of a build's plan. If there is no plan, it asks for no folder.
 fn hold<P: Place, G: Guard<P, E>, E: Out>(
     guard: &mut G,
     place: &P,
@@ -169,8 +171,8 @@ fn hold<P: Place, G: Guard<P, E>, E: Out>(
     }
 }
 
-/// Tells why a build failed, where its status says so. Where memory is refused for that, so much is told, which takes
-/// none.
+/// Writes why a build failed, if its status is not 0. If memory runs out for that, it writes a line
+/// that needs no memory.
 fn tell<E: Out>(alloc: Global, err: &mut E, status: u8, answer: &Result<Summary, BuildFault>)
     ensures { TellsWhy status answer.now (E.heard err.old) (E.heard err.new) }
 {
@@ -183,8 +185,8 @@ fn tell<E: Out>(alloc: Global, err: &mut E, status: u8, answer: &Result<Summary,
     };
 }
 
-/// Tells why a build started what it started, where it came to its end and that is asked for. Where memory is refused
-/// for that, so much is told, which takes none.
+/// Writes why a build started what it started, if it ended without a fault and that is requested.
+/// If memory runs out for that, it writes a line that needs no memory.
 fn explain_to<E: Out>(
     alloc: Global,
     err: &mut E,
@@ -206,8 +208,8 @@ fn explain_to<E: Out>(
     };
 }
 
-/// Tells what the child of a build's bad unit wrote that no message line holds, where it wrote something. Where memory
-/// is refused for that, so much is told, which takes none.
+/// Writes what the child of a build's bad unit printed that no message line contains, if anything.
+/// If memory runs out for that, it writes a line that needs no memory.
 fn repeat_to<E: Out>(alloc: Global, err: &mut E, answer: &Result<Summary, BuildFault>)
     ensures { TellsSaid answer.now (E.heard err.old) (E.heard err.new) }
 {
@@ -224,8 +226,8 @@ fn repeat_to<E: Out>(alloc: Global, err: &mut E, answer: &Result<Summary, BuildF
     };
 }
 
-/// Tells what the fault of a build is about, where it says more than its name. Where memory is refused for that, so much
-/// is told, which takes none.
+/// Writes the detail of a build's fault, if the fault has more than a name. If memory runs out for
+/// that, it writes a line that needs no memory.
 fn tell_detail<E: Out>(alloc: Global, err: &mut E, answer: &Result<Summary, BuildFault>)
     ensures { TellsDetail answer.now (E.heard err.old) (E.heard err.new) }
 {
@@ -252,8 +254,8 @@ fn look_at_refusal<P: Place>(
     }
 }
 
-/// Looks again at the workspace of a build that was refused or came to its end, for notes on it. After a fault the place
-/// is asked for nothing.
+/// Looks again at the workspace of a build that was refused or ended without a fault, for notes on
+/// it. After any other fault it makes no call of the place.
 fn look<P: Place>(
     alloc: Global,
     place: &mut P,
@@ -270,7 +272,8 @@ fn look<P: Place>(
     }
 }
 
-/// Tells the notes of a second look, if there are some. If memory is refused for them, a line says so, which takes none.
+/// Writes the notes of a second look, if there are any. If memory runs out for them, it writes a
+/// line that needs no memory.
 fn tell_notes<E: Out>(alloc: Global, err: &mut E, notes: &Notes)
     ensures { TellsOr look_lost (lines_of notes.now) (E.heard err.old) (E.heard err.new) }
 {
@@ -283,7 +286,7 @@ fn tell_notes<E: Out>(alloc: Global, err: &mut E, notes: &Notes)
     };
 }
 
-/// Tells what there is to tell behind a build, and gives its status.
+/// Writes what is written after a build, and returns its status.
 fn conclude<E: Out>(
     alloc: Global,
     err: &mut E,
@@ -302,13 +305,22 @@ fn conclude<E: Out>(
     status
 }
 
-/// Builds, and gives the status: 0 for success, 101 for a build that failed or was refused, with `error: ` and its
-/// result line on `err`. Message lines go to `out` in plan order, as they are due. Before the build a line `note: NAME has no library`
-/// goes to `err` for each package to which an enabled dependency leads and that has no library; behind it what was
-/// changed while a unit was built that read it, which is then built again by the next build; where that
-/// is asked for, why each child was started; what the child of a bad unit wrote that no message line holds; and what
-/// the fault is about, as the path of a manifest, where it says more than its name, with notes of a second look. Between the plan and the compiler's query the guard is asked for the target folder; where another build has it, a line on
-/// `err` says so, and this one waits.
+/// Builds, and returns the status: 0 for success, 101 for a build that failed or was refused.
+///
+/// Message lines go to `out` in plan order, as they are due. These go to `err`:
+///
+/// - Before the build, a line `note: NAME has no library` for each package without a library that
+///   an enabled dependency names.
+/// - After it, what was changed while a unit was built that read it; the next build builds that
+///   unit again.
+/// - If requested, why each child was started.
+/// - What the child of a bad unit printed that no message line contains.
+/// - The detail of the fault, as the path of a manifest, if the fault has more than a name, and the
+///   notes of a second look.
+/// - For a build that failed or was refused, `error: ` and its result line.
+///
+/// Between the plan and the query of the compiler's version, the guard is asked for the target
+/// folder. If another build has it, a line on `err` says so, and this build waits.
 pub fn build_options<P: Place, G: Guard<P, E>, O: Out, E: Out>(
     alloc: Global,
     place: &mut P,

@@ -1,4 +1,4 @@
-//! What is told of a build that failed beside its result line: what its fault is about.
+//! What is written about a failed build besides its result line: the detail of its fault.
 
 ghost use Rattle.std.specs.Prelude.{◌≡◌, ◌≢◌, [], ◌++◌, IfOk, IfErr, OnOk, string_bytes};
 ghost use Rattle.pb_tool_program.specs.Details.{line_note, line_detail, unit_detail, bad_detail, key_note, manifest_detail, load_detail, spaced, circle_note, plan_detail, refusal_detail, place_detail, device_detail, fault_detail, detail};
@@ -13,14 +13,14 @@ use pb_project::UnitFault;
 use pb_unit::PlanFault;
 use std::alloc::{AllocError, Global};
 
-/// The note of a line of a script's output.
+/// Returns the note on a line of a script's output.
 fn line_note(alloc: Global, number: u64) -> Result<String, AllocError>
     ensures ok { IfOk result (λ text. string_bytes text ≡ line_note number) }
 {
     format!(in alloc; "note: line {number} of its output\n")
 }
 
-/// What a line's fault is about: the line.
+/// Returns the detail of a line's fault: the line.
 fn line_detail(alloc: Global, fault: LineFault) -> Result<String, AllocError>
     ensures ok { IfOk result (λ text. string_bytes text ≡ line_detail fault) }
     ensures some { IfErr result (λ _. line_detail fault ≢ []) }
@@ -34,7 +34,7 @@ fn line_detail(alloc: Global, fault: LineFault) -> Result<String, AllocError>
     }
 }
 
-/// What a unit's fault is about: a line, or a path in the target folder.
+/// Returns the detail of a unit's fault: a line, or a path in the target folder.
 fn unit_detail(alloc: Global, fault: &UnitFault) -> Result<String, AllocError>
     ensures ok { IfOk result (λ text. string_bytes text ≡ unit_detail fault.now) }
     ensures some { IfErr result (λ _. unit_detail fault.now ≢ []) }
@@ -48,7 +48,7 @@ fn unit_detail(alloc: Global, fault: &UnitFault) -> Result<String, AllocError>
     }
 }
 
-/// What the fault of a build's bad unit is about.
+/// Returns the detail of the fault of a build's bad unit.
 fn bad_detail(alloc: Global, summary: &Summary) -> Result<String, AllocError>
     ensures ok { IfOk result (λ text. string_bytes text ≡ bad_detail summary.now.bad) }
     ensures some { IfErr result (λ _. bad_detail summary.now.bad ≢ []) }
@@ -59,7 +59,7 @@ fn bad_detail(alloc: Global, summary: &Summary) -> Result<String, AllocError>
     }
 }
 
-/// The note of a key of a manifest.
+/// Returns the note on a key of a manifest.
 fn key_note(alloc: Global, path: &str, key: &str) -> Result<String, AllocError>
     ensures { IfOk result (λ text. string_bytes text ≡ key_note path.now key.now) }
 {
@@ -70,7 +70,7 @@ fn key_note(alloc: Global, path: &str, key: &str) -> Result<String, AllocError>
     Ok(text)
 }
 
-/// What a manifest's fault is about: the manifest, and of `BadKind` the key.
+/// Returns the detail of a manifest's fault: the manifest, and for `BadKind` the key.
 fn manifest_detail(
     alloc: Global,
     path: &PathText,
@@ -85,7 +85,7 @@ fn manifest_detail(
     }
 }
 
-/// What a refusal of the loader is about: a manifest.
+/// Returns the detail of a refusal of the loader: a manifest.
 fn load_detail(alloc: Global, fault: &LoadFault) -> Result<String, AllocError>
     ensures ok { IfOk result (λ text. string_bytes text ≡ load_detail fault.now) }
     ensures some { IfErr result (λ _. load_detail fault.now ≢ []) }
@@ -99,7 +99,7 @@ fn load_detail(alloc: Global, fault: &LoadFault) -> Result<String, AllocError>
     }
 }
 
-/// Adds names, each with a blank before it.
+/// Adds names, each after a blank.
 fn push_names(text: &mut String, names: &[Text]) -> Result<(), AllocError>
     ensures { OnOk result (string_bytes text.new ≡ string_bytes text.old ++ spaced names.now) }
 {
@@ -110,7 +110,7 @@ fn push_names(text: &mut String, names: &[Text]) -> Result<(), AllocError>
     Ok(())
 }
 
-/// The note of packages that depend on one another.
+/// Returns the note on packages that depend on one another.
 fn circle_note(alloc: Global, names: &[Text]) -> Result<String, AllocError>
     ensures { IfOk result (λ text. string_bytes text ≡ circle_note names.now) }
 {
@@ -120,7 +120,7 @@ fn circle_note(alloc: Global, names: &[Text]) -> Result<String, AllocError>
     Ok(text)
 }
 
-/// What a refusal of the plan is about: the packages of a circle.
+/// Returns the detail of a refusal of the plan: the packages of a cycle.
 fn plan_detail(alloc: Global, fault: &PlanFault) -> Result<String, AllocError>
     ensures ok { IfOk result (λ text. string_bytes text ≡ plan_detail fault.now) }
     ensures some { IfErr result (λ _. plan_detail fault.now ≢ []) }
@@ -131,7 +131,7 @@ fn plan_detail(alloc: Global, fault: &PlanFault) -> Result<String, AllocError>
     }
 }
 
-/// What a refusal is about.
+/// Returns the detail of a refusal.
 fn refusal_detail(alloc: Global, refusal: &Refusal) -> Result<String, AllocError>
     ensures ok { IfOk result (λ text. string_bytes text ≡ refusal_detail refusal.now) }
     ensures some { IfErr result (λ _. refusal_detail refusal.now ≢ []) }
@@ -143,7 +143,7 @@ fn refusal_detail(alloc: Global, refusal: &Refusal) -> Result<String, AllocError
     }
 }
 
-/// Which call of the place failed.
+/// Returns which call of the place failed.
 fn place_detail(alloc: Global, fault: PlaceFault) -> Result<String, AllocError>
     ensures ok { IfOk result (λ text. string_bytes text ≡ place_detail fault) }
     ensures some { IfErr result (λ _. place_detail fault ≢ []) }
@@ -160,7 +160,7 @@ fn place_detail(alloc: Global, fault: PlaceFault) -> Result<String, AllocError>
     }
 }
 
-/// What a call's fault is about: which call it was.
+/// Returns the detail of a call's fault: which call it was.
 fn device_detail(alloc: Global, fault: DeviceFault) -> Result<String, AllocError>
     ensures ok { IfOk result (λ text. string_bytes text ≡ device_detail fault) }
     ensures some { IfErr result (λ _. device_detail fault ≢ []) }
@@ -171,7 +171,7 @@ fn device_detail(alloc: Global, fault: DeviceFault) -> Result<String, AllocError
     }
 }
 
-/// What is told of a build that ended without a summary.
+/// Returns the detail of a build that ended without a summary.
 fn fault_detail(alloc: Global, fault: &BuildFault) -> Result<String, AllocError>
     ensures ok { IfOk result (λ text. string_bytes text ≡ fault_detail fault.now) }
     ensures some { IfErr result (λ _. fault_detail fault.now ≢ []) }
@@ -183,10 +183,17 @@ fn fault_detail(alloc: Global, fault: &BuildFault) -> Result<String, AllocError>
     }
 }
 
-/// What is told of a build that failed beside its result line: a line with what its fault is about, where the fault
-/// has more than its name; else nothing. That is the path of a manifest, of `BadKind` with the key; the packages of a
-/// circle; which call failed; the number of a line of a script's output; an input in the target folder. The words are our own choice. The one error is want of memory, which comes only where there is something
-/// to tell.
+/// Returns what is written about a failed build besides its result line: a line with the detail of
+/// its fault, or nothing if the fault has no more than a name. The words are our own choice. The
+/// detail is:
+///
+/// - the path of a manifest, and for `BadKind` the key;
+/// - the packages of a cycle;
+/// - which call failed;
+/// - the number of a line of a script's output;
+/// - an input in the target folder.
+///
+/// Errors: only out of memory, and only if there is something to write.
 pub(crate) fn detail(
     alloc: Global,
     answer: &Result<Summary, BuildFault>,

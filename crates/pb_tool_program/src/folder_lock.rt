@@ -10,16 +10,19 @@ use std::io::ErrorKind;
 use std::os::unix::fs::MetadataExt;
 use std::{fs, io};
 
-/// A lock of the system on a target folder itself, which leaves no file behind. It is held until this is dropped or the
-/// process ends, however that comes about; no child has it. A folder that is not there yet is made. One that cannot be
-/// made or locked is not guarded: the build goes on, and says itself what is wrong with the folder.
+/// A lock of the system on a target folder itself, which leaves no file.
 ///
-/// The folder that is locked is the one to which the path leads once the lock is held: if another took its place
-/// meanwhile, that one is locked.
+/// The lock lasts until this is dropped or the process ends, however that happens; no child has it.
+/// A folder that does not exist is made. A folder that cannot be made or locked is not guarded: the
+/// build goes on, and reports itself what is wrong with the folder.
 ///
-/// A folder that is held and empty gets the tag of a target folder, `CACHEDIR.TAG`, so that programs do not back it up,
-/// and builds do not take it for sources. The tag of another program gets one line more. A folder with other files and
-/// without a tag gets none: it may be somebody's own. A tag that cannot be written is none.
+/// The locked folder is the one to which the path leads once the lock is taken: if another folder
+/// replaced it meanwhile, that one is locked.
+///
+/// A locked and empty folder gets the tag of a target folder, `CACHEDIR.TAG`, so that programs do
+/// not back it up, and builds do not take it for sources. The tag of another program gets one more
+/// line. A folder with other files and without a tag gets none: it may be somebody's own. If the
+/// tag cannot be written, there is none.
 #[derive(Drop)]
 pub(crate) struct FolderLock<'a> {
     runtime: &'a HostRuntime,
@@ -28,7 +31,7 @@ pub(crate) struct FolderLock<'a> {
 }
 
 impl<'a> FolderLock<'a> {
-    /// Returns a guard that holds no folder.
+    /// Returns a guard that has no folder.
     pub(crate) fn new(runtime: &'a HostRuntime) -> FolderLock<'a> {
         FolderLock {
             runtime,
@@ -51,7 +54,7 @@ impl<'a> FolderLock<'a> {
         }
     }
 
-    /// Opens a folder and tries to lock it. Returns whether another has it.
+    /// Opens a folder and tries to lock it. Returns whether another process has it.
     fn try_lock(&mut self, path: &str) -> io::Result<bool> {
         for _ in 0..u64::MAX {
             let folder = self.open(path)?;
@@ -60,7 +63,7 @@ impl<'a> FolderLock<'a> {
                     self.folder = Some(folder);
                     return Ok(false);
                 }
-                // Another folder stands there now.
+                // Another folder is there now.
                 Ok(()) => {}
                 Err(TryLockError::WouldBlock) => return Ok(true),
                 Err(TryLockError::Error(error)) => return Err(error),
@@ -82,13 +85,13 @@ impl<'a> FolderLock<'a> {
         Ok(())
     }
 
-    /// Returns whether nothing is in a folder.
+    /// Returns whether a folder is empty.
     fn is_empty(&self, folder: &str) -> io::Result<bool> {
         let mut entries = fs::read_dir(&self.runtime, folder)?;
         Ok(entries.next().is_none())
     }
 
-    /// Puts the tag in a folder that is held, if that is empty, or has the tag of another program.
+    /// Puts the tag into a locked folder that is empty or has the tag of another program.
     fn mark(&self, folder: &str) -> io::Result<()> {
         let path = format!(in self.runtime.alloc(); "{folder}/{TAG_NAME}")?;
         if self.is_empty(folder)? {

@@ -11,13 +11,13 @@ use pb_screen::{Rendered, Spoken};
 use std::io::ErrorKind;
 use std::{env, io};
 
-/// The words of the command line, the program's own name first.
+/// Returns the arguments of the command line, the program's own name first.
 fn words(rt: &HostRuntime) -> io::Result<Vec<String>> {
     let words = env::args(rt)?.collect(rt.alloc())?;
     Ok(words)
 }
 
-/// The current folder.
+/// Returns the current folder.
 fn folder(rt: &HostRuntime) -> io::Result<PathText> {
     let path = env::current_dir(rt)?;
     match PathText::parse(rt.alloc(), path.as_str()) {
@@ -27,20 +27,22 @@ fn folder(rt: &HostRuntime) -> io::Result<PathText> {
     }
 }
 
-/// Says on standard error why nothing was done.
+/// Writes to standard error why nothing was done.
 fn say(rt: &HostRuntime, text: &str) {
     let _ = write_all(&mut Over::new(rt.stderr()), text.as_bytes());
 }
 
-/// Says that memory was refused, and gives the status for it.
+/// Writes that memory ran out, and returns the status for it.
 fn out_of_memory(rt: &HostRuntime) -> u8 {
     say(rt, "error: fault memory OutOfMemory\n");
     FAILED
 }
 
-/// Does what the words of this process ask for, over its files, variables and children, and gives the status to end
-/// with: that of `run`; 1 where a word is not UTF-8; 101 where the current folder is not known, or memory is refused
-/// for these. Each is said on standard error.
+/// Does what the arguments of this process request, over its files, variables and children, and
+/// returns the exit status.
+///
+/// The status is that of `run`; 1 if an argument is not UTF-8; 101 if the current folder is
+/// unknown, or memory runs out for these. Each reason is written to standard error.
 pub fn tool(rt: &HostRuntime) -> u8 {
     let words = match words(rt) {
         Ok(words) => words,

@@ -9,7 +9,7 @@ use pb_explained::{Page, meaning, near};
 use pb_place::{Out, write_all};
 use std::alloc::{AllocError, Global};
 
-/// Says what names a word is near.
+/// Returns the text that names the most similar name.
 fn near_told(alloc: Global, near: Option<&str>) -> Result<String, AllocError>
     ensures { IfOk result
         (λ text. string_bytes text ≡ near_told (option_map (λ name. name.now) near.entry)) }
@@ -23,7 +23,7 @@ fn near_told(alloc: Global, near: Option<&str>) -> Result<String, AllocError>
     Ok(text)
 }
 
-/// Says that a page has no such name, and which it has that is near.
+/// Returns the line that a page has no such name, with its most similar name.
 fn no_such_name(alloc: Global, page: &Page, name: &str) -> Result<String, AllocError>
     ensures { IfOk result
         (λ text. string_bytes text ≡ no_such_name (near_in page.now name.now) name.now) }
@@ -37,7 +37,7 @@ fn no_such_name(alloc: Global, page: &Page, name: &str) -> Result<String, AllocE
     Ok(text)
 }
 
-/// Tells that a page has no such name, or that memory was refused for that, and gives the status.
+/// Writes that a page has no such name, or that memory ran out for that, and returns the status.
 fn miss<E: Out>(alloc: Global, page: &Page, name: &str, err: &mut E) -> u8
     ensures { Unmeant (near_in page.now name.now) name.now result
         (E.heard err.old) (E.heard err.new) }
@@ -54,7 +54,7 @@ fn miss<E: Out>(alloc: Global, page: &Page, name: &str, err: &mut E) -> u8
     }
 }
 
-/// Prints what a name of a result line means, as a page says it.
+/// Prints what a name of a result line means, as in a page.
 pub(crate) fn mean<O: Out, E: Out>(
     alloc: Global,
     page: &Page,

@@ -1,4 +1,4 @@
-//! How many processors there are.
+//! The number of processors.
 
 use std::fs;
 
@@ -13,7 +13,7 @@ fn in_range(range: &str) -> Option<u64> {
     last.checked_sub(first)?.checked_add(1)
 }
 
-/// Returns how many numbers a list of ranges has, with commas between them.
+/// Returns how many numbers a list of ranges, separated by commas, has.
 fn in_list(list: &str) -> Option<u64> {
     let mut count = 0u64;
     for range in list.split(',') {
@@ -22,15 +22,16 @@ fn in_list(list: &str) -> Option<u64> {
     Some(count)
 }
 
-/// Returns how many processors a process may use, by what Linux says of its state.
+/// Returns how many processors a process may use, by its status as Linux reports it.
 fn in_status(status: &str) -> Option<u64> {
     let (_, rest) = status.split_once("\nCpus_allowed_list:")?;
     let line = rest.lines().next()?;
     in_list(line.trim())
 }
 
-/// Returns how many processors this process may use, as `/proc/self/status` says it. Where it does not, as on another
-/// system than Linux, that is 1. (std tells the number only to programs that may start threads.)
+/// Returns how many processors this process may use, by `/proc/self/status`. If that does not say,
+/// as on a system other than Linux, it returns 1. (std returns the number only to programs that may
+/// start threads.)
 pub(crate) fn processors(rt: &HostRuntime) -> u64 {
     let Ok(status) = fs::read_to_string(rt, "/proc/self/status") else {
         return 1;

@@ -18,7 +18,7 @@ use pb_screen::{Screen, Speaking};
 use std::alloc::Global;
 use std::convert::AsStr;
 
-/// The status where memory is refused, or the current folder is not known, before a build.
+/// The status if memory runs out, or the current folder is unknown, before a build.
 pub(crate) const FAILED: u8 = 101;
 
 /// The status of a bad command line.
@@ -42,7 +42,7 @@ fn run_file<P: Place, O: Out, E: Out>(
     }
 }
 
-/// Prints what there is to say of a command line that asks for nothing: help to `out`, what is wrong to `err`.
+/// Prints the text for a command line that requests nothing: help to `out`, what is wrong to `err`.
 fn explain<O: Out, E: Out>(unasked: &Unasked, out: &mut O, err: &mut E) -> u8
     ensures { Explains unasked.now result
         (O.heard out.old) (O.heard out.new)
@@ -67,7 +67,7 @@ fn explain<O: Out, E: Out>(unasked: &Unasked, out: &mut O, err: &mut E) -> u8
     }
 }
 
-/// Tells the place and the sink of the lines what is shown of a build, and builds.
+/// Sets what the place and the sink of the lines show of a build, and builds.
 fn build<P: Speaking, G: Guard<P, E>, O: Screen, E: Out>(
     alloc: Global,
     place: &mut P,
@@ -89,14 +89,19 @@ fn build<P: Speaking, G: Guard<P, E>, O: Screen, E: Out>(
     build_options(alloc, place, guard, out, err, options, shown.explain)
 }
 
-/// The whole program: does what the words of the command line ask for, the program's own name first. A build asks the
-/// guard for its target folder, once it is planned, what is shown of it
-/// beside its lines is told to the place (its children) and to `out` (its lines, as text). What a name of a result line
-/// means is what the page says.
+/// The whole program: does what the arguments of the command line request, the program's own name
+/// first.
 ///
-/// The status is that of `build_options` or `run_session`; 1 for a bad command line, and for a name that the page does
-/// not have; 0 where help or a name's meaning was asked for, 1 where it cannot be written; 101 where memory is refused
-/// before.
+/// A build asks the guard for its target folder, once it is planned. What it shows beside its lines
+/// is set at the place (its children) and at `out` (its lines, as text). The page contains the
+/// meanings of the names of result lines.
+///
+/// The status is:
+///
+/// - that of `build_options` or `run_session`;
+/// - 1 for a bad command line, and for a name that the page does not have;
+/// - 0 if help or a name's meaning was requested, 1 if it cannot be written;
+/// - 101 if memory runs out before.
 pub fn run<S: AsStr, P: Speaking, G: Guard<P, E>, O: Screen, E: Out>(
     alloc: Global,
     words: &[S],

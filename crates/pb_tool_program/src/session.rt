@@ -14,7 +14,7 @@ use pb_place::{Out, write_all};
 use pb_session::{BadSession, read_session};
 use std::alloc::{AllocError, Global};
 
-/// Says that a session is bad, and gives the status for it.
+/// Writes that a session is bad, and returns the status for it.
 pub fn refuse<E: Out>(err: &mut E) -> u8
     ensures status { result ≡ 1 }
     ensures told { Refused (E.heard err.old) (E.heard err.new) }
@@ -23,7 +23,7 @@ pub fn refuse<E: Out>(err: &mut E) -> u8
     1
 }
 
-/// The result lines of builds, each with a line feed.
+/// Returns the result lines of builds, each followed by a line feed.
 fn result_lines(alloc: Global, answers: &[Answer]) -> Result<String, AllocError>
     ensures { IfOk result (λ lines. string_bytes lines ≡ lines_of answers.now) }
 {
@@ -36,7 +36,9 @@ fn result_lines(alloc: Global, answers: &[Answer]) -> Result<String, AllocError>
     Ok(lines)
 }
 
-/// Writes the result lines of builds, and says whether the sink took them. Want of memory comes before all writing.
+/// Writes the result lines of builds, and returns whether the sink took them.
+///
+/// Errors: only out of memory, before anything is written.
 pub fn write_results<O: Out>(
     alloc: Global,
     answers: &[Answer],
@@ -49,7 +51,7 @@ pub fn write_results<O: Out>(
     Ok(write_all(out, lines.as_bytes()))
 }
 
-/// Runs a session and writes its lines. Whether all result lines were written.
+/// Runs a session and writes its lines. Returns whether all result lines were written.
 fn carry_out<O: Out>(alloc: Global, bytes: &[u8], out: &mut O) -> Result<bool, BadSession>
     ensures written { IfOk result (λ whole. SessionWritten whole bytes.now (O.heard out.old) (O.heard out.new)) }
     ensures stopped { OnErr result (SessionStopped bytes.now (O.heard out.old) (O.heard out.new)) }
@@ -63,14 +65,18 @@ fn carry_out<O: Out>(alloc: Global, bytes: &[u8], out: &mut O) -> Result<bool, B
     Ok(written)
 }
 
-/// The session program: reads a session from bytes, runs it in memory with the small compiler as its child,
-/// and writes to `out` all message lines of its builds and then one result line a build, each with a line
-/// feed.
+/// The session program: reads a session from bytes, runs it in memory with the small compiler as
+/// its child, and writes to `out` all message lines of its builds and then one result line for each
+/// build, followed by a line feed.
 ///
-/// The status is 0, or 1 with `error: bad session` and a line feed on `err`: where the bytes are no session,
-/// of which nothing is run and nothing is written to `out`; where memory is refused outside a build; and
-/// where a result line cannot be written. What `out` has then are the first of the session's lines, as far as it was run
-/// and the sink took them. A build that is refused or fails is no bad session: its result line says so.
+/// The status is 0, or 1 with `error: bad session` and a line feed on `err`. It is 1 if:
+///
+/// - the bytes are not a session; then nothing is run and nothing is written to `out`;
+/// - memory runs out outside a build;
+/// - a result line cannot be written.
+///
+/// `out` then has the first of the session's lines, as far as it was run and the sink took them. A
+/// build that is refused or fails does not make a session bad: its result line reports it.
 pub fn run_session<O: Out, E: Out>(alloc: Global, bytes: &[u8], out: &mut O, err: &mut E) -> u8
     ensures status { (result ≡ 0) ⊎ (result ≡ 1) }
     ensures written { result ≡ 0 → SessionWritten true bytes.now (O.heard out.old) (O.heard out.new) }

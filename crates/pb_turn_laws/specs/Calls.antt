@@ -1,4 +1,4 @@
--- What is told of a call on files or variables that failed.
+-- What is reported of a call on files or variables that failed.
 use Rattle.std.specs.Prelude.{◌≡◌, ℕ, List, []}
 use Rattle.std.specs.Option.{option_map_or}
 use Rattle.pb_place.specs.CallsInTurn.{own_fault}
@@ -8,7 +8,7 @@ use Rattle.pb_place.specs.declared.call.Call.TheVariants as call
 use Rattle.pb_place.specs.declared.place.PlaceFault.{PlaceFault}
 use Rattle.pb_place.specs.declared.place.PlaceFault.TheVariants as place
 
--- a call, the fault that says that it failed, and what it was given: a path, a folder or a name
+-- a call, the fault of its failure, and its argument: a path, a folder or a name
 pub data IsCall : Call → PlaceFault → List ℕ → Type 0 where
   read : (path : List ℕ) → IsCall (call.Read path) place.Read path
   is_file : (path : List ℕ) → IsCall (call.IsFile path) place.Read path
@@ -20,6 +20,6 @@ pub data IsCall : Call → PlaceFault → List ℕ → Type 0 where
   remove : (path : List ℕ) → IsCall (call.Remove path) place.Remove path
   variable : (name : List ℕ) → IsCall (call.Variable name) place.Variable name
 
--- Of each call that is told; and of counters what the last call was given that failed.
+-- Each call has this fault and this argument; and counters have the argument of the last call that failed.
 abbrev pub CallsAreTold : Type 0
 CallsAreTold = ((c : Call) → IsCall c (own_fault c) (name_given c)) × ((counts : Counts) → named_in counts ≡ option_map_or name_given counts.failing [])

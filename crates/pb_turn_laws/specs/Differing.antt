@@ -1,4 +1,4 @@
--- What differs first of a unit from its record: the first of all that is looked at, in this order.
+-- The first difference between a unit and its record: the first of all that is compared, in this order.
 use Rattle.std.specs.Prelude.{◌≡◌, ◌↔◌, ℕ, List, Option, Some, None, slice_get, take}
 use Rattle.std.specs.List.{AllByRecursion}
 use Rattle.pb_place.specs.World.{World}
@@ -16,11 +16,12 @@ use Rattle.pb_store.specs.declared.difference.CommandPart.{CommandPart}
 use Rattle.pb_store.specs.declared.difference.Difference.{Difference}
 use Rattle.pb_store.specs.declared.difference.Difference.TheVariants.{NoRecord, Command, Pair, Input, Dependency}
 
--- of a row this is the first of which it does not hold, and what is told of it
+-- this is the first item of a row for which `Holds` is false, as it is reported
 abbrev pub IsFirstOf : {A B : Type 0} → (A → Type 0) → (A → B) → List A → B → Type 0
 IsFirstOf {A} Holds told row b = (n : ℕ) × (here : A) × (slice_get row n ≡ Some here) × (Holds here → ⊥) × AllByRecursion Holds (take n row) × (b ≡ told here)
 
--- no record counts; a part of the command differs, its variables apart; then a variable; then an input; then a unit that is needed, by its number or by its files; or nothing differs
+-- no record counts; or, in this order, a part of the command differs, then a variable, then an input, then a needed
+-- unit by its number or by its files; or nothing differs
 pub data Differs (folder : List ℕ) (at : Standing) (c : commands.Command) (w : World) : Option Record → Option Difference → Type 0 where
   no_record : Differs folder at c w None (Some NoRecord)
   part : (r : Record) (p : CommandPart) (first : IsFirstOf (SamePart r.asked c) (λ p. p) parts p) → Differs folder at c w (Some r) (Some (Command p))
@@ -32,7 +33,7 @@ pub data Differs (folder : List ℕ) (at : Standing) (c : commands.Command) (w :
       (key : List ℕ) (first : IsFirstOf (HasFiles folder w.files) (λ copy. copy.0) copies key) → Differs folder at c w (Some r) (Some (Dependency key))
   nothing : (r : Record) (is : IsAsRecorded folder at c w r) → Differs folder at c w (Some r) None
 
--- This is the first difference of a unit, by the record that counts in its place and those of the units that it needs.
+-- This is the first difference of a unit, by the record that counts for it and those of the units that it needs.
 abbrev pub DifferencesAreThese : Type 0
 DifferencesAreThese = (folder key : List ℕ) (c : commands.Command) (w : World) (found : Option Difference)
     → FirstDifference folder key c w found ↔ Differs folder (records folder w) c w (records folder w key) found

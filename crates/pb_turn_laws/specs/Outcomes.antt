@@ -1,4 +1,5 @@
--- What each unit of a build gives, from the units before it, the child and the sources; and which inputs are found in a reply.
+-- The outcome of each unit of a build, from the units before it, the child and the sources; and which inputs are found
+-- in a reply.
 use Rattle.std.specs.Prelude.{◌≡◌, ◌↔◌, ℕ, Bool, true, false, if◌then◌else◌, IsOkAnd, List, length, Option, Some, Result, Ok, Err, option_and_then, slice_get, take}
 use Rattle.std.specs.FinMap as finite
 use Rattle.std.specs.List.{list_all}
@@ -22,35 +23,39 @@ use Rattle.pb_turn_laws.specs.Telling.{told_badly, told_well}
 use Rattle.pb_unit.specs.Plan.{IsPlan}
 use Rattle.pb_unit.specs.declared.plan.Planned.{Planned}
 
--- the answer in a child's reply to a unit's command, by how the child ended and by the dep-info that it left
+-- the answer in a child's reply to a unit's command: it depends on how the child ended, and on the dep-info that it
+-- left
 abbrev pub answer_in : Project → Planned → Command → Reply → Result Answered UnitFault
 answer_in project u c r = answered_of project u c (ended_by r) (option_and_then (finite.get (replied_files u.out r)) (dep_info_of project u))
 
--- what a unit gives by its reply and the answer in it: the files of its output folder, a run's directives, and what it tells; or why it is bad, and what it tells
+-- the outcome of a unit by its reply and the answer in it: good, with the files of its output folder, a run's
+-- directives and its messages; or bad, with the reason and its messages
 abbrev pub given_by : Project → Planned → Reply → Result Answered UnitFault → Outcome
 given_by project u r (Ok answered) = Good (replied_files u.out r) answered.directives (told_well project u r.stderr answered.directives)
 given_by project u r (Err fault) = Bad record { fault = fault; said = (told_badly u.unit.what fault r.stdout r.stderr).1 } (told_badly u.unit.what fault r.stdout r.stderr).0
 
--- what it gives by the reply to its command
+-- the outcome of a unit by the reply to its command
 abbrev pub given_to : Project → Planned → Command → Reply → Outcome
 given_to project u c r = given_by project u r (answer_in project u c r)
 
--- a unit is good that has given its files
+-- a unit is good if it has produced its files
 abbrev pub has_given : Option Outcome → Bool
 has_given (Some (Good files directives messages)) = true
 has_given _ = false
 
--- what a unit gives after these outcomes: nothing as yet where a need is not good; else what comes of the child's reply to its command in its view
+-- the outcome of a unit after these outcomes: none yet if a unit that it needs is not good; else the outcome of the
+-- child's reply to its command in its view
 abbrev pub outcome_after : Answers → Setup → Project → World → List Outcome → Planned → Outcome
 outcome_after child setup project sources done u =
     if list_all (λ place. has_given (slice_get done place)) u.needs then given_to project u (command_after setup project done u) (child (command_after setup project done u) (view_of done sources u)) else Waiting
 
--- Outcomes are those of a build exactly where there is one for each unit of the plan, by those before it.
+-- Outcomes are those of a build if and only if there is one for each unit of the plan, and each follows from those
+-- before it.
 abbrev pub OutcomesAreThese : Type 0
 OutcomesAreThese = (child : Answers) (setup : Setup) (project : Project) (sources : World) (os : List Outcome) → (os ≡ outcomes child setup project sources)
     ↔ ((length os ≡ length project.plan.planned) × ((place : ℕ) (u : Planned) → slice_get project.plan.planned place ≡ Some u → slice_get os place ≡ Some (outcome_after child setup project sources (take place os) u)))
 
--- These names of inputs are found in a reply to the command of a unit of a plan exactly where they are those of a good answer in it.
+-- Inputs are found in a reply to the command of a unit of a plan if and only if they are those of a good answer in it.
 abbrev pub InputsAreJudged : Type 0
 InputsAreJudged = (setup : Setup) (project : Project) (u : Planned) (done : List (Option (List Directive))) (selection : Selection) (place : ℕ) (r : Reply) (names : List InputName)
     → IsSettled project.workspace → IsPlan project.workspace project.features selection project.profile project.plan → slice_get project.plan.planned place ≡ Some u

@@ -1,4 +1,4 @@
--- Where the units of a build stand, and how they are called.
+-- The states of the units of a build, and the names of the units.
 use Rattle.std.specs.Prelude.{◌≡◌, ◌↔◌, ◌+◌, ℕ, Bool, true, false, if◌then◌else◌, is_some, List, map, None, Some, slice_get}
 use Rattle.std.specs.List.{prefix_len}
 use Rattle.std.specs.Option.{option_map_or, option_to_list}
@@ -19,16 +19,18 @@ use Rattle.pb_unit.specs.declared.plan.Planned.{Planned}
 abbrev pub HasAnswered : State BadUnit → Bool → Type 0
 HasAnswered s bad = (answer : Answer BadUnit) × (s ≡ Answered answer) × (is_some answer.fault ≡ bad)
 
--- A unit has not begun just where it is untouched; it is bad or good just where it has answered so; what is no unit is not good.
+-- A unit has not begun if and only if it is untouched. It is bad or good if and only if it has answered so. An index
+-- without a unit is not good.
 abbrev pub StatesAreThese : Type 0
 StatesAreThese = (is_good_at {F = BadUnit} None ≡ false)
     × ((s : State BadUnit) → ((is_untouched s ≡ true) ↔ (s ≡ Untouched)) × ((is_bad s ≡ true) ↔ HasAnswered s true) × ((is_good_at (Some s) ≡ true) ↔ HasAnswered s false))
 
--- Units count from the start of plan order up to the first that is not good, and with it where it is bad; all have come to their end where it is bad, or where each is good.
+-- The units that count are those before the first that is not good, in plan order, and that one too if it is bad.
+-- The build is finished if that unit is bad, or if each unit is good.
 abbrev pub EndsAreThese : Type 0
 EndsAreThese = (states : List (State BadUnit)) → let first = prefix_len (λ s. is_good_at (Some s)) states in
     (count_due states ≡ first + (if option_map_or is_bad (slice_get states first) false then 1 else 0)) × (is_finished states ≡ option_map_or is_bad (slice_get states first) true)
 
--- The key of the unit at a place, where there is one; and an outcome is bad where it has a fault.
+-- The key at an index is that of its unit, if there is one; and an outcome is bad if and only if it has a fault.
 abbrev pub RowsAreThese : Type 0
 RowsAreThese = ((project : Project) (place : ℕ) → key_at project place ≡ map (λ (u : Planned). u.key) (option_to_list (unit_at project place))) × ((o : Outcome) → rows.is_bad o ≡ is_some (fault_in o))

@@ -1,4 +1,4 @@
--- A moment of a build, and what a crew of units holds of its place.
+-- A moment of a build, and what a crew of units knows about its place.
 use Rattle.std.specs.Prelude.{ℕ, ◌≡◌, ◌≢◌, ◌∷◌, [], Bool, IsTrue, List, map, length, Option, Some, None, is_some, slice_get}
 use Rattle.std.specs.List.{flat_map, AllByRecursion}
 use Rattle.pb_flight.specs.Table.{if_so}
@@ -20,7 +20,7 @@ use Rattle.pb_turns.specs.declared.crew.Aloft.{Aloft}
 use Rattle.pb_turns.specs.declared.crew.UnitCrew.{UnitCrew}
 use Rattle.pb_unit.specs.declared.plan.Planned.{Planned}
 
--- the world, the counters of the place, the most children that ever were in flight, and the sink
+-- the world, the counters of the place, the greatest number of children that were in flight at once, and the sink
 pub record Moment : Type 0 where
   pub world : World
   pub counts : Counts
@@ -51,7 +51,7 @@ number_in (Some launched) = launched.number ∷ []
 abbrev pub ticket_of_child : ChildInFlight → ℕ
 ticket_of_child child = child.ticket
 
--- the tickets of their children, their run numbers, and the units among them that have a child
+-- of units in flight: the tickets of their children, then their run numbers, then the units that have a child
 abbrev pub tickets_of : List Aloft → List ℕ
 tickets_of aloft = flat_map (λ (a : Aloft). ticket_in (child_of a.begun)) aloft
 
@@ -61,23 +61,24 @@ numbers_of aloft = flat_map (λ (a : Aloft). number_in (child_of a.begun)) aloft
 abbrev pub launched_of : List Aloft → List ℕ
 launched_of aloft = flat_map (λ (a : Aloft). if_so (is_some (child_of a.begun)) a.unit) aloft
 
--- no two of them are one
+-- no two of these numbers are equal
 abbrev pub AreApart : List ℕ → Type 0
 AreApart [] = Unit {0}
 AreApart (n ∷ ns) = AllByRecursion (λ m. n ≢ m) ns × AreApart ns
 
--- a unit that has begun, once what differed is among the reasons
+-- a unit that has begun, after its difference was moved to the reasons
 abbrev pub noted : Begun → Begun
 noted begun = record begun { difference = None }
 
--- a unit in flight is one of the plan, by its own key, for a command of the unit
+-- a unit in flight is a unit of the plan, with its key and a command of it
 pub record IsOfPlan (project : Project) (a : Aloft) : Type 0 where
   pub unit : Planned
   pub there : slice_get project.plan.planned a.unit ≡ Some unit
   pub key : a.begun.unit ≡ unit.key
   pub asks : IsCommandOf project unit a.begun.command
 
--- what holds of a crew at each moment: its project is in order, its store is that of the project's records, and its units in flight are the children in flight, no two with one place, ticket or run number
+-- what is true of a crew at each moment: its project is in order; its store is that of the project's records; and its
+-- units in flight are the children in flight, no two with the same index, ticket or run number
 pub record IsManned (c : UnitCrew) (counts : Counts) : Type 0 where
   pub order : IsInOrder c.project
   pub folder : c.store.folder ≡ records_folder c.project
@@ -94,7 +95,7 @@ pub record IsManned (c : UnitCrew) (counts : Counts) : Type 0 where
 abbrev pub WritesOwn : Project → List ChildInFlight → Aloft → Type 0
 WritesOwn project flying a = (unit : Planned) → unit_at project a.unit ≡ Some unit → WritesTo unit.out (child_of a.begun) flying
 
--- what each call of a crew requires, and what holds until one fails
+-- what each call of a crew requires, and what stays true until one fails
 pub record IsAble (tells : Bool) (c : UnitCrew) (at : At) : Type 0 where
   -- the store has the numbers of its records
   pub numbers : IsTrue tells → HasNumbers (records (records_folder c.project) at.world) c.store.numbers

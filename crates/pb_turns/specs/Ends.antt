@@ -1,4 +1,4 @@
--- How the units of a project end, what remains as their children are dropped, and the laws of it.
+-- How the units of a project end, what stays true as their children are dropped, and the laws of it.
 use Rattle.std.specs.Prelude.{◌≡◌, ℕ, true, false, List, Option, Some, Bool, ◌≢◌, ◌⊎◌, ◌∷◌, [], max, map, length, take, None, IsTrue, IfErr, Result, Ok, Err, slice_get}
 use Rattle.std.specs.FinMap as finite
 use Rattle.std.specs.Io.KnownBytes.{Appends}
@@ -33,7 +33,7 @@ use Rattle.pb_turns.specs.Story.{AllAnswerAnew, AllBegan, AllLeaveRecords, CameA
 use Rattle.pb_turns.specs.declared.crew.Aloft.{Aloft}
 use Rattle.pb_unit.specs.declared.plan.Planned.{Planned}
 
--- The units in flight were these before and are those after; all that the events say of the worlds is still so.
+-- The units in flight were these before and are those after; all that the events imply about the worlds is still true.
 pub record StaysTold (child : Answers) (project : Project) (first : World) (es : List (Event BadUnit)) (before after : List Aloft) (old new : World) (flying : List ChildInFlight) : Type 0 where
   pub changes : Changes project first after es new flying
   -- those after are among those before
@@ -43,7 +43,7 @@ pub record StaysTold (child : Answers) (project : Project) (first : World) (es :
       → ChangesInFlight project came asked old new
   -- a unit without a record still has none
   pub unrecorded : (index : ℕ) (unit : Planned) → unit_at project index ≡ Some unit → HasNoRecord project unit old → HasNoRecord project unit new
-  -- nothing has changed of a unit for which no child was started
+  -- nothing has changed for a unit for which no child was started
   pub childless : (index : ℕ) (unit : Planned) (path : List ℕ) → unit_at project index ≡ Some unit → is_started es index ≡ false
       → is_of (records_folder project) unit.key path ≡ true → finite.get new.files path ≡ finite.get old.files path
   -- why units began, or could not begin
@@ -58,29 +58,31 @@ pub record StaysTold (child : Answers) (project : Project) (first : World) (es :
   pub left : (setup : Setup) (done : List (Option (List Directive))) (next : Option ℕ) → IsLawful (needs_of project) es
       → AllLeaveRecords child setup project es done next first old → AllLeaveRecords child setup project es done next first new
 
--- the children of these tickets were asked for their ends, each once, their answers were dropped, and nothing else was called; in which order no counter tells where each answers
+-- the end of each child with one of these tickets was awaited once, its answer was dropped, and nothing else was
+-- called; if each child answers, no counter shows the order
 abbrev pub Dropped : List ℕ → Counts → Counts → Type 0
 Dropped [] old new = new ≡ old
 Dropped (ticket ∷ tickets) old new = (result : Result Ended StartFault) × IfErr result (λ e. e ≢ start.OutOfMemory → (e ≡ start.Died) ⊎ (e ≡ start.Capture)) × Dropped tickets (counted_finish ticket result old) new
 
--- those in flight
+-- the same for all children in flight
 abbrev pub Drained : Counts → Counts → Type 0
 Drained old new = Dropped (map ticket_of_child old.starts.flying) old new
 
--- the rows of a basis: what the units give from nothing, up to and with the first bad one
+-- the rows of a basis: the units and their outcomes in a clean build, up to and including the first bad one
 abbrev pub rows_in : Basis → List Row
 rows_in b = rows_of b.child b.setup b.project b.sources
 
--- no run has said anything yet
+-- no run has printed a directive yet
 abbrev pub nothing_said : Project → List (Option (List Directive))
 nothing_said project = map (λ (u : Planned). None) project.plan.planned
 
--- whatever a build rests on that keeps, before a unit has begun, what the halves of units keep
+-- for each basis that satisfies `Keeps` before a unit has begun, this is true
 abbrev pub Grounding : Answers → Setup → Project → Option ℕ → World → (Basis → Type 0) → Type 0
 Grounding child setup project next w Since = (footing : Footing) (sources : World)
     → Keeps (basis footing child setup project sources) (untouched project) (nothing_said project) next w → Since (basis footing child setup project sources)
 
--- what stands after some events: what the halves of units keep; each unit that has answered gave its outcome from nothing; the lines that are due are those of the first rows, and so are the first of them
+-- what is true after some events: what `Keeps` requires; each unit that has answered has its outcome of a clean build;
+-- and the lines that are due, and the first n of them, are those of the first rows
 pub record Stands (b : Basis) (es : List (Event BadUnit)) (new : World) : Type 0 where
   pub done : List (Option (List Directive))
   pub next : Option ℕ
@@ -89,7 +91,8 @@ pub record Stands (b : Basis) (es : List (Event BadUnit)) (new : World) : Type 0
   pub lines : due (states_in b.project es) ≡ said_from b.project es 0 (take (count_due (states_in b.project es)) (rows_in b))
   pub first_lines : (n : ℕ) → due_first n (states_in b.project es) ≡ said_from b.project es 0 (take n (take (count_due (states_in b.project es)) (rows_in b)))
 
--- all units have answered, or all up to and with the first bad one, and this is the next run number: the summary is that of the rows, all of which are told, and each unit that began did so for what differed of it
+-- all units have answered, or all up to and including the first bad one, and this is the next run number: the lines of
+-- all rows are due, the summary is that of the rows, and each unit began for its first difference
 pub record StandsWhole (b : Basis) (es : List (Event BadUnit)) (reasons : Reasons) (summary : Summary) (next : Option ℕ) (old new : World) : Type 0 where
   pub stands : Stands b es new
   pub next_is : stands.next ≡ next
@@ -97,15 +100,18 @@ pub record StandsWhole (b : Basis) (es : List (Event BadUnit)) (reasons : Reason
   pub answer : summary ≡ summary_of b.project es reasons (rows_in b)
   pub began : AllBeganFor b es reasons old new
 
--- a fault ended it, before which these had happened: of the unit that could not begin too, by a fault of its start or for want of memory as its child was tried, something had differed
+-- a fault ended the build after these events: if a unit could not begin because of its start, or because memory ran out
+-- as its child was tried, something had differed for it
 pub record StandsCut (b : Basis) (fault : BuildFault) (es before : List (Event BadUnit)) (old new : World) : Type 0 where
   pub stands : Stands b es new
   pub reasons : Reasons
   pub began : AllBeganFor b before reasons old new
   pub started : StartedFor b fault before es old new
 
--- the units came to their end, and nothing was set to fail. The fields without `tells` say this over every place: what is reported, what was written, and what the counters are.
--- The others say it over a place that tells its maps, whether the records are true or not: why each unit began, what it answered, which record it left, which numbers were given, and which calls were made
+-- the units ended without a fault, and no failure was injected. The fields without `tells` are true over every place:
+-- the report, what was written, and the counters.
+-- The others are true over a place that tells its maps, whether the records are true or not: why each unit began, what
+-- it answered, which record it left, which numbers were taken, and which calls were made
 pub record EndsWhole {S : Type 0} (tells : Bool) (child : Answers) (Turns : S → List ℕ → List ℕ → Step → S → Type 0) (setup : Setup) (project : Project) (next : Option ℕ) (from last : S) (summary : Summary) (old new : Moment) : Type 0 where
   pub es : List (Event BadUnit)
   pub flies : Flies Turns (needs_of project) Anyhow Anything from es last
@@ -147,8 +153,10 @@ pub record EndsWhole {S : Type 0} (tells : Bool) (child : Answers) (Turns : S �
   pub calls : IsTrue tells → Grounding child setup project next old.world (λ b. CallsOver (call_basis b) es old.world old.counts last_world mid)
   pub calls_on_any : IsTrue tells → CallsOnAny child setup project done es old.world old.counts last_world mid
 
--- a fault ended them. Its cause, and what the sink heard, are those of the moment before the children in flight were dropped; no unit began after it, and the turn was asked no more (`HandsBack`, `Flies`).
--- Over a place that tells its maps the same is said as at a good end, of the units that have begun and of those that have answered. If a unit could not begin by a fault of its start, something had differed of it
+-- a fault ended the units. Its cause, and what the sink received, are those of the moment before the children in flight
+-- were dropped; after it no unit began, and the turn was not asked again (`HandsBack`, `Flies`).
+-- Over a place that tells its maps, the units that have begun and those that have answered satisfy the same as in
+-- `EndsWhole`. If a unit could not begin because of a fault of its start, something had differed for it
 pub record EndsCut {S : Type 0} (tells : Bool) (child : Answers) (Turns : S → List ℕ → List ℕ → Step → S → Type 0) (setup : Setup) (project : Project) (next : Option ℕ) (from back : S) (fault : BuildFault) (old new : Moment) : Type 0 where
   pub es : List (Event BadUnit)
   pub last : S
@@ -182,31 +190,33 @@ pub record EndsCut {S : Type 0} (tells : Bool) (child : Answers) (Turns : S → 
   pub calls : IsTrue tells → Grounding child setup project next old.world (λ b. CallsCut (call_basis b) fault asked es before old.world old.counts mid.world mid.counts)
   pub calls_on_any : IsTrue tells → CallsCutOnAny child setup project done fault asked es before old.world old.counts mid.world mid.counts
 
--- how they end, by the answer
+-- how the units end, by the result
 abbrev pub TurnsEnd : {S : Type 0} → Bool → Answers → (S → List ℕ → List ℕ → Step → S → Type 0) → Setup → Project → Option ℕ → S → S → Result Summary BuildFault → Moment → Moment → Type 0
 TurnsEnd tells child Turns setup project next from last (Ok summary) old new = EndsWhole tells child Turns setup project next from last summary old new
 TurnsEnd tells child Turns setup project next from last (Err fault) old new = EndsCut tells child Turns setup project next from last fault old new
 
--- in whatever order units begin and answer: where each that has answered gave its outcome from nothing, the lines that are due are those of the first rows, and once all have, up to and with the first bad one, those of all
+-- in whatever order units begin and answer: if each that has answered has its outcome of a clean build, the lines that
+-- are due are those of the first rows. Once all have answered, up to and including the first bad one, they are those of
+-- all rows
 abbrev pub SaysFirstRows : Type 0
 SaysFirstRows = (b : Basis) (es : List (Event BadUnit)) (done : List (Option (List Directive))) → ((place : ℕ) (answer : Answer BadUnit) → slice_get (states_in b.project es) place ≡ Some (Answered answer) → HasGiven b es done place answer)
     → (due (states_in b.project es) ≡ said_from b.project es 0 (take (count_due (states_in b.project es)) (rows_in b))) × (is_finished (states_in b.project es) ≡ true → count_due (states_in b.project es) ≡ length (rows_in b))
 
--- each unit has its record, from which nothing differs
+-- each unit has its record, and nothing differs from it
 abbrev pub EachHasRecord : Basis → World → Type 0
 EachHasRecord b w = (place : ℕ) (u : Planned) → unit_at b.project place ≡ Some u → HasRecord b w place
 
--- where each unit has its record at first, no child is started
+-- if each unit has its record at first, no child is started
 abbrev pub StartsNothing : Type 0
 StartsNothing = (b : Basis) (es : List (Event BadUnit)) (reasons : Reasons) (first now : World) → IsLawful (needs_of b.project) es → AllBeganFor b es reasons first now → EachHasRecord b first → started_by es ≡ []
 
--- units that came to a good end over records leave each its record
+-- if a build over true records succeeds, each unit has its record afterwards
 abbrev pub LeavesRecords : {S : Type 0} → (S → List ℕ → List ℕ → Step → S → Type 0) → Type 0
 LeavesRecords {S} Turns = (child : Answers) (setup : Setup) (project : Project) (next : Option ℕ) (from last : S) (summary : Summary) (old new : Moment) → EndsWhole true child Turns setup project next from last summary old new
     → summary.success ≡ true → (sources : World) → Keeps (basis OnRecords child setup project sources) (untouched project) (nothing_said project) next old.world
     → EachHasRecord (basis OnRecords child setup project sources) new.world
 
--- and where each has its record at first, no child is started, nor is one told as started
+-- and if each unit has its record at first, no child is started, and none is reported as started
 abbrev pub StartsNoneAgain : {S : Type 0} → (S → List ℕ → List ℕ → Step → S → Type 0) → Type 0
 StartsNoneAgain {S} Turns = (child : Answers) (setup : Setup) (project : Project) (next : Option ℕ) (from last : S) (summary : Summary) (old new : Moment) → EndsWhole true child Turns setup project next from last summary old new
     → (footing : Footing) (sources : World) → Keeps (basis footing child setup project sources) (untouched project) (nothing_said project) next old.world

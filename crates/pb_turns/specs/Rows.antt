@@ -1,4 +1,4 @@
--- What the units of a build give, one after another in plan order, and what is told of them.
+-- The outcomes of the units of a build, one after another in plan order, and what is reported of them.
 use Rattle.std.specs.Prelude.{ℕ, suc, Bool, true, false, ◌==◌, ◌+◌, List, [], ◌∷◌, ◌++◌, length, take, Option, Some, None, if◌then◌else◌, slice_get, is_none}
 use Rattle.std.specs.List.{flat_map}
 use Rattle.pb_answer.specs.declared.bad_unit.BadUnit.{BadUnit}
@@ -19,7 +19,7 @@ use Rattle.pb_store.specs.declared.difference.Difference.{Difference}
 use Rattle.pb_unit.specs.declared.plan.Planned.{Planned}
 use Rattle.pb_unit_messages.specs.Telling.{unit_lines}
 
--- a unit of the build and what it gave
+-- a unit of the build and its outcome
 pub record Row : Type 0 where
   pub unit : Planned
   pub outcome : Outcome
@@ -29,7 +29,7 @@ is_bad Waiting = false
 is_bad (Good files directives messages) = false
 is_bad (Bad bad messages) = true
 
--- the units in plan order up to and with the first bad one
+-- the units in plan order, up to and including the first bad one
 abbrev pub to_first_bad : List Planned → List Outcome → List Row
 to_first_bad [] os = []
 to_first_bad (u ∷ us) [] = []
@@ -38,7 +38,7 @@ to_first_bad (u ∷ us) (o ∷ os) = record { unit = u; outcome = o } ∷ (if is
 abbrev pub rows_of : Answers → Setup → Project → World → List Row
 rows_of child setup project sources = to_first_bad project.plan.planned (outcomes child setup project sources)
 
--- What is told of them.
+-- What is reported of them.
 
 abbrev pub messages_in : Outcome → List Message
 messages_in Waiting = []
@@ -50,13 +50,13 @@ fault_in Waiting = None
 fault_in (Good files directives messages) = None
 fault_in (Bad bad messages) = Some bad
 
--- a child was started for the unit at a place, when it began
+-- a child was started for the unit at an index when it began
 abbrev pub is_started : List (Event BadUnit) → ℕ → Bool
 is_started [] place = false
 is_started (Began unit spawned ∷ es) place = if unit == place then spawned else is_started es place
 is_started (Gave unit answer ∷ es) place = is_started es place
 
--- their lines, from the i-th unit on; each says whether a child was started for its unit
+-- the lines of these units, from the i-th unit on; each line says whether a child was started for its unit
 abbrev pub said_from : Project → List (Event BadUnit) → ℕ → List Row → List ℕ
 said_from project es i [] = []
 said_from project es i (row ∷ rows) = unit_lines project row.unit (is_started es i) (messages_in row.outcome) ++ said_from project es (suc i) rows
@@ -65,7 +65,7 @@ abbrev pub keyed : List ℕ → Option (List Directive) → List (List ℕ × Li
 keyed key None = []
 keyed key (Some directives) = (key, directives) ∷ []
 
--- the keys and the directives of the runs among them
+-- the keys and the directives of the runs of build scripts among these units
 abbrev pub directives_told : List Row → List (List ℕ × List Directive)
 directives_told [] = []
 directives_told (row ∷ rows) = keyed row.unit.key (directives_in row.outcome) ++ directives_told rows
@@ -84,11 +84,11 @@ abbrev pub is_success : Option (List ℕ × BadUnit) → Bool
 is_success None = true
 is_success (Some bad) = false
 
--- the keys of the units whose child was started, in order of starting
+-- the keys of the units whose child was started, in the order in which they started
 abbrev pub started_keys : Project → List (Event BadUnit) → List (List ℕ)
 started_keys project es = flat_map (λ place. key_in (unit_at project place)) (started_by es)
 
--- its key and its fault, and what its child said
+-- the key and the fault of a bad unit (below, what its child printed)
 abbrev pub key_told : Option (List ℕ × BadUnit) → Option (List ℕ × UnitFault)
 key_told None = None
 key_told (Some bad) = Some (bad.0, bad.1.fault)
@@ -97,18 +97,18 @@ abbrev pub said_told : Option (List ℕ × BadUnit) → List ℕ
 said_told None = []
 said_told (Some bad) = bad.1.said
 
--- what differed first of each unit: none of one that has not begun; of one that has, none where nothing did
+-- the first difference of each unit: none for a unit that has not begun; for one that has, a difference or none
 abbrev pub Reasons : Type 0
 Reasons = List (Option (Option Difference))
 
--- what differed first of a unit for which a child was started
+-- the first difference of a unit for which a child was started
 abbrev pub difference_in : Option (Option (Option Difference)) → List Difference
 difference_in None = []
 difference_in (Some None) = []
 difference_in (Some (Some None)) = []
 difference_in (Some (Some (Some difference))) = difference ∷ []
 
--- of these units, in order of starting, by what differed first of each unit that has begun
+-- the first differences of the units that were started, in the order in which they started
 abbrev pub differences_of : List (Event BadUnit) → Reasons → List Difference
 differences_of es reasons = flat_map (λ place. difference_in (slice_get reasons place)) (started_by es)
 
@@ -117,7 +117,7 @@ kept_key key None = []
 kept_key key (Some None) = key ∷ []
 kept_key key (Some (Some difference)) = []
 
--- the keys of the units that have begun and of which nothing differed, in plan order
+-- the keys of the units that have begun and from whose records nothing differed, in plan order
 abbrev pub kept_of : List Planned → Reasons → List (List ℕ)
 kept_of [] reasons = []
 kept_of (u ∷ us) [] = []
@@ -134,7 +134,7 @@ summary_of project es reasons rows = record {
   directives = directives_told rows;
 }
 
--- By answers, where no place tells what units give.
+-- The same by answers, over a place that does not tell its maps.
 
 abbrev pub fault_of : State BadUnit → Option BadUnit
 fault_of Untouched = None
@@ -150,31 +150,31 @@ bad_with None s = None
 bad_with (Some u) None = None
 bad_with (Some u) (Some s) = with_key u.key (fault_of s)
 
--- the key and the fault of the unit at a place, by its answer
+-- the key and the fault of the unit at an index, by its answer
 abbrev pub bad_told : List Planned → List (State BadUnit) → Option ℕ → Option (List ℕ × BadUnit)
 bad_told units states None = None
 bad_told units states (Some place) = bad_with (slice_get units place) (slice_get states place)
 
--- the keys of these units with what is noted of them
+-- the keys of these units with the directives that are noted for them
 abbrev pub noted_of : List Planned → List (Option (List Directive)) → List (List ℕ × List Directive)
 noted_of [] noted = []
 noted_of (u ∷ us) [] = []
 noted_of (u ∷ us) (d ∷ noted) = keyed u.key d ++ noted_of us noted
 
--- how many units are told, by the place of the first bad one
+-- how many units are reported, by the index of the first bad one
 abbrev pub count_told : ℕ → Option ℕ → ℕ
 count_told units None = units
 count_told units (Some place) = place + 1
 
--- the directives of the units that are told, by what is noted of each: of all, or of all up to and with the first bad one
+-- the noted directives of the units that are reported: of all units, or of those up to and including the first bad one
 abbrev pub noted_told : List Planned → List (Option (List Directive)) → Option ℕ → List (List ℕ × List Directive)
 noted_told units noted bad = noted_of (take (count_told (length units) bad) units) (take (count_told (length units) bad) noted)
 
--- the keys of the units at these places
+-- the keys of the units at these indices
 abbrev pub keys_at : List Planned → List ℕ → List (List ℕ)
 keys_at units places = flat_map (λ place. key_in (slice_get units place)) places
 
--- what differed first of the units at these places
+-- the first differences of the units at these indices
 abbrev pub differences_at : Reasons → List ℕ → List Difference
 differences_at reasons places = flat_map (λ place. difference_in (slice_get reasons place)) places
 

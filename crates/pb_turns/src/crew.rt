@@ -1,4 +1,4 @@
-//! The crew of a build's units: it begins them, takes their answers, and hands out their lines.
+//! The crew of a build's units: it begins them, takes their answers, and writes their lines.
 
 ghost use Rattle.std.specs.Prelude.{◌≡◌, ◌<◌, ◌++◌, ◌∷◌, [], ℕ, Bool, is_some, vec_len, vec_capacity, List, Option, length, IfOk, OnOk, MatchResult, Some, Contains, slice_get, slice_set, take};
 ghost use Rattle.std.specs.Io.KnownBytes.{Appends};
@@ -26,32 +26,34 @@ use std::alloc::{AllocError, Global};
 /// A unit in flight.
 #[derive(Drop)]
 pub struct Aloft {
-    /// Its place in plan order.
+    /// Its index in plan order.
     pub unit: usize,
-    /// How it has begun. The crew's reasons have what differed, which is none here.
+    /// How it has begun. Its difference is none here, because the crew's reasons have it.
     pub begun: Begun,
 }
 
-/// Who begins the units of a build and takes their answers.
+/// Begins the units of a build and takes their answers.
 #[derive(Drop)]
 pub struct UnitCrew {
-    /// How things are compiled.
+    /// The setup: how things are compiled.
     pub setup: Setup,
     /// What is built.
     pub project: OrderedProject,
     /// The records of the profile's folder.
     pub store: Store,
-    /// What the runs among the units have said: none of a unit that has not answered, or is bad, or is no run.
+    /// For each unit the directives of its run: none if it has not answered, is bad, or is not a
+    /// run.
     pub done: Vec<Option<Directives>>,
-    /// The units in flight, in order of beginning.
+    /// The units in flight, in the order in which they began.
     pub aloft: Vec<Aloft>,
     /// The units for which a child was started, in order.
     pub started: Vec<usize>,
-    /// What differed first of each unit: none of a unit that has not begun; of one that has, none where nothing did.
+    /// For each unit its first difference: none if it has not begun; some difference or none if it
+    /// has.
     pub reasons: Vec<Option<Option<Difference>>>,
 }
 
-/// Adds an item where there is room.
+/// Adds an item to a list that has room for it.
 fn put<T: Drop>(items: &mut Vec<T>, item: T)
     requires { vec_len items.old < vec_capacity items.old }
     ensures { items.new.items ≡ items.old.items ++ item ∷ [] }
@@ -62,7 +64,7 @@ fn put<T: Drop>(items: &mut Vec<T>, item: T)
     }
 }
 
-/// Makes room for one unit more in flight, and for one more that was started.
+/// Makes room for one more unit in flight, and for one more that was started.
 fn make_room(aloft: &mut Vec<Aloft>, started: &mut Vec<usize>) -> Result<(), AllocError>
     ensures aloft { aloft.new.items ≡ aloft.old.items }
     ensures started { started.new.items ≡ started.old.items }
@@ -100,7 +102,7 @@ fn note_begun(
     reasons[unit] = Some(difference);
 }
 
-/// Begins a unit of the crew's project, which is not in flight. After a fault it is not in flight either.
+/// Begins a unit of the crew's project that is not in flight. After a fault it is not in flight.
 fn begin_at<P: Place>(
     alloc: Global,
     crew: &mut UnitCrew,
@@ -133,7 +135,7 @@ fn begin_at<P: Place>(
         (moment (P.at place.new) heard) (P.at place.new).still
         (Began unit spawned ∷ es)) }
 {
-    // Room before the spawn: a child in flight is always noted.
+    // Room is made before the spawn, so that a child in flight is always noted.
     match make_room(&mut crew.aloft, &mut crew.started) {
         Ok(()) => {}
         Err(_) => return Err(BuildFault::OutOfMemory),
@@ -164,14 +166,14 @@ fn begin_at<P: Place>(
     Ok(spawned)
 }
 
-/// The bytes of a text.
+/// Returns the bytes of a text.
 fn bytes_of(text: Text) -> Bytes
     ensures { result ≡ text }
 {
     Bytes::new(text.into_string().into_bytes())
 }
 
-/// Notes what came of a unit, and gives its answer.
+/// Notes what came of a unit, and returns its answer.
 fn note_answer(done: &mut Vec<Option<Directives>>, unit: usize, outcome: Outcome) -> Answer<BadUnit>
     requires within { unit < length done.old.items }
     ensures done { done.new.items ≡ slice_set done.old.items unit outcome.directives }
@@ -183,7 +185,8 @@ fn note_answer(done: &mut Vec<Option<Directives>>, unit: usize, outcome: Outcome
     Answer { fault, lines }
 }
 
-/// Takes the answer of the unit at a place of those in flight, which it is no more then, also after a fault.
+/// Takes the answer of the unit at an index of those in flight. Afterwards it is no longer in
+/// flight, even after a fault.
 fn answer_at<P: Place>(
     alloc: Global,
     crew: &mut UnitCrew,
@@ -214,7 +217,7 @@ fn answer_at<P: Place>(
         StoryEnds P.tells P.child e (Some unit) first at crew.new
         (moment (P.at place.new) heard) (P.at place.new).still es) }
 {
-    // Out of the list first: after a fault too it flies no more.
+    // The unit leaves the list first: even after a fault it is no longer in flight.
     let Aloft { unit, begun } = crew.aloft.remove(index);
     let project = &crew.project;
     let planned = &project.units()[unit];

@@ -1,4 +1,4 @@
-//! Children in flight at the end of a build: each is waited for, and its answer is dropped.
+//! Children in flight at the end of a build: the end of each is awaited, and its answer is dropped.
 
 ghost use Rattle.std.specs.Prelude.{◌≡◌, ◌<◌, [], List, length, IsTrue};
 ghost use Rattle.std.specs.List.{remove};
@@ -16,24 +16,24 @@ use pb_place::Place;
 use pb_run::drop_unit;
 use std::alloc::Global;
 
-/// Drops the unit that began first of those in flight.
+/// Drops the unit in flight that began first.
 fn drop_first<P: Place>(alloc: Global, crew: &mut UnitCrew, place: &mut P)
     requires manned { IsManned crew.old (P.at place.old).counts }
     requires some { 0 < length crew.old.aloft.items }
     ensures manned { IsManned crew.new (P.at place.new).counts }
 
-    // The first unit is in flight no more; nothing else of the crew has changed.
+    // The first unit is no longer in flight; nothing else of the crew has changed.
     ensures less { length crew.new.aloft.items < length crew.old.aloft.items }
     ensures aloft { crew.new.aloft.items ≡ remove crew.old.aloft.items 0 }
     ensures same { crew.new ≡ record crew.old { aloft = crew.new.aloft } }
 
-    // Its child, if it has one, was waited for.
+    // The end of its child, if it has one, was awaited.
     ensures dropped { (new : Counts)
         → Dropped (tickets_of crew.new.aloft.items) (P.at place.new).counts new
         → Dropped (tickets_of crew.old.aloft.items) (P.at place.old).counts new }
     ensures most { (P.at place.new).most ≡ (P.at place.old).most }
 
-    // What has happened so far is still so.
+    // What has happened so far is still true.
     ensures told { (first : World) (es : List (Event BadUnit)) → IsTrue P.tells
         → Changes crew.old.project first crew.old.aloft.items es
         (P.at place.old).world (P.at place.old).counts.starts.flying
@@ -51,7 +51,8 @@ fn drop_first<P: Place>(alloc: Global, crew: &mut UnitCrew, place: &mut P)
     drop_unit(alloc, place, &aloft.begun);
 }
 
-/// Drops all units in flight, in order of beginning. Then no child is in flight. It makes no other call of the place.
+/// Drops all units in flight, in the order in which they began. Then no child is in flight. It
+/// makes no other call of the place.
 pub(crate) fn drain<P: Place>(alloc: Global, crew: &mut UnitCrew, place: &mut P)
     requires manned { IsManned crew.old (P.at place.old).counts }
 
@@ -59,11 +60,11 @@ pub(crate) fn drain<P: Place>(alloc: Global, crew: &mut UnitCrew, place: &mut P)
     ensures same { crew.new ≡ record crew.old { aloft = crew.new.aloft } }
     ensures landed { (P.at place.new).counts.starts.flying ≡ [] }
 
-    // The children were waited for, each once.
+    // The end of each child was awaited once.
     ensures drained { Drained (P.at place.old).counts (P.at place.new).counts }
     ensures most { (P.at place.new).most ≡ (P.at place.old).most }
 
-    // What has happened so far is still so.
+    // What has happened so far is still true.
     ensures told { (first : World) (es : List (Event BadUnit)) → IsTrue P.tells
         → Changes crew.old.project first crew.old.aloft.items es
         (P.at place.old).world (P.at place.old).counts.starts.flying

@@ -1,4 +1,4 @@
-//! The units of a build, begun and answered by turns.
+//! The units of a build begin and answer in turns.
 #![tactic(auto)]
 
 mod crew;

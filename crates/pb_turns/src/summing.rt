@@ -13,7 +13,7 @@ use pb_store::Difference;
 use pb_unit::Planned;
 use std::alloc::{AllocError, Global};
 
-/// Notes the key of the unit at a place.
+/// Notes the key of the unit at an index.
 fn note_key(
     alloc: Global,
     keys: &mut Items<Text>,
@@ -29,7 +29,7 @@ fn note_key(
     Ok(())
 }
 
-/// The keys of the units at these places.
+/// Returns the keys of the units at these indices.
 fn keys_at(alloc: Global, units: &[Planned], places: &[usize]) -> Result<Items<Text>, AllocError>
     ensures { IfOk result (λ keys. keys ≡ keys_at units.now places.now) }
 {
@@ -58,7 +58,7 @@ fn note_directives(
     }
 }
 
-/// The keys and the directives of the runs among the first so many units.
+/// Returns the keys and the directives of the runs among the first n units.
 fn noted_of(
     alloc: Global,
     units: &[Planned],
@@ -76,7 +76,7 @@ fn noted_of(
     Ok(noted)
 }
 
-/// Adds what differed first of a unit, where its child was started for it.
+/// Adds the first difference of a unit, if its child was started for it.
 fn note_reason(
     alloc: Global,
     found: &mut Items<Difference>,
@@ -91,7 +91,7 @@ fn note_reason(
     Ok(())
 }
 
-/// Adds what differed first of the unit at a place, where its child was started for it.
+/// Adds the first difference of the unit at an index, if its child was started for it.
 fn note_difference(
     alloc: Global,
     found: &mut Items<Difference>,
@@ -107,7 +107,7 @@ fn note_difference(
     Ok(())
 }
 
-/// What differed first of the units at these places.
+/// Returns the first differences of the units at these indices.
 fn differences_at(
     alloc: Global,
     reasons: &[Option<Option<Difference>>],
@@ -122,7 +122,7 @@ fn differences_at(
     Ok(found)
 }
 
-/// Adds the key of a unit that has begun and of which nothing differed.
+/// Adds the key of a unit that has begun and from whose record nothing differed.
 fn note_kept(
     alloc: Global,
     kept: &mut Items<Text>,
@@ -138,7 +138,7 @@ fn note_kept(
     Ok(())
 }
 
-/// The keys of the units that have begun and of which nothing differed.
+/// Returns the keys of the units that have begun and from whose records nothing differed.
 fn kept_of(
     alloc: Global,
     units: &[Planned],
@@ -154,7 +154,7 @@ fn kept_of(
     Ok(kept)
 }
 
-/// The fault of a unit that has answered and is bad.
+/// Returns the fault of a unit, if it has answered and is bad.
 fn fault_of(state: State<BadUnit>) -> Option<BadUnit>
     ensures { result ≡ fault_of state }
 {
@@ -165,7 +165,7 @@ fn fault_of(state: State<BadUnit>) -> Option<BadUnit>
     }
 }
 
-/// A key with a fault, if there is one.
+/// Returns a key with a fault, if there is one.
 fn with_key(
     alloc: Global,
     key: &Text,
@@ -179,7 +179,7 @@ fn with_key(
     }
 }
 
-/// The key and the fault of the unit at a place.
+/// Returns the key and the fault of the unit at an index.
 fn bad_at(
     alloc: Global,
     units: &[Planned],
@@ -197,7 +197,7 @@ fn bad_at(
     with_key(alloc, &units[place].key, fault_of(state))
 }
 
-/// The key and the fault of a bad unit, and what its child said.
+/// Returns the key and the fault of a bad unit, and what its child printed.
 fn told_apart(alloc: Global, bad: Option<(Text, BadUnit)>) -> (Option<(Text, UnitFault)>, Bytes)
     ensures bad { result.0 ≡ key_told bad }
     ensures said { result.1 ≡ said_told bad }
@@ -208,7 +208,8 @@ fn told_apart(alloc: Global, bad: Option<(Text, BadUnit)>) -> (Option<(Text, Uni
     }
 }
 
-/// How many units are told, from the start of plan order: all, or all up to and with the first bad one.
+/// Returns how many units are reported, from the start of plan order: all, or all up to and
+/// including the first bad one.
 fn count_told(units: usize, bad: Option<usize>) -> usize
     requires { IfSome bad (λ place. place < units) }
     ensures { result ≡ count_told units bad }
@@ -219,9 +220,11 @@ fn count_told(units: usize, bad: Option<usize>) -> usize
     }
 }
 
-/// The summary of units that came to their end, by where each stands, what the runs among them have said, the places
-/// of those that were started, what differed of each, and the place of the first bad one. The one fault is want of
-/// memory.
+/// Returns the summary of units that have ended. It takes their states, the directives of their
+/// runs, the indices of those that were started, the differences, and the index of the first bad
+/// one.
+///
+/// Errors: only out of memory.
 pub(crate) fn summary_of(
     alloc: Global,
     units: &[Planned],

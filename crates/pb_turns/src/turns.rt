@@ -1,4 +1,4 @@
-//! The units of a project, by turns.
+//! The units of a project begin and answer in turns.
 
 ghost use Rattle.std.specs.Prelude.{◌≡◌, [], ℕ, List, IfOk, IsTrue, length, map, true, None};
 ghost use Rattle.pb_flight.specs.Table.{fresh, first_bad};
@@ -23,7 +23,7 @@ use pb_store::Store;
 use pb_unit::Planned;
 use std::alloc::{AllocError, Global};
 
-/// The same places.
+/// Returns a copy of these indices.
 fn copied(alloc: Global, places: &[usize]) -> Result<Items<usize>, AllocError>
     ensures { IfOk result (λ items. items ≡ places.now) }
 {
@@ -34,7 +34,7 @@ fn copied(alloc: Global, places: &[usize]) -> Result<Items<usize>, AllocError>
     Ok(items)
 }
 
-/// What each unit needs.
+/// Returns what each unit needs.
 fn needs_of(alloc: Global, units: &[Planned]) -> Result<Items<Items<usize>>, AllocError>
     ensures { IfOk result (λ needs. needs ≡ map (λ (u : Planned). u.needs) units.now) }
 {
@@ -45,7 +45,7 @@ fn needs_of(alloc: Global, units: &[Planned]) -> Result<Items<Items<usize>>, All
     Ok(needs)
 }
 
-/// Nothing noted yet, for each unit.
+/// Returns empty notes, one for each unit.
 fn nothing_noted<T: Drop>(alloc: Global, units: &[Planned]) -> Result<Vec<Option<T>>, AllocError>
     ensures { IfOk result (λ noted. noted.items ≡ map (λ (u : Planned). None) units.now) }
 {
@@ -56,7 +56,7 @@ fn nothing_noted<T: Drop>(alloc: Global, units: &[Planned]) -> Result<Vec<Option
     Ok(noted)
 }
 
-/// A flight of a project's units on which nothing has begun.
+/// Returns a flight of a project's units in which nothing has begun.
 fn flight_of(alloc: Global, project: &OrderedProject) -> Result<Flight<BadUnit>, AllocError>
     ensures { IfOk result (λ flight. flight ≡ fresh (needs_of project.now)) }
 {
@@ -64,7 +64,9 @@ fn flight_of(alloc: Global, project: &OrderedProject) -> Result<Flight<BadUnit>,
     Flight::new(alloc, needs)
 }
 
-/// The summary of the units of a crew that came to their end, by the flight. The one fault is want of memory.
+/// Returns the summary of the units of a crew that have ended, by the flight.
+///
+/// Errors: only out of memory.
 fn sum_up(alloc: Global, crew: &UnitCrew, flight: Flight<BadUnit>) -> Result<Summary, AllocError>
     requires long { length flight.states ≡ length crew.now.project.plan.planned }
     requires noted { length crew.now.done.items ≡ length crew.now.project.plan.planned }
@@ -88,12 +90,18 @@ fn sum_up(alloc: Global, crew: &UnitCrew, flight: Flight<BadUnit>) -> Result<Sum
     )
 }
 
-/// Runs the units of a project that is in order, by the steps that a turn says, until all have answered, or all up to
-/// and with the first bad one. Children that are in flight then are asked for their ends, in order of beginning, and
-/// their answers dropped; so too after a fault, with no other call of the place.
+/// Runs the units of a project that is in order, by the steps that a turn decides, until all have
+/// answered, or all up to and including the first bad one. Then the ends of the children in flight
+/// are awaited, in the order in which they began, and their answers dropped. That is done after a
+/// fault too, with no other call of the place.
 ///
-/// Faults: Child, where a child cannot be spawned or gives no answer; Device, where a file, a folder or a variable
-/// cannot be read, a record or a file cannot be written or removed, or no run number is left; Sink; OutOfMemory.
+/// Errors:
+///
+/// - `Child` if a child cannot be spawned or does not answer.
+/// - `Device` if a file, a folder or a variable cannot be read, if a record or a file cannot be
+///   written or removed, or if no run number is left.
+/// - `Sink` if the sink fails.
+/// - `OutOfMemory`.
 pub fn run_turns<P: Place, O: Out, T: Turn>(
     alloc: Global,
     place: &mut P,
@@ -142,7 +150,7 @@ pub fn run_turns<P: Place, O: Out, T: Turn>(
         reasons,
     };
     let driven = drive(alloc, &mut crew, place, out, &mut flight, turn);
-    // Before the fault is told: no child is left.
+    // No child is left before the fault is returned.
     drain(alloc, &mut crew, place);
     match driven {
         Ok(()) => match sum_up(alloc, &crew, flight) {

@@ -1,4 +1,5 @@
--- Units as the nodes of a graph: six for each package, by their numbers, and behind them the binaries that are roots. These words serve private functions alone.
+-- Units as the nodes of a graph: six for each package, by their numbers, and after
+-- them the binaries that are roots. Only private functions need these definitions.
 use Rattle.std.specs.Prelude.{◌≡◌, ◌↔◌, ℕ, ◌+◌, ◌*◌, Bool, true, false, not, ◌&&◌, ◌||◌, if◌then◌else◌, List, [], ◌∷◌, ◌++◌, map, Contains, Option, Some, None, slice_get}
 use Rattle.std.specs.List.{list_all}
 use Rattle.std.specs.List.Sorted.{IsStrictlySortedBy}
@@ -47,33 +48,33 @@ slot Run Target = 4
 slot Run Host = 5
 slot (Bin name) s = 0
 
--- the number of a unit that is no binary
+-- the number of a unit that is not a binary
 abbrev pub number : Unit → ℕ
 number u = u.owner * 6 + slot u.what u.side
 
--- the unit that a need of a kind is, of a package, for a unit on a side
+-- the unit of a package that a need of this kind means, for a unit on a side
 abbrev pub needed : Need → ℕ → Side → Unit
 needed need.Lib p s = unit p s Lib
 needed need.Tool p s = unit p Host Lib
 needed need.Run p s = unit p s Run
 
--- whether an entry leads to a need of a kind
+-- an entry leads to a need of this kind
 abbrev pub leads : Need → Workspace → Entry → Bool
 leads need.Lib ws e = is_normal e.kind && has_library (slice_get ws.packages e.to)
 leads need.Tool ws e = is_build e.kind && has_library (slice_get ws.packages e.to)
 leads need.Run ws e = is_normal e.kind && hands_on (slice_get ws.packages e.to)
 
--- the number of the unit to which an enabled entry leads so
+-- the number of the unit to which an enabled entry leads by a need of this kind
 abbrev pub numbers_by : Need → Workspace → Features → ℕ → Side → ℕ → Entry → List ℕ
 numbers_by w ws features p s n e = if is_enabled features p s n && leads w ws e then number (needed w e.to s) ∷ [] else []
 
--- over a package's entries
+-- these numbers for all entries of a package
 abbrev pub all_numbers : Need → Workspace → Features → ℕ → Side → List ℕ
 all_numbers w ws features p s = placed (numbers_by w ws features p s) 0 (entries_at ws p)
 
 -- Candidates.
 
--- the units of a package that are no binaries, whether there are such or not
+-- the six units of a package that are not binaries, whether they exist or not
 abbrev pub six : ℕ → Package → List Unit
 six p owner = unit p Target Lib ∷ unit p Host Lib ∷ unit p Target Script ∷ unit p Host Script ∷ unit p Target Run ∷ unit p Host Run ∷ []
 
@@ -84,7 +85,7 @@ abbrev pub binaries_of : Option Package → List Binary
 binaries_of None = []
 binaries_of (Some p) = p.binaries
 
--- a binary that is a root, of a selected package
+-- a binary of a selected package, if it is a root
 abbrev pub named_by : Selection → List (List ℕ) → ℕ → ℕ → Binary → List Named
 named_by selection names p n b = if asks_binary selection b.name && list_all (is_mentioned names) b.required_features then record { owner = p; name = b.name } ∷ [] else []
 
@@ -113,7 +114,7 @@ abbrev pub is_target : Side → Bool
 is_target Target = true
 is_target Host = false
 
--- whether a candidate is a root, where the selected packages are marked
+-- a candidate is a root, given the marks of the selected packages
 abbrev pub root_of : Workspace → Bool → List Bool → ℕ → Side → What → Bool
 root_of ws asked marks p s Lib = asked && is_target s && is_on marks p && has_library (slice_get ws.packages p)
 root_of ws asked marks p s (Bin name) = true
@@ -156,11 +157,11 @@ abbrev pub owner_of : Option Unit → ℕ
 owner_of None = 0
 owner_of (Some u) = u.owner
 
--- the name of the package of the unit at a place
+-- the name of the package of the unit at an index
 abbrev pub name_behind : Workspace → List Unit → ℕ → List ℕ
 name_behind ws units n = name_at ws (owner_of (slice_get units n))
 
--- why an order is refused, in the words of a plan
+-- why an order is refused, as a fault of a plan
 abbrev pub IsRefusal : Workspace → List Unit → OrderFault → PlanFault → Type 0
 IsRefusal ws units order_fault.OutOfMemory e = e ≡ OutOfMemory
 IsRefusal ws units order_fault.TooMany e = e ≡ TooManyUnits
@@ -168,7 +169,7 @@ IsRefusal ws units (order_fault.Circle circle) e = (names : List (List ℕ)) × 
 
 -- Planned units.
 
--- a step of the order, with its unit's folder and settings
+-- a step of the order as a planned unit, with its folder and settings
 pub record IsMade (ws : Workspace) (line : List Seen) (folder : List ℕ) (units : List Unit) (step : Step) (p : Planned) : Type 0 where
   pub unit_at : slice_get units step.node ≡ Some p.unit
   pub key : p.key ≡ step.key

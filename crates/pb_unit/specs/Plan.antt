@@ -26,15 +26,15 @@ use Rattle.pb_unit.specs.declared.fault.PlanFault.{PlanFault}
 use Rattle.pb_unit.specs.declared.fault.PlanFault.TheVariants.{Cycle, TooManyUnits, NothingToBuild, Profile}
 use Rattle.pb_unit.specs.Units.{name_at, key_of, role_of, has_library, needs, Reaches, IsPlanned}
 
--- one text comes before the other by its bytes
+-- one text comes before the other in byte order
 abbrev pub IsBelow : List ℕ → List ℕ → Type 0
 IsBelow a b = slice_cmp nat_cmp a b ≡ Less
 
--- by level, and then by the bytes of the key
+-- one unit comes before the other: by level, and then by the bytes of the key
 pub record ComesBefore (a b : Planned) : Type 0 where
   pub order : (a.level < b.level) ⊎ ((a.level ≡ b.level) × IsBelow a.key b.key)
 
--- one more than the greatest, 0 where there is none
+-- one more than the greatest level; 0 if there is none
 abbrev pub above : List ℕ → ℕ
 above [] = 0
 above (level ∷ levels) = max (level + 1) (above levels)
@@ -43,7 +43,7 @@ abbrev pub level_of : Option Planned → ℕ
 level_of None = 0
 level_of (Some p) = p.level
 
--- the level of the unit at a place
+-- the level of the unit at an index
 abbrev pub level_at : List Planned → ℕ → ℕ
 level_at units place = level_of (slice_get units place)
 
@@ -55,14 +55,15 @@ abbrev pub reaches_in : Option Planned → List ℕ
 reaches_in None = []
 reaches_in (Some p) = p.reaches
 
--- the places of the units that are wanted, in plan order, each once
+-- the indices of the wanted units, in plan order, each once
 pub record ArePlaces (units : List Planned) (Wanted : Unit → Type 0) (places : List ℕ) : Type 0 where
   pub rises : IsStrictlyIncreasing places
   pub same : (place : ℕ) → Contains places place ↔ ((p : Planned) × (slice_get units place ≡ Some p) × Wanted p.unit)
 
 -- Profiles.
 
--- the line of the asked profile. A profile whose output folder would have no name is none; no manifest has one
+-- the line of the requested profile;
+-- a profile whose output folder would have no name does not exist; no manifest has one
 abbrev pub profile_line : Workspace → List ℕ → Result (List Seen) ProfileFault
 profile_line ws profile = checked_line ws.profiles profile >>= (λ line. if is_relative (folder_of profile) then Ok line else Err NoSuchProfile)
 
@@ -70,7 +71,7 @@ profile_line ws profile = checked_line ws.profiles profile >>= (λ line. if is_r
 abbrev pub profile_folder : Workspace → List ℕ → List ℕ
 profile_folder ws profile = below ws.target (folder_of profile)
 
--- the package at the unit's place and the unit's role have these settings along the line
+-- the unit's package has these settings along the line, in the unit's role
 pub record HasSettings (ws : Workspace) (line : List Seen) (p : Planned) : Type 0 where
   pub owner : Package
   pub package_at : slice_get ws.packages p.unit.owner ≡ Some owner
@@ -78,12 +79,12 @@ pub record HasSettings (ws : Workspace) (line : List Seen) (p : Planned) : Type 
 
 -- The names of packages.
 
--- the names of the packages to which enabled entries lead and that have no library, in byte order, each once
+-- the names of the packages without a library to which enabled entries lead, in byte order, each once
 pub record AreWithoutLibrary (ws : Workspace) (features : Features) (names : List (List ℕ)) : Type 0 where
   pub order : IsAscending names
   pub same : (name : List ℕ) → Contains names name ↔ ((p : ℕ) × (s : Side) × (n : ℕ) × (e : Entry) × (is_enabled features p s n ≡ true) × HasEntry ws p n e × (has_library (slice_get ws.packages e.to) ≡ false) × (name ≡ name_at ws e.to))
 
--- the names of the packages of the plan's units that reach themselves, in byte order, each once; there are some
+-- the names of the packages whose units of the plan reach themselves, in byte order, each once; there is at least one
 pub record IsCycle (ws : Workspace) (features : Features) (selection : Selection) (names : List (List ℕ)) : Type 0 where
   pub some : 0 < length names
   pub order : IsAscending names
@@ -95,7 +96,10 @@ IsStraight ws features selection = (u : Unit) → IsPlanned ws features selectio
 
 -- The plan.
 
--- the roots and all that they reach, each once, in order; each with its key, its folder, the settings of its package in its role, its level, and the places of what it needs and reaches. No unit reaches itself; there is a unit, and there are at most 4,096
+-- the plan contains the roots and all that they reach, each once, in order; no unit reaches itself;
+-- each unit has its key, its folder, the settings of its package in
+-- its role, its level, and the indices of what it needs and reaches;
+-- there are at least 1 and at most 4,096 units
 pub record IsPlan (ws : Workspace) (features : Features) (selection : Selection) (profile : List ℕ) (plan : Plan) : Type 0 where
   pub line : List Seen
   pub profile_has : profile_line ws profile ≡ Ok line
@@ -114,32 +118,32 @@ pub record IsPlan (ws : Workspace) (features : Features) (selection : Selection)
 
 -- Refusals.
 
--- more than 4,096 units of the plan, by their keys' bytes
+-- the plan would have more than 4,096 units, listed here by the bytes of their keys
 pub record IsCrowd (ws : Workspace) (features : Features) (selection : Selection) : Type 0 where
   pub units : List Unit
   pub planned : All (IsPlanned ws features selection) units
   pub order : AllPairs (λ u v. IsBelow (key_of ws u) (key_of ws v)) units
   pub many : 4096 < length units
 
--- the profile gives settings
+-- the profile has settings
 pub record IsUsable (ws : Workspace) (profile : List ℕ) : Type 0 where
   pub line : List Seen
   pub is : profile_line ws profile ≡ Ok line
 
--- why the units have no plan: a circle; else too many of them; else none
+-- why the units have no plan: there is a cycle; else there are too many units; else there are none
 pub data Stops (ws : Workspace) (features : Features) (selection : Selection) : PlanFault → Type 0 where
   by_cycle : (names : List (List ℕ)) (cycle : IsCycle ws features selection names) → Stops ws features selection (Cycle names)
   by_number : (straight : IsStraight ws features selection) (crowd : IsCrowd ws features selection) → Stops ws features selection TooManyUnits
   by_nothing : (none : (u : Unit) → IsPlanned ws features selection u → ⊥) → Stops ws features selection NothingToBuild
 
--- why there is no plan: the profile gives no settings; else the units have none
+-- why there is no plan: the profile has no settings; else the units have no plan
 pub data Refuses (ws : Workspace) (features : Features) (selection : Selection) (profile : List ℕ) : PlanFault → Type 0 where
   by_profile : (fault : ProfileFault) (told : profile_line ws profile ≡ Err fault) → Refuses ws features selection profile (Profile fault)
   by_units : (fault : PlanFault) (usable : IsUsable ws profile) (stops : Stops ws features selection fault) → Refuses ws features selection profile fault
 
 -- Laws.
 
--- two units of a plan have two keys, and no path is at or below the folders of both
+-- two units of a plan have different keys, and no path is at or below the folders of both
 pub record LieApart (a b : Planned) : Type 0 where
   pub keys : a.key ≢ b.key
   pub folders : (path : List ℕ) → is_at_or_below a.out path ≡ true → is_at_or_below b.out path ≡ false

@@ -1,4 +1,5 @@
--- Units: how each is called, what it needs, and which a build has (The Cargo Book, Build Scripts, Features, cargo build).
+-- Units: their keys, what each needs, and which ones a build
+-- has (The Cargo Book, Build Scripts, Features, cargo build).
 use Rattle.std.specs.Prelude.{◌≡◌, ◌⊎◌, ℕ, Bool, true, false, not, ◌&&◌, ◌||◌, ◌==◌, if◌then◌else◌, is_some, codes, List, [], ◌∷◌, ◌++◌, All, Contains, length, Option, Some, None, slice_get}
 use Rattle.pb_data.specs.Mentions.{is_mentioned}
 use Rattle.pb_closure.specs.Placed.{placed}
@@ -17,7 +18,7 @@ use Rattle.pb_unit.specs.declared.unit.Unit.{Unit}
 use Rattle.pb_unit.specs.declared.unit.What.{What}
 use Rattle.pb_unit.specs.declared.unit.What.TheVariants.{Lib, Bin, Script, Run}
 
--- what is made of the package at a place, on a side
+-- a unit of the package at an index, on a side
 abbrev pub unit : ℕ → Side → What → Unit
 unit p s w = record { owner = p; side = s; what = w }
 
@@ -27,7 +28,7 @@ abbrev pub name_of : Option Package → List ℕ
 name_of None = []
 name_of (Some p) = p.name
 
--- the name of the package at a place
+-- the name of the package at an index
 abbrev pub name_at : Workspace → ℕ → List ℕ
 name_at ws p = name_of (slice_get ws.packages p)
 
@@ -45,7 +46,7 @@ what_name Run = codes "run"
 abbrev pub key_of : Workspace → Unit → List ℕ
 key_of ws u = name_at ws u.owner ++ 46 ∷ (side_name u.side ++ 46 ∷ what_name u.what)
 
--- the role of a unit's settings: that of the host for scripts and for the host's side
+-- the role for a unit's settings: that of the host for scripts and for the host's side
 abbrev pub role_at : Side → What → Side
 role_at s Lib = s
 role_at s (Bin name) = s
@@ -65,7 +66,7 @@ abbrev pub has_script : Option Package → Bool
 has_script None = false
 has_script (Some p) = is_some p.script
 
--- a library and a native library that its script hands on: a package with `links` has a script
+-- the package has a library, and a native library that its script passes on: a package with `links` has a script
 abbrev pub hands_on : Option Package → Bool
 hands_on None = false
 hands_on (Some p) = is_some p.library && is_some p.links && is_some p.script
@@ -95,11 +96,11 @@ library_by ws features p s n e = if is_enabled features p s n && is_normal e.kin
 abbrev pub tool_by : Workspace → Features → ℕ → Side → ℕ → Entry → List Unit
 tool_by ws features p s n e = if is_enabled features p s n && is_build e.kind && has_library (slice_get ws.packages e.to) then unit e.to Host Lib ∷ [] else []
 
--- the run to which an enabled normal entry leads whose package has a library and `links`
+-- the run to which an enabled normal entry leads, if its package has a library and `links`
 abbrev pub run_by : Workspace → Features → ℕ → Side → ℕ → Entry → List Unit
 run_by ws features p s n e = if is_enabled features p s n && is_normal e.kind && hands_on (slice_get ws.packages e.to) then unit e.to s Run ∷ [] else []
 
--- over a package's entries
+-- these units for all entries of a package
 abbrev pub libraries : Workspace → Features → ℕ → Side → List Unit
 libraries ws features p s = placed (library_by ws features p s) 0 (entries_at ws p)
 
@@ -109,7 +110,7 @@ tools ws features p s = placed (tool_by ws features p s) 0 (entries_at ws p)
 abbrev pub runs : Workspace → Features → ℕ → Side → List Unit
 runs ws features p s = placed (run_by ws features p s) 0 (entries_at ws p)
 
--- a package's own library, where it has one, and its own run, where it has a script
+-- a package's own library, if it has one, and its own run, if it has a script
 abbrev pub own_library : Workspace → ℕ → Side → List Unit
 own_library ws p s = if has_library (slice_get ws.packages p) then unit p s Lib ∷ [] else []
 
@@ -130,26 +131,27 @@ needs_of ws features p s Run = unit p s Script ∷ runs ws features p s
 abbrev pub needs : Workspace → Features → Unit → List Unit
 needs ws features u = needs_of ws features u.owner u.side u.what
 
--- one or more needs lead there
+-- one or more needs lead from a unit to another
 pub data Reaches (ws : Workspace) (features : Features) : Unit → Unit → Type 0 where
   direct : (u v : Unit) (need : Contains (needs ws features u) v) → Reaches ws features u v
   onward : (u v w : Unit) (need : Contains (needs ws features u) v) (more : Reaches ws features v w) → Reaches ws features u w
 
 -- Roots.
 
--- nothing narrows what is built of the selected packages
+-- nothing restricts what is built of the selected packages
 abbrev pub asks_all : Selection → Bool
 asks_all selection = not (selection.lib || selection.bins || not (length selection.bin == 0))
 
--- libraries are built: `--lib`, or nothing narrows
+-- libraries are built: `--lib` was given, or nothing restricts
 abbrev pub asks_libraries : Selection → Bool
 asks_libraries selection = selection.lib || asks_all selection
 
--- the binaries of this name are built: `--bins`, `--bin NAME`, or nothing narrows
+-- the binaries of this name are built: `--bins` or `--bin NAME` was given, or nothing restricts
 abbrev pub asks_binary : Selection → List ℕ → Bool
 asks_binary selection name = selection.bins || is_mentioned selection.bin name || asks_all selection
 
--- what a build is asked for: the libraries and the binaries of the selected packages, for the target; a binary where all features are on that it requires
+-- what a build must make: the libraries and the binaries of the selected
+-- packages, for the target; a binary only if all features that it requires are on
 pub data IsRoot (ws : Workspace) (features : Features) (selection : Selection) : Unit → Type 0 where
   library : (p : ℕ) (selected : Contains selection.packages p) (asked : asks_libraries selection ≡ true) (there : has_library (slice_get ws.packages p) ≡ true) → IsRoot ws features selection (unit p Target Lib)
   binary : (p : ℕ) (owner : Package) (made : Binary) (selected : Contains selection.packages p) (package_at : slice_get ws.packages p ≡ Some owner) (there : Contains owner.binaries made) (asked : asks_binary selection made.name ≡ true)

@@ -20,48 +20,48 @@ use std::alloc::{AllocError, Global};
 /// A binary that is a root.
 #[derive(Drop, PartialEq, Eq, PartialOrd, Ord)]
 pub(crate) struct Named {
-    /// The place of its package.
+    /// The index of its package.
     pub(crate) owner: usize,
     /// Its name.
     pub(crate) name: Text,
 }
 
-/// Whether a text is one of these.
+/// Returns whether a text is one of these.
 fn is_mentioned(texts: &[Text], text: &Text) -> bool
     ensures { result ≡ is_mentioned texts.now text.now }
 {
     texts.iter().any(|other| *text == *other)
 }
 
-/// Whether each of the required features is on.
+/// Returns whether each of the required features is on.
 fn all_on(on: &[Text], required: &[Text]) -> bool
     ensures { result ≡ list_all (is_mentioned on.now) required.now }
 {
     required.iter().all(|feature| is_mentioned(on, feature))
 }
 
-/// Whether nothing narrows what is built.
+/// Returns whether nothing restricts what is built.
 fn asks_all(selection: &Selection) -> bool
     ensures { result ≡ asks_all selection.now }
 {
     !(selection.lib || selection.bins || !selection.bin.is_empty())
 }
 
-/// Whether libraries are built.
+/// Returns whether libraries are built.
 pub(crate) fn asks_libraries(selection: &Selection) -> bool
     ensures { result ≡ asks_libraries selection.now }
 {
     selection.lib || asks_all(selection)
 }
 
-/// Whether binaries of this name are built.
+/// Returns whether binaries of this name are built.
 fn asks_binary(selection: &Selection, name: &Text) -> bool
     ensures { result ≡ asks_binary selection.now name.now }
 {
     selection.bins || is_mentioned(selection.bin.as_slice(), name) || asks_all(selection)
 }
 
-/// Adds a binary, where it is a root.
+/// Adds a binary, if it is a root.
 fn add_binary(
     alloc: Global,
     found: &mut Vec<Named>,
@@ -79,7 +79,7 @@ fn add_binary(
     Ok(())
 }
 
-/// Adds those of some binaries that are roots.
+/// Adds those binaries that are roots.
 fn add_binaries(
     alloc: Global,
     found: &mut Vec<Named>,
@@ -96,7 +96,7 @@ fn add_binaries(
     Ok(())
 }
 
-/// The binaries of the package at a place.
+/// Returns the binaries of the package at an index.
 fn binaries_at(workspace: &Workspace, place: usize) -> &[Binary]
     ensures { result.now ≡ binaries_of (slice_get workspace.now.packages place) }
 {
@@ -128,7 +128,7 @@ fn add_selected(
     )
 }
 
-/// The binaries that are roots, as they come.
+/// Returns the binaries that are roots, as they come.
 fn all_named(
     alloc: Global,
     workspace: &Workspace,
@@ -152,7 +152,7 @@ fn all_named(
     Ok(found)
 }
 
-/// The binaries that are roots, each once.
+/// Returns the binaries that are roots, each once.
 fn named_roots(
     alloc: Global,
     workspace: &Workspace,
@@ -175,7 +175,7 @@ fn add_unit(units: &mut Vec<Unit>, owner: usize, side: Side, what: What) -> Resu
     Ok(())
 }
 
-/// Adds the units of a package that are no binaries.
+/// Adds the units of a package that are not binaries.
 fn add_fixed(units: &mut Vec<Unit>, place: usize, owner: &Package) -> Result<(), AllocError>
     ensures { OnOk result (units.new.items ≡ units.old.items ++ six place owner.now) }
 {
@@ -188,7 +188,7 @@ fn add_fixed(units: &mut Vec<Unit>, place: usize, owner: &Package) -> Result<(),
     Ok(())
 }
 
-/// The units of each package that are no binaries.
+/// Returns the units of each package that are not binaries.
 fn fixed(alloc: Global, packages: &[Package]) -> Result<Vec<Unit>, AllocError>
     ensures { IfOk result (λ units. units.items ≡ fixed packages.now) }
 {
@@ -210,7 +210,7 @@ fn add_named(alloc: Global, units: &mut Vec<Unit>, named: &[Named]) -> Result<()
     Ok(())
 }
 
-/// All units that a plan may have.
+/// Returns all units that a plan may have.
 pub(crate) fn candidates(
     alloc: Global,
     workspace: &Workspace,

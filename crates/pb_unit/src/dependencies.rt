@@ -1,4 +1,4 @@
-//! What the enabled entries of a package lead to, as numbers of units.
+//! The units to which the enabled entries of a package lead, by their numbers.
 
 ghost use Rattle.std.specs.Prelude.{◌≡◌, ◌++◌, ◌<◌, OnOk, All, map, slice_get};
 ghost use Rattle.pb_unit.specs.declared.unit.What.TheVariants.{Lib, Script, Run};
@@ -16,11 +16,11 @@ pub(crate) enum Need {
     Lib,
     /// By a build entry, its library, on the host's side.
     Tool,
-    /// By a normal entry, the run of its script, where it has a library and `links`.
+    /// By a normal entry, the run of its script, if it has a library and `links`.
     Run,
 }
 
-/// Whether the package at a place has a library.
+/// Returns whether the package at an index has a library.
 pub(crate) fn has_library(workspace: &Workspace, place: usize) -> bool
     ensures { result ≡ has_library (slice_get workspace.now.packages place) }
 {
@@ -30,7 +30,7 @@ pub(crate) fn has_library(workspace: &Workspace, place: usize) -> bool
     }
 }
 
-/// Whether the package at a place has a script.
+/// Returns whether the package at an index has a script.
 fn has_script(workspace: &Workspace, place: usize) -> bool
     ensures { result ≡ has_script (slice_get workspace.now.packages place) }
 {
@@ -40,7 +40,7 @@ fn has_script(workspace: &Workspace, place: usize) -> bool
     }
 }
 
-/// Whether the package at a place has a library, `links` and a script.
+/// Returns whether the package at an index has a library, `links` and a script.
 fn hands_on(workspace: &Workspace, place: usize) -> bool
     ensures { result ≡ hands_on (slice_get workspace.now.packages place) }
 {
@@ -50,7 +50,7 @@ fn hands_on(workspace: &Workspace, place: usize) -> bool
     }
 }
 
-/// The entries of the package at a place.
+/// Returns the entries of the package at an index.
 #[tactic(auto, using(crate::proofs::Graphs::entries_few))]
 fn entries_at(workspace: &SettledWorkspace, place: usize) -> &[Entry]
     ensures entries { result.now ≡ entries_at workspace.now place }
@@ -62,21 +62,21 @@ fn entries_at(workspace: &SettledWorkspace, place: usize) -> &[Entry]
     }
 }
 
-/// Whether it is `[dependencies]`.
+/// Returns whether the kind is that of `[dependencies]`.
 fn is_normal(kind: DependencyKind) -> bool
     ensures { result ≡ is_normal kind }
 {
     matches!(kind, DependencyKind::Normal)
 }
 
-/// Whether it is `[build-dependencies]`.
+/// Returns whether the kind is that of `[build-dependencies]`.
 fn is_build(kind: DependencyKind) -> bool
     ensures { result ≡ is_build kind }
 {
     matches!(kind, DependencyKind::Build)
 }
 
-/// The number of a library.
+/// Returns the number of a library.
 fn library_number(owner: usize, side: Side) -> usize
     requires { owner < 256 }
     ensures { result ≡ number (unit owner side Lib) }
@@ -87,7 +87,7 @@ fn library_number(owner: usize, side: Side) -> usize
     }
 }
 
-/// The number of a script.
+/// Returns the number of a script.
 pub(crate) fn script_number(owner: usize, side: Side) -> usize
     requires { owner < 256 }
     ensures { result ≡ number (unit owner side Script) }
@@ -98,7 +98,7 @@ pub(crate) fn script_number(owner: usize, side: Side) -> usize
     }
 }
 
-/// The number of a script's run.
+/// Returns the number of a script's run.
 fn run_number(owner: usize, side: Side) -> usize
     requires { owner < 256 }
     ensures { result ≡ number (unit owner side Run) }
@@ -109,7 +109,7 @@ fn run_number(owner: usize, side: Side) -> usize
     }
 }
 
-/// Whether an entry leads to a need of this kind.
+/// Returns whether an entry leads to a need of this kind.
 fn leads(workspace: &SettledWorkspace, need: Need, entry: &Entry) -> bool
     ensures { result ≡ leads need workspace.now entry.now }
 {
@@ -120,7 +120,8 @@ fn leads(workspace: &SettledWorkspace, need: Need, entry: &Entry) -> bool
     }
 }
 
-/// The number of the unit that a need of this kind is, of the package at a place, for a unit on a side.
+/// Returns the number of the unit that a need of this kind
+/// means, for the package at an index and a unit on a side.
 fn needed_number(need: Need, owner: usize, side: Side) -> usize
     requires { owner < 256 }
     ensures { result ≡ number (needed need owner side) }
@@ -132,7 +133,7 @@ fn needed_number(need: Need, owner: usize, side: Side) -> usize
     }
 }
 
-/// Adds the needs of this kind to which the enabled entries of the package at a place lead.
+/// Adds the needs of this kind to which the enabled entries of the package at an index lead.
 pub(crate) fn add_needed(
     numbers: &mut Vec<usize>,
     workspace: &SettledWorkspace,
@@ -153,7 +154,7 @@ pub(crate) fn add_needed(
     Ok(())
 }
 
-/// Adds the package's own library, where it has one.
+/// Adds the package's own library, if it has one.
 pub(crate) fn add_own_library(
     numbers: &mut Vec<usize>,
     workspace: &SettledWorkspace,
@@ -169,7 +170,7 @@ pub(crate) fn add_own_library(
     Ok(())
 }
 
-/// Adds the run of the package's own script, where it has one.
+/// Adds the run of the package's own script, if it has one.
 pub(crate) fn add_own_run(
     numbers: &mut Vec<usize>,
     workspace: &SettledWorkspace,

@@ -19,13 +19,13 @@ use std::alloc::{AllocError, Global};
 pub(crate) struct Drawing {
     /// The units, by their numbers.
     pub(crate) units: Items<Unit>,
-    /// What is needed, by these numbers.
+    /// What each of them needs, by these numbers.
     pub(crate) nodes: Items<Node>,
     /// The numbers of the roots.
     pub(crate) roots: Items<usize>,
 }
 
-/// The node of a unit.
+/// Returns the node of a unit.
 fn node_of(
     alloc: Global,
     workspace: &SettledWorkspace,
@@ -43,7 +43,7 @@ fn node_of(
     })
 }
 
-/// The nodes of units.
+/// Returns the nodes of units.
 fn nodes_of(
     alloc: Global,
     workspace: &SettledWorkspace,
@@ -60,7 +60,7 @@ fn nodes_of(
     Ok(nodes)
 }
 
-/// The graph of the units that a plan may have.
+/// Returns the graph of the units that a plan may have.
 pub(crate) fn drawn(
     alloc: Global,
     selected: &SelectedWorkspace<'_>,

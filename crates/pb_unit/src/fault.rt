@@ -11,7 +11,8 @@ use thiserror::Error;
 /// Why there is no plan.
 #[derive(Debug, Drop, Error)]
 pub enum PlanFault {
-    /// Units need one another: the names of the packages of those that reach themselves, in byte order.
+    /// Units need one another. It contains the names of the
+    /// packages whose units reach themselves, in byte order.
     #[error("packages depend on one another")]
     Cycle(Items<Text>),
     /// There are more than 4,096 units.
@@ -20,10 +21,10 @@ pub enum PlanFault {
     /// There is no unit.
     #[error("there is nothing to build")]
     NothingToBuild,
-    /// The profile gives no settings.
+    /// The profile has no settings.
     #[error("{}", .0)]
     Profile(ProfileFault),
-    /// Memory was refused.
+    /// Memory ran out.
     #[error("out of memory")]
     OutOfMemory,
 }

@@ -2,8 +2,8 @@
 
 ghost use Rattle.pb_unit.specs.Laws.{KeysTellWhat};
 
-/// A unit's key is the name of one folder, and its last word, like that of its output folder's path, says what the unit
-/// is: `lib`, `bin-NAME`, `script` or `run`.
+/// A unit's key is the name of one folder, and its last word says what the unit is: `lib`,
+/// `bin-NAME`, `script` or `run`. The last word of its output folder's path says so too.
 pub fn keys_tell_what()
     ensures { KeysTellWhat }
 {}

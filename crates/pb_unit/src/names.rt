@@ -15,7 +15,7 @@ use pb_package::{Entry, Side, Workspace};
 use pb_resolved::Features;
 use std::alloc::{AllocError, Global};
 
-/// Names in byte order, each once.
+/// Returns names in byte order, each once.
 fn sorted(names: Vec<Text>) -> Items<Text>
     ensures order { IsAscending result }
     ensures same { (name : List ℕ) → Contains result name ↔ Contains names.items name }
@@ -25,7 +25,7 @@ fn sorted(names: Vec<Text>) -> Items<Text>
     Items::from_vec(names)
 }
 
-/// Adds the name of the package to which an entry leads, where that has no library.
+/// Adds the name of the package to which an entry leads, if it has no library.
 fn add_missing(
     alloc: Global,
     names: &mut Vec<Text>,
@@ -70,7 +70,7 @@ fn add_all_missing(
     Ok(())
 }
 
-/// The names of the packages without a library to which enabled entries lead, as they come.
+/// Returns the names of the packages without a library to which enabled entries lead, as they come.
 fn all_missing(
     alloc: Global,
     workspace: &Workspace,
@@ -87,7 +87,7 @@ fn all_missing(
     Ok(names)
 }
 
-/// The names of the packages without a library to which enabled entries lead.
+/// Returns the names of the packages without a library to which enabled entries lead.
 pub(crate) fn without_library(
     alloc: Global,
     workspace: &Workspace,
@@ -99,7 +99,7 @@ pub(crate) fn without_library(
     Ok(sorted(names))
 }
 
-/// The name of the package of the unit at a place.
+/// Returns the name of the package of the unit at an index.
 fn name_behind<'a>(workspace: &'a Workspace, units: &[Unit], node: usize) -> &'a str
     ensures { result.now ≡ name_behind workspace.now units.now node }
 {
@@ -109,7 +109,7 @@ fn name_behind<'a>(workspace: &'a Workspace, units: &[Unit], node: usize) -> &'a
     }
 }
 
-/// The names of the packages of some units, as they come.
+/// Returns the names of the packages of some units, as they come.
 fn all_behind(
     alloc: Global,
     workspace: &Workspace,
@@ -125,7 +125,7 @@ fn all_behind(
     Ok(names)
 }
 
-/// The names of the packages of some units, in byte order, each once.
+/// Returns the names of the packages of some units, in byte order, each once.
 pub(crate) fn names_behind(
     alloc: Global,
     workspace: &Workspace,

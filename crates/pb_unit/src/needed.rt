@@ -11,7 +11,7 @@ use pb_package::{SettledWorkspace, Side};
 use pb_resolved::Features;
 use std::alloc::{AllocError, Global};
 
-/// What a library needs.
+/// Returns what a library needs.
 fn by_library(
     alloc: Global,
     workspace: &SettledWorkspace,
@@ -28,7 +28,7 @@ fn by_library(
     Ok(numbers)
 }
 
-/// What a binary needs.
+/// Returns what a binary needs.
 fn by_binary(
     alloc: Global,
     workspace: &SettledWorkspace,
@@ -47,7 +47,7 @@ fn by_binary(
     Ok(numbers)
 }
 
-/// What a script needs.
+/// Returns what a script needs.
 fn by_script(
     alloc: Global,
     workspace: &SettledWorkspace,
@@ -62,7 +62,7 @@ fn by_script(
     Ok(numbers)
 }
 
-/// What a run needs.
+/// Returns what a run needs.
 fn by_run(
     alloc: Global,
     workspace: &SettledWorkspace,
@@ -79,7 +79,7 @@ fn by_run(
     Ok(numbers)
 }
 
-/// What a unit needs: an own library, libraries, tools and runs, by what it makes.
+/// Returns what a unit needs: an own library, libraries, tools and runs, by what the unit makes.
 pub(crate) fn needed_by(
     alloc: Global,
     workspace: &SettledWorkspace,

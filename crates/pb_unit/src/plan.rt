@@ -38,30 +38,33 @@ pub struct Planned {
     pub unit: Unit,
     /// Its key.
     pub key: Text,
-    /// Its output folder: the one of its key's name in the folder of the profile, in the target folder.
+    /// Its output folder: the folder named as its key, in the
+    /// folder of the profile, in the target folder.
     pub out: PathText,
-    /// 0 where it needs nothing, else one more than the greatest level of what it needs.
+    /// 0 if it needs nothing, else one more than the greatest level of what it needs.
     pub level: usize,
-    /// The places in the plan of what it needs, ascending, each once.
+    /// The indices in the plan of what it needs, ascending, each once.
     pub needs: Items<usize>,
-    /// The places in the plan of what it needs, of what that needs, and so on, ascending, each once.
+    /// The indices in the plan of what it needs, of what that
+    /// needs, and so on, ascending, each once.
     pub reaches: Items<usize>,
     /// The settings of its package in the unit's role.
     pub settings: Settings,
 }
 
-/// A plan: what the selected packages are built of, each unit once and after all that it needs. A unit is
-/// known by its place.
+/// A plan: the units of the selected packages, each once and
+/// after all that it needs. A unit is known by its index.
 #[derive(Drop)]
 pub struct Plan {
-    /// The units by level, and then by the bytes of their keys. There is one, and there are at most 4,096.
+    /// The units by level, and then by the bytes of their keys: at least 1, at most 4,096.
     pub planned: Items<Planned>,
     /// The names of the packages without a library to which enabled dependencies lead, in byte order,
     /// each once.
     pub without_library: Items<Text>,
 }
 
-/// The workspace that something is selected of. The selection is looked at for what its type says of it.
+/// Returns the workspace from which packages are selected. It
+/// looks at the selection for the facts that its type promises.
 fn workspace_of<'a>(selected: &'a SelectedWorkspace<'_>) -> &'a Workspace
     ensures value { result.now ≡ selected.now.workspace }
     ensures settled { IsSettled selected.now.workspace }
@@ -71,14 +74,15 @@ fn workspace_of<'a>(selected: &'a SelectedWorkspace<'_>) -> &'a Workspace
     selected.workspace().get()
 }
 
-/// The line of the asked profile, and its folder.
+/// The line of the requested profile, and its folder.
 #[derive(Drop)]
 struct Frame<'a> {
     line: Vec<Ancestor<'a>>,
     folder: PathText,
 }
 
-/// The folder of a profile's output in the target folder, where the profile's own folder has a name.
+/// Returns the folder of a profile's output in the target
+/// folder, if the profile's own folder has a name.
 fn folder_in(
     alloc: Global,
     workspace: &Workspace,
@@ -97,7 +101,7 @@ fn folder_in(
     }
 }
 
-/// The line of the asked profile, and the folder of its output.
+/// Returns the line of the requested profile, and the folder of its output.
 fn framed<'a>(
     alloc: Global,
     workspace: &'a Workspace,
@@ -119,7 +123,7 @@ fn framed<'a>(
     }
 }
 
-/// Why an order is refused, in the words of a plan.
+/// Returns why an order is refused, as a fault of a plan.
 fn refusal(alloc: Global, workspace: &Workspace, units: &[Unit], fault: OrderFault) -> PlanFault
     ensures { (result ≡ OutOfMemory) ⊎ IsRefusal workspace.now units.now fault result }
 {
@@ -135,7 +139,7 @@ fn refusal(alloc: Global, workspace: &Workspace, units: &[Unit], fault: OrderFau
     }
 }
 
-/// The order of the roots and all that they reach.
+/// Returns the order of the roots and all that they reach.
 fn ordered(
     alloc: Global,
     selected: &SelectedWorkspace<'_>,
@@ -160,7 +164,7 @@ fn ordered(
     Ok(steps)
 }
 
-/// The output folder of a key, in the folder of the profile.
+/// Returns the output folder of a key, in the folder of the profile.
 fn out_of(alloc: Global, frame: &Frame<'_>, key: &Text) -> Result<PathText, AllocError>
     requires { is_relative key.now ≡ true }
     ensures { IfOk result (λ out. out ≡ below frame.now.folder key.now) }
@@ -170,7 +174,7 @@ fn out_of(alloc: Global, frame: &Frame<'_>, key: &Text) -> Result<PathText, Allo
     Ok(out)
 }
 
-/// The settings of a unit's package in its role.
+/// Returns the settings of a unit's package in its role.
 fn settings_of(workspace: &Workspace, frame: &Frame<'_>, unit: &Unit) -> Settings
     requires { unit.now.owner < length workspace.now.packages }
     ensures { (owner : Package) × (slice_get workspace.now.packages unit.now.owner ≡ Some owner) × (result ≡ settings_along owner (role_of unit.now) (map seen frame.now.line.items)) }
@@ -179,7 +183,7 @@ fn settings_of(workspace: &Workspace, frame: &Frame<'_>, unit: &Unit) -> Setting
     settings_along(owner, unit.role(), frame.line.as_slice())
 }
 
-/// A step of the order as a unit of the plan.
+/// Returns a step of the order as a unit of the plan.
 fn made(
     alloc: Global,
     workspace: &Workspace,
@@ -206,7 +210,7 @@ fn made(
     })
 }
 
-/// The steps of the order as units of the plan.
+/// Returns the steps of the order as units of the plan.
 fn all_made(
     alloc: Global,
     workspace: &Workspace,
@@ -227,20 +231,23 @@ fn all_made(
 }
 
 impl Plan {
-    /// The plan of the selected packages under a profile (The Cargo Book, cargo build).
+    /// Returns the plan of the selected packages under a profile (The Cargo Book, cargo build).
     ///
-    /// Its roots are the libraries and binaries of the selected packages, made for the target; where
-    /// `--lib`, `--bins` or `--bin NAME` is given, those that at least one of these names. A binary whose
-    /// required features are not all on is left out. The plan is the roots and all that they reach:
+    /// Its roots are the libraries and binaries of the selected packages, made for
+    /// the target. If `--lib`, `--bins` or `--bin NAME` is given, only those that
+    /// at least one of these names are roots. A binary whose required features are
+    /// not all on is left out. The plan is the roots and all that they reach:
     ///
-    /// - a library needs those of its enabled dependencies that have one, and the run of its own script;
+    /// - a library needs those of its enabled dependencies that
+    ///   have one, and the run of its own script;
     /// - a binary needs its own library, and what that would need;
     /// - a script needs the host's libraries of its enabled build dependencies;
-    /// - a run needs its script, and the runs of the enabled dependencies with a library and `links`.
+    /// - a run needs its script, and the runs of the enabled
+    ///   dependencies with a library and `links`.
     ///
-    /// Refused, in this order: Profile where the profile gives no settings; Cycle where units of the plan reach
-    /// themselves; TooManyUnits where there are more than 4,096; NothingToBuild where there is none. Beside
-    /// these there is want of memory alone.
+    /// Errors, in this order: `Profile`, if the profile has no settings; `Cycle`, if
+    /// units of the plan reach themselves; `TooManyUnits`, if there are more than
+    /// 4,096; `NothingToBuild`, if there are none. Besides these, only out of memory.
     pub fn plan(
         alloc: Global,
         selected: &SelectedWorkspace<'_>,
@@ -288,15 +295,15 @@ impl Plan {
         }
     }
 
-    /// The units in plan order. It takes no memory.
+    /// Returns the units in plan order. It uses no memory.
     pub fn units(&self) -> &[Planned]
         ensures { result.now ≡ self.now.planned }
     {
         self.planned.as_slice()
     }
 
-    /// The places of what the unit at this place needs, in plan order; nothing where no unit is there. It
-    /// takes no memory.
+    /// Returns the indices of what the unit at this index needs, in
+    /// plan order; nothing if there is no such unit. It uses no memory.
     pub fn needs(&self, place: usize) -> &[usize]
         ensures { result.now ≡ needs_in (slice_get self.now.planned place) }
     {
@@ -306,8 +313,8 @@ impl Plan {
         }
     }
 
-    /// The level of the unit at this place: 0 where it needs nothing, else one more than the greatest of
-    /// what it needs; 0 where no unit is there. It takes no memory.
+    /// Returns the level of the unit at this index: 0 if it needs nothing, else one more than
+    /// the greatest level of what it needs; 0 if there is no such unit. It uses no memory.
     pub fn level(&self, place: usize) -> usize
         ensures { result ≡ level_at self.now.planned place }
     {
@@ -317,8 +324,8 @@ impl Plan {
         }
     }
 
-    /// The places of all that the unit at this place reaches, in plan order; nothing where no unit is there.
-    /// It takes no memory.
+    /// Returns the indices of all that the unit at this index reaches, in
+    /// plan order; nothing if there is no such unit. It uses no memory.
     pub fn reaches(&self, place: usize) -> &[usize]
         ensures { result.now ≡ reaches_in (slice_get self.now.planned place) }
     {
@@ -328,8 +335,8 @@ impl Plan {
         }
     }
 
-    /// The names of the packages without a library to which enabled dependencies lead, in byte order, each
-    /// once: nothing of them is planned. It takes no memory.
+    /// Returns the names of the packages without a library to which enabled dependencies
+    /// lead, in byte order, each once; nothing of them is planned. It uses no memory.
     pub fn without_library(&self) -> &[Text]
         ensures { result.now ≡ self.now.without_library }
     {

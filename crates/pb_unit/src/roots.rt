@@ -1,4 +1,4 @@
-//! Which units a build is asked for.
+//! Which units a build must make.
 
 ghost use Rattle.std.specs.Prelude.{◌≡◌, ◌↔◌, ℕ, ◌<◌, true, IfOk, All, Contains, length};
 ghost use Rattle.pb_closure.specs.Closure.{is_on};
@@ -12,7 +12,7 @@ use pb_closure::derived;
 use pb_package::{SelectedWorkspace, SettledWorkspace, Side};
 use std::alloc::{AllocError, Global};
 
-/// Whether it is the target's side.
+/// Returns whether it is the target's side.
 fn is_target(side: Side) -> bool
     ensures { result ≡ is_target side }
 {
@@ -22,7 +22,7 @@ fn is_target(side: Side) -> bool
     }
 }
 
-/// The selected packages, marked by their places.
+/// Returns the selected packages as marks by their indices.
 fn selected_marks(alloc: Global, count: usize, places: &[usize]) -> Result<Vec<bool>, AllocError>
     requires { All (λ p. p < count) places.now }
     ensures { IfOk result (λ marks. (p : ℕ) → (is_on marks.items p ≡ true) ↔ Contains places.now p) }
@@ -31,7 +31,7 @@ fn selected_marks(alloc: Global, count: usize, places: &[usize]) -> Result<Vec<b
     Ok(marks)
 }
 
-/// Whether a place is marked.
+/// Returns whether an index is marked.
 fn is_marked(marks: &[bool], place: usize) -> bool
     ensures { result ≡ is_on marks.now place }
 {
@@ -41,7 +41,7 @@ fn is_marked(marks: &[bool], place: usize) -> bool
     }
 }
 
-/// Whether a candidate is a root.
+/// Returns whether a candidate is a root.
 fn is_root(workspace: &SettledWorkspace, asked: bool, marks: &[bool], unit: &Unit) -> bool
     ensures { result ≡ is_root workspace.now asked marks.now unit.now }
 {
@@ -58,7 +58,7 @@ fn is_root(workspace: &SettledWorkspace, asked: bool, marks: &[bool], unit: &Uni
     }
 }
 
-/// The numbers of the candidates that are roots.
+/// Returns the numbers of the candidates that are roots, given the marks.
 fn roots_marked(
     alloc: Global,
     workspace: &SettledWorkspace,
@@ -77,7 +77,7 @@ fn roots_marked(
     Ok(roots)
 }
 
-/// The numbers of the candidates that are roots.
+/// Returns the numbers of the candidates that are roots.
 pub(crate) fn roots(
     alloc: Global,
     selected: &SelectedWorkspace<'_>,

@@ -1,4 +1,4 @@
-//! Units, and how they are called.
+//! Units, and their keys.
 
 ghost use Rattle.std.specs.Prelude.{◌≡◌, ◌++◌, IfOk, OnOk, string_bytes, slice_get};
 ghost use Rattle.pb_unit.specs.Units.{key_of, name_at, side_name, what_name, role_of};
@@ -20,11 +20,11 @@ pub enum What {
     Run,
 }
 
-/// A unit of a build: one thing that is made of a package on a side (The Cargo Book, cargo build). What
-/// is made for the host is never shared with what is made for the target (our own choice).
+/// A unit of a build: one thing that is made of a package on a side (The Cargo Book, cargo build).
+/// What is made for the host is never shared with what is made for the target (our own choice).
 #[derive(Drop)]
 pub struct Unit {
-    /// The place of its package among the workspace's.
+    /// The index of its package in the workspace.
     pub owner: usize,
     /// The side that it is made for.
     pub side: Side,
@@ -54,7 +54,7 @@ impl TryCopy for Unit {
     }
 }
 
-/// The word of a side in a key.
+/// Returns the word of a side in a key.
 fn side_name(side: Side) -> &'static str
     ensures { result.now ≡ side_name side }
 {
@@ -64,7 +64,7 @@ fn side_name(side: Side) -> &'static str
     }
 }
 
-/// The name of the package at a place; the empty text where none is there.
+/// Returns the name of the package at an index; the empty text if there is none.
 pub(crate) fn name_at(workspace: &Workspace, place: usize) -> &str
     ensures { result.now ≡ name_at workspace.now place }
 {
@@ -91,9 +91,11 @@ fn push_what(text: &mut String, what: &What) -> Result<(), AllocError>
 }
 
 impl Unit {
-    /// The key by which the unit is known in folders, records and messages: `PACKAGE.SIDE.WHAT`, where SIDE
-    /// is `host` or `target`, and WHAT is `lib`, `bin-NAME`, `script` or `run` (our own choice). The
-    /// workspace is that of the plan. The one fault is want of memory.
+    /// Returns the key of the unit in folders, records and messages: `PACKAGE.SIDE.WHAT`,
+    /// where SIDE is `host` or `target`, and WHAT is `lib`, `bin-NAME`, `script` or `run`
+    /// (our own choice). The workspace is that of the plan.
+    ///
+    /// Errors: out of memory.
     pub fn key(&self, alloc: Global, workspace: &Workspace) -> Result<Text, AllocError>
         ensures { IfOk result (λ key. key ≡ key_of workspace.now self.now) }
     {
@@ -106,8 +108,9 @@ impl Unit {
         Ok(Text::new(text))
     }
 
-    /// The role of its settings: that of the host for a build script and for all that is made for the host,
-    /// else that of the target (The Cargo Book, Profiles). A run of a script has the role of its side.
+    /// Returns the role of its settings: that of the host for a build script
+    /// and for all that is made for the host, else that of the target (The
+    /// Cargo Book, Profiles). A run of a script has the role of its side.
     pub fn role(&self) -> Side
         ensures { result ≡ role_of self.now }
     {

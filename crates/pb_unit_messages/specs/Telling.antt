@@ -1,4 +1,5 @@
--- What a unit tells its users (The Cargo Book, External Tools): whose lines they are, and which messages come of its child's answer.
+-- The messages of a unit (The Cargo Book, External Tools): what their
+-- lines are about, and which messages come from its child's answer.
 use Rattle.std.specs.Prelude.{ℕ, Bool, true, false, not, if◌then◌else◌, List, [], ◌∷◌, ◌++◌, Option, Some, None, Result, Ok, Err, slice_get, map, find}
 use Rattle.std.specs.List.{filter_map}
 use Rattle.std.specs.Str.{bytes_eq}
@@ -27,7 +28,7 @@ use Rattle.pb_project.specs.declared.fault.UnitFault.{UnitFault}
 use Rattle.pb_project.specs.declared.fault.UnitFault.TheVariants as fault
 use Rattle.pb_project.specs.Targets.{made_file_of}
 
--- Whose lines they are.
+-- What the lines are about.
 
 abbrev pub library_of : Package → Option Library → Option Target
 library_of p None = None
@@ -41,7 +42,7 @@ abbrev pub script_of : Package → Option (List ℕ) → Option Target
 script_of p None = None
 script_of p (Some source) = Some (script_target source p.edition)
 
--- the target of a package that is compiled or run, where the package has it
+-- the target of a package that is compiled or run, if the package has it
 abbrev pub target_of : Package → What → Option Target
 target_of p Lib = library_of p p.library
 target_of p (Bin name) = binary_of p (find (λ b. bytes_eq name b.name) p.binaries)
@@ -71,12 +72,12 @@ is_binary Run = false
 abbrev pub artifact : Project → Planned → List ℕ → Message
 artifact project u file = CompilerArtifact record { settings = u.settings; features = features_at project.features u.unit.owner u.unit.side; file = file; is_executable = is_binary u.unit.what }
 
--- what a compile made
+-- the message for what a compile made, if it made something
 abbrev pub artifacts : Project → Planned → Option (List ℕ) → List Message
 artifacts project u None = []
 artifacts project u (Some file) = artifact project u file ∷ []
 
--- what a compiler says: the diagnostics among the lines of its standard error
+-- the messages of a compiler: the diagnostics among the lines of its standard error
 abbrev pub compiler_messages : List ℕ → List Message
 compiler_messages stderr = map CompilerMessage (diagnostics_of stderr)
 
@@ -101,7 +102,7 @@ abbrev pub variable_in : Directive → Option (List ℕ × List ℕ)
 variable_in (says.Env name value) = Some (name, value)
 variable_in _ = None
 
--- what a script gave the compiler, each list in printed order
+-- the message for what a script passes to the compiler, each list in printed order
 abbrev pub executed : Planned → List Directive → Message
 executed u directives = BuildScriptExecuted record {
   linked_libraries = filter_map library_in directives;
@@ -111,18 +112,20 @@ executed u directives = BuildScriptExecuted record {
   out_folder = u.out;
 }
 
--- the messages of a unit whose child's answer is good, by its directives: a run of a script has some list of them, a compile has none. A compile gives its diagnostics, and then what it made; a run its notes in printed order, and then what it gave the compiler
+-- the messages of a unit whose child's answer is good; only a run of a script has directives:
+-- - a compile: its diagnostics, then what it made
+-- - a run: its notes in printed order, then what it passes to the compiler
 abbrev pub good_messages : Project → Planned → List ℕ → Option (List Directive) → List Message
 good_messages project u stderr None = compiler_messages stderr ++ artifacts project u (made_file_of project u)
 good_messages project u stderr (Some directives) = filter_map note_in directives ++ (executed u directives ∷ [])
 
--- a bad unit gives its diagnostics where it is a compile and no stream is too long
+-- a bad unit reports its diagnostics if it is a compile and no stream is too long
 abbrev pub gives_diagnostics : What → UnitFault → Bool
 gives_diagnostics Run e = false
 gives_diagnostics w fault.OutputTooLong = false
 gives_diagnostics w e = true
 
--- the notes of a script's output, where it reads
+-- the notes of a script's output; none if the output is malformed
 abbrev pub notes_in : Result (List Directive) LineFault → List Message
 notes_in (Ok directives) = filter_map note_in directives
 notes_in (Err e) = []
@@ -131,13 +134,18 @@ abbrev pub is_script_error : UnitFault → Bool
 is_script_error fault.ScriptError = true
 is_script_error e = false
 
--- of one whose answer is bad: a script that told of an error gives its notes in printed order
+-- the messages of a unit whose child's answer is bad:
+-- - a script that reported an error: its notes in printed order
+-- - a compile: its diagnostics, unless a stream is too long
 abbrev pub bad_messages : What → UnitFault → Ended → List Message
 bad_messages w e ended =
     if is_script_error e then notes_in (directives_of ended.stdout)
     else (if gives_diagnostics w e then compiler_messages ended.stderr else [])
 
--- what its child wrote that no message holds: nothing of streams that are too long; the standard error of a script that told of an error, and both streams of another script; what a compile says beside its diagnostics
+-- what a bad unit's child wrote that no message contains:
+-- - nothing if a stream is too long
+-- - standard error of a script that reported an error, both streams of any other script
+-- - the lines of a compile beside its diagnostics
 abbrev pub said_by : What → UnitFault → Ended → List ℕ
 said_by w fault.OutputTooLong ended = []
 said_by w fault.ScriptError ended = ended.stderr
@@ -146,7 +154,7 @@ said_by w e ended = plain_lines_of ended.stderr
 
 -- Lines.
 
--- the lines of messages of a subject; `started` says whether a child was started for their unit
+-- the lines of messages about a subject; `started` says whether a child was started for their unit
 abbrev pub lines_by : Option Subject → Bool → List Message → List ℕ
 lines_by None started messages = []
 lines_by (Some s) started messages = lines_of s (not started) messages

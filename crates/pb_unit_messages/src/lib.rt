@@ -1,5 +1,5 @@
-//! What a unit tells: the messages that come of its child's answer, and the lines that they are, with the unit's package
-//! and target (The Cargo Book, External Tools).
+//! The messages of a unit, which come from its child's answer, and their
+//! lines, with the unit's package and target (The Cargo Book, External Tools).
 #![tactic(auto)]
 
 mod messages;

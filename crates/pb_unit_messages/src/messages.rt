@@ -1,4 +1,4 @@
-//! What a unit tells: the messages that come of its child's answer.
+//! The messages of a unit, which come from its child's answer.
 
 ghost use Rattle.std.specs.Prelude.{◌≡◌, ◌++◌, ◌∷◌, [], if◌then◌else◌, IfOk, OnOk, map};
 ghost use Rattle.pb_directive.specs.Directives.{directives_of};
@@ -28,14 +28,14 @@ fn add_diagnostics(
     Ok(())
 }
 
-/// Whether a unit is a binary.
+/// Returns whether a unit is a binary.
 fn is_binary(what: &What) -> bool
     ensures { result ≡ is_binary what.now }
 {
     matches!(what, What::Bin(_))
 }
 
-/// Copies of texts.
+/// Returns copies of texts.
 fn copied(alloc: Global, texts: &[Text]) -> Result<Items<Text>, AllocError>
     ensures { IfOk result (λ made. made ≡ texts.now) }
 {
@@ -46,7 +46,7 @@ fn copied(alloc: Global, texts: &[Text]) -> Result<Items<Text>, AllocError>
     Ok(made)
 }
 
-/// Adds what a compile made.
+/// Adds the message for what a compile made.
 fn add_artifact(
     alloc: Global,
     messages: &mut Items<Message>,
@@ -71,7 +71,7 @@ fn add_artifact(
     Ok(())
 }
 
-/// The note in a directive.
+/// Returns the note in a directive, if it is one.
 fn note_in(alloc: Global, directive: &Directive) -> Result<Option<Message>, AllocError>
     ensures { IfOk result (λ made. made ≡ note_in directive.now) }
 {
@@ -104,7 +104,7 @@ fn add_notes(
     Ok(())
 }
 
-/// The library to link in a directive.
+/// Returns the library to link in a directive.
 fn library_in(alloc: Global, directive: &Directive) -> Result<Option<Text>, AllocError>
     ensures { IfOk result (λ made. made ≡ library_in directive.now) }
 {
@@ -114,7 +114,7 @@ fn library_in(alloc: Global, directive: &Directive) -> Result<Option<Text>, Allo
     }
 }
 
-/// The libraries to link.
+/// Returns the libraries to link.
 fn libraries_in(alloc: Global, directives: &[Directive]) -> Result<Items<Text>, AllocError>
     ensures { IfOk result (λ made. made ≡ filter_map library_in directives.now) }
 {
@@ -127,7 +127,7 @@ fn libraries_in(alloc: Global, directives: &[Directive]) -> Result<Items<Text>, 
     Ok(made)
 }
 
-/// The folder in a directive in which libraries are looked for.
+/// Returns the folder in a directive in which libraries are looked for.
 fn search_in(alloc: Global, directive: &Directive) -> Result<Option<Text>, AllocError>
     ensures { IfOk result (λ made. made ≡ search_in directive.now) }
 {
@@ -137,7 +137,7 @@ fn search_in(alloc: Global, directive: &Directive) -> Result<Option<Text>, Alloc
     }
 }
 
-/// The folders in which libraries are looked for.
+/// Returns the folders in which libraries are looked for.
 fn searches_in(alloc: Global, directives: &[Directive]) -> Result<Items<Text>, AllocError>
     ensures { IfOk result (λ made. made ≡ filter_map search_in directives.now) }
 {
@@ -150,7 +150,7 @@ fn searches_in(alloc: Global, directives: &[Directive]) -> Result<Items<Text>, A
     Ok(made)
 }
 
-/// The condition in a directive.
+/// Returns the condition in a directive.
 fn condition_in(alloc: Global, directive: &Directive) -> Result<Option<Text>, AllocError>
     ensures { IfOk result (λ made. made ≡ condition_in directive.now) }
 {
@@ -160,7 +160,7 @@ fn condition_in(alloc: Global, directive: &Directive) -> Result<Option<Text>, Al
     }
 }
 
-/// The conditions that are on.
+/// Returns the conditions that are on.
 fn conditions_in(alloc: Global, directives: &[Directive]) -> Result<Items<Text>, AllocError>
     ensures { IfOk result (λ made. made ≡ filter_map condition_in directives.now) }
 {
@@ -173,7 +173,7 @@ fn conditions_in(alloc: Global, directives: &[Directive]) -> Result<Items<Text>,
     Ok(made)
 }
 
-/// The variable in a directive.
+/// Returns the variable in a directive.
 fn variable_in(alloc: Global, directive: &Directive) -> Result<Option<(Text, Text)>, AllocError>
     ensures { IfOk result (λ made. made ≡ variable_in directive.now) }
 {
@@ -183,7 +183,7 @@ fn variable_in(alloc: Global, directive: &Directive) -> Result<Option<(Text, Tex
     }
 }
 
-/// The variables.
+/// Returns the variables.
 fn variables_in(alloc: Global, directives: &[Directive]) -> Result<Items<(Text, Text)>, AllocError>
     ensures { IfOk result (λ made. made ≡ filter_map variable_in directives.now) }
 {
@@ -196,7 +196,7 @@ fn variables_in(alloc: Global, directives: &[Directive]) -> Result<Items<(Text, 
     Ok(made)
 }
 
-/// What a script gave the compiler.
+/// Returns the message for what a script passes to the compiler.
 fn executed(alloc: Global, unit: &Planned, directives: &[Directive]) -> Result<Message, AllocError>
     ensures { IfOk result (λ made. made ≡ executed unit.now directives.now) }
 {
@@ -214,8 +214,10 @@ fn executed(alloc: Global, unit: &Planned, directives: &[Directive]) -> Result<M
     }))
 }
 
-/// The messages of a unit whose child's answer is good, by its directives: some of a script's run, none of a
-/// compile. The one fault is want of memory.
+/// Returns the messages of a unit whose child's answer is good.
+/// A script's run has directives, a compile has none.
+///
+/// Errors: out of memory.
 pub fn good_messages(
     alloc: Global,
     project: &Project,
@@ -239,7 +241,7 @@ pub fn good_messages(
     Ok(messages)
 }
 
-/// Whether a bad unit gives its diagnostics: a compile does, unless a stream is too long.
+/// Returns whether a bad unit reports its diagnostics: a compile does, unless a stream is too long.
 fn gives_diagnostics(what: &What, fault: &UnitFault) -> bool
     ensures { result ≡ gives_diagnostics what.now fault.now }
 {
@@ -249,7 +251,7 @@ fn gives_diagnostics(what: &What, fault: &UnitFault) -> bool
     }
 }
 
-/// The notes of a script's output, where it reads.
+/// Returns the notes of a script's output; none if the output is malformed.
 fn notes_of(alloc: Global, stdout: &Bytes) -> Result<Items<Message>, AllocError>
     ensures { IfOk result (λ messages. messages ≡ notes_in (directives_of stdout.now)) }
 {
@@ -264,7 +266,7 @@ fn notes_of(alloc: Global, stdout: &Bytes) -> Result<Items<Message>, AllocError>
     }
 }
 
-/// The diagnostics of a bad unit, where it gives them.
+/// Returns the diagnostics of a bad unit, if it reports them.
 fn diagnostics_by(
     alloc: Global,
     what: &What,
@@ -280,8 +282,10 @@ fn diagnostics_by(
     Ok(messages)
 }
 
-/// The messages of a unit whose child's answer is bad: a compile gives its diagnostics, unless a stream is too long, and
-/// a script that told of an error its notes. The one fault is want of memory.
+/// Returns the messages of a unit whose child's answer is bad: the diagnostics of a
+/// compile, unless a stream is too long; the notes of a script that reported an error.
+///
+/// Errors: out of memory.
 pub fn bad_messages(
     alloc: Global,
     what: &What,
@@ -296,7 +300,7 @@ pub fn bad_messages(
     }
 }
 
-/// Two streams, one after the other.
+/// Returns two streams, one after the other.
 fn both(alloc: Global, ended: &Ended) -> Result<Bytes, AllocError>
     ensures { IfOk result (λ said. said ≡ ended.now.stdout ++ ended.now.stderr) }
 {
@@ -306,9 +310,11 @@ fn both(alloc: Global, ended: &Ended) -> Result<Bytes, AllocError>
     Ok(Bytes::new(said))
 }
 
-/// What the child of a bad unit wrote that no message holds: nothing of streams that are too long; the standard error of
-/// a script that told of an error, and both streams of another script; what a compile says beside its diagnostics. Our
-/// own choice. The one fault is want of memory.
+/// Returns what the child of a bad unit wrote that no message contains (our own choice):
+/// nothing if a stream is too long; standard error of a script that reported an error;
+/// both streams of any other script; the lines of a compile beside its diagnostics.
+///
+/// Errors: out of memory.
 pub fn said_by(
     alloc: Global,
     what: &What,

@@ -1,4 +1,4 @@
-//! Whose lines they are: the package and the target of a unit.
+//! What lines are about: the package and the target of a unit.
 
 ghost use Rattle.std.specs.Prelude.{◌≡◌, IfOk, find};
 ghost use Rattle.std.specs.Str.{bytes_eq};
@@ -12,7 +12,7 @@ use pb_project::Project;
 use pb_unit::{Planned, What};
 use std::alloc::{AllocError, Global};
 
-/// The target of a package's library, where it has one.
+/// Returns the target of a package's library, if it has one.
 fn library_of(
     alloc: Global,
     owner: &Package,
@@ -35,7 +35,7 @@ fn library_of(
     }
 }
 
-/// The target of the binary of this name, where there is one.
+/// Returns the target of the binary of this name, if there is one.
 fn binary_of(alloc: Global, name: &Text, owner: &Package) -> Result<Option<Target>, AllocError>
     ensures { IfOk result (λ made. made ≡ binary_of owner.now (find (λ b. bytes_eq name.now b.name) owner.now.binaries)) }
 {
@@ -54,7 +54,7 @@ fn binary_of(alloc: Global, name: &Text, owner: &Package) -> Result<Option<Targe
     }
 }
 
-/// The target of a build script, where there is one.
+/// Returns the target of a build script, if there is one.
 fn script_of(
     alloc: Global,
     owner: &Package,
@@ -71,7 +71,7 @@ fn script_of(
     }
 }
 
-/// The target of a package that is compiled or run, where the package has it.
+/// Returns the target of a package that is compiled or run, if the package has it.
 fn target_of(alloc: Global, owner: &Package, what: &What) -> Result<Option<Target>, AllocError>
     ensures { IfOk result (λ made. made ≡ target_of owner.now what.now) }
 {
@@ -83,7 +83,7 @@ fn target_of(alloc: Global, owner: &Package, what: &What) -> Result<Option<Targe
     }
 }
 
-/// Copies of a package's name, version, folder and manifest.
+/// Returns copies of a package's name, version, folder and manifest.
 fn copied_of(alloc: Global, owner: &Package) -> Result<(Text, Text, PathText, PathText), AllocError>
     ensures { IfOk result (λ copied. copied ≡ (owner.now.name, owner.now.version, owner.now.folder, owner.now.manifest)) }
 {
@@ -94,7 +94,7 @@ fn copied_of(alloc: Global, owner: &Package) -> Result<(Text, Text, PathText, Pa
     Ok((name, version, folder, manifest))
 }
 
-/// The package and this target as lines show them.
+/// Returns the package and this target as lines show them.
 fn subject_with(
     alloc: Global,
     owner: &Package,
@@ -118,7 +118,7 @@ fn subject_with(
     }
 }
 
-/// The package and the target of a unit.
+/// Returns the package and the target of a unit.
 fn subject_of(
     alloc: Global,
     project: &Project,
@@ -135,8 +135,10 @@ fn subject_of(
     }
 }
 
-/// The message lines of a unit, one after another. `started` says whether a child was started for it. The one
-/// fault is want of memory.
+/// Returns the message lines of a unit, one after another.
+/// `started` says whether a child was started for it.
+///
+/// Errors: out of memory.
 pub fn lines_of_unit(
     alloc: Global,
     project: &Project,

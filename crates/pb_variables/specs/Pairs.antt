@@ -25,14 +25,14 @@ use Rattle.pb_project.specs.declared.project.Setup.{Setup}
 use Rattle.pb_project.specs.Targets.{package_of, unit_at, crate_name_of, is_run, own_run, said_at}
 use Rattle.pb_project.specs.NamedTexts.{in_order}
 
--- Of all units.
+-- For all units.
 
--- the builder, and the package
+-- the variables of the builder and of the package
 abbrev pub package_pairs : Setup → Package → List (List ℕ × List ℕ)
 package_pairs setup p =
     (codes "CARGO", setup.tool) ∷ (codes "CARGO_MANIFEST_DIR", p.folder) ∷ (codes "CARGO_MANIFEST_PATH", p.manifest) ∷ (codes "CARGO_PKG_NAME", p.name) ∷ []
 
--- what the package says of itself
+-- the package's description of itself
 abbrev pub about_pairs : About → List (List ℕ × List ℕ)
 about_pairs a =
     (codes "CARGO_PKG_AUTHORS", a.authors) ∷ (codes "CARGO_PKG_DESCRIPTION", a.description) ∷ (codes "CARGO_PKG_HOMEPAGE", a.homepage) ∷ (codes "CARGO_PKG_LICENSE", a.license)
@@ -54,7 +54,7 @@ version_texts version major minor patch pre =
 abbrev pub version_pairs : List ℕ → List (List ℕ × List ℕ)
 version_pairs v = version_texts v (decimal (version_numbers v).0) (decimal (version_numbers v).1) (decimal (version_numbers v).2) (version_numbers v).3
 
--- Of compiles.
+-- For compiles.
 
 abbrev pub crate_pairs : Project → Planned → List (List ℕ × List ℕ)
 crate_pairs project unit = (codes "CARGO_CRATE_NAME", crate_name_of project unit) ∷ []
@@ -66,12 +66,12 @@ abbrev pub env_pair : Directive → List (List ℕ × List ℕ)
 env_pair (Env name value) = (name, value) ∷ []
 env_pair _ = []
 
--- the folder of a run's files
+-- the folder of a run's files, as `OUT_DIR`
 abbrev pub out_pairs : Option Planned → List (List ℕ × List ℕ)
 out_pairs None = []
 out_pairs (Some unit) = (codes "OUT_DIR", unit.out) ∷ []
 
--- the folder of the run at a place, and the variables that it has set
+-- the folder of the run at an index, and the variables that the run has set
 abbrev pub run_at : Project → List (Option (List Directive)) → ℕ → List (List ℕ × List ℕ)
 run_at project done place = out_pairs (unit_at project place) ++ flat_map env_pair (said_at done place)
 
@@ -79,11 +79,11 @@ abbrev pub run_there : Project → List (Option (List Directive)) → Option ℕ
 run_there project done None = []
 run_there project done (Some place) = run_at project done place
 
--- those of the run of the unit's own package
+-- the same for the run of the unit's own package
 abbrev pub own_run_pairs : Project → Planned → List (Option (List Directive)) → List (List ℕ × List ℕ)
 own_run_pairs project unit done = run_there project done (own_run project unit)
 
--- Of runs.
+-- For runs.
 
 abbrev pub links_pairs : Option (List ℕ) → List (List ℕ × List ℕ)
 links_pairs None = []
@@ -100,7 +100,7 @@ feature_pair name = (feature_name name, codes "1")
 abbrev pub described_pairs : Project → Planned → Package → List (List ℕ × List ℕ)
 described_pairs project unit p = links_pairs p.links ++ map feature_pair (features_at project.features unit.unit.owner unit.unit.side)
 
--- what is there, unless it is empty
+-- the text, unless it is absent or empty
 abbrev pub unless_empty : Option (List ℕ) → Option (List ℕ)
 unless_empty None = None
 unless_empty (Some []) = None
@@ -110,7 +110,7 @@ abbrev pub host_in_text : Option (List ℕ) → Option (List ℕ)
 host_in_text None = None
 host_in_text (Some line) = unless_empty (after_prefix (codes "host: ") line)
 
--- what a line says behind `host: `, where it is a text and something stands there
+-- the host that a line names after `host: `, if the line is UTF-8 and the host is not empty
 abbrev pub host_in : List ℕ → Option (List ℕ)
 host_in line = host_in_text (text_of line)
 
@@ -122,7 +122,7 @@ abbrev pub first_host : List (List ℕ) → List ℕ
 first_host [] = []
 first_host (line ∷ lines) = or_else (host_in line) (first_host lines)
 
--- the triple that the compiler is made for: what the first line says that says it
+-- the compiler's host triple: the host in the first line that names one
 abbrev pub triple_of : List ℕ → List ℕ
 triple_of toolchain = first_host (lines_of toolchain)
 
@@ -144,19 +144,19 @@ abbrev pub released_text : Result (List Seen) ProfileFault → List ℕ
 released_text (Ok line) = if is_released line then codes "release" else codes "debug"
 released_text (Err fault) = codes "debug"
 
--- `release` for the profile of this name and all that inherit from it, else `debug`
+-- `release` for the profile `release` and all that inherit from it, else `debug`
 abbrev pub profile_word : Project → List ℕ
 profile_word project = released_text (checked_line project.workspace.profiles project.profile)
 
--- the platform, and what is compiled for it
+-- the platform that is compiled for, the host, and the number of jobs
 abbrev pub platform_pairs : List ℕ → List (List ℕ × List ℕ)
 platform_pairs triple = (codes "TARGET", triple) ∷ (codes "HOST", triple) ∷ (codes "NUM_JOBS", codes "1") ∷ []
 
--- the settings of the package, with the role of the run's side
+-- the settings of the package, in the role of the run's side
 abbrev pub settings_pairs : Settings → List ℕ → List (List ℕ × List ℕ)
 settings_pairs s profile = (codes "OPT_LEVEL", opt_level_text s.opt_level) ∷ (codes "DEBUG", truth_text (is_debugged s.debug)) ∷ (codes "PROFILE", profile) ∷ []
 
--- words with byte 0x1f between them
+-- arguments with byte 0x1f between them
 abbrev pub encoded : List (List ℕ) → List ℕ
 encoded flags = join_by (λ flag. flag) (31 ∷ []) flags
 
@@ -164,7 +164,7 @@ encoded flags = join_by (λ flag. flag) (31 ∷ []) flags
 abbrev pub compiler_pairs : Setup → List (List ℕ × List ℕ)
 compiler_pairs setup = (codes "RUSTC", setup.rustc) ∷ (codes "CARGO_ENCODED_RUSTFLAGS", encoded setup.flags) ∷ []
 
--- where the run leaves its files, and how its package is compiled
+-- the run's output folder, and how its package is compiled
 abbrev pub building_pairs : Setup → Project → Planned → List (List ℕ × List ℕ)
 building_pairs setup project unit =
     (codes "OUT_DIR", unit.out) ∷ platform_pairs (triple_of setup.toolchain) ++ settings_pairs unit.settings (profile_word project) ++ compiler_pairs setup
@@ -181,7 +181,7 @@ abbrev pub passed_by : Project → Option Planned → List Directive → List (L
 passed_by project None said = []
 passed_by project (Some unit) said = if is_run unit.unit.what then linked_pairs (links_in (package_of project unit)) said else []
 
--- the metadata of the run at a place
+-- the metadata of the run at an index
 unfoldable pub passed_at : Project → List (Option (List Directive)) → ℕ → List (List ℕ × List ℕ)
 passed_at project done place = passed_by project (unit_at project place) (said_at done place)
 
@@ -192,7 +192,7 @@ passed_pairs project unit done = flat_map (passed_at project done) unit.needs
 abbrev pub run_pairs : Setup → Project → Planned → List (Option (List Directive)) → Package → List (List ℕ × List ℕ)
 run_pairs setup project unit done p = described_pairs project unit p ++ building_pairs setup project unit ++ passed_pairs project unit done
 
--- By what the unit makes.
+-- By the kind of unit.
 
 abbrev pub own_pairs : Setup → Project → Planned → List (Option (List Directive)) → Package → What → List (List ℕ × List ℕ)
 own_pairs setup project unit done p Lib = crate_pairs project unit ++ own_run_pairs project unit done
@@ -200,10 +200,10 @@ own_pairs setup project unit done p (Bin name) = crate_pairs project unit ++ bin
 own_pairs setup project unit done p Script = crate_pairs project unit
 own_pairs setup project unit done p Run = run_pairs setup project unit done p
 
--- what a command sets, a later one over an earlier one
+-- the variables that a command sets; a later one replaces an earlier one
 abbrev pub composed : Setup → Project → Planned → List (Option (List Directive)) → Package → List (List ℕ × List ℕ)
 composed setup project unit done p = package_pairs setup p ++ about_pairs p.about ++ version_pairs p.version ++ own_pairs setup project unit done p unit.unit.what
 
--- the variables that go over the inherited ones, sorted by name, each name once
+-- the variables that are set over the inherited ones, sorted by name, each name once
 abbrev pub pairs_of : Setup → Project → Planned → List (Option (List Directive)) → Package → List (List ℕ × List ℕ)
 pairs_of setup project unit done p = in_order (composed setup project unit done p)

@@ -1,5 +1,5 @@
-//! The variables of a command: those that the builder sets, and those that build scripts have set (The Cargo Book,
-//! Environment Variables).
+//! The variables of a command: those that the builder sets, and those that build scripts have set
+//! (The Cargo Book, Environment Variables).
 #![tactic(auto)]
 
 mod pairs;

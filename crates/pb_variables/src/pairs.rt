@@ -33,7 +33,7 @@ fn set_package(
     Ok(())
 }
 
-/// Sets what the package says of itself.
+/// Sets the package's description of itself.
 fn set_about(alloc: Global, all: &mut TextMap, about: &About) -> Result<(), AllocError>
     ensures { OnOk result (all.new ≡ all_set all.old (about_pairs about.now)) }
 {
@@ -57,7 +57,7 @@ struct VersionTexts {
     pre: String,
 }
 
-/// The texts of a version's numbers.
+/// Returns the texts of a version's numbers.
 fn version_texts(alloc: Global, version: &Version) -> Result<VersionTexts, AllocError>
     ensures major { IfOk result (λ texts. string_bytes texts.major ≡ decimal (version_numbers version.now).0) }
     ensures minor { IfOk result (λ texts. string_bytes texts.minor ≡ decimal (version_numbers version.now).1) }
@@ -117,7 +117,7 @@ fn set_crate(
     Ok(())
 }
 
-/// Sets a variable that a script has set, where a directive says it.
+/// Sets the variable of a directive, if the directive sets one.
 fn set_env(alloc: Global, all: &mut TextMap, directive: &Directive) -> Result<(), AllocError>
     ensures { OnOk result (all.new ≡ all_set all.old (env_pair directive.now)) }
 {
@@ -159,7 +159,7 @@ fn set_out(
     }
 }
 
-/// Sets what the run at a place gives to a compile.
+/// Sets the variables of a compile from the run at an index.
 #[tactic(auto, using(pb_project::proofs::NamedTexts::set_laws))]
 fn set_run_at(
     alloc: Global,
@@ -175,7 +175,7 @@ fn set_run_at(
     Ok(())
 }
 
-/// Sets what the run of a compile's own package gives it.
+/// Sets the variables of a compile from the run of its own package.
 fn set_own_run(
     alloc: Global,
     all: &mut TextMap,
@@ -233,7 +233,7 @@ fn set_binary(
     Ok(())
 }
 
-/// Sets the variables of a unit, by what it makes.
+/// Sets the variables of a unit, by its kind.
 fn set_own(
     alloc: Global,
     all: &mut TextMap,
@@ -253,9 +253,11 @@ fn set_own(
     }
 }
 
-/// The variables of a command: each name once, in byte order, with the last value that it is given; what the script of
-/// the unit's package has set wins. `done` tells what the runs before it have said, by their places in the plan. The one
-/// fault is want of memory (The Cargo Book, Environment Variables).
+/// Returns the variables of a command (The Cargo Book, Environment Variables): each name once, in
+/// byte order, with the last value that is set; what the script of the unit's package has set wins.
+/// `done` contains the directives of the runs before it, by their index in the plan.
+///
+/// Errors: only out of memory.
 #[tactic(auto, using(pb_project::proofs::NamedTexts::set_laws))]
 pub fn pairs_of(
     alloc: Global,

@@ -1,4 +1,4 @@
-//! The platform that a compiler is made for, and the word of a profile.
+//! The compiler's host platform, and the word of a profile.
 
 ghost use Rattle.std.specs.Prelude.{◌≡◌, IfOk, map, codes, Ok};
 ghost use Rattle.std.specs.List.{list_any};
@@ -13,7 +13,7 @@ use pb_profile::{Ancestor, ProfileFault, line_of};
 use pb_project::Project;
 use std::alloc::{AllocError, Global};
 
-/// What there is, unless it is empty.
+/// Returns a text, unless it is absent or empty.
 fn unless_empty(text: Option<&str>) -> Option<&str>
     ensures { option_copied result ≡ unless_empty (option_copied text.entry) }
 {
@@ -23,7 +23,8 @@ fn unless_empty(text: Option<&str>) -> Option<&str>
     }
 }
 
-/// What a line says behind `host: `, where it is a text and something stands there.
+/// Returns the host that a line names after `host: `, if the line is UTF-8 and the host is not
+/// empty.
 fn host_in(line: &[u8]) -> Option<&str>
     ensures { option_copied result ≡ host_in line.now }
 {
@@ -33,7 +34,7 @@ fn host_in(line: &[u8]) -> Option<&str>
     }
 }
 
-/// The triple that the compiler is made for; empty where no line says it.
+/// Returns the compiler's host triple, or an empty text if no line names one.
 pub(crate) fn triple_of(toolchain: &[u8]) -> &str
     ensures { result.now ≡ triple_of toolchain.now }
 {
@@ -45,14 +46,14 @@ pub(crate) fn triple_of(toolchain: &[u8]) -> &str
     ""
 }
 
-/// Whether one of some profiles is `release`.
+/// Returns whether one of some profiles is `release`.
 fn has_release(line: &[Ancestor]) -> bool
     ensures { result ≡ list_any (λ ancestor. bytes_eq (seen ancestor).name (codes "release")) line.now }
 {
     line.iter().any(|ancestor| ancestor.name == "release")
 }
 
-/// Whether one of a line of profiles is `release`.
+/// Returns whether one of a line of profiles is `release`.
 #[tactic(auto, using(crate::proofs::Released::released_laws))]
 fn is_released(line: &[Ancestor]) -> bool
     ensures { result ≡ is_released (map seen line.now) }
@@ -60,7 +61,7 @@ fn is_released(line: &[Ancestor]) -> bool
     has_release(line)
 }
 
-/// The word of a line of profiles.
+/// Returns the word of a line of profiles.
 fn released_text(line: &[Ancestor]) -> &'static str
     ensures { result.now ≡ released_text (Ok (map seen line.now)) }
 {
@@ -71,7 +72,8 @@ fn released_text(line: &[Ancestor]) -> &'static str
     }
 }
 
-/// The word of the profile: `release` for `release` and all that inherit from it, else `debug`.
+/// Returns the word of the profile: `release` for `release` and all that inherit from it, else
+/// `debug`.
 pub(crate) fn profile_word(alloc: Global, project: &Project) -> Result<&'static str, AllocError>
     ensures { IfOk result (λ text. text.now ≡ profile_word project.now) }
 {

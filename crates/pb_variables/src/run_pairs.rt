@@ -32,7 +32,7 @@ fn set_links(alloc: Global, all: &mut TextMap, links: &Option<Text>) -> Result<(
     }
 }
 
-/// The name of a feature's variable.
+/// Returns the name of a feature's variable.
 #[tactic(auto, unfolding(crate::specs::Pairs::feature_name))]
 fn feature_name(alloc: Global, feature: &str) -> Result<String, AllocError>
     ensures { IfOk result (λ name. string_bytes name ≡ feature_name feature.now) }
@@ -63,21 +63,21 @@ fn set_features(alloc: Global, all: &mut TextMap, features: &[Text]) -> Result<(
     Ok(())
 }
 
-/// Whether anything is kept for debuggers.
+/// Returns whether any debug information is kept.
 fn is_debugged(debug: DebugInfo) -> bool
     ensures { result ≡ is_debugged debug }
 {
     debug != DebugInfo::Nothing
 }
 
-/// A truth value in a word.
+/// Returns a truth value as a word.
 fn truth_text(truth: bool) -> &'static str
     ensures { result.now ≡ truth_text truth }
 {
     if truth { "true" } else { "false" }
 }
 
-/// Sets the platform and what is compiled for it.
+/// Sets the platform that is compiled for, the host, and the number of jobs.
 fn set_platform(alloc: Global, all: &mut TextMap, triple: &str) -> Result<(), AllocError>
     ensures { OnOk result (all.new ≡ all_set all.old (platform_pairs triple.now)) }
 {
@@ -103,7 +103,7 @@ fn set_settings(
     Ok(())
 }
 
-/// Adds flags behind another.
+/// Adds flags after another flag.
 fn push_flags(text: &mut String, flags: &[Text]) -> Result<(), AllocError>
     ensures { OnOk result (string_bytes text.new ≡ string_bytes text.old ++ flat_map (λ flag. (31 ∷ []) ++ flag) flags.now) }
 {
@@ -114,7 +114,7 @@ fn push_flags(text: &mut String, flags: &[Text]) -> Result<(), AllocError>
     Ok(())
 }
 
-/// Words with byte 0x1f between them.
+/// Returns arguments with byte 0x1f between them.
 fn encoded(alloc: Global, flags: &[Text]) -> Result<String, AllocError>
     ensures { IfOk result (λ text. string_bytes text ≡ encoded flags.now) }
 {
@@ -172,7 +172,7 @@ fn set_described(
     Ok(())
 }
 
-/// Sets the triple that the compiler is made for.
+/// Sets the compiler's host triple.
 fn set_triple(alloc: Global, all: &mut TextMap, setup: &Setup) -> Result<(), AllocError>
     ensures { OnOk result (all.new ≡ all_set all.old (platform_pairs (triple_of setup.now.toolchain))) }
 {
@@ -192,7 +192,7 @@ fn set_profile(
     set_settings(alloc, all, &unit.settings, profile)
 }
 
-/// Sets where a run leaves its files.
+/// Sets the folder into which a run writes its files.
 fn set_folder(alloc: Global, all: &mut TextMap, unit: &Planned) -> Result<(), AllocError>
     ensures { OnOk result (all.new ≡ all_set all.old (out_pairs (Some unit.now))) }
 {
@@ -200,7 +200,7 @@ fn set_folder(alloc: Global, all: &mut TextMap, unit: &Planned) -> Result<(), Al
     Ok(())
 }
 
-/// Sets where a run leaves its files, and how its package is compiled.
+/// Sets the folder into which a run writes its files, and how its package is compiled.
 #[tactic(auto, using(pb_project::proofs::NamedTexts::set_laws))]
 fn set_building(
     alloc: Global,
@@ -228,7 +228,7 @@ fn set_all(alloc: Global, all: &mut TextMap, pairs: &[(Text, Text)]) -> Result<(
     Ok(())
 }
 
-/// Sets the metadata of a script that links this.
+/// Sets the metadata of a script that links this library.
 fn set_metadata(
     alloc: Global,
     all: &mut TextMap,
@@ -242,7 +242,7 @@ fn set_metadata(
     set_all(alloc, all, pairs.as_slice())
 }
 
-/// Sets the metadata of the script of a package, where it links something.
+/// Sets the metadata of the script of a package, if the package links a library.
 fn set_linked(
     alloc: Global,
     all: &mut TextMap,
@@ -260,7 +260,7 @@ fn set_linked(
     }
 }
 
-/// Sets the metadata of a unit that is a run.
+/// Sets the metadata of a unit, if it is a run.
 fn set_passed_by(
     alloc: Global,
     all: &mut TextMap,
@@ -281,7 +281,7 @@ fn set_passed_by(
     }
 }
 
-/// Sets the metadata of the run at a place.
+/// Sets the metadata of the run at an index.
 #[tactic(auto, unfolding(crate::specs::Pairs::passed_at))]
 fn set_passed_at(
     alloc: Global,
@@ -301,7 +301,7 @@ fn set_passed_at(
     }
 }
 
-/// Sets the metadata of the runs at some places.
+/// Sets the metadata of the runs at some indices.
 #[tactic(auto, using(pb_project::proofs::NamedTexts::set_laws))]
 fn set_passed(
     alloc: Global,

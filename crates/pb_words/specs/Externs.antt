@@ -1,4 +1,5 @@
--- The libraries of a compile: where the compiler looks for them, and which of them it is given by which name (The Cargo Book, Specifying Dependencies, Renaming dependencies in Cargo.toml).
+-- The libraries of a compile: the folders in which the compiler looks for them, and the names by which it gets them
+-- (The Cargo Book, Specifying Dependencies, Renaming dependencies in Cargo.toml).
 use Rattle.std.specs.Prelude.{ℕ, ◌&&◌, Bool, false, if◌then◌else◌, codes, List, [], ◌∷◌, ◌++◌, Option, Some, None, slice_get}
 use Rattle.std.specs.List.{flat_map}
 use Rattle.pb_closure.specs.Placed.{placed}
@@ -16,7 +17,7 @@ use Rattle.pb_project.specs.NamedTexts.{in_order}
 use Rattle.pb_project.specs.Targets.{unit_at, library_in, library_name, library_file, is_library}
 use Rattle.pb_words.specs.Words.{option}
 
--- the output folder of a unit that is reached
+-- the output folder of a unit, if there is one
 abbrev pub folder_in : Option Planned → List (List ℕ)
 folder_in None = []
 folder_in (Some unit) = unit.out ∷ []
@@ -36,30 +37,33 @@ abbrev pub folder_words_in : Option Planned → List (List ℕ)
 folder_words_in None = []
 folder_words_in (Some unit) = if is_library unit.unit.what then folder_words unit.out else []
 
--- of the unit at a place, where it is a library
+-- the same for the unit at an index, if it is a library
 abbrev pub folder_words_at : Project → ℕ → List (List ℕ)
 folder_words_at project place = folder_words_in (unit_at project place)
 
--- of each library that is reached, in plan order
+-- the same for each library that a unit reaches, in plan order
 abbrev pub dependency_words : Project → Planned → List (List ℕ)
 dependency_words project unit = flat_map (folder_words_at project) unit.reaches
 
--- an entry of this kind leads to a library that such a unit needs: a normal one of libraries and binaries, a build one of scripts
+-- an entry of this kind is for a library that such a unit needs: a normal entry for libraries and binaries, a build
+-- entry for scripts
 abbrev pub leads : What → DependencyKind → Bool
 leads Lib kind = is_normal kind
 leads (Bin name) kind = is_normal kind
 leads Script kind = is_build kind
 leads Run kind = false
 
--- the crate's name of the library of the package at a place
+-- the crate name of the library of the package at an index
 abbrev pub library_name_at : Project → ℕ → List ℕ
 library_name_at project place = library_name (library_in (slice_get project.workspace.packages place))
 
--- the name by which the source calls the library: the dependency's key with `_` for each `-` where `package` renames it, else the crate's own
+-- the name of the library in source code: the dependency's key with `_` for each `-` if `package` renames it, else its
+-- own crate name
 abbrev pub entry_name : Project → Entry → List ℕ
 entry_name project entry = if entry.renamed then underscored entry.key else library_name_at project entry.to
 
--- what a library is put in order by, its name and then its path: byte 0, which stands in neither, comes before all other bytes
+-- the sort key of a library: its name and then its path, separated by byte 0, which is in neither and comes before all
+-- other bytes
 unfoldable pub extern_key : List ℕ → List ℕ → List ℕ
 extern_key name path = name ++ 0 ∷ path
 
@@ -67,24 +71,24 @@ extern_key name path = name ++ 0 ∷ path
 unfoldable pub extern_text : List ℕ → List ℕ → List ℕ
 extern_text name path = name ++ 61 ∷ path
 
--- a library by its name and its file; none where the unit needs no such library
+-- a library by its name and its file; none if the unit needs no such library
 abbrev pub extern : List ℕ → Option (List ℕ) → List (List ℕ × List ℕ)
 extern name None = []
 extern name (Some path) = (extern_key name path, extern_text name path) ∷ []
 
--- of an entry that is enabled and by which the unit needs a library
+-- the library of an entry, if the entry is enabled and the unit needs its library
 abbrev pub entry_extern : Project → Planned → ℕ → Entry → List (List ℕ × List ℕ)
 entry_extern project unit n entry =
     if is_enabled project.features unit.unit.owner unit.unit.side n && leads unit.unit.what entry.kind then extern (entry_name project entry) (library_file project unit entry.to) else []
 
--- of a binary: its own library
+-- for a binary: its own library
 abbrev pub own_extern : Project → Planned → What → List (List ℕ × List ℕ)
 own_extern project unit Lib = []
 own_extern project unit (Bin name) = extern (library_name_at project unit.unit.owner) (library_file project unit unit.unit.owner)
 own_extern project unit Script = []
 own_extern project unit Run = []
 
--- all of a unit
+-- all libraries of a unit
 abbrev pub externs : Project → Planned → Package → List (List ℕ × List ℕ)
 externs project unit p = placed (entry_extern project unit) 0 p.entries ++ own_extern project unit unit.unit.what
 
@@ -95,6 +99,6 @@ extern_word e = option (codes "--extern") e.1
 abbrev pub extern_words : Project → Planned → Package → List (List ℕ)
 extern_words project unit p = flat_map extern_word (in_order (externs project unit p))
 
--- where libraries are looked for, and which there are
+-- the arguments for the folders of libraries, and for the libraries
 abbrev pub library_words : Project → Planned → Package → List (List ℕ)
 library_words project unit p = dependency_words project unit ++ extern_words project unit p

@@ -1,4 +1,5 @@
--- The words of a compile that build scripts have asked for (The Cargo Book, Build Scripts, Outputs of the Build Script).
+-- The arguments of a compile that build scripts have requested (The Cargo Book, Build Scripts, Outputs of the Build
+-- Script).
 use Rattle.std.specs.Prelude.{ℕ, if◌then◌else◌, is_none, codes, List, [], ◌++◌, Option}
 use Rattle.std.specs.List.{flat_map}
 use Rattle.std.specs.Str.{bytes_eq}
@@ -13,7 +14,7 @@ use Rattle.pb_project.specs.declared.project.Project.{Project}
 use Rattle.pb_project.specs.Targets.{said_at, own_said}
 use Rattle.pb_words.specs.Words.{option, setting}
 
--- What one directive gives.
+-- The arguments from one directive.
 
 abbrev pub search_word : Directive → List (List ℕ)
 search_word (LinkSearch folder) = option (codes "-L") folder
@@ -43,13 +44,13 @@ abbrev pub binary_word : List ℕ → Directive → List (List ℕ)
 binary_word name (LinkArgBin binary flag) = if bytes_eq binary name then setting (codes "link-arg=") flag else []
 binary_word name _ = []
 
--- What all give.
+-- The arguments from all directives.
 
--- the folders in which libraries are looked for: those of the run at a place, in printed order
+-- the search folders for libraries from the run at an index, in printed order
 abbrev pub searched_words : List (Option (List Directive)) → ℕ → List (List ℕ)
 searched_words done place = flat_map search_word (said_at done place)
 
--- those of each run that the unit reaches, in plan order
+-- the same for each run that the unit reaches, in plan order
 abbrev pub search_words : Planned → List (Option (List Directive)) → List (List ℕ)
 search_words unit done = flat_map (searched_words done) unit.reaches
 
@@ -57,15 +58,15 @@ search_words unit done = flat_map (searched_words done) unit.reaches
 abbrev pub condition_words : List Directive → List (List ℕ)
 condition_words said = flat_map condition_word said ++ flat_map check_word said
 
--- the flags for the linker of a binary: those for all that is linked, those for all binaries, those for this one
+-- the linker flags of a binary: those for all targets, those for all binaries, and those for this one
 abbrev pub argument_words : List ℕ → List Directive → List (List ℕ)
 argument_words name said = flat_map argument_word said ++ flat_map binaries_word said ++ flat_map (binary_word name) said
 
--- the libraries to link go to a binary only where the package has no library
+-- the libraries to link are passed to a binary only if the package has no library
 abbrev pub binary_link_words : Option Library → List Directive → List (List ℕ)
 binary_link_words library said = if is_none library then flat_map link_word said else []
 
--- what the run of the unit's own package gives it
+-- the arguments of a unit from the run of its own package
 abbrev pub own_words : What → Option Library → List Directive → List (List ℕ)
 own_words Lib library said = flat_map link_word said ++ condition_words said
 own_words (Bin name) library said = binary_link_words library said ++ condition_words said ++ argument_words name said

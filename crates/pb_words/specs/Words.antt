@@ -1,4 +1,5 @@
--- The words of a compile, group by group (The Cargo Book, Build Cache, Profiles, Features; the compiler's own command line).
+-- The arguments of a compile, group by group (The Cargo Book, Build Cache, Profiles, Features; the compiler's own
+-- command line).
 use Rattle.std.specs.Prelude.{ℕ, Bool, true, false, codes, List, [], ◌∷◌, ◌++◌}
 use Rattle.std.specs.Fmt.{decimal}
 use Rattle.std.specs.List.{flat_map, join_by}
@@ -26,7 +27,7 @@ use Rattle.pb_package.specs.declared.package.Package.{Package}
 use Rattle.pb_project.specs.declared.project.Project.{Project}
 use Rattle.pb_project.specs.Targets.{crate_name_of, crate_types, source_by}
 
--- an option and its value, as two words
+-- an option and its value, as two arguments
 unfoldable pub option : List ℕ → List ℕ → List (List ℕ)
 option name value = name ∷ value ∷ []
 
@@ -38,21 +39,21 @@ name_words name = option (codes "--crate-name") name
 unfoldable pub edition_word : Edition → List ℕ
 edition_word edition = codes "--edition=" ++ edition_text edition
 
--- diagnostics are told as JSON
+-- diagnostics are reported as JSON
 unfoldable pub format_words : List (List ℕ)
 format_words = codes "--error-format=json" ∷ []
 
--- its name, its edition, its source, and how the compiler tells its diagnostics
+-- the crate's name, its edition, its source, and the form of its diagnostics
 abbrev pub crate_words : Project → Planned → Package → List (List ℕ)
 crate_words project unit p = name_words (crate_name_of project unit) ++ edition_word p.edition ∷ source_by p unit.unit.what ∷ format_words
 
--- What is made, and where.
+-- The output, and its folder.
 
 -- `--crate-type` and the type
 unfoldable pub type_word : CrateType → List (List ℕ)
 type_word t = option (codes "--crate-type") (crate_type_text t)
 
--- for each
+-- the same for each type
 abbrev pub type_words : List CrateType → List (List ℕ)
 type_words types = flat_map type_word types
 
@@ -87,12 +88,12 @@ abbrev pub panic_text : Panic → List ℕ
 panic_text panic.Unwind = codes "unwind"
 panic_text panic.Abort = codes "abort"
 
--- nothing where it is off
+-- nothing if it is off
 abbrev pub rpath_words : Bool → List (List ℕ)
 rpath_words true = setting (codes "rpath=") (codes "yes")
 rpath_words false = []
 
--- nothing where nothing is stripped
+-- nothing if nothing is stripped
 abbrev pub strip_words : Strip → List (List ℕ)
 strip_words strip.Nothing = []
 strip_words strip.DebugInfo = setting (codes "strip=") (codes "debuginfo")
@@ -105,7 +106,7 @@ lto_text_words lto.Fat = setting (codes "lto=") (codes "fat")
 lto_text_words lto.Thin = setting (codes "lto=") (codes "thin")
 lto_text_words lto.Off = setting (codes "lto=") (codes "off")
 
--- for binaries alone
+-- the same for a binary; nothing for other units
 abbrev pub lto_words : What → Lto → List (List ℕ)
 lto_words Lib l = []
 lto_words (Bin name) l = lto_text_words l
@@ -130,7 +131,7 @@ codegen_words units = setting (codes "codegen-units=") (decimal units)
 unfoldable pub panic_words : Panic → List (List ℕ)
 panic_words p = setting (codes "panic=") (panic_text p)
 
--- what each compile is told of its settings
+-- the settings that each compile gets
 abbrev pub common_settings : Settings → List (List ℕ)
 common_settings s = level_words s.opt_level ++ debug_words s.debug ++ assertion_words s.debug_assertions ++ overflow_words s.overflow_checks ++ codegen_words s.codegen_units ++ panic_words s.panic
 
@@ -149,7 +150,7 @@ feature_text name = codes "feature=" ++ quoted name
 abbrev pub feature_word : List ℕ → List (List ℕ)
 feature_word name = option (codes "--cfg") (feature_text name)
 
--- `cfg(feature, values("F", "G"))`, over all features that the package has
+-- `cfg(feature, values("F", "G"))`, with all features of the package
 unfoldable pub expected_text : List Feature → List ℕ
 expected_text features = codes "cfg(feature, values(" ++ join_by (λ (f : Feature). quoted f.name) (codes ", ") features ++ codes "))"
 
@@ -160,6 +161,6 @@ active_words project unit = flat_map feature_word (features_at project.features 
 unfoldable pub expected_words : List Feature → List (List ℕ)
 expected_words features = option (codes "--check-cfg") (expected_text features)
 
--- each feature that is on, and then all that there are
+-- each feature that is on, and then all features of the package
 abbrev pub feature_words : Project → Planned → Package → List (List ℕ)
 feature_words project unit p = active_words project unit ++ expected_words p.features

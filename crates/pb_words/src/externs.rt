@@ -1,4 +1,5 @@
-//! The libraries of a compile: where the compiler looks for them, and which it is given by which name.
+//! The libraries of a compile: the folders in which the compiler looks for them, and the names by
+//! which it gets them.
 
 ghost use Rattle.std.specs.Prelude.{◌≡◌, ◌++◌, ◌∷◌, IfOk, OnOk, string_bytes};
 ghost use Rattle.std.specs.List.{flat_map};
@@ -16,7 +17,7 @@ use pb_project::{Project, is_library, library_file, library_name, unit_at};
 use pb_unit::{Planned, What};
 use std::alloc::{AllocError, Global};
 
-/// Adds the output folder of the unit at a place.
+/// Adds the output folder of the unit at an index.
 fn push_read(
     alloc: Global,
     reads: &mut Items<PathText>,
@@ -31,7 +32,7 @@ fn push_read(
     Ok(())
 }
 
-/// Adds the output folders of the units at some places.
+/// Adds the output folders of the units at some indices.
 fn push_reads(
     alloc: Global,
     reads: &mut Items<PathText>,
@@ -46,8 +47,10 @@ fn push_reads(
     Ok(())
 }
 
-/// The output folders of all units that a unit reaches, in plan order: what its child may read. The one fault is want
-/// of memory.
+/// Returns the output folders of all units that a unit reaches, in plan order: what its child may
+/// read.
+///
+/// Errors: only out of memory.
 pub fn reads_of(
     alloc: Global,
     project: &Project,
@@ -69,7 +72,7 @@ fn push_folder(alloc: Global, words: &mut Items<Text>, folder: &str) -> Result<(
     push_option(alloc, words, "-L", text.as_str())
 }
 
-/// Adds `-L` and the folder of the unit at a place, where it is a library.
+/// Adds `-L` and the folder of the unit at an index, if it is a library.
 fn push_folder_at(
     alloc: Global,
     words: &mut Items<Text>,
@@ -89,7 +92,7 @@ fn push_folder_at(
     }
 }
 
-/// Adds `-L` and the folder of each library at some places.
+/// Adds `-L` and the folder of each library at some indices.
 fn push_folders(
     alloc: Global,
     words: &mut Items<Text>,
@@ -104,7 +107,7 @@ fn push_folders(
     Ok(())
 }
 
-/// Whether an entry of this kind leads to a library that such a unit needs.
+/// Returns whether an entry of this kind is for a library that such a unit needs.
 fn leads(what: &What, kind: DependencyKind) -> bool
     ensures { result ≡ leads what.now kind }
 {
@@ -116,7 +119,7 @@ fn leads(what: &What, kind: DependencyKind) -> bool
     }
 }
 
-/// The name by which the source calls the library of an entry.
+/// Returns the name of an entry's library in source code.
 fn entry_name(alloc: Global, project: &Project, entry: &Entry) -> Result<Text, AllocError>
     ensures { IfOk result (λ name. name ≡ entry_name project.now entry.now) }
 {
@@ -127,7 +130,7 @@ fn entry_name(alloc: Global, project: &Project, entry: &Entry) -> Result<Text, A
     }
 }
 
-/// What a library is put in order by.
+/// Returns the sort key of a library.
 #[tactic(auto, unfolding(crate::specs::Externs::extern_key))]
 fn extern_key(alloc: Global, name: &str, path: &str) -> Result<String, AllocError>
     ensures { IfOk result (λ key. string_bytes key ≡ extern_key name.now path.now) }
@@ -138,7 +141,7 @@ fn extern_key(alloc: Global, name: &str, path: &str) -> Result<String, AllocErro
     Ok(key)
 }
 
-/// A library as the compiler is given it.
+/// Returns a library as the compiler's argument.
 #[tactic(auto, unfolding(crate::specs::Externs::extern_text))]
 fn extern_text(alloc: Global, name: &str, path: &str) -> Result<String, AllocError>
     ensures { IfOk result (λ text. string_bytes text ≡ extern_text name.now path.now) }
@@ -149,7 +152,7 @@ fn extern_text(alloc: Global, name: &str, path: &str) -> Result<String, AllocErr
     Ok(text)
 }
 
-/// Puts a library by its name and its file; nothing where the unit needs no such library.
+/// Inserts a library by its name and its file, or nothing if the unit needs no such library.
 fn put_extern(
     alloc: Global,
     all: &mut TextMap,
@@ -169,7 +172,7 @@ fn put_extern(
     }
 }
 
-/// Puts the library to which an entry leads.
+/// Inserts the library of an entry.
 fn put_led(
     alloc: Global,
     all: &mut TextMap,
@@ -184,7 +187,7 @@ fn put_led(
     put_extern(alloc, all, name.as_str(), &file)
 }
 
-/// Puts the library of an entry that is enabled and by which the unit needs a library.
+/// Inserts the library of an entry, if the entry is enabled and the unit needs its library.
 fn put_entry(
     alloc: Global,
     all: &mut TextMap,
@@ -204,7 +207,7 @@ fn put_entry(
     Ok(())
 }
 
-/// Puts the libraries of entries.
+/// Inserts the libraries of entries.
 #[tactic(auto, using(pb_project::proofs::NamedTexts::set_laws))]
 fn put_entries(
     alloc: Global,
@@ -221,7 +224,7 @@ fn put_entries(
     Ok(())
 }
 
-/// Puts a binary's own library.
+/// Inserts a binary's own library.
 fn put_own(
     alloc: Global,
     all: &mut TextMap,
@@ -241,7 +244,7 @@ fn put_own(
     }
 }
 
-/// The libraries of a compile, in order.
+/// Returns the libraries of a compile, in order.
 #[tactic(auto, using(pb_project::proofs::NamedTexts::set_laws))]
 fn externs_of(
     alloc: Global,
@@ -282,7 +285,7 @@ fn push_each_extern(
     Ok(())
 }
 
-/// Adds the libraries that a compile is given.
+/// Adds the libraries of a compile.
 fn push_externs(
     alloc: Global,
     words: &mut Items<Text>,
@@ -296,10 +299,12 @@ fn push_externs(
     push_each_extern(alloc, words, all.as_slice())
 }
 
-/// Adds where libraries are looked for, and which there are: `-L dependency=FOLDER` for each library that the unit
-/// reaches, in plan order; `--extern NAME=FILE` for each that an enabled entry leads to, and a binary's own, each once,
-/// in byte order of the name and then of the file. The one fault is want of memory (The Cargo Book, Specifying
-/// Dependencies).
+/// Adds the folders of libraries, and the libraries (The Cargo Book, Specifying Dependencies): `-L
+/// dependency=FOLDER` for each library that the unit reaches, in plan order; `--extern NAME=FILE`
+/// for the library of each enabled entry, and for a binary's own, each once, in byte order of the
+/// name and then of the file.
+///
+/// Errors: only out of memory.
 pub fn push_libraries(
     alloc: Global,
     words: &mut Items<Text>,

@@ -1,5 +1,6 @@
-//! The words of a compile: its crate, what is made and where, its settings and features, its libraries, and what build
-//! scripts have asked for (The Cargo Book, Build Scripts, Profiles; the compiler's own command line).
+//! The arguments of a compile: its crate, its output and folder, its settings and features, its
+//! libraries, and what build scripts have requested (The Cargo Book, Build Scripts, Profiles; the
+//! compiler's own command line).
 #![tactic(auto)]
 
 mod externs;

@@ -1,4 +1,4 @@
-//! The words of a compile that build scripts have asked for.
+//! The arguments of a compile that build scripts have requested.
 
 ghost use Rattle.std.specs.Prelude.{◌≡◌, ◌++◌, OnOk};
 ghost use Rattle.std.specs.List.{flat_map};
@@ -14,7 +14,7 @@ use pb_project::{Project, own_said, said_at};
 use pb_unit::{Planned, What};
 use std::alloc::{AllocError, Global};
 
-/// Adds a folder in which libraries are looked for, where a directive says it.
+/// Adds a directive's search folder, if it has one.
 fn push_search(
     alloc: Global,
     words: &mut Items<Text>,
@@ -28,7 +28,7 @@ fn push_search(
     }
 }
 
-/// Adds the folders in which libraries are looked for.
+/// Adds the search folders for libraries.
 fn push_searches(
     alloc: Global,
     words: &mut Items<Text>,
@@ -42,7 +42,7 @@ fn push_searches(
     Ok(())
 }
 
-/// Adds a library to link, where a directive says it.
+/// Adds a directive's library to link, if it has one.
 fn push_link(
     alloc: Global,
     words: &mut Items<Text>,
@@ -66,7 +66,7 @@ fn push_links(alloc: Global, words: &mut Items<Text>, said: &[Directive]) -> Res
     Ok(())
 }
 
-/// Adds a condition that is on, where a directive says it.
+/// Adds a directive's condition that is on, if it has one.
 fn push_condition(
     alloc: Global,
     words: &mut Items<Text>,
@@ -94,7 +94,7 @@ fn push_conditions(
     Ok(())
 }
 
-/// Adds conditions that are expected, where a directive says it.
+/// Adds a directive's expected conditions, if it has some.
 fn push_check(
     alloc: Global,
     words: &mut Items<Text>,
@@ -113,7 +113,7 @@ fn push_check(
     }
 }
 
-/// Adds all conditions that are expected.
+/// Adds all expected conditions.
 fn push_checks(alloc: Global, words: &mut Items<Text>, said: &[Directive]) -> Result<(), AllocError>
     ensures { OnOk result (words.new ≡ words.old ++ flat_map check_word said.now) }
 {
@@ -123,7 +123,7 @@ fn push_checks(alloc: Global, words: &mut Items<Text>, said: &[Directive]) -> Re
     Ok(())
 }
 
-/// Adds a flag for all that is linked, where a directive says it.
+/// Adds a directive's linker flag for all targets, if it has one.
 fn push_argument(
     alloc: Global,
     words: &mut Items<Text>,
@@ -137,7 +137,7 @@ fn push_argument(
     }
 }
 
-/// Adds the flags for all that is linked.
+/// Adds the linker flags for all targets.
 fn push_arguments(
     alloc: Global,
     words: &mut Items<Text>,
@@ -151,7 +151,7 @@ fn push_arguments(
     Ok(())
 }
 
-/// Adds a flag for all binaries, where a directive says it.
+/// Adds a directive's linker flag for all binaries, if it has one.
 fn push_binaries(
     alloc: Global,
     words: &mut Items<Text>,
@@ -165,7 +165,7 @@ fn push_binaries(
     }
 }
 
-/// Adds the flags for all binaries.
+/// Adds the linker flags for all binaries.
 fn push_all_binaries(
     alloc: Global,
     words: &mut Items<Text>,
@@ -179,7 +179,7 @@ fn push_all_binaries(
     Ok(())
 }
 
-/// Adds a flag for the binary of this name, where a directive says it.
+/// Adds a directive's linker flag for the binary of this name, if it has one.
 fn push_binary(
     alloc: Global,
     words: &mut Items<Text>,
@@ -199,7 +199,7 @@ fn push_binary(
     }
 }
 
-/// Adds the flags for the binary of this name.
+/// Adds the linker flags for the binary of this name.
 fn push_own_binary(
     alloc: Global,
     words: &mut Items<Text>,
@@ -214,7 +214,7 @@ fn push_own_binary(
     Ok(())
 }
 
-/// Adds the folders that the run at a place asks for.
+/// Adds the search folders of the run at an index.
 fn push_searched(
     alloc: Global,
     words: &mut Items<Text>,
@@ -226,7 +226,7 @@ fn push_searched(
     push_searches(alloc, words, said_at(done, place))
 }
 
-/// Adds the folders that the runs at some places ask for.
+/// Adds the search folders of the runs at some indices.
 fn push_all_searched(
     alloc: Global,
     words: &mut Items<Text>,
@@ -241,7 +241,7 @@ fn push_all_searched(
     Ok(())
 }
 
-/// Adds the conditions that are on, and those that are expected.
+/// Adds the conditions that are on, and the expected ones.
 fn push_all_conditions(
     alloc: Global,
     words: &mut Items<Text>,
@@ -254,7 +254,7 @@ fn push_all_conditions(
     Ok(())
 }
 
-/// Adds the flags for the linker of a binary.
+/// Adds the linker flags of a binary.
 fn push_all_arguments(
     alloc: Global,
     words: &mut Items<Text>,
@@ -269,7 +269,7 @@ fn push_all_arguments(
     Ok(())
 }
 
-/// Adds the libraries to link of a binary: those that its package's library would have, where there is none.
+/// Adds the libraries to link to a binary, if its package has no library.
 fn push_binary_links(
     alloc: Global,
     words: &mut Items<Text>,
@@ -284,7 +284,7 @@ fn push_binary_links(
     Ok(())
 }
 
-/// Adds what the run of a library's package gives it.
+/// Adds the arguments of a library from the run of its package.
 fn push_library_own(
     alloc: Global,
     words: &mut Items<Text>,
@@ -297,7 +297,7 @@ fn push_library_own(
     Ok(())
 }
 
-/// Adds what the run of a binary's package gives it.
+/// Adds the arguments of a binary from the run of its package.
 fn push_binary_own(
     alloc: Global,
     words: &mut Items<Text>,
@@ -313,7 +313,7 @@ fn push_binary_own(
     Ok(())
 }
 
-/// Adds what the run of a unit's package gives it.
+/// Adds the arguments of a unit from the run of its package.
 fn push_own(
     alloc: Global,
     words: &mut Items<Text>,
@@ -330,8 +330,10 @@ fn push_own(
     }
 }
 
-/// Adds what build scripts have asked for, by what their runs said (`done`, by their places in the plan). The one fault
-/// is want of memory (The Cargo Book, Build Scripts).
+/// Adds the arguments that build scripts have requested (The Cargo Book, Build Scripts). `done`
+/// contains the directives of their runs, by their index in the plan.
+///
+/// Errors: only out of memory.
 pub fn push_said(
     alloc: Global,
     words: &mut Items<Text>,

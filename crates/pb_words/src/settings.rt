@@ -1,4 +1,4 @@
-//! The settings of a compile as words of the compiler (The Cargo Book, Profiles).
+//! The settings of a compile as arguments of the compiler (The Cargo Book, Profiles).
 
 ghost use Rattle.std.specs.Prelude.{◌≡◌, ◌++◌, OnOk};
 ghost use Rattle.pb_words.specs.Words.{setting, switch, debug_info_text, panic_text, rpath_words, strip_words, lto_text_words, lto_words, level_words, debug_words, assertion_words, overflow_words, codegen_words, panic_words, common_settings, settings_words};
@@ -25,14 +25,14 @@ pub(crate) fn push_setting(
     Ok(())
 }
 
-/// A truth value as a switch.
+/// Returns a truth value as a switch.
 fn switch(on: bool) -> &'static str
     ensures { result.now ≡ switch on }
 {
     if on { "on" } else { "off" }
 }
 
-/// What is kept for debuggers.
+/// Returns the level of debug information.
 fn debug_info_text(debug: DebugInfo) -> &'static str
     ensures { result.now ≡ debug_info_text debug }
 {
@@ -45,7 +45,7 @@ fn debug_info_text(debug: DebugInfo) -> &'static str
     }
 }
 
-/// What a panic does.
+/// Returns what a panic does.
 fn panic_text(panic: Panic) -> &'static str
     ensures { result.now ≡ panic_text panic }
 {
@@ -76,7 +76,7 @@ fn push_strip(alloc: Global, words: &mut Items<Text>, strip: Strip) -> Result<()
     }
 }
 
-/// Adds the optimisation at link time.
+/// Adds the link-time optimisation.
 fn push_lto_text(alloc: Global, words: &mut Items<Text>, lto: Lto) -> Result<(), AllocError>
     ensures { OnOk result (words.new ≡ words.old ++ lto_text_words lto) }
 {
@@ -88,7 +88,7 @@ fn push_lto_text(alloc: Global, words: &mut Items<Text>, lto: Lto) -> Result<(),
     }
 }
 
-/// Adds the optimisation at link time of a binary.
+/// Adds the link-time optimisation of a binary.
 fn push_lto(alloc: Global, words: &mut Items<Text>, what: &What, lto: Lto) -> Result<(), AllocError>
     ensures { OnOk result (words.new ≡ words.old ++ lto_words what.now lto) }
 {
@@ -106,7 +106,7 @@ fn push_level(alloc: Global, words: &mut Items<Text>, level: OptLevel) -> Result
     push_setting(alloc, words, "opt-level=", opt_level_text(level))
 }
 
-/// Adds what is kept for debuggers.
+/// Adds the level of debug information.
 #[tactic(auto, unfolding(crate::specs::Words::debug_words))]
 fn push_debug(alloc: Global, words: &mut Items<Text>, debug: DebugInfo) -> Result<(), AllocError>
     ensures { OnOk result (words.new ≡ words.old ++ debug_words debug) }
@@ -122,7 +122,7 @@ fn push_assertions(alloc: Global, words: &mut Items<Text>, on: bool) -> Result<(
     push_setting(alloc, words, "debug-assertions=", switch(on))
 }
 
-/// Adds whether overflows are looked for.
+/// Adds whether overflows are checked.
 #[tactic(auto, unfolding(crate::specs::Words::overflow_words))]
 fn push_overflows(alloc: Global, words: &mut Items<Text>, on: bool) -> Result<(), AllocError>
     ensures { OnOk result (words.new ≡ words.old ++ overflow_words on) }
@@ -130,7 +130,7 @@ fn push_overflows(alloc: Global, words: &mut Items<Text>, on: bool) -> Result<()
     push_setting(alloc, words, "overflow-checks=", switch(on))
 }
 
-/// Adds in how many units code is made.
+/// Adds the number of codegen units.
 #[tactic(auto, unfolding(crate::specs::Words::codegen_words))]
 fn push_codegen(alloc: Global, words: &mut Items<Text>, units: u32) -> Result<(), AllocError>
     ensures { OnOk result (words.new ≡ words.old ++ codegen_words units) }
@@ -147,7 +147,7 @@ fn push_panic(alloc: Global, words: &mut Items<Text>, panic: Panic) -> Result<()
     push_setting(alloc, words, "panic=", panic_text(panic))
 }
 
-/// Adds the settings that each compile is told.
+/// Adds the settings that each compile gets.
 fn push_common(
     alloc: Global,
     words: &mut Items<Text>,
@@ -164,8 +164,9 @@ fn push_common(
     Ok(())
 }
 
-/// Adds the settings of a compile, as options of the compiler. The one fault is want of memory (The Cargo Book,
-/// Profiles).
+/// Adds the settings of a compile, as options of the compiler (The Cargo Book, Profiles).
+///
+/// Errors: only out of memory.
 pub fn push_settings(
     alloc: Global,
     words: &mut Items<Text>,

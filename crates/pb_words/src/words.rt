@@ -1,4 +1,4 @@
-//! The words of a compile: the crate, what is made and where, features.
+//! The arguments of a compile: the crate, its output and folder, its features.
 
 ghost use Rattle.std.specs.Prelude.{◌≡◌, ◌++◌, ◌∷◌, [], IfOk, OnOk, string_bytes, codes};
 ghost use Rattle.std.specs.List.{flat_map, join_by};
@@ -13,7 +13,9 @@ use pb_project::{Project, crate_name_of, source_by};
 use pb_unit::{Planned, What};
 use std::alloc::{AllocError, Global};
 
-/// Adds a word. The one fault is want of memory.
+/// Adds an argument.
+///
+/// Errors: only out of memory.
 pub fn push_word(alloc: Global, words: &mut Items<Text>, word: &str) -> Result<(), AllocError>
     ensures { OnOk result (words.new ≡ words.old ++ word.now ∷ []) }
 {
@@ -36,7 +38,7 @@ pub(crate) fn push_option(
     Ok(())
 }
 
-/// Two texts as one.
+/// Returns two texts as one.
 pub(crate) fn joined(alloc: Global, first: &str, last: &str) -> Result<String, AllocError>
     ensures { IfOk result (λ made. string_bytes made ≡ first.now ++ last.now) }
 {
@@ -45,7 +47,9 @@ pub(crate) fn joined(alloc: Global, first: &str, last: &str) -> Result<String, A
     Ok(made)
 }
 
-/// Adds copies of words. The one fault is want of memory.
+/// Adds copies of arguments.
+///
+/// Errors: only out of memory.
 pub fn push_copies(alloc: Global, words: &mut Items<Text>, more: &[Text]) -> Result<(), AllocError>
     ensures { OnOk result (words.new ≡ words.old ++ more.now) }
 {
@@ -69,7 +73,7 @@ fn push_name(
     push_option(alloc, words, "--crate-name", name.as_str())
 }
 
-/// The word of an edition.
+/// Returns the argument of an edition.
 #[tactic(auto, unfolding(crate::specs::Words::edition_word))]
 fn edition_word(alloc: Global, edition: Edition) -> Result<String, AllocError>
     ensures { IfOk result (λ word. string_bytes word ≡ edition_word edition) }
@@ -97,7 +101,7 @@ fn push_source(
     push_word(alloc, words, source_by(owner, what))
 }
 
-/// Adds how diagnostics are told.
+/// Adds the form of diagnostics.
 #[tactic(auto, unfolding(crate::specs::Words::format_words))]
 fn push_format(alloc: Global, words: &mut Items<Text>) -> Result<(), AllocError>
     ensures { OnOk result (words.new ≡ words.old ++ format_words) }
@@ -105,8 +109,9 @@ fn push_format(alloc: Global, words: &mut Items<Text>) -> Result<(), AllocError>
     push_word(alloc, words, "--error-format=json")
 }
 
-/// Adds the words of the crate: its name, edition and source, and how diagnostics are told. The one fault is want of
-/// memory.
+/// Adds the arguments of the crate: its name, edition and source, and the form of its diagnostics.
+///
+/// Errors: only out of memory.
 pub fn push_crate(
     alloc: Global,
     words: &mut Items<Text>,
@@ -135,7 +140,7 @@ fn push_type(
     push_option(alloc, words, "--crate-type", crate_type.text())
 }
 
-/// Adds `--crate-type` and the type, for each.
+/// Adds `--crate-type` and the type, for each type.
 fn push_types(alloc: Global, words: &mut Items<Text>, types: &[CrateType]) -> Result<(), AllocError>
     ensures { OnOk result (words.new ≡ words.old ++ type_words types.now) }
 {
@@ -145,7 +150,7 @@ fn push_types(alloc: Global, words: &mut Items<Text>, types: &[CrateType]) -> Re
     Ok(())
 }
 
-/// The crate types of what a unit makes of its package.
+/// Returns the crate types of what a unit compiles.
 fn crate_types<'a>(library: &'a Option<Library>, what: &What) -> &'a [CrateType]
     ensures { result.now ≡ crate_types library.now what.now }
 {
@@ -168,7 +173,7 @@ fn push_emit(alloc: Global, words: &mut Items<Text>) -> Result<(), AllocError>
     push_word(alloc, words, "--emit=dep-info,link")
 }
 
-/// Adds the folder in which it is written.
+/// Adds the folder into which the compiler writes.
 #[tactic(auto, unfolding(crate::specs::Words::out_words))]
 fn push_out(alloc: Global, words: &mut Items<Text>, folder: &str) -> Result<(), AllocError>
     ensures { OnOk result (words.new ≡ words.old ++ out_words folder.now) }
@@ -176,8 +181,9 @@ fn push_out(alloc: Global, words: &mut Items<Text>, folder: &str) -> Result<(), 
     push_option(alloc, words, "--out-dir", folder)
 }
 
-/// Adds the words of what is made and where: the crate's types, the files, the unit's folder. The one fault is want of
-/// memory.
+/// Adds the arguments of the output: the crate's types, the files, the unit's folder.
+///
+/// Errors: only out of memory.
 pub fn push_output(
     alloc: Global,
     words: &mut Items<Text>,
@@ -203,7 +209,7 @@ fn push_quoted(text: &mut String, name: &str) -> Result<(), AllocError>
     Ok(())
 }
 
-/// A feature that is on, as the compiler is told.
+/// Returns a feature that is on, as the compiler's argument.
 #[tactic(auto, unfolding(crate::specs::Words::feature_text))]
 fn feature_text(alloc: Global, name: &str) -> Result<String, AllocError>
     ensures { IfOk result (λ text. string_bytes text ≡ feature_text name.now) }
@@ -232,7 +238,7 @@ fn push_active(alloc: Global, words: &mut Items<Text>, names: &[Text]) -> Result
     Ok(())
 }
 
-/// Adds names behind another, between quotes.
+/// Adds names after another name, between quotes.
 fn push_more_quoted(text: &mut String, more: &[Feature]) -> Result<(), AllocError>
     ensures { OnOk result (string_bytes text.new ≡ string_bytes text.old ++ flat_map (λ (f : Feature). codes ", " ++ quoted f.name) more.now) }
 {
@@ -256,7 +262,7 @@ fn push_all_quoted(text: &mut String, features: &[Feature]) -> Result<(), AllocE
     }
 }
 
-/// The features that a package has, as the compiler expects them.
+/// Returns the features that a package has, as the compiler expects them.
 #[tactic(auto, unfolding(crate::specs::Words::expected_text))]
 fn expected_text(alloc: Global, features: &[Feature]) -> Result<String, AllocError>
     ensures { IfOk result (λ text. string_bytes text ≡ expected_text features.now) }
@@ -294,7 +300,9 @@ fn push_expected(
     push_option(alloc, words, "--check-cfg", text.as_str())
 }
 
-/// Adds the features that are on, and those that there are. The one fault is want of memory (The Cargo Book, Features).
+/// Adds the features that are on, and all features of the package (The Cargo Book, Features).
+///
+/// Errors: only out of memory.
 pub fn push_features(
     alloc: Global,
     words: &mut Items<Text>,

@@ -1,4 +1,4 @@
--- A workspace made of the packages that were read (The Cargo Book, Workspaces).
+-- A workspace assembled from the packages that were read (The Cargo Book, Workspaces).
 use Rattle.std.specs.Prelude.{ℕ, Bool, ◌&&◌, ◌||◌, if◌then◌else◌, List, map, Option, Some, None, unwrap_or}
 use Rattle.std.specs.List.{list_all, list_any}
 use Rattle.pb_manifest.specs.declared.profile.Profile.{Profile}
@@ -16,7 +16,7 @@ use Rattle.pb_workspace.specs.Members.{means}
 use Rattle.pb_workspace.specs.Places.{places_of}
 use Rattle.pb_workspace.specs.Selected.{places_where}
 
--- an entry with the place of its package
+-- an entry with the index of its package
 abbrev pub entry_at : List (List ℕ × ℕ) → Wanted → Entry
 entry_at places w = record {
   key = w.key;
@@ -28,7 +28,7 @@ entry_at places w = record {
   features = w.features;
 }
 
--- a package with the places to which its entries lead
+-- a package whose entries have the indices of the packages to which they lead
 abbrev pub package_at : List (List ℕ × ℕ) → Draft → Package
 package_at places d = record {
   name = d.name;
@@ -50,19 +50,19 @@ package_at places d = record {
 abbrev pub packages_of : List Draft → List Package
 packages_of drafts = map (package_at (places_of drafts)) drafts
 
--- a member that this text means
+-- the package is a member that this text means
 abbrev pub is_meant_member : List ℕ → Package → List ℕ → Bool
 is_meant_member root p text = p.is_member && means root text p.folder
 
--- a folder that is written out has to be a member's; a glob picks among the members
+-- a written folder must be a member's; a glob picks among the members
 abbrev pub is_known : List ℕ → List Package → List ℕ → Bool
 is_known root packages text = is_glob text || list_any (λ p. is_meant_member root p text) packages
 
--- a member that one of the texts means
+-- the package is a member that one of the texts means
 abbrev pub is_default : List ℕ → List (List ℕ) → Package → Bool
 is_default root texts p = list_any (is_meant_member root p) texts
 
--- what `default-members` says of these packages
+-- the default members of these packages, as `default-members` lists them
 abbrev pub default_members_of : List ℕ → List Package → Option (List (List ℕ)) → DefaultMembers
 default_members_of root packages None = Unwritten
 default_members_of root packages (Some texts) =

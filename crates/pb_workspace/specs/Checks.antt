@@ -1,4 +1,4 @@
--- What is refused once all packages are read, in this order (our own choice where The Cargo Book is silent).
+-- What is refused once all packages are read, in this order (the order is our own choice if The Cargo Book has none).
 use Rattle.std.specs.Prelude.{ℕ, Bool, true, not, is_some, ◌&&◌, if◌then◌else◌, List, [], map, Option, Some, None}
 use Rattle.std.specs.List.{filter_map, list_any}
 use Rattle.std.specs.Str.{bytes_eq}
@@ -10,11 +10,11 @@ use Rattle.pb_draft.specs.declared.wanted.Wanted.{Wanted}
 use Rattle.pb_workspace.specs.Places.{draft_in}
 use Rattle.pb_draft.specs.Settling.{comes_again}
 
--- two packages have one name
+-- two packages have the same name
 abbrev pub has_same_names : List Draft → Bool
 has_same_names drafts = comes_again [] (map (λ (d : Draft). d.name) drafts)
 
--- the package that was found has another name than the entry asks for
+-- the package that was found has a different name than the entry requests
 abbrev pub has_other_name : Wanted → Option Draft → Bool
 has_other_name w None = true
 has_other_name w (Some d) = not (bytes_eq w.name d.name)
@@ -23,24 +23,24 @@ abbrev pub matches_if : Option (List ℕ) → List ℕ → Bool
 matches_if None version = true
 matches_if (Some requirement) version = matches requirement version
 
--- its version does not match what the entry asks for
+-- the version of the package does not match what the entry requests
 abbrev pub has_other_version : Wanted → Option Draft → Bool
 has_other_version w None = true
 has_other_version w (Some d) = not (matches_if w.version d.version)
 
--- an entry of some package leads to one that fails a test
+-- an entry of some package leads to a package for which the test is true
 abbrev pub some_leads : (Wanted → Option Draft → Bool) → List Draft → Bool
 some_leads test drafts = list_any (λ (d : Draft). list_any (λ (w : Wanted). test w (draft_in drafts w.folder)) d.wanted) drafts
 
--- two packages link one native library
+-- two packages link the same native library
 abbrev pub links_twice : List Draft → Bool
 links_twice drafts = comes_again [] (filter_map (λ (d : Draft). d.links) drafts)
 
--- it links a native library and has no build script
+-- the package links a native library but has no build script
 abbrev pub links_without_script : Draft → Bool
 links_without_script d = is_some d.links && not (is_some d.script)
 
--- the first of these that holds of some package
+-- the first of these faults that some package has
 unfoldable pub fault_of : List Draft → Option LoadFault
 fault_of drafts =
     if has_same_names drafts then Some SameName

@@ -1,4 +1,4 @@
--- What a root manifest says of its workspace, and which packages are its members (The Cargo Book, Workspaces).
+-- What a root manifest contains about its workspace, and which packages are its members (The Cargo Book, Workspaces).
 use Rattle.std.specs.Prelude.{ℕ, Bool, true, false, not, ◌&&◌, ◌||◌, if◌then◌else◌, List, [], Option, Some, None}
 use Rattle.std.specs.Str.{bytes_eq}
 use Rattle.pb_place.specs.Paths.{is_at_or_below}
@@ -13,7 +13,7 @@ use Rattle.pb_workspace.specs.Members.{is_excluded}
 abbrev pub no_keys : WorkspacePackage
 no_keys = record { authors = None; description = None; edition = None; homepage = None; license = None; license_file = None; readme = None; repository = None; rust_version = None; version = None }
 
--- nothing to take
+-- nothing to inherit
 abbrev pub nothing : Given
 nothing = record { «package» = no_keys; dependencies = [] }
 
@@ -21,15 +21,16 @@ abbrev pub keys_or_none : Option WorkspacePackage → WorkspacePackage
 keys_or_none None = no_keys
 keys_or_none (Some keys) = keys
 
--- the workspace of a root manifest: without `[workspace]` the root package alone
+-- the workspace of a root manifest; without `[workspace]` it is the root package only
 abbrev pub frame_of : List ℕ → List ℕ → Option WorkspaceTable → Frame
 frame_of root manifest None = record { root = root; manifest = manifest; is_workspace = false; members = []; exclude = []; default_members = None; given = nothing }
 frame_of root manifest (Some w) = record { root = root; manifest = manifest; is_workspace = true; members = w.members; exclude = w.exclude; default_members = w.default_members; given = record { «package» = keys_or_none w.package; dependencies = w.dependencies } }
 
--- a member: the root package; of a workspace also what `members` means, and what lies inside the root folder and is not excluded
+-- A member is the root package or, in a workspace, a folder that `members` means.
+-- A folder inside the root folder is also a member of the workspace, unless `exclude` lists it.
 abbrev pub is_member : Frame → List (List ℕ × Unit {0}) → List ℕ → Bool
 is_member f meant folder = bytes_eq folder f.root || (f.is_workspace && (has folder meant || (is_at_or_below f.root folder && not (is_excluded f.root f.exclude folder))))
 
--- members alone take from their workspace
+-- only members inherit from their workspace
 abbrev pub given_to : Frame → Bool → Given
 given_to f member = if member then f.given else nothing

@@ -1,24 +1,26 @@
--- What a glob means, in words of its own (The Cargo Book, Workspaces; our own choice which of a glob's signs are served). Texts are UTF-8 bytes.
+-- The meaning of a glob, defined independently of how it is computed. Texts are UTF-8 bytes.
+-- (The Cargo Book, Workspaces; which signs of a glob are supported is our own choice.)
 use Rattle.std.specs.Prelude.{◌≡◌, ◌↔◌, ℕ, Bool, true, false, not, ◌||◌, ◌==◌, List, [], ◌∷◌, ◌++◌}
 use Rattle.std.specs.List.{list_all}
 use Rattle.pb_workspace.specs.Globs.{goes_on, matches}
 
--- a text that does not begin inside a character
+-- the text does not begin inside a character
 abbrev pub begins_whole : List ℕ → Bool
 begins_whole [] = true
 begins_whole (b ∷ rest) = not (goes_on b)
 
--- `*` and `?`
+-- the signs `*` and `?`
 abbrev pub is_sign : ℕ → Bool
 is_sign b = b == 42 || b == 63
 
--- the empty pattern matches the empty text; `*` stands for any text, `?` for one character, and every other byte for itself
+-- A pattern matches a name byte by byte: `*` matches any text, `?` one character, every other byte itself.
+-- The empty pattern matches only the empty text.
 pub data Matches : List ℕ → List ℕ → Type 0 where
   empty : Matches [] []
   any : (pattern text rest : List ℕ) (behind : Matches pattern rest) → Matches (42 ∷ pattern) (text ++ rest)
   one : (pattern : List ℕ) (first : ℕ) (more rest : List ℕ) (further : list_all goes_on more ≡ true) (whole : begins_whole rest ≡ true) (behind : Matches pattern rest) → Matches (63 ∷ pattern) (first ∷ more ++ rest)
   itself : (pattern : List ℕ) (b : ℕ) (rest : List ℕ) (plain : is_sign b ≡ false) (behind : Matches pattern rest) → Matches (b ∷ pattern) (b ∷ rest)
 
--- what is computed is this relation
+-- a computed match is true if and only if this relation is
 abbrev pub DecidesGlobs : Type 0
 DecidesGlobs = (pattern name : List ℕ) → (matches pattern name ≡ true) ↔ Matches pattern name

@@ -1,32 +1,34 @@
--- Globs of members: `*` and `?` within one part of a path (The Cargo Book, Workspaces; our own choice which of a glob's signs are served). Texts are UTF-8 bytes. `GlobWords` says the same in words of its own.
+-- Globs of members: `*` and `?` within one part of a path.
+-- Texts are UTF-8 bytes. `GlobWords` defines the same as a relation.
+-- (The Cargo Book, Workspaces; which signs of a glob are supported is our own choice.)
 use Rattle.std.specs.Prelude.{ℕ, Bool, true, false, ◌&&◌, ◌||◌, ◌==◌, nat_le, if◌then◌else◌, List, [], ◌∷◌}
 use Rattle.std.specs.List.{list_any}
 
--- a byte of a character after its first
+-- a byte of a character after the first one
 abbrev pub goes_on : ℕ → Bool
 goes_on b = nat_le 128 b && nat_le b 191
 
--- what is left behind the character of which these are further bytes
+-- the text after the character that these bytes continue
 abbrev pub past_character : List ℕ → List ℕ
 past_character [] = []
 past_character (b ∷ rest) = if goes_on b then past_character rest else b ∷ rest
 
--- some end of the name passes: all of it, all but its first byte, and so on
+-- some end of the name passes the test: all of it, all but its first byte, and so on
 abbrev pub some_end : (List ℕ → Bool) → List ℕ → Bool
 some_end test [] = test []
 some_end test (b ∷ rest) = test (b ∷ rest) || some_end test rest
 
--- one character, and then an end that passes
+-- the name is one character and then an end that passes the test
 abbrev pub one_then : (List ℕ → Bool) → List ℕ → Bool
 one_then test [] = false
 one_then test (b ∷ rest) = test (past_character rest)
 
--- this byte, and then an end that passes
+-- the name is this byte and then an end that passes the test
 abbrev pub byte_then : ℕ → (List ℕ → Bool) → List ℕ → Bool
 byte_then c test [] = false
 byte_then c test (b ∷ rest) = (b == c) && test rest
 
--- `*` stands for any characters, also none, `?` for one, every other byte for itself
+-- `*` matches any number of characters, `?` one, and every other byte itself
 abbrev pub first_then : ℕ → (List ℕ → Bool) → List ℕ → Bool
 first_then c test name = if c == 42 then some_end test name else (if c == 63 then one_then test name else byte_then c test name)
 
@@ -34,11 +36,11 @@ abbrev pub is_end : List ℕ → Bool
 is_end [] = true
 is_end (b ∷ rest) = false
 
--- the pattern matches all of the name
+-- the pattern matches the whole name
 abbrev pub matches : List ℕ → List ℕ → Bool
 matches [] name = is_end name
 matches (c ∷ pattern) name = first_then c (λ rest. matches pattern rest) name
 
--- a text is a glob where it has `*` or `?`
+-- a text is a glob if it contains `*` or `?`
 abbrev pub is_glob : List ℕ → Bool
 is_glob text = list_any (λ b. b == 42 || b == 63) text

@@ -22,7 +22,7 @@ use Rattle.pb_workspace.specs.Frames.{frame_of}
 use Rattle.pb_workspace.specs.MemberFolders.{is_manifest, member_folders}
 use Rattle.pb_workspace.specs.Rounds.{all_read, draft_at, parts_at, rounds, with_draft}
 
--- what the root manifest says. It is named `Cargo.toml`, and no manifest is at or below the target folder
+-- the parts of the root manifest, which is named `Cargo.toml`; no manifest is at or below the target folder
 abbrev pub root_parts : World → List ℕ → Result Parts LoadFault
 root_parts sources path = if is_manifest path then parts_at sources path else Err (NoManifest path)
 
@@ -32,12 +32,12 @@ at_root f = record { root = f.root; folder = f.root; manifest = f.manifest }
 abbrev pub nothing_read : Reading
 nothing_read = record { found = []; ahead = [] }
 
--- the root package comes first, where there is one; it is a member
+-- the root package, which is a member, is read first if there is one
 unfoldable pub root_read : World → Frame → Tables → Option Package → Result Reading LoadFault
 root_read sources f tables None = Ok nothing_read
 root_read sources f tables (Some p) = draft_of sources (at_root f) true f.given p tables >>= (λ d. Ok (with_draft nothing_read f.root d))
 
--- then the members, and then what path dependencies lead to, round for round
+-- then the members are read, and then, round by round, the packages to which path dependencies lead
 unfoldable pub others_read : World → Frame → Reading → Result Reading LoadFault
 others_read sources f begun =
     all_read (draft_at sources f (member_folders sources f)) begun (folders_of (member_folders sources f)) >>= (λ read.
@@ -46,7 +46,7 @@ others_read sources f begun =
 unfoldable pub packages_read : World → Frame → Tables → Option Package → Result Reading LoadFault
 packages_read sources f tables p = root_read sources f tables p >>= (λ begun. others_read sources f begun)
 
--- then they are checked together
+-- finally the packages are checked together
 abbrev pub unless : Option LoadFault → Workspace → Result Workspace LoadFault
 unless None ws = Ok ws
 unless (Some fault) ws = Err fault
@@ -54,11 +54,11 @@ unless (Some fault) ws = Err fault
 unfoldable pub workspace_from : List ℕ → Frame → List Profile → List Draft → Result Workspace LoadFault
 workspace_from target f profiles drafts = unless (fault_of drafts) (assembled target f profiles drafts)
 
--- the workspace of a root package and a frame
+-- the workspace of a frame and its root package, if there is one
 unfoldable pub workspace_in : World → List ℕ → Frame → List Profile → Tables → Option Package → Result Workspace LoadFault
 workspace_in sources target f profiles tables p = packages_read sources f tables p >>= (λ read. workspace_from target f profiles (values_of read.found))
 
--- the workspace of a manifest, by the sources alone: what lies at or below the target folder is no part of them
+-- the workspace of a manifest, which depends only on the sources: files at or below the target folder are ignored
 unfoldable pub workspace_of : List ℕ → List ℕ → World → Result Workspace LoadFault
 workspace_of manifest target w =
     root_parts (from_nothing target w) manifest >>= (λ parts.

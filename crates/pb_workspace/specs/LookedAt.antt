@@ -1,4 +1,6 @@
--- What a reading of a workspace looks at (our own choice where The Cargo Book is silent): the calls of the place, in order, each with the path that it is given, up to the first refusal. `sources` is the world without what lies at or below the target folder.
+-- The calls that the reading of a workspace makes, in order, each with its path, up to the first refusal.
+-- The order is our own choice if The Cargo Book has none.
+-- `sources` is the world without the files at or below the target folder.
 use Rattle.std.specs.Prelude.{ℕ, zero, suc, nat_le, if◌then◌else◌, codes, List, [], ◌∷◌, ◌++◌, length, Option, Some, None, Result}
 use Rattle.std.specs.List.{flat_map}
 use Rattle.std.specs.Str.{bytes_eq}
@@ -23,7 +25,7 @@ use Rattle.pb_workspace.specs.Members.{parts_meant}
 use Rattle.pb_workspace.specs.Rounds.{all_read, draft_at, one_read, parts_at, round, standing_in}
 use Rattle.pb_draft.specs.Looks.{after, listings_at, looked}
 
--- where the manifest has a package
+-- the calls for a manifest's package, if it has one
 abbrev pub package_looked : List ℕ → List ℕ → Option Package → List Call
 package_looked target folder None = []
 package_looked target folder (Some p) = listings_at target folder
@@ -32,11 +34,11 @@ package_looked target folder (Some p) = listings_at target folder
 unfoldable pub file_looked : List ℕ → World → Standing → List Call
 file_looked target sources at = looked target (call.Read at.manifest) ++ after (parts_at sources at.manifest) (λ parts. package_looked target at.folder parts.found)
 
--- but for the root's manifest, which was read
+-- the same for a folder, except the root's, whose manifest has been read
 unfoldable pub folder_looked : List ℕ → World → Frame → List ℕ → List Call
 folder_looked target sources f folder = if bytes_eq folder f.root then [] else file_looked target sources (standing_in f folder)
 
--- no folder twice, and no more than 256
+-- no folder is looked at twice, and no more than 256 are
 abbrev pub one_looked : (List ℕ → List Call) → Reading → List ℕ → List Call
 one_looked look r folder = if has folder r.found then [] else (if nat_le 256 (length r.found) then [] else look folder)
 
@@ -51,46 +53,46 @@ unfoldable pub rounds_looked : ℕ → (List ℕ → Result Draft LoadFault) →
 rounds_looked zero read look r = []
 rounds_looked (suc n) read look r = round_looked read look r ++ after (round read r) (λ now. rounds_looked n read look now)
 
--- a fixed part looks at nothing; any other lists the folders in a folder
+-- a fixed part makes no call; any other part lists the folders in a folder
 abbrev pub step_looked : List ℕ → Part → List ℕ → List Call
 step_looked target part folder = if is_fixed part then [] else looked target (call.ListFolders folder target)
 
--- parts in turn, each in all folders to which those before it lead
+-- the calls of the parts in turn, each in all folders to which the parts before it lead
 abbrev pub walk_looked : List ℕ → World → List Part → List (List ℕ) → List Call
 walk_looked target sources [] folders = []
 walk_looked target sources (part ∷ parts) folders = flat_map (step_looked target part) folders ++ walk_looked target sources parts (flat_map (one_step sources part) folders)
 
--- whether the folder has a manifest
+-- the call that asks whether a folder has a manifest
 abbrev pub manifest_looked : List ℕ → List ℕ → List Call
 manifest_looked target folder = looked target (call.IsFile (below folder (codes "Cargo.toml")))
 
--- a glob is walked, and then a manifest is looked for in each folder that `exclude` does not leave out
+-- a glob is walked, and then the place is asked for a manifest in each folder that `exclude` does not list
 abbrev pub glob_looked : List ℕ → World → Frame → List Part → List Call
 glob_looked target sources f parts = walk_looked target sources parts (codes "/" ∷ []) ++ flat_map (manifest_looked target) (folders_kept sources f parts)
 
--- a folder that is written out is not looked at
+-- no call is made for a folder that is written out
 abbrev pub text_looked : List ℕ → World → Frame → List ℕ → List Call
 text_looked target sources f text = if is_glob text then glob_looked target sources f (parts_meant f.root text) else []
 
--- the texts in turn
+-- the calls of the texts of `members` in turn
 abbrev pub members_looked : List ℕ → World → Frame → List Call
 members_looked target sources f = flat_map (text_looked target sources f) f.members
 
--- the members, and then what path dependencies lead to
+-- the calls for the members, and then for the packages to which path dependencies lead
 unfoldable pub others_looked : List ℕ → World → Frame → Reading → List Call
 others_looked target sources f begun =
     members_looked target sources f
     ++ (all_looked (draft_at sources f (member_folders sources f)) (folder_looked target sources f) begun (folders_of (member_folders sources f))
     ++ after (all_read (draft_at sources f (member_folders sources f)) begun (folders_of (member_folders sources f))) (λ read. rounds_looked 257 (draft_at sources f (member_folders sources f)) (folder_looked target sources f) read))
 
--- before them the root package, where there is one
+-- the calls for all packages, first those for the root package if there is one
 unfoldable pub packages_looked : List ℕ → World → Frame → Tables → Option Package → List Call
 packages_looked target sources f tables p = package_looked target f.root p ++ after (root_read sources f tables p) (λ begun. others_looked target sources f begun)
 
 abbrev pub root_looked : List ℕ → List ℕ → List Call
 root_looked target manifest = if is_manifest manifest then looked target (call.Read manifest) else []
 
--- all that is looked at for the workspace of a manifest
+-- all calls that the reading of a manifest's workspace makes
 unfoldable pub looked_at : List ℕ → List ℕ → World → List Call
 looked_at manifest target w =
     root_looked target manifest ++ after (root_parts (from_nothing target w) manifest) (λ parts.

@@ -6,11 +6,11 @@ use Rattle.pb_package.specs.declared.package.Library.{Library}
 use Rattle.pb_package.specs.declared.package.Package.{Package}
 use Rattle.pb_package.specs.declared.workspace.Workspace.{Workspace}
 
--- a binary: its source
+-- the source of a binary is a normalised path
 pub record HasSource (binary : Binary) : Type 0 where
   pub source : is_path binary.source ≡ true
 
--- a package: its folder, its manifest and its sources
+-- the folder, manifest and sources of a package are normalised paths
 pub record HasOwnPaths (p : Package) : Type 0 where
   pub folder : is_path p.folder ≡ true
   pub manifest : is_path p.manifest ≡ true
@@ -18,7 +18,7 @@ pub record HasOwnPaths (p : Package) : Type 0 where
   pub binaries : All HasSource p.binaries
   pub script : IfSome p.script (λ path. is_path path ≡ true)
 
--- a workspace: its root, its target folder and its packages
+-- the root, the target folder and all paths of the packages of a workspace are normalised
 pub record HasNormalPaths (ws : Workspace) : Type 0 where
   pub root : is_path ws.root ≡ true
   pub target : is_path ws.target ≡ true

@@ -1,5 +1,8 @@
--- That 257 rounds are enough; and which folders hold the packages of a workspace, in the words of the loader's drafts (The Cargo Book, Workspaces and Specifying Dependencies).
--- The latter words serve proofs: `Folders` of `pb_package_laws` says it in words of its own. `sources` is the world without what lies at or below the target folder, `f` what the root manifest says of its workspace.
+-- That 257 rounds are enough, and which folders contain the packages of a workspace
+-- (The Cargo Book, Workspaces and Specifying Dependencies).
+-- The latter definitions serve proofs: `Folders` of `pb_package_laws` defines the same independently.
+-- `sources` is the world without the files at or below the target folder,
+-- and `f` what the root manifest contains about its workspace.
 use Rattle.std.specs.Prelude.{◌≡◌, ℕ, ◌+◌, ◌≤◌, List, length, Option, Some, Ok, Result, Contains}
 use Rattle.pb_place.specs.Paths.{folder_of}
 use Rattle.pb_place.specs.World.{World}
@@ -15,11 +18,11 @@ use Rattle.pb_workspace.specs.Frames.{frame_of, is_member}
 use Rattle.pb_workspace.specs.MemberFolders.{folders_meant, member_folders}
 use Rattle.pb_workspace.specs.Rounds.{draft_in_file, rounds, standing_in}
 
--- the package of a folder: what the manifest in it says
+-- the package of a folder, read from the manifest in it
 abbrev pub package_in : World → Frame → List ℕ → Result Draft LoadFault
 package_in sources f folder = draft_in_file sources f (is_member f (member_folders sources f) folder) (standing_in f folder)
 
--- an entry of the package in one folder leads to another
+-- an entry of the package in one folder leads to another folder
 pub record LeadsTo (sources : World) (f : Frame) (from to : List ℕ) : Type 0 where
   pub owner : Draft
   pub entry : Wanted
@@ -27,19 +30,19 @@ pub record LeadsTo (sources : World) (f : Frame) (from to : List ℕ) : Type 0 w
   pub is_there : Contains owner.wanted entry
   pub leads : entry.folder ≡ to
 
--- the folder of the root package, where there is one, and each that a text of `members` means
+-- a folder is the root package's, if there is one, or is meant by a text of `members`
 pub data IsRootOrMember (sources : World) (f : Frame) (found : Option WrittenPackage) : List ℕ → Type 0 where
   root : (p : WrittenPackage) (is : found ≡ Some p) → IsRootOrMember sources f found f.root
   member : (text folder : List ℕ) (written : Contains f.members text) (means : Contains (folders_meant sources f text) folder) → IsRootOrMember sources f found folder
 
--- the least set
+-- the least set that contains these folders and all to which entries lead from it
 abbrev pub IsPackageFolder : World → Frame → Option WrittenPackage → List ℕ → Type 0
 IsPackageFolder sources f found = Reached (IsRootOrMember sources f found) (LeadsTo sources f)
 
--- the frame of the workspace whose root manifest stands here
+-- the frame of the workspace with this root manifest
 abbrev pub frame_at : List ℕ → Parts → Frame
 frame_at manifest parts = frame_of (folder_of manifest) manifest parts.workspace
 
--- 257 rounds are enough, since no more than 256 packages are read: more rounds read nothing more, and meet no other fault
+-- 257 rounds are enough, since at most 256 packages are read: more rounds read nothing more and find no other fault
 abbrev pub FuelIsEnough : Type 0
 FuelIsEnough = (read : List ℕ → Result Draft LoadFault) (r : Reading) (more : ℕ) → length r.found ≤ 256 → rounds (257 + more) read r ≡ rounds 257 read r

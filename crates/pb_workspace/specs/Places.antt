@@ -1,10 +1,10 @@
--- Packages by the places of their folders.
+-- Packages by the indices of their folders.
 use Rattle.std.specs.Prelude.{ℕ, ◌+◌, List, [], ◌∷◌, slice_get, Option, Some, None}
 use Rattle.pb_draft.specs.declared.draft.Draft.{Draft}
 use Rattle.pb_workspace.specs.ByFolder.{value_of}
 use Rattle.pb_draft.specs.Sorted.{with_entry}
 
--- each folder with its place, where the first has this one
+-- each folder with its index, if the first has the given index
 abbrev pub numbered : List (List ℕ × ℕ) → ℕ → List Draft → List (List ℕ × ℕ)
 numbered places n [] = places
 numbered places n (d ∷ ds) = numbered (with_entry places d.folder n) (n + 1) ds
@@ -12,7 +12,7 @@ numbered places n (d ∷ ds) = numbered (with_entry places d.folder n) (n + 1) d
 abbrev pub places_of : List Draft → List (List ℕ × ℕ)
 places_of drafts = numbered [] 0 drafts
 
--- the place of the package of a folder
+-- the index of the package of a folder
 abbrev pub place_of : List Draft → List ℕ → Option ℕ
 place_of drafts folder = value_of folder (places_of drafts)
 

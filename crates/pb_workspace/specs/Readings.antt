@@ -1,4 +1,6 @@
--- What every reading of packages keeps to, whatever the files say, and what a root manifest promises of its workspace. These words serve the promise that a workspace which was read is settled.
+-- What is true of every reading of packages, whatever the files contain,
+-- and what a root manifest promises about its workspace.
+-- These definitions serve the promise that a workspace that was read is settled.
 use Rattle.std.specs.Prelude.{◌≡◌, ℕ, ◌≤◌, true, All, IfSome, List, map, length, Option}
 use Rattle.std.specs.List.{AllByRecursion}
 use Rattle.pb_manifest.specs.Letters.{is_name}
@@ -11,17 +13,17 @@ use Rattle.pb_workspace.specs.declared.rounds.Reading.{Reading}
 use Rattle.pb_package.specs.Settled.{IsAscending}
 use Rattle.pb_draft.specs.Drafted.{ArePromised, IsDraft}
 
--- the entries of `[workspace.dependencies]`, in byte order of their keys
+-- the entries of `[workspace.dependencies]` are in byte order of their keys
 abbrev pub HasSharedInOrder : WorkspaceTable → Type 0
 HasSharedInOrder w = IsAscending (map (λ (d : WorkspaceDependency). d.key) w.dependencies)
 
--- what a manifest that was read promises of its `[package]`, if it has one, and of the other tables
+-- what a manifest that was read promises about its `[package]`, if it has one, and about the other tables
 pub record AreRead (tables : Tables) (found : Option Package) : Type 0 where
   pub named : IfSome found (λ p. is_name p.name ≡ true)
   pub binaries : All (λ b. is_name b.name ≡ true) tables.binaries
   pub promised : ArePromised tables
 
--- a package stands at its own folder
+-- a package is stored under its own folder
 abbrev pub IsPut : List ℕ × Draft → Type 0
 IsPut e = (e.1.folder ≡ e.0) × IsDraft e.1
 

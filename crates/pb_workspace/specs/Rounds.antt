@@ -1,4 +1,6 @@
--- Which packages are read, in which order, and what stops it (The Cargo Book, Workspaces and Specifying Dependencies; the order is our own choice). `sources` is the world without what lies at or below the target folder.
+-- Which packages are read, in which order, and what stops the reading
+-- (The Cargo Book, Workspaces and Specifying Dependencies).
+-- The order is our own choice. `sources` is the world without the files at or below the target folder.
 use Rattle.std.specs.Prelude.{ℕ, zero, suc, Bool, nat_le, if◌then◌else◌, codes, List, [], ◌∷◌, length, map, Option, Some, None, Result, Ok, Err}
 use Rattle.std.specs.FinMap as finite
 use Rattle.std.specs.Str.{bytes_eq}
@@ -24,7 +26,7 @@ use Rattle.pb_draft.specs.Drafts.{draft_of}
 use Rattle.pb_workspace.specs.Frames.{given_to, is_member}
 use Rattle.pb_draft.specs.Sorted.{with_entry}
 
--- what the file at a manifest's path says
+-- the manifest in the file at a path, or why it cannot be read
 abbrev pub read_found : List ℕ → Option (List ℕ) → Result ManifestRead LoadFault
 read_found path None = Err (NoManifest path)
 read_found path (Some bytes) = lifted (Manifest path) (manifest_of bytes)
@@ -41,11 +43,11 @@ parts_in m = record { found = m.package; tables = tables_in m; workspace = m.wor
 abbrev pub parts_at : World → List ℕ → Result Parts LoadFault
 parts_at sources path = manifest_at sources path >>= (λ m. Ok (parts_in m))
 
--- where a package is looked for and the manifest has no `[package]`
+-- the fault if a package is needed and its manifest has no `[package]`
 abbrev pub no_package : List ℕ → LoadFault
 no_package manifest = Manifest manifest (BadKind key.Package)
 
--- the package of a manifest that was read
+-- the package of a manifest that was read, if it has one
 unfoldable pub draft_if : World → Frame → Bool → Standing → Tables → Option Package → Result Draft LoadFault
 draft_if sources f member at tables None = Err (no_package at.manifest)
 draft_if sources f member at tables (Some p) = draft_of sources at member (given_to f member) p tables
@@ -53,11 +55,11 @@ draft_if sources f member at tables (Some p) = draft_of sources at member (given
 abbrev pub standing_in : Frame → List ℕ → Standing
 standing_in f folder = record { root = f.root; folder = folder; manifest = below folder (codes "Cargo.toml") }
 
--- the package of the manifest that stands here
+-- the package of the manifest at this location
 unfoldable pub draft_in_file : World → Frame → Bool → Standing → Result Draft LoadFault
 draft_in_file sources f member at = parts_at sources at.manifest >>= (λ parts. draft_if sources f member at parts.tables parts.found)
 
--- the package of a folder. The root's manifest is not read again: where its package is looked for and not there, it has none
+-- the package of a folder; the root's manifest is not read again, since its package was read first if it has one
 unfoldable pub draft_at : World → Frame → List (List ℕ × Unit {0}) → List ℕ → Result Draft LoadFault
 draft_at sources f meant folder =
     if bytes_eq folder f.root then Err (no_package f.manifest)
@@ -67,26 +69,27 @@ draft_at sources f meant folder =
 abbrev pub leads_to : List Wanted → List (List ℕ)
 leads_to wanted = map (λ (w : Wanted). w.folder) wanted
 
--- with a package that was read: the folders to which its entries lead are read in the next round
+-- the reading with one more package; the folders to which its entries lead are read in the next round
 abbrev pub with_draft : Reading → List ℕ → Draft → Reading
 with_draft r folder d = record { found = with_entry r.found folder d; ahead = with_folders r.ahead (leads_to d.wanted) }
 
--- one folder: nothing where it was read before, and no more than 256
+-- the reading after one folder: a folder that was read is skipped, and no more than 256 are read
 abbrev pub one_read : (List ℕ → Result Draft LoadFault) → Reading → List ℕ → Result Reading LoadFault
 one_read read r folder =
     if has folder r.found then Ok r
     else (if nat_le 256 (length r.found) then Err TooMany else read folder >>= (λ d. Ok (with_draft r folder d)))
 
--- folders in turn, up to the first fault
+-- the reading after these folders in turn, up to the first fault
 abbrev pub all_read : (List ℕ → Result Draft LoadFault) → Reading → List (List ℕ) → Result Reading LoadFault
 all_read read r [] = Ok r
 all_read read r (folder ∷ folders) = one_read read r folder >>= (λ now. all_read read now folders)
 
--- one round: the folders to which the packages of the last one lead, in byte order
+-- one round reads the folders to which the packages of the last round lead, in byte order
 abbrev pub round : (List ℕ → Result Draft LoadFault) → Reading → Result Reading LoadFault
 round read r = all_read read (record { found = r.found; ahead = [] }) (folders_of r.ahead)
 
--- so many rounds. A round that reads nothing leaves nothing ahead, so 257 are enough for 256 packages: `PackageFolders` says so, and which set is read
+-- The reading after n rounds.
+-- A round that reads nothing leaves nothing ahead, so 257 rounds are enough for 256 packages: see `PackageFolders`.
 unfoldable pub rounds : ℕ → (List ℕ → Result Draft LoadFault) → Reading → Result Reading LoadFault
 rounds zero read r = Ok r
 rounds (suc n) read r = round read r >>= (λ now. rounds n read now)

@@ -1,10 +1,13 @@
--- How a name is matched in one walk for each byte of the pattern: for each end of the name, whether the rest of the pattern matches it. These words serve private functions alone.
+-- How a name is matched in one walk per byte of the pattern:
+-- for each end of the name, whether the rest of the pattern matches it.
+-- These definitions serve private functions only.
 use Rattle.std.specs.Prelude.{ℕ, Bool, false, ◌&&◌, ◌||◌, ◌==◌, if◌then◌else◌, List, [], ◌∷◌}
 use Rattle.pb_workspace.specs.Globs.{goes_on}
 use Rattle.pb_workspace.specs.declared.glob.Cell.{Cell}
 use Rattle.pb_workspace.specs.declared.glob.Row.{Row}
 
--- the ends of a name by their first bytes, the shortest first: this one has been walked, and these bytes come before it, the last first
+-- the cells of the ends of a name that are longer than `walked`, the shortest first;
+-- `before` has the bytes before `walked`, last first
 abbrev pub cells_from : (List ℕ → Bool) → List ℕ → List ℕ → List Cell
 cells_from test walked [] = []
 cells_from test walked (b ∷ before) = record { byte = b; matched = test (b ∷ walked) } ∷ cells_from test (b ∷ walked) before
@@ -12,22 +15,22 @@ cells_from test walked (b ∷ before) = record { byte = b; matched = test (b ∷
 abbrev pub row_of : (List ℕ → Bool) → List ℕ → Row
 row_of test before = record { empty = test []; cells = cells_from test [] before }
 
--- of the empty pattern, which matches none of them
+-- the cells of the empty pattern, which matches none of these ends
 abbrev pub plain_cells : List ℕ → List Cell
 plain_cells [] = []
 plain_cells (b ∷ before) = record { byte = b; matched = false } ∷ plain_cells before
 
--- with `*` before the pattern
+-- the cells of the pattern with `*` in front
 abbrev pub star_cells : Bool → List Cell → List Cell
 star_cells shorter [] = []
 star_cells shorter (x ∷ xs) = record { byte = x.byte; matched = x.matched || shorter } ∷ star_cells (x.matched || shorter) xs
 
--- with `?` before it
+-- the cells of the pattern with `?` in front
 abbrev pub one_cells : Bool → List Cell → List Cell
 one_cells past [] = []
 one_cells past (x ∷ xs) = record { byte = x.byte; matched = past } ∷ one_cells (if goes_on x.byte then past else x.matched) xs
 
--- with another byte before it
+-- the cells of the pattern with another byte in front
 abbrev pub byte_cells : ℕ → Bool → List Cell → List Cell
 byte_cells c shorter [] = []
 byte_cells c shorter (x ∷ xs) = record { byte = x.byte; matched = (x.byte == c) && shorter } ∷ byte_cells c x.matched xs
@@ -38,7 +41,7 @@ stepped c row =
     else (if c == 63 then record { empty = false; cells = one_cells row.empty row.cells }
     else record { empty = false; cells = byte_cells c row.empty row.cells })
 
--- what the longest end has
+-- whether the longest end matches
 abbrev pub last_matched : Bool → List Cell → Bool
 last_matched shorter [] = shorter
 last_matched shorter (x ∷ xs) = last_matched x.matched xs

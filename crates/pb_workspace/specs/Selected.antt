@@ -1,4 +1,4 @@
--- Which packages a build is asked for, and with which features (The Cargo Book, Workspaces and cargo build).
+-- Which packages a build is to build, and with which features (The Cargo Book, Workspaces and cargo build).
 use Rattle.std.specs.Prelude.{ℕ, Bool, not, ◌&&◌, ◌==◌, ◌+◌, if◌then◌else◌, List, [], ◌∷◌, length, filter, Option, Some, None, Result, Ok, Err}
 use Rattle.std.specs.List.{flat_map, list_any, list_all, slice_split}
 use Rattle.std.specs.Str.{bytes_eq}
@@ -14,7 +14,7 @@ use Rattle.pb_package.specs.declared.workspace.DefaultMembers.{DefaultMembers}
 use Rattle.pb_package.specs.declared.workspace.DefaultMembers.TheVariants.{Unwritten, Named, Unknown}
 use Rattle.pb_package.specs.declared.workspace.Workspace.{Workspace}
 
--- the places of the packages that pass a test, where the first package has this place
+-- the indices of the packages that pass a test, if the first package has the given index
 abbrev pub places_from : (Package → Bool) → ℕ → List Package → List ℕ
 places_from test place [] = []
 places_from test place (p ∷ ps) = if test p then place ∷ places_from test (place + 1) ps else places_from test (place + 1) ps
@@ -22,48 +22,49 @@ places_from test place (p ∷ ps) = if test p then place ∷ places_from test (p
 abbrev pub places_where : (Package → Bool) → List Package → List ℕ
 places_where test packages = places_from test 0 packages
 
--- all members
+-- the indices of all members
 abbrev pub members_of : List Package → List ℕ
 members_of packages = places_where (λ p. p.is_member) packages
 
--- a member of this name
+-- the package is a member with this name
 abbrev pub is_member_named : List ℕ → Package → Bool
 is_member_named name p = p.is_member && bytes_eq name p.name
 
--- a member that has one of these names
+-- the package is a member with one of these names
 abbrev pub is_named_member : List (List ℕ) → Package → Bool
 is_named_member names p = p.is_member && is_mentioned names p.name
 
--- whether each of these names is that of a member
+-- whether each of these names is a member's
 abbrev pub name_members : List (List ℕ) → List Package → Bool
 name_members names packages = list_all (λ name. list_any (is_member_named name) packages) names
 
--- `-p`: the members of these names, of which each has to be a member's
+-- `-p`: the indices of the members with these names, each of which must be a member's
 abbrev pub named_members : List (List ℕ) → List Package → Result (List ℕ) LoadFault
 named_members names packages = if name_members names packages then Ok (places_where (is_named_member names) packages) else Err NoSuchPackage
 
--- the package in the root folder, else all members
+-- the index of the package in the root folder if there is one, else those of all members
 abbrev pub root_or_members : Option ℕ → List Package → List ℕ
 root_or_members (Some place) packages = place ∷ []
 root_or_members None packages = members_of packages
 
--- what `default-members` says; a folder that it writes out and that is no member is refused here, where it decides
+-- the indices that `default-members` selects; a folder in it that is no member is refused only here, when it decides
 abbrev pub by_default : DefaultMembers → Option ℕ → List Package → Result (List ℕ) LoadFault
 by_default Unwritten root packages = Ok (root_or_members root packages)
 by_default (Named places) root packages = Ok places
 by_default Unknown root packages = Err NoSuchPackage
 
--- `--workspace` is all members; else `-p` names them; else `default-members`, the root package, all members, the first of these that is there
+-- the indices of the packages to build, by the first of these that is present:
+-- `--workspace` (all members), `-p`, `default-members`, the root package, all members
 abbrev pub selected_packages : Workspace → Bool → List (List ℕ) → Result (List ℕ) LoadFault
 selected_packages ws all names =
     if all then Ok (members_of ws.packages)
     else (if not (length names == 0) then named_members names ws.packages else by_default ws.default_members ws.root_package ws.packages)
 
--- the words of a part, between its spaces
+-- the words between the spaces of a part
 abbrev pub spaced_words : List ℕ → List (List ℕ)
 spaced_words part = filter is_word (slice_split (λ b. b == 32) part)
 
--- the features that a text asks for: what stands between its commas and spaces, empty parts dropped
+-- the features that a text requests: the words between its commas and spaces, without empty ones
 abbrev pub feature_words : List ℕ → List (List ℕ)
 feature_words text = flat_map spaced_words (slice_split (λ b. b == 44) text)
 
@@ -78,6 +79,6 @@ selection_of o places = record {
   bin = o.bin;
 }
 
--- what a build of the workspace is asked for
+-- what the options request of the workspace
 abbrev pub selected : Workspace → Options → Result Selection LoadFault
 selected ws o = selected_packages ws o.workspace o.packages >>= (λ places. Ok (selection_of o places))

@@ -1,4 +1,4 @@
-//! A workspace made of the packages that were read.
+//! A workspace assembled from the packages that were read.
 
 ghost use Rattle.std.specs.Prelude.{◌≡◌, ◌++◌, Bool, IfOk, OnOk, map, unwrap_or};
 ghost use Rattle.std.specs.List.{list_all, list_any};
@@ -20,7 +20,7 @@ use pb_package::{DefaultMembers, EntriesByKey, Entry, Package, Workspace};
 use pb_place::PathText;
 use std::alloc::{AllocError, Global};
 
-/// The place of the package of a folder.
+/// Returns the index of the package of a folder.
 fn place_in(places: &ByFolder<usize>, folder: &PathText) -> Option<usize>
     ensures { result ≡ value_of folder.now places.now }
 {
@@ -30,7 +30,7 @@ fn place_in(places: &ByFolder<usize>, folder: &PathText) -> Option<usize>
     }
 }
 
-/// An entry with the place of its package.
+/// Returns an entry with the index of its package.
 fn entry_at(places: &ByFolder<usize>, wanted: Wanted) -> Entry
     ensures { result ≡ entry_at places.now wanted }
 {
@@ -46,7 +46,7 @@ fn entry_at(places: &ByFolder<usize>, wanted: Wanted) -> Entry
     }
 }
 
-/// Entries with the places of their packages.
+/// Returns entries with the indices of their packages.
 fn entries_of(
     alloc: Global,
     places: &ByFolder<usize>,
@@ -61,7 +61,8 @@ fn entries_of(
     Ok(entries)
 }
 
-/// The entries of a package with the places of their packages, in the order in which they are written.
+/// Returns the entries of a package with the indices of their packages, in the order in which they
+/// are written.
 fn entries_in_order(
     alloc: Global,
     places: &ByFolder<usize>,
@@ -74,7 +75,7 @@ fn entries_in_order(
     Ok(EntriesByKey::from_items(entries))
 }
 
-/// A package with the places to which its entries lead.
+/// Returns a package whose entries have the indices of the packages to which they lead.
 fn package_at(alloc: Global, places: &ByFolder<usize>, draft: Draft) -> Result<Package, AllocError>
     ensures { IfOk result (λ made. made ≡ package_at places.now draft) }
 {
@@ -113,7 +114,7 @@ fn package_at(alloc: Global, places: &ByFolder<usize>, draft: Draft) -> Result<P
     })
 }
 
-/// Packages with the places to which their entries lead.
+/// Returns packages whose entries have the indices of the packages to which they lead.
 fn packages_of(
     alloc: Global,
     places: &ByFolder<usize>,
@@ -128,7 +129,7 @@ fn packages_of(
     Ok(made)
 }
 
-/// Whether a text means a member.
+/// Returns whether a text means a member.
 fn is_meant_member(
     alloc: Global,
     root: &PathText,
@@ -144,7 +145,7 @@ fn is_meant_member(
     is_meant(alloc, parts.as_slice(), &member.folder)
 }
 
-/// Whether a text means some member.
+/// Returns whether a text means some member.
 fn means_some(
     alloc: Global,
     root: &PathText,
@@ -162,7 +163,7 @@ fn means_some(
     Ok(false)
 }
 
-/// Whether each text is a glob or means some member.
+/// Returns whether each text is a glob or means some member.
 fn all_known(
     alloc: Global,
     root: &PathText,
@@ -179,7 +180,7 @@ fn all_known(
     Ok(true)
 }
 
-/// Whether one of the texts means a package that is a member.
+/// Returns whether one of the texts means a package that is a member.
 fn is_default(
     alloc: Global,
     root: &PathText,
@@ -196,7 +197,7 @@ fn is_default(
     Ok(false)
 }
 
-/// The places of the members that the texts mean.
+/// Returns the indices of the members that the texts mean.
 fn default_places(
     alloc: Global,
     root: &PathText,
@@ -215,7 +216,7 @@ fn default_places(
     Ok(places)
 }
 
-/// What `default-members` says of these packages.
+/// Returns the default members of these packages, as `default-members` lists them.
 fn default_members_of(
     alloc: Global,
     root: &PathText,
@@ -236,7 +237,7 @@ fn default_members_of(
     Ok(DefaultMembers::Named(places))
 }
 
-/// The packages of these drafts, and what `default-members` says of them.
+/// Returns the packages of these drafts, and their default members.
 fn members_of(
     alloc: Global,
     frame: &Frame,
@@ -258,7 +259,7 @@ fn members_of(
     Ok((packages, default_members))
 }
 
-/// Copies of two paths.
+/// Returns copies of two paths.
 fn both(alloc: Global, one: &PathText, other: &PathText) -> Result<(PathText, PathText), AllocError>
     ensures { IfOk result (λ made. (made.0 ≡ one.now) × (made.1 ≡ other.now)) }
 {
@@ -267,7 +268,9 @@ fn both(alloc: Global, one: &PathText, other: &PathText) -> Result<(PathText, Pa
     Ok((one, other))
 }
 
-/// The workspace of these packages. The one fault is want of memory.
+/// Returns the workspace of these packages.
+///
+/// Errors: out of memory only.
 #[tactic(auto, unfolding(crate::specs::Assembled::assembled))]
 pub fn assembled(
     alloc: Global,

@@ -1,4 +1,4 @@
-//! Values by folders, in byte order of the folders.
+//! Values by their folders, in byte order of the folders.
 
 ghost use Rattle.std.specs.Prelude.{◌≡◌, List, ℕ, [], IfOk, OnOk, length, map};
 ghost use Rattle.std.specs.Option.{option_copied};
@@ -12,7 +12,7 @@ use std::alloc::{AllocError, Global};
 use std::collections::BTreeMap;
 use std::marker::Model;
 
-/// Values by folders, each folder once, in byte order. Contracts see the list of the entries.
+/// Values by their folders, in byte order without repeats. Contracts see the list of the entries.
 #[derive(Drop)]
 pub struct ByFolder<V> {
     inside: BTreeMap<PathText, V>,
@@ -27,7 +27,7 @@ impl<V> Model for ByFolder<V> {
 }
 
 impl<V: Drop> ByFolder<V> {
-    /// No entries, which takes no memory.
+    /// Returns a map without entries. It takes no memory.
     pub fn new(alloc: Global) -> ByFolder<V>
         ensures { result ≡ [] }
     {
@@ -36,7 +36,7 @@ impl<V: Drop> ByFolder<V> {
         }
     }
 
-    /// Puts an entry in its place; one of its folder gives way.
+    /// Inserts an entry at its position. It replaces an entry with the same folder.
     pub fn insert(&mut self, folder: PathText, value: V) -> Result<(), AllocError>
         ensures { OnOk result (self.new ≡ with_entry self.old folder value) }
     {
@@ -44,28 +44,30 @@ impl<V: Drop> ByFolder<V> {
         Ok(())
     }
 
-    /// The value of a folder.
+    /// Returns the value of a folder, if it has one.
     pub fn get(&self, folder: &PathText) -> Option<&V>
         ensures { option_copied result ≡ value_of folder.now self.now }
     {
         self.inside.get(folder)
     }
 
-    /// Whether a folder has a value.
+    /// Returns whether a folder has a value.
     pub fn contains(&self, folder: &PathText) -> bool
         ensures { result ≡ has folder.now self.now }
     {
         self.inside.contains_key(folder)
     }
 
-    /// How many entries there are.
+    /// Returns the number of entries.
     pub fn len(&self) -> usize
         ensures { result ≡ length self.now }
     {
         self.inside.len()
     }
 
-    /// The folders, in byte order. The one fault is want of memory.
+    /// Returns the folders, in byte order.
+    ///
+    /// Errors: out of memory only.
     pub fn folders(&self, alloc: Global) -> Result<Items<PathText>, AllocError>
         ensures { IfOk result (λ folders. folders ≡ folders_of self.now) }
     {
@@ -73,7 +75,7 @@ impl<V: Drop> ByFolder<V> {
         copies_of(alloc, folders.as_slice())
     }
 
-    /// The folders themselves.
+    /// Returns references to the folders.
     fn lent_folders(&self, alloc: Global) -> Result<Vec<&PathText>, AllocError>
         ensures { IfOk result
             (λ folders. map (λ folder. folder.now) folders.items ≡ folders_of self.now) }
@@ -81,7 +83,9 @@ impl<V: Drop> ByFolder<V> {
         self.inside.keys().collect(alloc)
     }
 
-    /// The values, in byte order of their folders. The one fault is want of memory.
+    /// Returns the values, in byte order of their folders.
+    ///
+    /// Errors: out of memory only.
     pub fn into_values(self, alloc: Global) -> Result<Items<V>, AllocError>
         ensures same { IfOk result (λ values. values ≡ values_of self) }
         ensures order { IfOk result (λ values. IsAscending (folders_of self)) }
@@ -91,7 +95,7 @@ impl<V: Drop> ByFolder<V> {
     }
 }
 
-/// Copies of some folders.
+/// Returns copies of some folders.
 fn copies_of(alloc: Global, folders: &[&PathText]) -> Result<Items<PathText>, AllocError>
     ensures { IfOk result (λ made. made ≡ map (λ folder. folder.now) folders.now) }
 {
@@ -102,7 +106,7 @@ fn copies_of(alloc: Global, folders: &[&PathText]) -> Result<Items<PathText>, Al
     Ok(made)
 }
 
-/// Puts folders in their places, each once.
+/// Inserts folders at their positions, without repeats.
 pub fn put_folders(entries: &mut ByFolder<()>, folders: Items<PathText>) -> Result<(), AllocError>
     ensures { OnOk result (entries.new ≡ with_folders entries.old folders) }
 {

@@ -17,7 +17,7 @@ use pb_manifest::{Requirement, Version};
 use pb_package::LoadFault;
 use std::alloc::{AllocError, Global};
 
-/// Whether a name of these packages comes again, or was mentioned before.
+/// Returns whether a name of these packages is repeated, or was mentioned before.
 fn names_come_again(
     alloc: Global,
     seen: &mut Mentions,
@@ -34,7 +34,7 @@ fn names_come_again(
     Ok(false)
 }
 
-/// Whether two packages have one name.
+/// Returns whether two packages have the same name.
 fn has_same_names(alloc: Global, drafts: &[Draft]) -> Result<bool, AllocError>
     ensures { IfOk result (λ answer. answer ≡ has_same_names drafts.now) }
 {
@@ -44,7 +44,7 @@ fn has_same_names(alloc: Global, drafts: &[Draft]) -> Result<bool, AllocError>
     again
 }
 
-/// Whether a native library that these packages link comes again, or was mentioned before.
+/// Returns whether a native library that these packages link is repeated, or was mentioned before.
 fn links_come_again(
     alloc: Global,
     seen: &mut Mentions,
@@ -63,7 +63,7 @@ fn links_come_again(
     Ok(false)
 }
 
-/// Whether two packages link one native library.
+/// Returns whether two packages link the same native library.
 fn links_twice(alloc: Global, drafts: &[Draft]) -> Result<bool, AllocError>
     ensures { IfOk result (λ answer. answer ≡ links_twice drafts.now) }
 {
@@ -73,7 +73,7 @@ fn links_twice(alloc: Global, drafts: &[Draft]) -> Result<bool, AllocError>
     again
 }
 
-/// Whether a version matches what is asked for, if anything is.
+/// Returns whether a version matches a requirement, if there is one.
 fn matches_if(requirement: &Option<Requirement>, version: &Version) -> bool
     ensures { result ≡ matches_if requirement.now version.now }
 {
@@ -83,7 +83,7 @@ fn matches_if(requirement: &Option<Requirement>, version: &Version) -> bool
     }
 }
 
-/// Whether an entry leads to a package of another name.
+/// Returns whether an entry leads to a package with another name.
 fn leads_to_other_name(drafts: &[Draft], places: &ByFolder<usize>, wanted: &Wanted) -> bool
     requires { places.now ≡ places_of drafts.now }
     ensures { result ≡ has_other_name wanted.now (draft_in drafts.now wanted.now.folder) }
@@ -94,7 +94,7 @@ fn leads_to_other_name(drafts: &[Draft], places: &ByFolder<usize>, wanted: &Want
     }
 }
 
-/// Whether an entry leads to a package whose version does not match what it asks for.
+/// Returns whether an entry leads to a package whose version does not match its requirement.
 fn leads_to_other_version(drafts: &[Draft], places: &ByFolder<usize>, wanted: &Wanted) -> bool
     requires { places.now ≡ places_of drafts.now }
     ensures { result ≡ has_other_version wanted.now (draft_in drafts.now wanted.now.folder) }
@@ -105,7 +105,7 @@ fn leads_to_other_version(drafts: &[Draft], places: &ByFolder<usize>, wanted: &W
     }
 }
 
-/// Whether one of some entries leads to a package of another name.
+/// Returns whether one of these entries leads to a package with another name.
 fn one_other_name(drafts: &[Draft], places: &ByFolder<usize>, wanted: &[Wanted]) -> bool
     requires { places.now ≡ places_of drafts.now }
     ensures { result
@@ -119,7 +119,7 @@ fn one_other_name(drafts: &[Draft], places: &ByFolder<usize>, wanted: &[Wanted])
     false
 }
 
-/// Whether an entry of some package leads to a package of another name.
+/// Returns whether an entry of some package leads to a package with another name.
 fn some_other_name(drafts: &[Draft], places: &ByFolder<usize>) -> bool
     requires { places.now ≡ places_of drafts.now }
     ensures { result ≡ some_leads has_other_name drafts.now }
@@ -132,7 +132,7 @@ fn some_other_name(drafts: &[Draft], places: &ByFolder<usize>) -> bool
     false
 }
 
-/// Whether one of some entries leads to a package whose version does not match.
+/// Returns whether one of these entries leads to a package whose version does not match.
 fn one_other_version(drafts: &[Draft], places: &ByFolder<usize>, wanted: &[Wanted]) -> bool
     requires { places.now ≡ places_of drafts.now }
     ensures { result
@@ -146,7 +146,7 @@ fn one_other_version(drafts: &[Draft], places: &ByFolder<usize>, wanted: &[Wante
     false
 }
 
-/// Whether an entry of some package leads to a package whose version does not match.
+/// Returns whether an entry of some package leads to a package whose version does not match.
 fn some_other_version(drafts: &[Draft], places: &ByFolder<usize>) -> bool
     requires { places.now ≡ places_of drafts.now }
     ensures { result ≡ some_leads has_other_version drafts.now }
@@ -159,30 +159,31 @@ fn some_other_version(drafts: &[Draft], places: &ByFolder<usize>) -> bool
     false
 }
 
-/// Whether a package links a native library and has no build script.
+/// Returns whether a package links a native library but has no build script.
 fn links_without_script(draft: &Draft) -> bool
     ensures { result ≡ links_without_script draft.now }
 {
     draft.links.is_some() && !draft.script.is_some()
 }
 
-/// Whether some package links a native library and has no build script.
+/// Returns whether some package links a native library but has no build script.
 fn some_without_script(drafts: &[Draft]) -> bool
     ensures { result ≡ list_any links_without_script drafts.now }
 {
     drafts.iter().any(|draft| links_without_script(draft))
 }
 
-/// Whether some package has two `[[bin]]` of one name.
+/// Returns whether some package has two `[[bin]]` with the same name.
 fn some_same_binaries(drafts: &[Draft]) -> bool
     ensures { result ≡ list_any (λ (d : Draft). d.has_same_binaries) drafts.now }
 {
     drafts.iter().any(|draft| draft.has_same_binaries)
 }
 
-/// What is refused of these packages together: SameName, NameMismatch, VersionMismatch, LinksTwice,
-/// LinksWithoutScript, SameBinary, the first of these that holds of some package. The one fault is want of
-/// memory.
+/// Returns the first of these faults that some package has: `SameName`, `NameMismatch`,
+/// `VersionMismatch`, `LinksTwice`, `LinksWithoutScript`, `SameBinary`.
+///
+/// Errors: out of memory only.
 #[tactic(auto, unfolding(crate::specs::Checks::fault_of))]
 pub fn fault_of(
     alloc: Global,

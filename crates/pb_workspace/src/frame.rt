@@ -1,4 +1,4 @@
-//! What a root manifest says of its workspace.
+//! What a root manifest contains about its workspace.
 
 ghost use Rattle.std.specs.Prelude.{◌≡◌, IfOk, IfSome};
 ghost use Rattle.pb_workspace.specs.Readings.{HasSharedInOrder};
@@ -12,7 +12,7 @@ use pb_manifest::{WorkspacePackage, WorkspaceTable, WrittenPath};
 use pb_place::PathText;
 use std::alloc::{AllocError, Global};
 
-/// What a root manifest says of its workspace.
+/// What a root manifest contains about its workspace.
 #[derive(Drop)]
 pub struct Frame {
     /// The folder of the root manifest.
@@ -25,13 +25,13 @@ pub struct Frame {
     pub members: Items<WrittenPath>,
     /// `exclude`.
     pub exclude: Items<WrittenPath>,
-    /// `default-members`, where it is written.
+    /// `default-members`, if it is written.
     pub default_members: Option<Items<WrittenPath>>,
-    /// What members may take.
+    /// What members may inherit.
     pub given: Given,
 }
 
-/// No keys of `[workspace.package]`.
+/// Returns a `[workspace.package]` without keys.
 fn no_keys() -> WorkspacePackage
     ensures { result ≡ no_keys }
 {
@@ -49,7 +49,7 @@ fn no_keys() -> WorkspacePackage
     }
 }
 
-/// Nothing to take, which takes no memory.
+/// Returns nothing to inherit. It takes no memory.
 pub fn nothing(alloc: Global) -> Given
     ensures { result ≡ nothing }
 {
@@ -59,7 +59,7 @@ pub fn nothing(alloc: Global) -> Given
     }
 }
 
-/// The keys of `[workspace.package]`, none where that table is not written.
+/// Returns the keys of `[workspace.package]`, or none if that table is not written.
 fn keys_or_none(written: Option<WorkspacePackage>) -> WorkspacePackage
     ensures { result ≡ keys_or_none written }
 {
@@ -69,8 +69,8 @@ fn keys_or_none(written: Option<WorkspacePackage>) -> WorkspacePackage
     }
 }
 
-/// The workspace of a root manifest: without `[workspace]` the root package alone (The Cargo Book, Workspaces).
-/// It takes no memory.
+/// Returns the workspace of a root manifest. Without `[workspace]` it is the root package only (The
+/// Cargo Book, Workspaces). It takes no memory.
 pub fn frame_of(
     alloc: Global,
     root: PathText,
@@ -105,9 +105,11 @@ pub fn frame_of(
     }
 }
 
-/// Whether the package of a folder is a member: the root package is; of a workspace also what `members` means,
-/// and what lies inside the root folder and is not excluded (The Cargo Book, Workspaces; our own choice that it
-/// does not matter whose path dependency leads there). The one fault is want of memory.
+/// Returns whether the package of a folder is a member: the root package is. In a workspace so are
+/// the folders that `members` means, and those inside the root folder that are not excluded (The
+/// Cargo Book, Workspaces). Whose path dependency leads there does not matter: our own choice.
+///
+/// Errors: out of memory only.
 pub fn is_member(
     alloc: Global,
     frame: &Frame,

@@ -7,21 +7,22 @@ ghost use Rattle.pb_workspace.specs.Rows.{cells_from, row_of, plain_cells, star_
 use pb_data::Items;
 use std::alloc::{AllocError, Global};
 
-/// An end of a name: its first byte, and whether a pattern matches it.
+/// An end of a name, with its first byte: whether a pattern matches it.
 #[derive(Clone, Copy)]
 struct Cell {
     byte: u8,
     matched: bool,
 }
 
-/// Whether a pattern matches each end of a name: the empty one, and the others, the shortest first.
+/// Whether a pattern matches each end of a name: first the empty end, then the others, the shortest
+/// first.
 #[derive(Drop)]
 struct Row {
     empty: bool,
     cells: Items<Cell>,
 }
 
-/// Whether a text is a glob: it has `*` or `?`.
+/// Returns whether a text is a glob: whether it contains `*` or `?`.
 pub fn is_glob(text: &str) -> bool
     ensures { result ≡ is_glob text.now }
 {
@@ -30,21 +31,21 @@ pub fn is_glob(text: &str) -> bool
         .any(|byte| *byte == b'*' || *byte == b'?')
 }
 
-/// Whether a byte is one of a character after its first.
+/// Returns whether a byte continues a character.
 fn goes_on(byte: u8) -> bool
     ensures { result ≡ goes_on byte }
 {
     128 <= byte && byte <= 191
 }
 
-/// Bytes, the last first.
+/// Returns bytes in reverse order.
 fn backwards(alloc: Global, name: &[u8]) -> Result<Vec<u8>, AllocError>
     ensures { IfOk result (λ bytes. bytes.items ≡ reverse name.now) }
 {
     name.iter().rev().copied().collect(alloc)
 }
 
-/// The row of the empty pattern, which matches the empty end alone.
+/// Returns the row of the empty pattern, which matches only the empty end.
 fn last_row(alloc: Global, before: &[u8]) -> Result<Row, AllocError>
     ensures { IfOk result (λ row. row ≡ record { empty = true; cells = plain_cells before.now }) }
 {
@@ -58,7 +59,7 @@ fn last_row(alloc: Global, before: &[u8]) -> Result<Row, AllocError>
     Ok(Row { empty: true, cells })
 }
 
-/// The cells with `*` before the pattern.
+/// Returns the cells of the pattern with `*` in front.
 fn star_cells(alloc: Global, empty: bool, cells: &[Cell]) -> Result<Items<Cell>, AllocError>
     ensures { IfOk result (λ made. made ≡ star_cells empty cells.now) }
 {
@@ -74,7 +75,7 @@ fn star_cells(alloc: Global, empty: bool, cells: &[Cell]) -> Result<Items<Cell>,
     Ok(made)
 }
 
-/// The cells with `?` before the pattern.
+/// Returns the cells of the pattern with `?` in front.
 fn one_cells(alloc: Global, empty: bool, cells: &[Cell]) -> Result<Items<Cell>, AllocError>
     ensures { IfOk result (λ made. made ≡ one_cells empty cells.now) }
 {
@@ -94,7 +95,7 @@ fn one_cells(alloc: Global, empty: bool, cells: &[Cell]) -> Result<Items<Cell>, 
     Ok(made)
 }
 
-/// The cells with this byte before the pattern.
+/// Returns the cells of the pattern with this byte in front.
 fn byte_cells(
     alloc: Global,
     byte: u8,
@@ -115,7 +116,7 @@ fn byte_cells(
     Ok(made)
 }
 
-/// The row with one byte before the pattern.
+/// Returns the row of the pattern with one byte in front.
 fn stepped(alloc: Global, byte: u8, row: &Row) -> Result<Row, AllocError>
     ensures { IfOk result (λ made. made ≡ stepped byte row.now) }
 {
@@ -137,7 +138,7 @@ fn stepped(alloc: Global, byte: u8, row: &Row) -> Result<Row, AllocError>
     })
 }
 
-/// The row of a pattern.
+/// Returns the row of a pattern.
 fn row_of(alloc: Global, pattern: &[u8], name: &[u8]) -> Result<Row, AllocError>
     ensures { IfOk result (λ row. row ≡ row_of (matches pattern.now) (reverse name.now)) }
 {
@@ -150,7 +151,7 @@ fn row_of(alloc: Global, pattern: &[u8], name: &[u8]) -> Result<Row, AllocError>
     Ok(row)
 }
 
-/// What the longest end has.
+/// Returns whether the longest end matches.
 fn last_matched(row: &Row) -> bool
     ensures { result ≡ last_matched row.now.empty row.now.cells }
 {
@@ -161,10 +162,12 @@ fn last_matched(row: &Row) -> bool
     matched
 }
 
-/// Whether a pattern matches all of a name, which is one part of a path: `*` stands for any characters, also
-/// none and also a dot at the front, `?` for one character, all else for itself (The Cargo Book, Workspaces;
-/// our own choice that `[` stands for itself and `**` for `*`). It takes time as the pattern's length times
-/// the name's. The one fault is want of memory.
+/// Returns whether a pattern matches a whole name, which is one part of a path (The Cargo Book,
+/// Workspaces). `*` matches any number of characters, even a dot at the front, `?` one character,
+/// and every other byte itself. That `[` matches itself, and `**` the same as `*`, is our own
+/// choice. The time is proportional to the pattern's length times the name's.
+///
+/// Errors: out of memory only.
 pub fn matches(alloc: Global, pattern: &str, name: &str) -> Result<bool, AllocError>
     ensures { IfOk result (λ answer. answer ≡ matches pattern.now name.now) }
 {

@@ -1,6 +1,5 @@
-//! Workspaces: which packages there are, each with nothing left to inherit and nothing left to look
-//! for, and which of them a build is asked for (The Cargo Book, Workspaces, Manifest Format,
-//! Specifying Dependencies).
+//! Workspaces: which packages exist, with everything inherited and discovered, and which of them a
+//! build is to build (The Cargo Book, Workspaces, Manifest Format, Specifying Dependencies).
 #![tactic(auto)]
 
 mod assembled;

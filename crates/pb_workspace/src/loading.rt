@@ -32,9 +32,10 @@ use pb_package::{LoadFault, SettledWorkspace, Workspace};
 use pb_place::{PathText, Place};
 use std::alloc::{AllocError, Global};
 
-/// Returns what the root manifest says.
+/// Returns the parts of the root manifest.
 ///
-/// Errors: `NoManifest`, if it is not named `Cargo.toml` or no file of the sources is there; those of `parts_at`.
+/// Errors: `NoManifest`, if it is not named `Cargo.toml` or is no file of the sources; those of
+/// `parts_at`.
 fn root_parts<P: Place>(
     alloc: Global,
     place: &mut P,
@@ -55,7 +56,7 @@ fn root_parts<P: Place>(
     parts_at(alloc, place, target, path)
 }
 
-/// Where the root package stands.
+/// Returns the location of the root package.
 fn at_root(alloc: Global, frame: &Frame) -> Result<Standing, AllocError>
     ensures { IfOk result (λ at. at ≡ at_root frame.now) }
 {
@@ -69,7 +70,7 @@ fn at_root(alloc: Global, frame: &Frame) -> Result<Standing, AllocError>
     })
 }
 
-/// Nothing read yet, which takes no memory.
+/// Returns a reading without packages. It takes no memory.
 fn nothing_read(alloc: Global) -> Reading
     ensures { result ≡ nothing_read }
 {
@@ -79,7 +80,7 @@ fn nothing_read(alloc: Global) -> Reading
     }
 }
 
-/// The root package alone.
+/// Returns a reading with only the root package.
 fn begun_with(alloc: Global, frame: &Frame, draft: Draft) -> Result<Reading, AllocError>
     ensures { IfOk result (λ begun. begun ≡ with_draft nothing_read frame.now.root draft) }
 {
@@ -142,7 +143,7 @@ fn root_read<P: Place>(
     }
 }
 
-/// Reads the members, and then what path dependencies lead to, round for round.
+/// Reads the members, and then, round by round, the packages to which path dependencies lead.
 #[tactic(auto, unfolding(crate::specs::Loaded::others_read))]
 fn others_read<P: Place>(
     alloc: Global,
@@ -189,7 +190,7 @@ fn packages_read<P: Place>(
     others_read(alloc, place, target, frame, begun)
 }
 
-/// The workspace of packages that were read, refused where they do not go together.
+/// Returns the workspace of packages that were read, or why they do not fit together.
 #[tactic(auto, unfolding(crate::specs::Loaded::workspace_from))]
 fn workspace_from(
     alloc: Global,
@@ -210,7 +211,7 @@ fn workspace_from(
     Ok(made)
 }
 
-/// The workspace of what was read.
+/// Returns the workspace of a reading.
 fn finished(
     alloc: Global,
     target: &PathText,
@@ -230,7 +231,7 @@ fn finished(
     Ok(SettledWorkspace::new(made))
 }
 
-/// Returns the workspace of a root package and a frame.
+/// Returns the workspace of a frame and its root package, if there is one.
 #[tactic(auto, unfolding(crate::specs::Loaded::workspace_in))]
 fn workspace_in<P: Place>(
     alloc: Global,
@@ -256,22 +257,27 @@ fn workspace_in<P: Place>(
     Ok(made)
 }
 
-/// Reads the workspace of a root manifest (The Cargo Book, Workspaces, Manifest Format, Specifying Dependencies).
+/// Reads the workspace of a root manifest (The Cargo Book, Workspaces, Manifest Format, Specifying
+/// Dependencies).
 ///
-/// It reads the root package first, then the members in byte order of their folders, then what path dependencies
-/// lead to, in rounds, each in that order. It reads no package twice, and looks at nothing at or below the target
-/// folder. It starts no child and changes no file.
+/// It reads the root package first, then the members in byte order of their folders, then the
+/// packages to which path dependencies lead, in rounds, each in that order. It reads no package
+/// twice, and looks at nothing at or below the target folder. It starts no child process and
+/// changes no file.
 ///
 /// Errors, of which the first that occurs is returned:
-/// - `NoManifest`: no file is there, it is not named `Cargo.toml`, or it is at or below the target folder.
+/// - `NoManifest`: the file does not exist, is not named `Cargo.toml`, or is at or below the target
+///   folder.
 /// - `Manifest`: the manifest reader refuses it.
 /// - `Manifest` with `BadKind` of `package`: the manifest of a package has no `[package]`.
-/// - `Manifest` with `UnsupportedSource`: an entry of the workspace is taken that has no path, or `git` or `registry`.
-/// - `NoInherited`: a key or an entry is taken that the workspace does not have, or by a package that is no member.
+/// - `Manifest` with `UnsupportedSource`: a package inherits an entry of the workspace that has no
+///   path, or has `git` or `registry`.
+/// - `NoInherited`: a package inherits a key or an entry that the workspace does not have, or is no
+///   member.
 /// - `TooMany`: a 257th package would be read.
 /// - `Place`: a call failed. It contains the path of that call.
-/// - `SameName`, `NameMismatch`, `VersionMismatch`, `LinksTwice`, `LinksWithoutScript`, `SameBinary`, in this order,
-///   once all packages are read.
+/// - `SameName`, `NameMismatch`, `VersionMismatch`, `LinksTwice`, `LinksWithoutScript`,
+///   `SameBinary`, in this order, once all packages are read.
 /// - `OutOfMemory`, at any time.
 #[tactic(auto, unfolding(crate::specs::Loaded::workspace_of))]
 pub fn load<P: Place>(

@@ -14,17 +14,19 @@ use pb_manifest::WrittenPath;
 use pb_place::{PathText, RelativePath};
 use std::alloc::{AllocError, Global};
 
-/// A part of what a folder has to be for a text to mean it.
+/// A part that a folder must match for a text to mean it.
 #[derive(Drop)]
 pub struct Part {
-    /// A name, or a pattern for one.
+    /// A name, or a pattern for a name.
     pub text: RelativePath,
-    /// Whether `*` and `?` stand for other characters.
+    /// Whether `*` and `?` match other characters.
     pub is_pattern: bool,
 }
 
-/// Whether a folder lies at or below one that `exclude` writes out, from the workspace's root (The Cargo Book,
-/// Workspaces). The one fault is want of memory.
+/// Returns whether a folder is at or below one that `exclude` lists, relative to the workspace's
+/// root (The Cargo Book, Workspaces).
+///
+/// Errors: out of memory only.
 pub fn is_excluded(
     alloc: Global,
     root: &PathText,
@@ -42,11 +44,11 @@ pub fn is_excluded(
     Ok(false)
 }
 
-/// Returns the names of a folder, as parts that stand for themselves.
+/// Returns the names of a folder as parts that match only themselves.
 ///
-/// Errors: memory is refused.
+/// Errors: out of memory only.
 ///
-/// Requires: each of them is a path inside a folder. The names of a path are.
+/// Requires: each name is a path inside a folder. The names of a path are.
 fn plain_parts(alloc: Global, names: &[&str]) -> Result<Vec<Part>, AllocError>
     requires { list_all is_relative (map (λ name. name.now) names.now) ≡ true }
     ensures { IfOk result (λ parts. parts.items ≡ plain_parts (map (λ name. name.now) names.now)) }
@@ -62,7 +64,7 @@ fn plain_parts(alloc: Global, names: &[&str]) -> Result<Vec<Part>, AllocError>
     Ok(parts)
 }
 
-/// Whether a text begins with `/`.
+/// Returns whether a text begins with `/`.
 fn is_absolute(text: &str) -> bool
     ensures { result ≡ is_absolute text.now }
 {
@@ -72,7 +74,8 @@ fn is_absolute(text: &str) -> bool
     }
 }
 
-/// Where a text starts: in the root folder, an absolute one at `/`.
+/// Returns the parts at which a text starts: those of the root folder, or none for an absolute
+/// text.
 fn start_of(alloc: Global, root: &PathText, text: &str) -> Result<Vec<Part>, AllocError>
     ensures { IfOk result (λ parts. parts.items ≡ start_of root.now text.now) }
 {
@@ -83,11 +86,12 @@ fn start_of(alloc: Global, root: &PathText, text: &str) -> Result<Vec<Part>, All
     plain_parts(alloc, names.as_slice())
 }
 
-/// Goes one part further.
+/// Walks one part further.
 ///
-/// Errors: memory is refused.
+/// Errors: out of memory only.
 ///
-/// Requires: the part stays, leads up, or is a path inside a folder. The parts of a text without byte 0 do.
+/// Requires: the part stays, leads up, or is a path inside a folder. The parts of a text without
+/// byte 0 do.
 fn go_further(alloc: Global, parts: &mut Vec<Part>, part: &str) -> Result<(), AllocError>
     requires { stays part.now || (leads_up part.now || is_relative part.now) ≡ true }
     ensures { OnOk result (parts.new.items ≡ further parts.old.items part.now) }
@@ -107,9 +111,11 @@ fn go_further(alloc: Global, parts: &mut Vec<Part>, part: &str) -> Result<(), Al
     Ok(())
 }
 
-/// The parts that a folder has to have for a text of `members` or `default-members` to mean it: those of the
-/// root folder, which stand for themselves, and then the text's, walked as a path is. The one fault is want of
-/// memory.
+/// Returns the parts that a folder must match for a text of `members` or `default-members` to mean
+/// it. These are the parts of the root folder, which match only themselves, and then those of the
+/// text, walked as in a path.
+///
+/// Errors: out of memory only.
 pub fn parts_meant(
     alloc: Global,
     root: &PathText,
@@ -125,7 +131,7 @@ pub fn parts_meant(
     Ok(parts)
 }
 
-/// Whether a part is a name, or a pattern that matches it.
+/// Returns whether a part is this name, or a pattern that matches it.
 fn part_matches(alloc: Global, part: &Part, name: &str) -> Result<bool, AllocError>
     ensures { IfOk result (λ answer. answer ≡ part_matches part.now name.now) }
 {
@@ -135,7 +141,7 @@ fn part_matches(alloc: Global, part: &Part, name: &str) -> Result<bool, AllocErr
     Ok(part.text.as_str() == name)
 }
 
-/// Whether names match parts, one for one.
+/// Returns whether names match parts, one by one.
 fn parts_match(alloc: Global, parts: &[Part], names: &[&str]) -> Result<bool, AllocError>
     ensures { IfOk result
         (λ answer. answer ≡ parts_match parts.now (map (λ name. name.now) names.now)) }
@@ -157,8 +163,10 @@ fn parts_match(alloc: Global, parts: &[Part], names: &[&str]) -> Result<bool, Al
     Ok(to_match.is_empty())
 }
 
-/// Whether a folder is meant: it has these parts, name for name, so that no `*` goes over a slash (The Cargo
-/// Book, Workspaces). The one fault is want of memory.
+/// Returns whether a folder is meant: whether its names match these parts one by one. Therefore no
+/// `*` matches across a slash (The Cargo Book, Workspaces).
+///
+/// Errors: out of memory only.
 pub fn is_meant(alloc: Global, parts: &[Part], folder: &PathText) -> Result<bool, AllocError>
     ensures { IfOk result (λ answer. answer ≡ parts_match parts.now (names_in folder.now)) }
 {

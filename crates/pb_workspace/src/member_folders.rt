@@ -22,23 +22,23 @@ use pb_package::LoadFault;
 use pb_place::{PathText, Place};
 use std::alloc::{AllocError, Global};
 
-/// Returns whether a path is named `Cargo.toml`.
+/// Returns whether a path ends with the name `Cargo.toml`.
 pub fn is_manifest(path: &PathText) -> bool
     ensures { result ≡ is_manifest path.now }
 {
     path.last_part() == "Cargo.toml"
 }
 
-/// Returns whether only one name matches a part.
+/// Returns whether a part is matched by only one name.
 fn is_fixed(part: &Part) -> bool
     ensures { result ≡ is_fixed part.now }
 {
     !(part.is_pattern && is_glob(part.text.as_str()))
 }
 
-/// Returns those of some folders whose names a pattern matches.
+/// Returns the folders whose names match a pattern.
 ///
-/// Errors: memory is refused.
+/// Errors: out of memory only.
 fn matching(
     alloc: Global,
     pattern: &str,
@@ -58,7 +58,7 @@ fn matching(
 
 /// Returns one folder as a list.
 ///
-/// Errors: memory is refused.
+/// Errors: out of memory only.
 fn alone(alloc: Global, folder: PathText) -> Result<Items<PathText>, AllocError>
     ensures { IfOk result (λ folders. folders ≡ folder ∷ []) }
 {
@@ -67,9 +67,9 @@ fn alone(alloc: Global, folder: PathText) -> Result<Items<PathText>, AllocError>
     Ok(folders)
 }
 
-/// Returns the folder that a part names in a folder, whatever is there.
+/// Returns the folder with a part's name inside a folder, whether or not it exists.
 ///
-/// Errors: memory is refused.
+/// Errors: out of memory only.
 fn folder_named(
     alloc: Global,
     folder: &PathText,
@@ -81,9 +81,10 @@ fn folder_named(
     alone(alloc, named)
 }
 
-/// Returns the folders to which a part leads from a folder (The Cargo Book, Workspaces). A part that only one name
-/// matches leads to the folder of that name there, whatever is there, and looks at nothing. Any other part leads to the
-/// folders there whose names it matches, and lists the folders there once (our own choice).
+/// Returns the folders to which a part leads from a folder (The Cargo Book, Workspaces). A part
+/// that only one name matches leads to the folder with that name, whether or not it exists, and
+/// makes no call. Any other part leads to the folders whose names it matches, and lists the folders
+/// there once (our own choice).
 ///
 /// Errors: `Place`, if the listing failed, with its path; `OutOfMemory`.
 fn one_step<P: Place>(
@@ -109,7 +110,7 @@ fn one_step<P: Place>(
     Ok(named)
 }
 
-/// Adds folders at the end.
+/// Appends folders.
 fn add_folders(made: &mut Items<PathText>, folders: Items<PathText>) -> Result<(), AllocError>
     ensures { OnOk result (made.new ≡ made.old ++ folders) }
 {
@@ -119,7 +120,7 @@ fn add_folders(made: &mut Items<PathText>, folders: Items<PathText>) -> Result<(
     Ok(())
 }
 
-/// Returns the folders to which a part leads from some folders, folder for folder.
+/// Returns the folders to which a part leads from some folders, one folder after the other.
 ///
 /// Errors: those of `one_step`.
 fn all_steps<P: Place>(
@@ -145,7 +146,7 @@ fn all_steps<P: Place>(
     Ok(led)
 }
 
-/// Returns the folders to which parts lead from some folders, one part after the other.
+/// Returns the folders to which several parts lead from some folders, one part after the other.
 ///
 /// Errors: those of `one_step`.
 fn led_to<P: Place>(
@@ -170,9 +171,9 @@ fn led_to<P: Place>(
     Ok(led)
 }
 
-/// Returns the root of all paths, as a list. Its text is a path, so nothing but memory can be refused.
+/// Returns `/` as a list. Its text is a path, so only memory can run out.
 ///
-/// Errors: memory is refused.
+/// Errors: out of memory only.
 fn root_alone(alloc: Global) -> Result<Items<PathText>, AllocError>
     ensures { IfOk result (λ folders. folders ≡ codes "/" ∷ []) }
 {
@@ -182,9 +183,9 @@ fn root_alone(alloc: Global) -> Result<Items<PathText>, AllocError>
     }
 }
 
-/// Returns those of some folders that `exclude` does not leave out.
+/// Returns the folders that `exclude` does not list.
 ///
-/// Errors: memory is refused.
+/// Errors: out of memory only.
 fn kept_among(
     alloc: Global,
     frame: &Frame,
@@ -203,7 +204,7 @@ fn kept_among(
 
 /// Returns whether a folder has a manifest.
 ///
-/// Errors: `Place`, if the question failed, with its path; `OutOfMemory`.
+/// Errors: `Place`, if the call failed, with its path; `OutOfMemory`.
 fn has_manifest<P: Place>(
     alloc: Global,
     place: &mut P,
@@ -221,7 +222,7 @@ fn has_manifest<P: Place>(
     is_source(alloc, place, target, &path)
 }
 
-/// Returns those of some folders that have a manifest.
+/// Returns the folders that have a manifest.
 ///
 /// Errors: those of `has_manifest`.
 fn with_manifests<P: Place>(
@@ -248,8 +249,8 @@ fn with_manifests<P: Place>(
     Ok(taken)
 }
 
-/// Returns the folders that a glob takes: those to which its parts lead from the root of all paths, that `exclude` does
-/// not leave out, and that have a manifest. It does not ask for the manifest of a folder that `exclude` leaves out (our
+/// Returns the folders that a glob means: those to which its parts lead from `/`, that `exclude`
+/// does not list, and that have a manifest. For folders that `exclude` lists it makes no call (our
 /// own choice).
 ///
 /// Errors: those of `one_step`; those of `has_manifest`.
@@ -274,9 +275,9 @@ fn folders_taken<P: Place>(
     with_manifests(alloc, place, target, kept)
 }
 
-/// Returns the folder that a text writes out.
+/// Returns the folder of a text without `*` and `?`.
 ///
-/// Errors: memory is refused.
+/// Errors: out of memory only.
 fn folder_written(
     alloc: Global,
     root: &PathText,
@@ -314,7 +315,7 @@ fn folders_meant<P: Place>(
     Ok(folders)
 }
 
-/// Returns the folders that texts of `members` mean, text for text.
+/// Returns the folders that texts of `members` mean, one text after the other.
 ///
 /// Errors: those of `folders_meant`.
 fn folders_of_texts<P: Place>(
@@ -342,11 +343,13 @@ fn folders_of_texts<P: Place>(
     Ok(made)
 }
 
-/// Returns the folders that `members` means, each once, in byte order (The Cargo Book, Workspaces).
+/// Returns the folders that `members` means, in byte order without repeats (The Cargo Book,
+/// Workspaces).
 ///
-/// They are the folders that are written out, and those with a manifest that a glob matches and `exclude` does not
-/// leave out. A glob takes no folder at or below the target folder. It looks only where its parts lead: `crates/*`
-/// lists the folders in `crates`, and nothing below them (our own choice).
+/// These are the folders that are written out, and those with a manifest that a glob matches and
+/// `exclude` does not list. A glob never matches a folder at or below the target folder. It looks
+/// only where its parts lead: `crates/*` lists the folders in `crates`, and nothing below them (our
+/// own choice).
 ///
 /// Errors: `Place`, if a call failed, with its path; `OutOfMemory`.
 pub fn member_folders<P: Place>(

@@ -1,5 +1,5 @@
-//! That all paths of a workspace are normalised: what the type of a path promises, said of all of them at once. Nothing
-//! here does anything when it runs.
+//! All paths of a workspace are normalised: the promise of the type of paths, for all of them at
+//! once. The functions here do nothing when they run.
 
 ghost use Rattle.std.specs.Prelude.{◌≡◌, All, IfSome, true};
 ghost use Rattle.pb_place.specs.Paths.{is_path};
@@ -8,14 +8,14 @@ ghost use Rattle.pb_workspace.specs.NormalPaths.{HasSource, HasOwnPaths, HasNorm
 use pb_package::{Binary, Library, Package, Workspace};
 use pb_place::PathText;
 
-/// A path is a normalised absolute one.
+/// A path is normalised and absolute.
 fn is_normal(path: &PathText)
     ensures { is_path path.now ≡ true }
 {
     let _text = path.as_str();
 }
 
-/// So is the source of a library.
+/// The source of a library is normalised.
 fn library_is_normal(library: &Option<Library>)
     ensures { IfSome library.now (λ library. is_path library.source ≡ true) }
 {
@@ -24,14 +24,14 @@ fn library_is_normal(library: &Option<Library>)
     }
 }
 
-/// So is that of a binary.
+/// The source of a binary is normalised.
 fn binary_is_normal(binary: &Binary)
     ensures { HasSource binary.now }
 {
     is_normal(&binary.source);
 }
 
-/// So is that of each binary.
+/// The source of each binary is normalised.
 fn binaries_are_normal(binaries: &[Binary])
     ensures { All HasSource binaries.now }
 {
@@ -40,7 +40,7 @@ fn binaries_are_normal(binaries: &[Binary])
     }
 }
 
-/// So is that of a build script.
+/// The source of a build script is normalised.
 fn script_is_normal(script: &Option<PathText>)
     ensures { IfSome script.now (λ path. is_path path ≡ true) }
 {
@@ -49,7 +49,7 @@ fn script_is_normal(script: &Option<PathText>)
     }
 }
 
-/// All paths of a package are normalised absolute ones.
+/// All paths of a package are normalised and absolute.
 fn package_has_paths(owner: &Package)
     ensures { HasOwnPaths owner.now }
 {
@@ -60,7 +60,7 @@ fn package_has_paths(owner: &Package)
     script_is_normal(&owner.script);
 }
 
-/// So are those of each package.
+/// All paths of each package are normalised and absolute.
 fn packages_have_paths(packages: &[Package])
     ensures { All HasOwnPaths packages.now }
 {
@@ -69,8 +69,9 @@ fn packages_have_paths(packages: &[Package])
     }
 }
 
-/// All paths of a workspace are normalised absolute ones: its root, its target folder, and of each package the folder,
-/// the manifest and the sources. This does nothing; whoever holds a workspace learns it here (our own choice).
+/// All paths of a workspace are normalised and absolute: its root, its target folder, and the
+/// folder, manifest and sources of each package. The function does nothing; it states this for
+/// callers that have a workspace (our own choice).
 pub fn workspace_has_paths(workspace: &Workspace)
     ensures { HasNormalPaths workspace.now }
 {

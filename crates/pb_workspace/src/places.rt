@@ -1,4 +1,4 @@
-//! Packages by the places of their folders.
+//! Packages by the indices of their folders.
 
 ghost use Rattle.std.specs.Prelude.{◌≡◌, IfOk};
 ghost use Rattle.std.specs.Option.{option_copied};
@@ -10,7 +10,9 @@ use pb_draft::Draft;
 use pb_place::PathText;
 use std::alloc::{AllocError, Global};
 
-/// Each folder with the place of its package. The one fault is want of memory.
+/// Returns each folder with the index of its package.
+///
+/// Errors: out of memory only.
 pub fn places_of(alloc: Global, drafts: &[Draft]) -> Result<ByFolder<usize>, AllocError>
     ensures { IfOk result (λ places. places ≡ places_of drafts.now) }
 {
@@ -21,7 +23,7 @@ pub fn places_of(alloc: Global, drafts: &[Draft]) -> Result<ByFolder<usize>, All
     Ok(places)
 }
 
-/// The package of a folder.
+/// Returns the package of a folder.
 pub fn draft_in<'a>(
     drafts: &'a [Draft],
     places: &ByFolder<usize>,

@@ -29,7 +29,8 @@ use std::alloc::{AllocError, Global};
 /// The greatest number of packages.
 pub const GREATEST_NUMBER: usize = 256;
 
-/// How many rounds are enough for that number of packages: a round that reads nothing leaves nothing ahead.
+/// The number of rounds that is enough for that number of packages: a round that reads nothing
+/// leaves nothing ahead.
 pub const ENOUGH_ROUNDS: usize = 257;
 
 /// Packages that were read, and the folders of the next round.
@@ -41,7 +42,7 @@ pub struct Reading {
     pub ahead: ByFolder<()>,
 }
 
-/// The refusal of a path at which no manifest may be read.
+/// Returns the fault of a path without a readable manifest.
 pub fn no_manifest(alloc: Global, path: &PathText) -> LoadFault
     ensures refusal { is_outside result ≡ false → result ≡ load_fault.NoManifest path.now }
     ensures here { is_failure result ≡ false }
@@ -52,7 +53,7 @@ pub fn no_manifest(alloc: Global, path: &PathText) -> LoadFault
     }
 }
 
-/// The refusal of a manifest.
+/// Returns the refusal of a manifest.
 fn refused(alloc: Global, path: &PathText, fault: ManifestFault) -> LoadFault
     ensures refusal { is_outside result ≡ false → result ≡ load_fault.Manifest path.now fault }
     ensures here { is_failure result ≡ false }
@@ -63,7 +64,7 @@ fn refused(alloc: Global, path: &PathText, fault: ManifestFault) -> LoadFault
     }
 }
 
-/// What the bytes of a manifest say.
+/// The manifest in some bytes.
 
 fn read_found(alloc: Global, path: &PathText, found: Option<Bytes>) -> Result<Manifest, LoadFault>
     ensures told { Told result (read_found path.now found) }
@@ -81,10 +82,10 @@ fn read_found(alloc: Global, path: &PathText, found: Option<Bytes>) -> Result<Ma
     }
 }
 
-/// Returns what the manifest at a path says. It reads one byte more than a manifest may have, and no further.
+/// Returns the manifest at a path. It reads at most one byte more than a manifest may have.
 ///
-/// Errors: `NoManifest`, if no file of the sources is there; `Manifest`, if the reader refuses it; `Place`, if the
-/// read failed; `OutOfMemory`.
+/// Errors: `NoManifest`, if the path is no file of the sources; `Manifest`, if the reader refuses
+/// it; `Place`, if the read failed; `OutOfMemory`.
 #[tactic(auto, using(crate::proofs::Cut::cut_laws))]
 fn manifest_at<P: Place>(
     alloc: Global,
@@ -104,7 +105,7 @@ fn manifest_at<P: Place>(
     Ok(manifest)
 }
 
-/// What a package may take from its workspace: nothing where it is no member.
+/// Returns what a package may inherit from its workspace: nothing if it is no member.
 fn given_to<'a>(frame: &'a Frame, none: &'a Given, is_member: bool) -> &'a Given
     requires { none.now ≡ nothing }
     ensures { result.now ≡ given_to frame.now is_member }
@@ -114,7 +115,8 @@ fn given_to<'a>(frame: &'a Frame, none: &'a Given, is_member: bool) -> &'a Given
 
 /// Returns the package of a manifest that was read.
 ///
-/// Errors: `Manifest` with `BadKind` of `package`, if the manifest has no package; those of `draft_of`.
+/// Errors: `Manifest` with `BadKind` of `package`, if the manifest has no package; those of
+/// `draft_of`.
 #[tactic(auto, unfolding(crate::specs::Rounds::draft_if))]
 pub fn draft_if<P: Place>(
     alloc: Global,
@@ -152,7 +154,7 @@ pub fn draft_if<P: Place>(
     }
 }
 
-/// Where the package of a folder stands.
+/// Returns the location of a folder's package.
 fn standing_in(alloc: Global, frame: &Frame, folder: &PathText) -> Result<Standing, AllocError>
     ensures { IfOk result (λ at. at ≡ standing_in frame.now folder.now) }
 {
@@ -166,20 +168,20 @@ fn standing_in(alloc: Global, frame: &Frame, folder: &PathText) -> Result<Standi
     })
 }
 
-/// A manifest, taken apart.
+/// A manifest, split into parts.
 #[derive(Drop)]
 pub struct Parts {
-    /// `[package]`, where it is written.
+    /// `[package]`, if it is written.
     pub found: Option<Package>,
-    /// The other tables that say something of it.
+    /// The other tables that concern the package.
     pub tables: Tables,
-    /// `[workspace]`, where it is written.
+    /// `[workspace]`, if it is written.
     pub workspace: Option<WorkspaceTable>,
     /// `[profile]`.
     pub profiles: Items<Profile>,
 }
 
-/// A manifest, taken apart.
+/// Returns the parts of a manifest.
 #[tactic(auto, using(crate::proofs::Promised::binary_laws))]
 pub fn parts_of(read: Manifest) -> Parts
     requires { IsManifest read }
@@ -202,10 +204,10 @@ pub fn parts_of(read: Manifest) -> Parts
     }
 }
 
-/// Returns what the manifest at a path says, taken apart.
+/// Returns the parts of the manifest at a path.
 ///
-/// Errors: `NoManifest`, if no file of the sources is there; `Manifest`, if the reader refuses it; `Place`, if the
-/// read failed; `OutOfMemory`.
+/// Errors: `NoManifest`, if the path is no file of the sources; `Manifest`, if the reader refuses
+/// it; `Place`, if the read failed; `OutOfMemory`.
 pub fn parts_at<P: Place>(
     alloc: Global,
     place: &mut P,
@@ -224,7 +226,7 @@ pub fn parts_at<P: Place>(
     Ok(parts_of(found))
 }
 
-/// Returns the package of the manifest of this folder.
+/// Returns the package of this folder's manifest.
 #[tactic(auto, unfolding(crate::specs::Rounds::draft_in_file))]
 fn draft_in_file<P: Place>(
     alloc: Global,
@@ -258,7 +260,8 @@ fn draft_in_file<P: Place>(
     )
 }
 
-/// Returns the package of a folder: what its manifest and its files say. The root's manifest is not read again.
+/// Returns the package of a folder, from its manifest and its files. The root's manifest is not
+/// read again.
 ///
 /// Errors: those of `parts_at` and of `draft_if`.
 #[tactic(auto, unfolding(crate::specs::Rounds::draft_at, crate::specs::LookedAt::folder_looked))]
@@ -287,7 +290,7 @@ fn draft_at<P: Place>(
     draft_in_file(alloc, place, target, frame, member, at)
 }
 
-/// The folders to which entries lead.
+/// Returns the folders to which entries lead.
 fn leads_to(alloc: Global, wanted: &[Wanted]) -> Result<Items<PathText>, AllocError>
     ensures { IfOk result (λ folders. folders ≡ leads_to wanted.now) }
 {
@@ -298,7 +301,7 @@ fn leads_to(alloc: Global, wanted: &[Wanted]) -> Result<Items<PathText>, AllocEr
     Ok(folders)
 }
 
-/// Puts the folders to which the entries of a package lead.
+/// Inserts the folders to which the entries of a package lead.
 fn put_led(alloc: Global, ahead: &mut ByFolder<()>, draft: &Draft) -> Result<(), AllocError>
     ensures { OnOk result (ahead.new ≡ with_folders ahead.old (leads_to draft.now.wanted)) }
 {
@@ -321,7 +324,7 @@ fn add_draft(
     led
 }
 
-/// With a package that was read.
+/// Returns the reading with one more package.
 pub fn with_draft(
     alloc: Global,
     reading: Reading,
@@ -337,7 +340,7 @@ pub fn with_draft(
 
 /// Reads one folder, unless it was read before.
 ///
-/// Errors: `TooMany`, if it would be one of more than 256; those of `draft_at`.
+/// Errors: `TooMany`, if 256 packages have been read; those of `draft_at`.
 fn one_read<P: Place>(
     alloc: Global,
     place: &mut P,

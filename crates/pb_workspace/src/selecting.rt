@@ -1,4 +1,4 @@
-//! Which packages of a workspace a build is asked for, and with which features.
+//! Which packages of a workspace a build is to build, and with which features.
 
 ghost use Rattle.std.specs.Prelude.{◌≡◌, ◌++◌, ◌==◌, IfOk, OnOk, map, filter};
 ghost use Rattle.std.specs.List.{flat_map, list_any, slice_split};
@@ -15,7 +15,7 @@ use pb_package::{
 };
 use std::alloc::{AllocError, Global};
 
-/// The places of all members.
+/// Returns the indices of all members.
 fn members_of(alloc: Global, packages: &[Package]) -> Result<Items<usize>, AllocError>
     ensures { IfOk result (λ places. places ≡ members_of packages.now) }
 {
@@ -28,42 +28,42 @@ fn members_of(alloc: Global, packages: &[Package]) -> Result<Items<usize>, Alloc
     Ok(places)
 }
 
-/// Whether a package is a member of this name.
+/// Returns whether a package is a member with this name.
 fn is_member_named(name: &Text, found: &Package) -> bool
     ensures { result ≡ is_member_named name.now found.now }
 {
     found.is_member && *name == found.name
 }
 
-/// Whether a name is one of these.
+/// Returns whether a name is one of these.
 fn is_mentioned(names: &[Text], name: &Text) -> bool
     ensures { result ≡ is_mentioned names.now name.now }
 {
     names.iter().any(|other| *name == *other)
 }
 
-/// Whether a package is a member that has one of these names.
+/// Returns whether a package is a member with one of these names.
 fn is_named_member(names: &[Text], found: &Package) -> bool
     ensures { result ≡ is_named_member names.now found.now }
 {
     found.is_member && is_mentioned(names, &found.name)
 }
 
-/// Whether a name is that of a member.
+/// Returns whether a name is that of a member.
 fn names_member(name: &Text, packages: &[Package]) -> bool
     ensures { result ≡ list_any (is_member_named name.now) packages.now }
 {
     packages.iter().any(|found| is_member_named(name, found))
 }
 
-/// Whether each of these names is that of a member.
+/// Returns whether each of these names is that of a member.
 fn name_members(names: &[Text], packages: &[Package]) -> bool
     ensures { result ≡ name_members names.now packages.now }
 {
     names.iter().all(|name| names_member(name, packages))
 }
 
-/// The places of the members that have one of these names.
+/// Returns the indices of the members with these names.
 fn members_named(
     alloc: Global,
     names: &[Text],
@@ -81,7 +81,7 @@ fn members_named(
     Ok(places)
 }
 
-/// The places of the members of these names, of which each has to be a member's.
+/// Returns the indices of the members with these names, each of which must be a member's.
 fn named_members(
     alloc: Global,
     names: &[Text],
@@ -97,7 +97,7 @@ fn named_members(
     Ok(places)
 }
 
-/// The place of the root package, else those of all members.
+/// Returns the index of the root package if there is one, else those of all members.
 fn root_or_members(
     alloc: Global,
     root: Option<usize>,
@@ -115,7 +115,7 @@ fn root_or_members(
     }
 }
 
-/// The packages that are selected where the options name none.
+/// Returns the packages that are selected if the options name none.
 fn by_default(alloc: Global, workspace: &Workspace) -> Result<Items<usize>, LoadFault>
     ensures { Gives load_fault.OutOfMemory (λ places. places) result
         (by_default workspace.now.default_members workspace.now.root_package
@@ -135,14 +135,14 @@ fn by_default(alloc: Global, workspace: &Workspace) -> Result<Items<usize>, Load
     }
 }
 
-/// A copy of some places.
+/// Returns a copy of these indices.
 fn copied(alloc: Global, places: &[usize]) -> Result<Items<usize>, AllocError>
     ensures { IfOk result (λ made. made ≡ places.now) }
 {
     Ok(Items::from_vec(places.to_vec(alloc)?))
 }
 
-/// The places of the selected packages.
+/// Returns the indices of the selected packages.
 fn selected_packages(
     alloc: Global,
     workspace: &Workspace,
@@ -162,7 +162,7 @@ fn selected_packages(
     by_default(alloc, workspace)
 }
 
-/// The parts of a text, between its spaces.
+/// Returns the parts between the spaces of a text.
 fn cut_at_spaces(alloc: Global, text: &str) -> Result<Vec<&str>, AllocError>
     ensures { IfOk result
         (λ parts. map (λ part. part.now) parts.items ≡ slice_split (λ b. b == 32) text.now) }
@@ -170,7 +170,7 @@ fn cut_at_spaces(alloc: Global, text: &str) -> Result<Vec<&str>, AllocError>
     text.split(' ').collect(alloc)
 }
 
-/// The parts of a text, between its commas.
+/// Returns the parts between the commas of a text.
 fn cut_at_commas(alloc: Global, text: &str) -> Result<Vec<&str>, AllocError>
     ensures { IfOk result
         (λ parts. map (λ part. part.now) parts.items ≡ slice_split (λ b. b == 44) text.now) }
@@ -211,7 +211,7 @@ fn add_parts(alloc: Global, parts: &[&str], words: &mut Items<Text>) -> Result<(
     Ok(())
 }
 
-/// Adds the features that a text asks for.
+/// Adds the features that a text requests.
 fn add_feature_words(alloc: Global, text: &str, words: &mut Items<Text>) -> Result<(), AllocError>
     ensures { OnOk result (words.new ≡ words.old ++ feature_words text.now) }
 {
@@ -220,7 +220,7 @@ fn add_feature_words(alloc: Global, text: &str, words: &mut Items<Text>) -> Resu
     Ok(())
 }
 
-/// The features that some texts ask for.
+/// Returns the features that some texts request.
 fn features_of(alloc: Global, texts: &[Text]) -> Result<Items<Text>, AllocError>
     ensures { IfOk result (λ words. words ≡ flat_map feature_words texts.now) }
 {
@@ -231,7 +231,7 @@ fn features_of(alloc: Global, texts: &[Text]) -> Result<Items<Text>, AllocError>
     Ok(words)
 }
 
-/// The selection of these packages.
+/// Returns the selection of these packages.
 fn selection_of(
     alloc: Global,
     options: &Options,
@@ -252,17 +252,18 @@ fn selection_of(
     })
 }
 
-/// What a build of the workspace is asked for (The Cargo Book, Workspaces and cargo build).
+/// Returns what the options of a build request of the workspace (The Cargo Book, Workspaces and
+/// cargo build).
 ///
 /// The packages are all members with `--workspace`; else the members that `-p` names; else those of
-/// `default-members`; else the root package; else all members. They stand in ascending order of their
-/// places, each once. NoSuchPackage where `-p` names no member, and where `default-members` decide and
-/// write out a folder that is no member; OutOfMemory where memory is refused.
+/// `default-members`; else the root package; else all members. Their indices are in ascending order
+/// without repeats, and the type guarantees that each is one of the workspace's packages.
 ///
-/// The features are what stands between the commas and spaces of the texts of `--features`, in their order,
-/// empty parts dropped.
+/// The features are the texts between the commas and spaces of `--features`, in order, without
+/// empty ones.
 ///
-/// Each chosen place is that of one of the workspace's packages, as the type says.
+/// Errors: `NoSuchPackage`, if `-p` names no member, or if `default-members` decides and lists a
+/// folder that is no member; `OutOfMemory`.
 pub fn selected<'a>(
     alloc: Global,
     workspace: &'a SettledWorkspace,

@@ -1,5 +1,5 @@
-//! The calls of a place in memory. Besides what the trait requires, each contract says when the call fails, what it
-//! leaves then, and what it uses up of what was set to fail.
+//! The calls of a place in memory. Besides what the trait requires, each contract describes when
+//! the call fails, what it leaves then, and how it uses up fuses and deaths.
 
 ghost use Rattle.std.specs.Prelude.{◌≡◌, ◌≢◌, ◌-◌, true, IfOk, IfErr, OnErr, Err};
 ghost use Rattle.std.specs.FinMap as map;
@@ -30,7 +30,8 @@ impl<C> Memory<C> {
         self.fuse = self.fuse.saturating_sub(1);
     }
 
-    /// Fails with the own fault of a call, as the fuse has it. If memory was refused to keep the call, the fuse stays.
+    /// Fails with a call's own fault, as the fuse decides. If memory ran out for the call's value,
+    /// the fuse stays.
     fn fail<T>(&mut self, call: Result<Call, AllocError>) -> Result<T, PlaceFault>
         requires burns { self.old.fuse ≡ 1 }
         ensures burns { IfOk result (λ _. ⊥) }
@@ -47,7 +48,7 @@ impl<C> Memory<C> {
         self.tally.count(call, Err(own))
     }
 
-    /// Fails as a write: it writes the first half of the bytes, rounded down, unless memory is refused.
+    /// Fails as a write: writes the first half of the bytes, rounded down, unless memory runs out.
     #[tactic(auto, using(pb_place::proofs::Worlds::failing_laws, crate::proofs::Changing::changing_laws))]
     fn tear(&mut self, alloc: Global, path: &PathText, bytes: &[u8]) -> Result<(), PlaceFault>
         requires burns { self.old.fuse ≡ 1 }
@@ -69,7 +70,8 @@ impl<C> Memory<C> {
         }
     }
 
-    /// Fails as a removal: it removes the first half of the files, rounded down, unless memory is refused.
+    /// Fails as a removal: removes the first half of the files, rounded down, unless memory runs
+    /// out.
     #[tactic(auto, using(crate::proofs::Changing::changing_laws))]
     fn halve(&mut self, alloc: Global, path: &PathText) -> Result<(), PlaceFault>
         requires burns { self.old.fuse ≡ 1 }
@@ -252,7 +254,7 @@ impl<C: Child> Place for Memory<C> {
             ≡ counted_spawn (child_spawned (C.answers command.now) command.now self.old.world)
             result (counts_in self.old) }
 
-        // Only a place of which a call may fail can fail, now or later.
+        // Only a place whose calls can fail fails, now or later.
         ensures fails { IfErr result (λ e. e ≢ StartFault.OutOfMemory → may_fail self.old ≡ true) }
         ensures later { may_fail self.new ≡ true → may_fail self.old ≡ true }
     {

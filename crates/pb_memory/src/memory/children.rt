@@ -1,4 +1,5 @@
-//! The children of a place in memory: how each is spawned and ends, as the fuse and the deaths decide.
+//! The children of a place in memory: how each is spawned and ends, as the fuse and the deaths
+//! decide.
 
 ghost use Rattle.std.specs.Prelude.{is_some, Ok, ◌≡◌, ◌≢◌, ◌⊎◌, ◌+◌, ◌-◌, ◌++◌, ◌∷◌, [], length, max, true, false, IfOk, IfErr, OnOk, OnErr, IfSome, IfNone, Some, None, Err};
 ghost use Rattle.std.specs.List.{list_any};
@@ -21,7 +22,7 @@ use pb_place::{
 };
 use std::alloc::{AllocError, Global};
 
-/// Adds a child in flight, and returns the most that ever were in flight.
+/// Adds a child in flight, and returns the most children that were ever in flight.
 #[tactic(auto, using(crate::proofs::InFlight::fly_laws))]
 fn add_child(
     flying: &mut Vec<Flying<Option<StartFault>>>,
@@ -56,7 +57,7 @@ fn take_child(
     take_out(flying, ticket)
 }
 
-/// Returns the child of a command with the reply that it will give.
+/// Returns the child of a command with the reply that it will return.
 fn child_in_flight(
     alloc: Global,
     files: &FileMap,
@@ -90,7 +91,8 @@ fn child_in_flight(
     })
 }
 
-/// Returns the fault with which a child in flight ends. `CannotStart` is no end, and no child in flight has that fate.
+/// Returns the fault with which a child in flight ends. `CannotStart` is no end, so no child in
+/// flight has that fate.
 fn ending(fault: StartFault) -> StartFault
     ensures kept { fault ≢ StartFault.CannotStart → result ≡ fault }
     ensures end { (result ≡ StartFault.OutOfMemory)
@@ -104,7 +106,8 @@ fn ending(fault: StartFault) -> StartFault
     }
 }
 
-/// Returns the fault with which a child ends now: `Died` if the fuse is 1, or its own fate.
+/// Returns the fault with which a child ends now: `Died` if the fuse is 1, else its own fate, if it
+/// has one.
 fn fate_now(burns: bool, kept: Option<StartFault>) -> Option<StartFault>
     ensures burnt { burns ≡ true → result ≡ Some StartFault.Died }
     ensures none { burns ≡ false → kept ≡ None → result ≡ None }
@@ -123,7 +126,7 @@ fn fate_now(burns: bool, kept: Option<StartFault>) -> Option<StartFault>
     }
 }
 
-/// Returns the answer of a child whose files were put in its folder.
+/// Returns the result of a child whose files were put in its folder.
 fn ended_by(landed: Result<(), StartFault>, child: ChildInFlight) -> Result<Ended, StartFault>
     ensures ok { OnOk landed (result ≡ Ok child.ended) }
     ensures err { IfErr landed (λ e. result ≡ Err e) }
@@ -149,7 +152,7 @@ impl<C: Child> Memory<C> {
         }
     }
 
-    /// Returns the child of a command that is spawned now.
+    /// Returns the child that is spawned for a command now.
     fn spawned(
         &self,
         alloc: Global,
@@ -164,7 +167,7 @@ impl<C: Child> Memory<C> {
         child_in_flight(alloc, &self.files, command, ticket, reply)
     }
 
-    /// Writes the first half of a reply's files, in byte order, into the command's folder.
+    /// Writes the first half of a reply's files, in byte order, in the command's folder.
     fn leave(
         &mut self,
         alloc: Global,
@@ -250,7 +253,7 @@ impl<C: Child> Memory<C> {
         Ok(ticket)
     }
 
-    /// Puts the files of a child that answers in its folder, or fails with its fate.
+    /// Puts the files of a child that replies in its folder, or fails with its fate.
     fn land(
         &mut self,
         alloc: Global,
@@ -283,7 +286,7 @@ impl<C: Child> Memory<C> {
         }
     }
 
-    /// Ends a child, with its answer or a fault, as the fuse and its fate decide.
+    /// Ends a child, with its result or a fault, as the fuse and its fate decide.
     pub(super) fn end(&mut self, alloc: Global, ticket: u64) -> Result<Ended, StartFault>
         requires flies { is_flying ticket (children_in self.old.flying) ≡ true }
         ensures answers { EndFails ticket result self.old }
