@@ -11,8 +11,8 @@
 # to grow as the words, and of an answer as the files, and no faster than these times the units that are reached, 1,442.
 # What is measured and how is said in `measured.sh`.
 set -euo pipefail
-crates="pb_closure pb_command pb_data pb_directive pb_draft pb_judging pb_resolved pb_feature pb_manifest pb_manifest_reader pb_memory pb_order pb_package pb_place pb_profile pb_project pb_record pb_unit pb_variables pb_words pb_workspace"
-uses="pb_command pb_data pb_directive pb_feature pb_memory pb_package pb_place pb_project pb_unit pb_workspace"
+crates="pb_graph pb_command pb_data pb_directive pb_workspace_package pb_command_reply pb_feature_types pb_feature pb_manifest_types pb_manifest pb_place pb_graph pb_workspace_types pb_place_types pb_profile pb_command_types pb_record pb_unit pb_command_environment pb_command_arguments pb_workspace"
+uses="pb_command pb_data pb_directive pb_feature pb_place pb_workspace_types pb_place_types pb_command_types pb_unit pb_workspace"
 . "$(dirname "$0")/measured.sh"
 program <<'PROGRAM'
 //! Measures commands.
@@ -32,9 +32,9 @@ use measuring::{number_in, since, word_in};
 use pb_command::{answered, command};
 use pb_data::{Bytes, Text};
 use pb_directive::Directives;
-use pb_memory::Memory;
-use pb_place::{Command, Ended};
-use pb_project::{Answered, Project, Setup, UnitFault};
+use pb_place::Memory;
+use pb_place_types::{Command, Ended};
+use pb_command_types::{Answered, Project, Setup, UnitFault};
 use pb_unit::Planned;
 use std::alloc::{AllocError, Global};
 use std::env;

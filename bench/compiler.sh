@@ -8,11 +8,11 @@ root=$(cd "$(dirname "$0")/.." && pwd)
 work=$(mktemp -d)
 trap 'rm -rf "$work"' EXIT
 mkdir "$work/crates"
-for name in pb_data pb_json pb_place pb_mini; do
+for name in pb_data pb_json pb_place_types pb_mini; do
   cp -r "$root/crates/$name" "$work/crates/$name"
   rm -rf "$work/crates/$name/must-fail"
 done
-printf 'pb_data: indexmap\npb_json: serde_json\npb_place: pb_data thiserror\npb_mini: pb_data pb_json pb_place thiserror\nmeasure: pb_data pb_mini pb_place\n' > "$work/crates.txt"
+printf 'pb_data: indexmap\npb_json: serde_json\npb_place: pb_data thiserror\npb_mini: pb_data pb_json pb_place_types thiserror\nmeasure: pb_data pb_mini pb_place_types\n' > "$work/crates.txt"
 mkdir -p "$work/crates/measure/src"
 cat > "$work/crates/measure/src/main.rt" <<'RATTLE'
 //! Times the small compiler.
@@ -20,7 +20,7 @@ cat > "$work/crates/measure/src/main.rt" <<'RATTLE'
 
 use pb_data::{Bytes, Items, Text};
 use pb_mini::answer;
-use pb_place::{PathText, View, ViewFault};
+use pb_place_types::{PathText, View, ViewFault};
 use std::alloc::{AllocError, Global};
 use std::io;
 use std::time::Instant;

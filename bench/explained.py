@@ -1,5 +1,5 @@
 #!/usr/bin/env python3
-"""explained.py [--check]: writes the tables of `crates/pb_explained` from `docs/ERRORS.md`, and the copy of that page with
+"""explained.py [--check]: writes the tables of `crates/pb_tool_explain` from `docs/ERRORS.md`, and the copy of that page with
 which the example `names_of_errors` compares them; or says whether they are as it would write them. Run it after each change
 of that page."""
 import os, re, sys
@@ -42,7 +42,7 @@ def written(table, entries):
 def main():
     files = {COPY: open(PAGE, encoding="utf-8").read()}
     for table in TABLES:
-        files[f"crates/pb_explained/src/{table}.rt"] = written(table, [it[1:] for it in entries() if it[0] == table])
+        files[f"crates/pb_tool_explain/src/{table}.rt"] = written(table, [it[1:] for it in entries() if it[0] == table])
     wrong = []
     for name, text in files.items():
         path = f"{TOP}/{name}"

@@ -8,8 +8,8 @@
 # Prints a line a size with how many features are on, and the exponents. What is measured and how is said in
 # `measured.sh`.
 set -euo pipefail
-crates="pb_closure pb_data pb_draft pb_resolved pb_feature pb_manifest pb_manifest_reader pb_package pb_memory pb_place pb_workspace"
-uses="pb_data pb_feature pb_package pb_memory pb_place pb_workspace"
+crates="pb_graph pb_data pb_workspace_package pb_feature_types pb_feature pb_manifest_types pb_manifest pb_workspace_types pb_place pb_place_types pb_workspace"
+uses="pb_data pb_feature pb_workspace_types pb_place pb_place_types pb_workspace"
 . "$(dirname "$0")/measured.sh"
 program <<'PROGRAM'
 //! Measures the features.
@@ -25,7 +25,7 @@ use child::Silent;
 use files::put;
 use measuring::{number_in, since, word_in};
 use pb_feature::{FeatureFault, Features, resolve};
-use pb_memory::Memory;
+use pb_place::Memory;
 use pb_workspace::{Options, SelectedWorkspace, SettledWorkspace, Side, Workspace, selected};
 use std::env;
 use std::time::CpuClock;

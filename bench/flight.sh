@@ -10,8 +10,8 @@
 # places; the aims are 200 milliseconds for 4,096 units side by side, and 20 for a chain of 256. What is measured and
 # how is said in `measured.sh`.
 set -euo pipefail
-crates="pb_data pb_flight"
-uses="pb_data pb_flight"
+crates="pb_data pb_run_flight"
+uses="pb_data pb_run_flight"
 . "$(dirname "$0")/measured.sh"
 program <<'PROGRAM'
 //! Measures flights.
@@ -24,7 +24,7 @@ ghost use Rattle.std.specs.Prelude.{◌<◌, length, Contains};
 use anyhow::Result;
 use measuring::{number_in, since, word_in};
 use pb_data::{Bytes, Items};
-use pb_flight::{Answer, First, Flight, Jobs, Step, Turn};
+use pb_run_flight::{Answer, First, Flight, Jobs, Step, Turn};
 use std::alloc::{AllocError, Global};
 use std::env;
 use std::time::CpuClock;

@@ -8,19 +8,19 @@ top="$(cd "$(dirname "$0")/.." && pwd)"
 folder="$(mktemp -d)"
 trap 'rm -rf "$folder"' EXIT
 mkdir -p "$folder/crates/bench_manifest/src" "$folder/data"
-cp -r "$top/crates/pb_data" "$top/crates/pb_manifest" "$top/crates/pb_manifest_reader" "$folder/crates/"
+cp -r "$top/crates/pb_data" "$top/crates/pb_manifest_types" "$top/crates/pb_manifest" "$folder/crates/"
 cat > "$folder/crates.txt" <<'LIST'
 pb_data: indexmap
-pb_manifest: pb_data semver thiserror
-pb_manifest_reader: pb_data pb_manifest semver toml toml_parser
-bench_manifest: pb_manifest_reader toml anyhow
+pb_manifest_types: pb_data semver thiserror
+pb_manifest: pb_data pb_manifest_types semver toml toml_parser
+bench_manifest: pb_manifest toml anyhow
 LIST
 cat > "$folder/crates/bench_manifest/src/main.rt" <<'PROGRAM'
 //! Times the manifest reader beside the TOML reader.
 #![tactic(auto)]
 
 use anyhow::Result;
-use pb_manifest_reader::read_manifest;
+use pb_manifest::read_manifest;
 use std::env;
 use std::fs;
 use std::time::{CpuClock, Duration};

@@ -50,8 +50,8 @@ pub fn number_in(words: &[String], place: usize) -> usize {
     word_in(words, place).parse::<usize>().unwrap_or(0)
 }
 MEASURING
-    if grep -q '^mod child;' "$1/main.rt"; then cp "$top/crates/pb_checks_files/src/child.rt" "$1/"; fi
-    if grep -q '^mod untold;' "$1/main.rt"; then cp "$top/crates/pb_checks_files/src/untold.rt" "$1/"; fi
+    if grep -q '^mod child;' "$1/main.rt"; then cp "$top/crates/pb_tests_files/src/child.rt" "$1/"; fi
+    if grep -q '^mod untold;' "$1/main.rt"; then cp "$top/crates/pb_tests_files/src/untold.rt" "$1/"; fi
     if grep -q '^mod files;' "$1/main.rt"; then files "$1"; fi
     if grep -q '^mod workspace;' "$1/main.rt"; then workspace "$1"; fi
     if grep -q '^mod making;' "$1/main.rt"; then making "$1"; fi
@@ -63,8 +63,8 @@ files() {
 
 use crate::child::Silent;
 use anyhow::Result;
-use pb_memory::Memory;
-use pb_place::PathText;
+use pb_place::Memory;
+use pb_place_types::PathText;
 
 /// Puts a file.
 pub fn put(rt: &HostRuntime, memory: &mut Memory<Silent>, path: &str, text: &str) -> Result<()> {
@@ -82,8 +82,8 @@ workspace() {
 use crate::child::Silent;
 use anyhow::Result;
 use pb_data::{Items, Text};
-use pb_memory::Memory;
-use pb_place::PathText;
+use pb_place::Memory;
+use pb_place_types::PathText;
 use pb_workspace::{Options, SettledWorkspace, load};
 use std::alloc::Global;
 
@@ -127,8 +127,8 @@ use anyhow::Result;
 use pb_data::{Bytes, Items, Text};
 use pb_directive::{Directives, read_directives};
 use pb_feature::{Features, resolve};
-use pb_memory::Memory;
-use pb_project::{Project, Setup};
+use pb_place::Memory;
+use pb_command_types::{Project, Setup};
 use pb_unit::{Plan, Planned, What};
 use pb_workspace::{Options, SelectedWorkspace, SettledWorkspace, selected};
 use std::alloc::{AllocError, Global};

@@ -16,7 +16,7 @@
 # `SIZES` may name other sizes, in KiB: 65536 takes half an hour in all, nearly all of it valgrind's.
 # Each record is read from a file, made by Python; where it does not read, or is written otherwise, the script ends so.
 set -euo pipefail
-crates="pb_data pb_place pb_record"
+crates="pb_data pb_place_types pb_record"
 uses="pb_data pb_record"
 . "$(dirname "$0")/measured.sh"
 program <<'PROGRAM'

@@ -4,7 +4,7 @@
 # anything else did. The program is made in a folder of its own, which is taken away at the end. It wants a C compiler and
 # Python.
 set -euo pipefail
-crates="pb_data pb_place pb_record"
+crates="pb_data pb_place_types pb_record"
 uses="pb_data pb_record"
 . "$(dirname "$0")/measured.sh"
 program > /dev/null <<'PROGRAM'

@@ -17,8 +17,8 @@
 # of them to keep, and 202 MB of memory: the values, the record's text, which is written into room that is made once, and
 # the file in memory; the same unit 84 million to compare.
 set -euo pipefail
-crates="pb_data pb_closure pb_order pb_memory pb_place pb_directive pb_manifest pb_package pb_profile pb_resolved pb_feature pb_unit pb_project pb_record pb_soundness pb_store"
-uses="pb_data pb_memory pb_place pb_project pb_record pb_soundness pb_store"
+crates="pb_data pb_graph pb_graph pb_place pb_place_types pb_directive pb_manifest_types pb_workspace_types pb_profile pb_feature_types pb_feature pb_unit pb_command_types pb_record pb_store_soundness pb_store"
+uses="pb_data pb_place pb_place_types pb_command_types pb_record pb_store_soundness pb_store"
 . "$(dirname "$0")/measured.sh"
 program <<'PROGRAM'
 //! Measures stores.
@@ -26,7 +26,7 @@ program <<'PROGRAM'
 
 ghost use Rattle.std.specs.Prelude.{◌≡◌, true, IfOk, Some};
 ghost use Rattle.pb_record.specs.Sorted.{are_sorted};
-ghost use Rattle.pb_soundness.specs.Records.{out_of};
+ghost use Rattle.pb_store_soundness.specs.Records.{out_of};
 
 mod child;
 mod measuring;
@@ -36,8 +36,8 @@ use anyhow::Result;
 use child::Silent;
 use measuring::{number_in, since, word_in};
 use pb_data::{Bytes, Items, Text, TryCopy};
-use pb_memory::Memory;
-use pb_place::{Command, Ended, PathFault, PathText, RelativePath};
+use pb_place::Memory;
+use pb_place_types::{Command, Ended, PathFault, PathText, RelativePath};
 use pb_record::InputName;
 use pb_record::{Asked, Record, read_record};
 use pb_store::{Compared, Key, OpenFault, Store, StoreFault};
@@ -248,7 +248,7 @@ fn prepare(
 }
 
 /// The key of the unit.
-#[tactic(auto, unfolding(pb_soundness::specs::Records::is_key))]
+#[tactic(auto, unfolding(pb_store_soundness::specs::Records::is_key))]
 fn own_key(alloc: Global) -> Result<Key, AllocError> {
     let text = Text::from_str(alloc, "a.target.lib")?;
     Ok(Key::new(text))

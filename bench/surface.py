@@ -23,8 +23,8 @@ TOP = os.path.dirname(os.path.dirname(os.path.abspath(__file__)))
 
 # Beside a crate of the list, those of today that hand out names of it, until the families have their names.
 TODAY = {
-    "pb_place": ["pb_memory"],
-    "pb_manifest": ["pb_manifest_reader"],
+    "pb_place_types": ["pb_place"],
+    "pb_manifest_types": ["pb_manifest"],
 }
 
 # What a type counts as, in this order.

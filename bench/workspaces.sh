@@ -9,8 +9,8 @@
 #
 # Prints a line a size, and the exponents. What is measured and how is said in `measured.sh`.
 set -euo pipefail
-crates="pb_closure pb_data pb_draft pb_manifest pb_manifest_reader pb_package pb_memory pb_place pb_workspace"
-uses="pb_data pb_manifest_reader pb_memory pb_place pb_workspace"
+crates="pb_graph pb_data pb_workspace_package pb_manifest_types pb_manifest pb_workspace_types pb_place pb_place_types pb_workspace"
+uses="pb_data pb_manifest pb_place pb_place_types pb_workspace"
 . "$(dirname "$0")/measured.sh"
 program <<'PROGRAM'
 //! Measures the loader.
@@ -24,9 +24,9 @@ use anyhow::Result;
 use child::Silent;
 use files::put;
 use measuring::{number_in, since, word_in};
-use pb_manifest_reader::read_manifest;
-use pb_memory::Memory;
-use pb_place::PathText;
+use pb_manifest::read_manifest;
+use pb_place::Memory;
+use pb_place_types::PathText;
 use pb_workspace::{LoadFault, SettledWorkspace, load};
 use std::alloc::Global;
 use std::env;

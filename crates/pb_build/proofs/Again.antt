@@ -1,30 +1,30 @@
 -- After a build that succeeded the same build again starts nothing.
 use Rattle.std.proofs.Common.{◌≡◌, ◌∙◌, true, List, ℕ, Option, Some, Result, Ok, Err, inl, inr, refl, sym, ap, subst, take}
-use Rattle.pb_answer.specs.declared.fault.BuildFault.{BuildFault}
+use Rattle.pb_build_result.specs.declared.fault.BuildFault.{BuildFault}
 use Rattle.pb_command.specs.Command.{command_of}
 use Rattle.pb_command.specs.Judge.{judge}
-use Rattle.pb_answer.specs.declared.fault.BuildFault.TheVariants.{Plan, Toolchain, Child, Device, Sink, OutOfMemory}
-use Rattle.pb_answer.specs.declared.summary.Summary.{Summary}
-use Rattle.pb_resolved.specs.Features.{features_at, is_enabled}
-use Rattle.pb_resolved.specs.declared.features.Features.{Features}
-use Rattle.pb_flight.specs.declared.turn.Step.{Step}
-use Rattle.pb_package.specs.declared.options.Options.{Options}
-use Rattle.pb_package.specs.declared.package.Side.{Side}
-use Rattle.pb_place.specs.World.{World, Map, Answers, from_nothing}
-use Rattle.pb_place.specs.declared.command.Command.{Command}
-use Rattle.pb_project.specs.declared.project.Project.{Project}
-use Rattle.pb_project.specs.declared.project.Setup.{Setup}
+use Rattle.pb_build_result.specs.declared.fault.BuildFault.TheVariants.{Plan, Toolchain, Child, Device, Sink, OutOfMemory}
+use Rattle.pb_build_result.specs.declared.summary.Summary.{Summary}
+use Rattle.pb_feature_types.specs.Features.{features_at, is_enabled}
+use Rattle.pb_feature_types.specs.declared.features.Features.{Features}
+use Rattle.pb_run_flight.specs.declared.turn.Step.{Step}
+use Rattle.pb_workspace_types.specs.declared.options.Options.{Options}
+use Rattle.pb_workspace_types.specs.declared.package.Side.{Side}
+use Rattle.pb_place_types.specs.World.{World, Map, Answers, from_nothing}
+use Rattle.pb_place_types.specs.declared.command.Command.{Command}
+use Rattle.pb_command_types.specs.declared.project.Project.{Project}
+use Rattle.pb_command_types.specs.declared.project.Setup.{Setup}
 use Rattle.pb_run.specs.Halves.{OnRecords, Basis, basis, IsHonestOnUnits, Keeps, command_in}
 use Rattle.pb_run.specs.Outcome.{Outcome, outcomes, directives_of}
 use Rattle.pb_run.specs.Standing.{records_folder}
-use Rattle.pb_soundness.specs.Records.{reading, records}
-use Rattle.pb_soundness.specs.Reuse.{IsSame}
-use Rattle.pb_soundness.specs.Sound.{Sound}
-use Rattle.pb_turns.specs.Ends.{EndsWhole, nothing_said, EachHasRecord}
-use Rattle.pb_place.specs.Sinks.{Heard}
-use Rattle.pb_turns.specs.Crew.{Moment}
-use Rattle.pb_turns.specs.Story.{untouched}
-use Rattle.pb_turns.proofs.Repeating.{leaves_records, starts_none_again}
+use Rattle.pb_store_soundness.specs.Records.{reading, records}
+use Rattle.pb_store_soundness.specs.Reuse.{IsSame}
+use Rattle.pb_store_soundness.specs.Sound.{Sound}
+use Rattle.pb_build_turns.specs.Ends.{EndsWhole, nothing_said, EachHasRecord}
+use Rattle.pb_place_types.specs.Sinks.{Heard}
+use Rattle.pb_build_turns.specs.Crew.{Moment}
+use Rattle.pb_build_turns.specs.Story.{untouched}
+use Rattle.pb_build_turns.proofs.Repeating.{leaves_records, starts_none_again}
 use Rattle.pb_unit.specs.declared.plan.Planned.{Planned}
 use Rattle.pb_build.specs.Again.{SameBuildStartsNone}
 use Rattle.pb_build.specs.Ending.{Works, Builds, Finishes, Closes}

@@ -2,12 +2,12 @@
 use Rattle.std.proofs.Common.{◌≡◌, ◌∙◌, refl, sym, ap, subst}
 use Rattle.pb_command.specs.Command.{query_of}
 use Rattle.pb_command.specs.Judge.{ended_by}
-use Rattle.pb_project.specs.declared.project.Project.{Project}
-use Rattle.pb_place.specs.World.{World, Answers, Ends, seen_by, from_nothing}
-use Rattle.pb_place.specs.declared.child.Reply.{Reply}
-use Rattle.pb_place.specs.declared.command.Command.{Command}
-use Rattle.pb_place.specs.declared.command.Ended.{Ended}
-use Rattle.pb_place.proofs.Folders.{sees_sources}
+use Rattle.pb_command_types.specs.declared.project.Project.{Project}
+use Rattle.pb_place_types.specs.World.{World, Answers, Ends, seen_by, from_nothing}
+use Rattle.pb_place_types.specs.declared.child.Reply.{Reply}
+use Rattle.pb_place_types.specs.declared.command.Command.{Command}
+use Rattle.pb_place_types.specs.declared.command.Ended.{Ended}
+use Rattle.pb_place_types.proofs.Folders.{sees_sources}
 use Rattle.pb_build.specs.Result.{toolchain_of, toolchain_in}
 use Rattle.pb_build.specs.declared.environment.Environment.{Environment}
 

@@ -1,27 +1,27 @@
 -- Calls before the units, in turn.
 use Rattle.std.proofs.Common.{◌≡◌, ◌∙◌, ◌++◌, ◌∷◌, inr, false, true, List, [], codes, refl, sym, ap, subst}
-use Rattle.pb_answer.specs.declared.fault.BuildFault.{BuildFault}
-use Rattle.pb_answer.specs.declared.fault.BuildFault.TheVariants.{Plan, Toolchain, Child, Device, Sink, OutOfMemory}
+use Rattle.pb_build_result.specs.declared.fault.BuildFault.{BuildFault}
+use Rattle.pb_build_result.specs.declared.fault.BuildFault.TheVariants.{Plan, Toolchain, Child, Device, Sink, OutOfMemory}
 use Rattle.pb_build.specs.Causes.{AskEnds, PlanStopsAt, ReadyStopsAt, StopsBefore, plan_called, ready_called, variables_asked, SpawnEnds}
 use Rattle.pb_build.specs.Environment.{environment_of}
 use Rattle.pb_build.specs.Planning.{IsProject}
 use Rattle.pb_build.specs.Private.{IsRefusedOf, unread}
-use Rattle.pb_package.specs.declared.fault.LoadFault.{LoadFault}
-use Rattle.pb_package.specs.declared.fault.LoadFault.TheVariants as load
-use Rattle.pb_package.specs.declared.options.Options.{Options}
-use Rattle.pb_package.specs.declared.workspace.Workspace.{Workspace}
-use Rattle.pb_place.specs.CallsInTurn.{MakesSome, past_calls}
-use Rattle.pb_place.specs.declared.call.Call.{Call}
-use Rattle.pb_place.specs.declared.call.Call.TheVariants as call
-use Rattle.pb_place.specs.Counts.{Counts, past_call}
-use Rattle.pb_place.specs.World.{World}
-use Rattle.pb_project.specs.declared.project.Project.{Project}
+use Rattle.pb_workspace_types.specs.declared.fault.LoadFault.{LoadFault}
+use Rattle.pb_workspace_types.specs.declared.fault.LoadFault.TheVariants as load
+use Rattle.pb_workspace_types.specs.declared.options.Options.{Options}
+use Rattle.pb_workspace_types.specs.declared.workspace.Workspace.{Workspace}
+use Rattle.pb_place_types.specs.CallsInTurn.{MakesSome, past_calls}
+use Rattle.pb_place_types.specs.declared.call.Call.{Call}
+use Rattle.pb_place_types.specs.declared.call.Call.TheVariants as call
+use Rattle.pb_place_types.specs.Counts.{Counts, past_call}
+use Rattle.pb_place_types.specs.World.{World}
+use Rattle.pb_command_types.specs.declared.project.Project.{Project}
 use Rattle.pb_run.specs.Steps.{StopsAt}
 use Rattle.pb_run.specs.Standing.{records_folder}
 use Rattle.pb_run.proofs.Calling.{memory_last, stops_first, stops_then}
 use Rattle.pb_store.specs.Looking.{opened_looked}
-use Rattle.pb_draft.specs.Causes.{is_failure, is_outside}
-use Rattle.pb_draft.specs.Looks.{FailsOn}
+use Rattle.pb_workspace_package.specs.Causes.{is_failure, is_outside}
+use Rattle.pb_workspace_package.specs.Looks.{FailsOn}
 
 -- a fault at a variable, and behind all of them
 abbrev RUSTC : Call

@@ -1,11 +1,11 @@
 -- A finish line that was written.
 use Rattle.std.proofs.Common.{◌≡◌, inl, inr, ℕ, List, Result, Err, refl, subst}
 use Rattle.std.specs.Io.KnownBytes.{Appends}
-use Rattle.pb_answer.specs.declared.fault.BuildFault.{BuildFault}
-use Rattle.pb_answer.specs.declared.fault.BuildFault.TheVariants.{Sink}
-use Rattle.pb_answer.specs.declared.summary.Summary.{Summary}
-use Rattle.pb_place.specs.Counts.{up}
-use Rattle.pb_place.specs.Sinks.{Heard, TakesPart}
+use Rattle.pb_build_result.specs.declared.fault.BuildFault.{BuildFault}
+use Rattle.pb_build_result.specs.declared.fault.BuildFault.TheVariants.{Sink}
+use Rattle.pb_build_result.specs.declared.summary.Summary.{Summary}
+use Rattle.pb_place_types.specs.Counts.{up}
+use Rattle.pb_place_types.specs.Sinks.{Heard, TakesPart}
 use Rattle.pb_build.specs.Ending.{Finishes}
 
 -- the sink took a part of the line

@@ -2,14 +2,14 @@
 use Rattle.std.proofs.Common.{◌≡◌, ◌∙◌, ℕ, Bool, true, false, not, cond, List, [], ◌∷◌, Option, Some, None, refl, sym, ap, subst}
 use Rattle.std.specs.FinMap.{get, insert, remove, get-insert}
 use Rattle.std.specs.Cmp.Lexicographic.{nat_list_cmp_total}
-use Rattle.pb_memory.specs.Memory.{set, unset}
-use Rattle.pb_place.specs.Paths.{is_at_or_below}
-use Rattle.pb_place.specs.World.{World, Map, Answers, written, removed, from_nothing, is_same_path}
-use Rattle.pb_place.proofs.Folders.{sources_alike}
-use Rattle.pb_place.proofs.MapLemmas.{get-kept}
-use Rattle.pb_session.specs.declared.step.SessionStep.{SessionStep}
-use Rattle.pb_session.specs.declared.step.SessionStep.TheVariants.{Write, Remove, Set, Unset, Build, Die, Fuse}
-use Rattle.pb_turns.specs.Crew.{Moment}
+use Rattle.pb_place.specs.Memory.{set, unset}
+use Rattle.pb_place_types.specs.Paths.{is_at_or_below}
+use Rattle.pb_place_types.specs.World.{World, Map, Answers, written, removed, from_nothing, is_same_path}
+use Rattle.pb_place_types.proofs.Folders.{sources_alike}
+use Rattle.pb_place_types.proofs.MapLemmas.{get-kept}
+use Rattle.pb_build_session.specs.declared.step.SessionStep.{SessionStep}
+use Rattle.pb_build_session.specs.declared.step.SessionStep.TheVariants.{Write, Remove, Set, Unset, Build, Die, Fuse}
+use Rattle.pb_build_turns.specs.Crew.{Moment}
 use Rattle.pb_build.specs.Kept.{SourcesStay}
 use Rattle.pb_build.specs.Environment.{environment_of}
 use Rattle.pb_build.specs.Session.{Point, Course, edit, edited, OneTarget, Unaffected}

@@ -4,42 +4,42 @@ use Rattle.std.proofs.lemmas.List.{length-map}
 use Rattle.std.proofs.Math.Seq.{take-length}
 use Rattle.std.specs.Io.KnownBytes.{Appends}
 use Rattle.std.specs.Prelude.{IsTrue}
-use Rattle.pb_answer.specs.declared.fault.BuildFault.{BuildFault}
-use Rattle.pb_answer.specs.declared.fault.BuildFault.TheVariants.{Plan, Toolchain, Child, Device, Sink, OutOfMemory}
-use Rattle.pb_answer.specs.declared.summary.Summary.{Summary}
+use Rattle.pb_build_result.specs.declared.fault.BuildFault.{BuildFault}
+use Rattle.pb_build_result.specs.declared.fault.BuildFault.TheVariants.{Plan, Toolchain, Child, Device, Sink, OutOfMemory}
+use Rattle.pb_build_result.specs.declared.summary.Summary.{Summary}
 use Rattle.pb_command.specs.Judge.{judge}
 use Rattle.pb_directive.specs.declared.directive.Directive.{Directive}
-use Rattle.pb_flight.specs.Events.{Event, Anything, started_by}
-use Rattle.pb_flight.specs.Steps.{Flies, Anyhow, HandsBack}
-use Rattle.pb_flight.specs.Table.{due, due_first, count_due, is_finished, is_good_at}
-use Rattle.pb_flight.specs.declared.flight.Answer.{Answer}
-use Rattle.pb_flight.specs.declared.flight.State.{State}
-use Rattle.pb_flight.specs.declared.flight.State.TheVariants.{Untouched, Begun, Answered}
-use Rattle.pb_flight.specs.declared.turn.Step.{Step}
-use Rattle.pb_flight.proofs.Stepping.{begun_missing}
+use Rattle.pb_run_flight.specs.Events.{Event, Anything, started_by}
+use Rattle.pb_run_flight.specs.Steps.{Flies, Anyhow, HandsBack}
+use Rattle.pb_run_flight.specs.Table.{due, due_first, count_due, is_finished, is_good_at}
+use Rattle.pb_run_flight.specs.declared.flight.Answer.{Answer}
+use Rattle.pb_run_flight.specs.declared.flight.State.{State}
+use Rattle.pb_run_flight.specs.declared.flight.State.TheVariants.{Untouched, Begun, Answered}
+use Rattle.pb_run_flight.specs.declared.turn.Step.{Step}
+use Rattle.pb_run_flight.proofs.Stepping.{begun_missing}
 use Rattle.pb_message.specs.declared.message.Message.{Message}
-use Rattle.pb_package.specs.declared.options.Options.{Options}
-use Rattle.pb_place.specs.Counts.{Counts, Starts, up, up_starts}
-use Rattle.pb_place.specs.Folders.{files_in}
-use Rattle.pb_place.specs.Paths.{below}
-use Rattle.pb_place.specs.World.{World, Map, Answers, from_nothing}
+use Rattle.pb_workspace_types.specs.declared.options.Options.{Options}
+use Rattle.pb_place_types.specs.Counts.{Counts, Starts, up, up_starts}
+use Rattle.pb_place_types.specs.Folders.{files_in}
+use Rattle.pb_place_types.specs.Paths.{below}
+use Rattle.pb_place_types.specs.World.{World, Map, Answers, from_nothing}
 use Rattle.pb_profile.specs.Line.{folder_of}
-use Rattle.pb_answer.specs.declared.bad_unit.BadUnit.{BadUnit}
-use Rattle.pb_project.specs.declared.project.Project.{Project}
-use Rattle.pb_project.specs.declared.project.Setup.{Setup}
+use Rattle.pb_build_result.specs.declared.bad_unit.BadUnit.{BadUnit}
+use Rattle.pb_command_types.specs.declared.project.Project.{Project}
+use Rattle.pb_command_types.specs.declared.project.Setup.{Setup}
 use Rattle.pb_run.specs.Halves.{Footing, OnRecords, OnNothing, Basis, basis, key_in, outcomes_in, Keeps, HoldsBy}
 use Rattle.pb_run.specs.Outcome.{Outcome, Good}
 use Rattle.pb_run.specs.Standing.{records_folder}
-use Rattle.pb_soundness.specs.Records.{reading, records}
-use Rattle.pb_soundness.specs.Sound.{Sound}
+use Rattle.pb_store_soundness.specs.Records.{reading, records}
+use Rattle.pb_store_soundness.specs.Sound.{Sound}
 use Rattle.pb_store.specs.Folder.{next_in}
 use Rattle.pb_store.proofs.Ahead.{opened_ahead}
-use Rattle.pb_turns.specs.Crew.{needs_of, ticket_of_child, Moment}
-use Rattle.pb_turns.specs.Ends.{TurnsEnd, Drained, StandsWhole, StandsCut, Stands, nothing_said, rows_in}
-use Rattle.pb_place.specs.Sinks.{Heard}
-use Rattle.pb_turns.specs.Rows.{Row, to_first_bad, is_bad, fault_in, said_from}
-use Rattle.pb_turns.specs.Story.{states_in, untouched, upped, Stops, StopsAt, StopsAtSink, AllBeganFor, IsBeginning, LacksNumber, NamesUnit, NumbersGiven, Spends}
-use Rattle.pb_turns.proofs.Repeating.{dropped_count}
+use Rattle.pb_build_turns.specs.Crew.{needs_of, ticket_of_child, Moment}
+use Rattle.pb_build_turns.specs.Ends.{TurnsEnd, Drained, StandsWhole, StandsCut, Stands, nothing_said, rows_in}
+use Rattle.pb_place_types.specs.Sinks.{Heard}
+use Rattle.pb_build_turns.specs.Rows.{Row, to_first_bad, is_bad, fault_in, said_from}
+use Rattle.pb_build_turns.specs.Story.{states_in, untouched, upped, Stops, StopsAt, StopsAtSink, AllBeganFor, IsBeginning, LacksNumber, NamesUnit, NumbersGiven, Spends}
+use Rattle.pb_build_turns.proofs.Repeating.{dropped_count}
 use Rattle.pb_unit.specs.declared.plan.Planned.{Planned}
 use Rattle.pb_workspace.proofs.Accepted.{target_kept}
 use Rattle.pb_build.specs.Ending.{Works, Builds, StopsEarly}

@@ -1,38 +1,38 @@
 -- A plan comes in order: units after what they need and reach, each in a folder of its own in the target folder.
 use Rattle.std.proofs.Common.{◌≡◌, ◌≢◌, ◌∙◌, ◌⊎◌, ◌<◌, ◌↔◌, ◌&&◌, ◌==◌, ◌-◌, ◌++◌, Bool, true, false, not, cond, codes, List, [], ◌∷◌, ℕ, zero, suc, drop, take, length, Option, Some, None, Ok, Err, Result, refl, sym, ap, subst, arith, slice_get, map, option_map, inl, inr}
 use Rattle.std.proofs.lemmas.Option.{slice_get-map}
-use Rattle.pb_order.proofs.Elements.{all_at, pair_at, at_from_contains, contains_from_at}
-use Rattle.pb_package.specs.declared.package.Package.{Package}
+use Rattle.pb_graph.proofs.Elements.{all_at, pair_at, at_from_contains, contains_from_at}
+use Rattle.pb_workspace_types.specs.declared.package.Package.{Package}
 use Rattle.std.proofs.lemmas.Bool.{cases_Bool, false≢true}
 use Rattle.std.specs.Prelude.{AllPairs, Contains}
 use Rattle.std.specs.List.{AllByRecursion, list_any}
 use Rattle.std.proofs.lemmas.List.{take-append-drop}
 use Rattle.std.proofs.lemmas.Slice.Eq.{bytes_eq-Decides}
-use Rattle.pb_words.specs.Externs.{folder_in, read_at, reads_of}
-use Rattle.pb_flight.proofs.Lists.{contains_none, contains_head, contains_cases}
-use Rattle.pb_package.specs.Settled.{IsSettled}
+use Rattle.pb_command_arguments.specs.Externs.{folder_in, read_at, reads_of}
+use Rattle.pb_run_flight.proofs.Lists.{contains_none, contains_head, contains_cases}
+use Rattle.pb_workspace_types.specs.Settled.{IsSettled}
 use Rattle.pb_run.proofs.Recorded.{flat_at, flat_of}
-use Rattle.pb_soundness.specs.Records.{is_key, ends_as_record}
+use Rattle.pb_store_soundness.specs.Records.{is_key, ends_as_record}
 use Rattle.pb_unit.specs.Laws.{TellsWhat, last_word}
 use Rattle.pb_unit.proofs.Telling.{behind_point, keys_tell_what}
 use Rattle.pb_unit.specs.declared.unit.What.{What}
 use Rattle.pb_unit.specs.declared.unit.What.TheVariants.{Lib, Bin, Script, Run}
 use Rattle.pb_data.specs.Gives.{◌>>=◌}
-use Rattle.pb_place.specs.Paths.{below, is_below, is_at_or_below, is_path, is_relative}
-use Rattle.pb_place.proofs.PathLemmas.{below_is_below, below_is_path}
-use Rattle.pb_place.proofs.Within.{goes_below, below_then_at, at_below}
+use Rattle.pb_place_types.specs.Paths.{below, is_below, is_at_or_below, is_path, is_relative}
+use Rattle.pb_place_types.proofs.PathLemmas.{below_is_below, below_is_path}
+use Rattle.pb_place_types.proofs.Within.{goes_below, below_then_at, at_below}
 use Rattle.pb_profile.specs.Line.{Seen, folder_of, checked_line}
 use Rattle.pb_profile.specs.declared.fault.ProfileFault.{ProfileFault}
 use Rattle.pb_profile.specs.declared.fault.ProfileFault.TheVariants.{NoSuchProfile}
-use Rattle.pb_package.specs.declared.workspace.Workspace.{Workspace}
-use Rattle.pb_package.specs.declared.options.Selection.{Selection}
-use Rattle.pb_resolved.specs.declared.features.Features.{Features}
+use Rattle.pb_workspace_types.specs.declared.workspace.Workspace.{Workspace}
+use Rattle.pb_workspace_types.specs.declared.options.Selection.{Selection}
+use Rattle.pb_feature_types.specs.declared.features.Features.{Features}
 use Rattle.pb_unit.specs.Plan.{IsPlan, LieApart, ComesBefore, ArePlaces, HasSettings, above, level_at, level_of, profile_folder}
 use Rattle.pb_unit.specs.Units.{needs, Reaches, direct, onward, IsPlanned, key_of, name_at, what_name}
 use Rattle.pb_unit.specs.declared.plan.Plan.{Plan}
 use Rattle.pb_unit.specs.declared.plan.Planned.{Planned}
 use Rattle.pb_unit.specs.declared.unit.Unit.{Unit}
-use Rattle.pb_project.specs.declared.project.Project.{Project}
+use Rattle.pb_command_types.specs.declared.project.Project.{Project}
 use Rattle.pb_run.specs.Standing.{IsInOrder, IsReadByNeed}
 
 -- an element of a list is at a place of it, and the other way round

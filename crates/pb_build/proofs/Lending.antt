@@ -1,19 +1,19 @@
 -- A pick that is lent: a build along a chain of states that hold it is one along the pick's own, from the one that was lent to the one that is handed back.
 use Rattle.std.proofs.Common.{◌≡◌, ◌∙◌, ℕ, Bool, List, Option, Some, None, Result, Ok, Err, MutBor, refl, sym, ap, subst, inl, inr}
-use Rattle.pb_answer.specs.declared.bad_unit.BadUnit.{BadUnit}
-use Rattle.pb_answer.specs.declared.fault.BuildFault.{BuildFault}
-use Rattle.pb_answer.specs.declared.summary.Summary.{Summary}
-use Rattle.pb_flight.specs.Events.{Event, Anything}
-use Rattle.pb_flight.specs.Steps.{Flies, nothing, begin, answer, Anyhow, HandsBack, PicksLent, TurnsOfJobs}
-use Rattle.pb_flight.specs.declared.turn.Jobs.{Jobs}
-use Rattle.pb_flight.specs.declared.turn.Step.{Step}
-use Rattle.pb_flight.specs.declared.turn.Step.TheVariants as step
-use Rattle.pb_package.specs.declared.options.Options.{Options}
-use Rattle.pb_place.specs.World.{Answers}
-use Rattle.pb_project.specs.declared.project.Project.{Project}
-use Rattle.pb_project.specs.declared.project.Setup.{Setup}
-use Rattle.pb_turns.specs.Ends.{TurnsEnd}
-use Rattle.pb_turns.specs.Crew.{Moment}
+use Rattle.pb_build_result.specs.declared.bad_unit.BadUnit.{BadUnit}
+use Rattle.pb_build_result.specs.declared.fault.BuildFault.{BuildFault}
+use Rattle.pb_build_result.specs.declared.summary.Summary.{Summary}
+use Rattle.pb_run_flight.specs.Events.{Event, Anything}
+use Rattle.pb_run_flight.specs.Steps.{Flies, nothing, begin, answer, Anyhow, HandsBack, PicksLent, TurnsOfJobs}
+use Rattle.pb_run_flight.specs.declared.turn.Jobs.{Jobs}
+use Rattle.pb_run_flight.specs.declared.turn.Step.{Step}
+use Rattle.pb_run_flight.specs.declared.turn.Step.TheVariants as step
+use Rattle.pb_workspace_types.specs.declared.options.Options.{Options}
+use Rattle.pb_place_types.specs.World.{Answers}
+use Rattle.pb_command_types.specs.declared.project.Project.{Project}
+use Rattle.pb_command_types.specs.declared.project.Setup.{Setup}
+use Rattle.pb_build_turns.specs.Ends.{TurnsEnd}
+use Rattle.pb_build_turns.specs.Crew.{Moment}
 use Rattle.pb_build.specs.Ending.{Works, Builds, BuildsBy}
 
 -- What each turn leaves as it was, a build does.

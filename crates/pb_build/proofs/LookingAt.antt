@@ -1,17 +1,17 @@
 -- A build looks at the sources and the variables alone.
 use Rattle.std.proofs.Common.{◌≡◌, ◌∙◌, List, ℕ, None, cond, refl, sym, ap, subst}
 use Rattle.std.specs.FinMap.{get}
-use Rattle.pb_place.specs.World.{World, Answers, from_nothing}
-use Rattle.pb_place.proofs.Folders.{sources_alike, get-sources}
-use Rattle.pb_project.specs.declared.project.Project.{Project}
-use Rattle.pb_answer.specs.declared.fault.Refusal.{Refusal}
+use Rattle.pb_place_types.specs.World.{World, Answers, from_nothing}
+use Rattle.pb_place_types.proofs.Folders.{sources_alike, get-sources}
+use Rattle.pb_command_types.specs.declared.project.Project.{Project}
+use Rattle.pb_build_result.specs.declared.fault.Refusal.{Refusal}
 use Rattle.pb_workspace.proofs.Accepted.{same_read}
-use Rattle.pb_package.specs.declared.options.Options.{Options}
+use Rattle.pb_workspace_types.specs.declared.options.Options.{Options}
 use Rattle.pb_build.specs.Environment.{environment_of}
 use Rattle.pb_build.specs.Laws.{LooksAtSources, GivesFromNothing}
 use Rattle.pb_build.specs.Planning.{IsProject, IsRefused, by_load, by_selection, by_feature, by_plan}
 use Rattle.pb_build.specs.Result.{BuildResult, Comes, refused, no_toolchain, finished, Finished, toolchain_of, setup_of}
-use Rattle.pb_turns.specs.Rows.{rows_of}
+use Rattle.pb_build_turns.specs.Rows.{rows_of}
 use Rattle.pb_build.specs.declared.environment.Environment.{Environment}
 
 same_refusal : (options : Options) (target : List ℕ) (v w : World) (why : Refusal) → from_nothing target v ≡ from_nothing target w → IsRefused options target v why → IsRefused options target w why

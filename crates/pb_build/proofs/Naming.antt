@@ -4,7 +4,7 @@ use Rattle.std.specs.List.{AllByRecursion, IsDistinct}
 use Rattle.std.specs.Str.{bytes_eq}
 use Rattle.std.proofs.lemmas.Bool.{false≢true}
 use Rattle.std.proofs.lemmas.Slice.Eq.{bytes_eq-Decides}
-use Rattle.pb_package.specs.declared.package.Package.{Package}
+use Rattle.pb_workspace_types.specs.declared.package.Package.{Package}
 
 -- a name is not that of a later package
 not_later : (name : List ℕ) (ps : List Package) (k : ℕ) (p : Package) → AllByRecursion (λ y. bytes_eq name y ≡ false) (map (λ (p : Package). p.name) ps) → slice_get ps k ≡ Some p → name ≡ p.name → ⊥

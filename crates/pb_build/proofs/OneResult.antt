@@ -12,31 +12,31 @@ use Rattle.pb_feature.specs.Faults as feature
 use Rattle.pb_feature.specs.Faults.{IsFirstFault, package_fault, by_item, by_asked, by_missing}
 use Rattle.pb_feature.specs.declared.fault.FeatureFault.{FeatureFault}
 use Rattle.pb_feature.specs.Resolved.{IsResolved}
-use Rattle.pb_resolved.specs.Features.{features_at, is_enabled}
-use Rattle.pb_resolved.specs.declared.features.Features.{Features}
-use Rattle.pb_project.specs.declared.project.Project.{Project}
-use Rattle.pb_project.specs.declared.project.Setup.{Setup}
-use Rattle.pb_place.specs.World.{World, Answers, from_nothing}
-use Rattle.pb_answer.specs.declared.fault.Refusal.{Refusal}
-use Rattle.pb_answer.specs.declared.fault.Refusal.TheVariants as refusal
+use Rattle.pb_feature_types.specs.Features.{features_at, is_enabled}
+use Rattle.pb_feature_types.specs.declared.features.Features.{Features}
+use Rattle.pb_command_types.specs.declared.project.Project.{Project}
+use Rattle.pb_command_types.specs.declared.project.Setup.{Setup}
+use Rattle.pb_place_types.specs.World.{World, Answers, from_nothing}
+use Rattle.pb_build_result.specs.declared.fault.Refusal.{Refusal}
+use Rattle.pb_build_result.specs.declared.fault.Refusal.TheVariants as refusal
 use Rattle.pb_unit.specs.Plan as plan
 use Rattle.pb_unit.specs.declared.fault.PlanFault.{PlanFault}
 use Rattle.pb_unit.specs.declared.plan.Plan.{Plan}
 use Rattle.pb_workspace.specs.Loaded.{workspace_of}
 use Rattle.pb_workspace.specs.Selected.{selected}
-use Rattle.pb_package.specs.declared.fault.LoadFault.{LoadFault}
-use Rattle.pb_package.specs.declared.options.Options.{Options}
-use Rattle.pb_package.specs.declared.options.Selection.{Selection}
-use Rattle.pb_package.specs.declared.package.Side.{Side}
-use Rattle.pb_package.specs.declared.package.Package.{Package}
-use Rattle.pb_package.specs.declared.workspace.Workspace.{Workspace}
+use Rattle.pb_workspace_types.specs.declared.fault.LoadFault.{LoadFault}
+use Rattle.pb_workspace_types.specs.declared.options.Options.{Options}
+use Rattle.pb_workspace_types.specs.declared.options.Selection.{Selection}
+use Rattle.pb_workspace_types.specs.declared.package.Side.{Side}
+use Rattle.pb_workspace_types.specs.declared.package.Package.{Package}
+use Rattle.pb_workspace_types.specs.declared.workspace.Workspace.{Workspace}
 use Rattle.pb_build.specs.Environment.{environment_of}
 use Rattle.pb_build.specs.Laws.{IsSame, HasOneResult}
 use Rattle.pb_build.specs.Planning as planning
 use Rattle.pb_build.specs.Planning.{IsFeatured, IsProject, IsRefused}
 use Rattle.pb_build.specs.Private.{HasNoProject, by_selection, by_feature, by_plan}
 use Rattle.pb_build.specs.Result.{BuildResult, Comes, refused, no_toolchain, finished, toolchain_of, setup_of}
-use Rattle.pb_turns.specs.Rows.{rows_of}
+use Rattle.pb_build_turns.specs.Rows.{rows_of}
 use Rattle.pb_build.specs.declared.environment.Environment.{Environment}
 use Rattle.pb_workspace.proofs.Accepted.{names_apart}
 use Rattle.pb_build.proofs.Naming.{one_package}

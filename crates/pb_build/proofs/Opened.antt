@@ -1,19 +1,19 @@
 -- A call that failed behind the query, before the units, is one by which the records are opened.
 use Rattle.std.proofs.Common.{◌≡◌, ◌≢◌, ◌∙◌, ◌⊎◌, if◌then◌else◌, inl, inr, ℕ, true, List, [], ◌∷◌, Contains, ap, sym, subst, refl, arith}
 use Rattle.std.proofs.lemmas.Bool.{cases_eq, ne_eqb}
-use Rattle.pb_answer.specs.declared.fault.BuildFault.{BuildFault}
-use Rattle.pb_answer.specs.declared.fault.BuildFault.TheVariants.{Plan, Toolchain, Child, Device, Sink, OutOfMemory}
-use Rattle.pb_answer.specs.declared.fault.DeviceFault.TheVariants as device
-use Rattle.pb_flight.proofs.Lists.{contains_head, contains_tail}
-use Rattle.pb_package.specs.declared.options.Options.{Options}
-use Rattle.pb_place.proofs.Failing.{call_tells_fault}
-use Rattle.pb_place.specs.CallsInTurn.{FailsAt, own_fault, past_calls}
-use Rattle.pb_place.specs.declared.call.Call.{Call}
-use Rattle.pb_place.specs.Counts.{Counts, name_given, named_in, one_start, past_call, past_place_fault, up}
-use Rattle.pb_place.specs.World.{World, Answers}
-use Rattle.pb_place.specs.declared.place.PlaceFault.{PlaceFault}
-use Rattle.pb_place.specs.declared.place.PlaceFault.TheVariants as place
-use Rattle.pb_project.specs.declared.project.Project.{Project}
+use Rattle.pb_build_result.specs.declared.fault.BuildFault.{BuildFault}
+use Rattle.pb_build_result.specs.declared.fault.BuildFault.TheVariants.{Plan, Toolchain, Child, Device, Sink, OutOfMemory}
+use Rattle.pb_build_result.specs.declared.fault.DeviceFault.TheVariants as device
+use Rattle.pb_run_flight.proofs.Lists.{contains_head, contains_tail}
+use Rattle.pb_workspace_types.specs.declared.options.Options.{Options}
+use Rattle.pb_place_types.proofs.Failing.{call_tells_fault}
+use Rattle.pb_place_types.specs.CallsInTurn.{FailsAt, own_fault, past_calls}
+use Rattle.pb_place_types.specs.declared.call.Call.{Call}
+use Rattle.pb_place_types.specs.Counts.{Counts, name_given, named_in, one_start, past_call, past_place_fault, up}
+use Rattle.pb_place_types.specs.World.{World, Answers}
+use Rattle.pb_place_types.specs.declared.place.PlaceFault.{PlaceFault}
+use Rattle.pb_place_types.specs.declared.place.PlaceFault.TheVariants as place
+use Rattle.pb_command_types.specs.declared.project.Project.{Project}
 use Rattle.pb_run.specs.Standing.{records_folder}
 use Rattle.pb_store.specs.Looking.{opened_looked}
 use Rattle.pb_build.specs.Causes.{StopsBefore, plan_called}

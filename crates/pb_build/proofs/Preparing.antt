@@ -1,13 +1,13 @@
 -- What comes before a build's units.
 use Rattle.std.proofs.Common.{◌≡◌, ◌∙◌, ◌⊎◌, Bool, ℕ, max, [], Some, None, IsTrue, Result, refl, sym, ap, subst, inl, inr}
-use Rattle.pb_answer.specs.declared.fault.BuildFault.{BuildFault}
-use Rattle.pb_answer.specs.declared.fault.BuildFault.TheVariants.{Plan, Toolchain, Child, Device, Sink, OutOfMemory}
-use Rattle.pb_answer.specs.declared.fault.DeviceFault.TheVariants as device
-use Rattle.pb_place.specs.Counts.{Counts, Starts, up_starts}
-use Rattle.pb_place.specs.World.{World, Answers, from_nothing}
-use Rattle.pb_place.specs.declared.place.PlaceFault.TheVariants as place
-use Rattle.pb_package.specs.declared.options.Options.{Options}
-use Rattle.pb_project.specs.declared.project.Project.{Project}
+use Rattle.pb_build_result.specs.declared.fault.BuildFault.{BuildFault}
+use Rattle.pb_build_result.specs.declared.fault.BuildFault.TheVariants.{Plan, Toolchain, Child, Device, Sink, OutOfMemory}
+use Rattle.pb_build_result.specs.declared.fault.DeviceFault.TheVariants as device
+use Rattle.pb_place_types.specs.Counts.{Counts, Starts, up_starts}
+use Rattle.pb_place_types.specs.World.{World, Answers, from_nothing}
+use Rattle.pb_place_types.specs.declared.place.PlaceFault.TheVariants as place
+use Rattle.pb_workspace_types.specs.declared.options.Options.{Options}
+use Rattle.pb_command_types.specs.declared.project.Project.{Project}
 use Rattle.pb_run.specs.Steps.{HasCause}
 use Rattle.pb_run.specs.Standing.{records_folder}
 use Rattle.pb_store.specs.Calls.{FailsToOpen}
@@ -16,7 +16,7 @@ use Rattle.pb_store.specs.declared.fault.OpenFault.{OpenFault}
 use Rattle.pb_store.specs.declared.fault.OpenFault.TheVariants as open_fault
 use Rattle.pb_workspace.proofs.Accepted.{target_kept}
 use Rattle.pb_build.specs.Causes.{MayPlan, MayAsk, MayReady, Names}
-use Rattle.pb_turns.specs.Crew.{Moment}
+use Rattle.pb_build_turns.specs.Crew.{Moment}
 use Rattle.pb_build.specs.Ending.{FailsBefore, IsSilent, IsPrepared, PlansFrom}
 use Rattle.pb_build.specs.Environment.{environment_of}
 use Rattle.pb_build.specs.Planning.{IsProject, IsToldRefusal}

@@ -5,11 +5,11 @@ use Rattle.std.specs.Cmp.Lexicographic.{slice_cmp}
 use Rattle.std.specs.Ordering.{nat_cmp}
 use Rattle.std.specs.declared.cmp.Ordering.TheVariants.{Less}
 use Rattle.std.proofs.lemmas.List.{length-map}
-use Rattle.pb_closure.specs.Placed.{placed}
+use Rattle.pb_graph.specs.Placed.{placed}
 use Rattle.pb_feature.specs.Resolved.{IsResolved}
-use Rattle.pb_resolved.specs.Features.{is_enabled, features_at}
-use Rattle.pb_resolved.specs.declared.features.Features.{Features}
-use Rattle.pb_order.proofs.Elements.{all_at}
+use Rattle.pb_feature_types.specs.Features.{is_enabled, features_at}
+use Rattle.pb_feature_types.specs.declared.features.Features.{Features}
+use Rattle.pb_graph.proofs.Elements.{all_at}
 use Rattle.pb_unit.specs.Plan.{IsPlan, IsCycle, IsCrowd, Stops, by_cycle, by_number, by_nothing, Refuses, by_profile, by_units}
 use Rattle.pb_unit.specs.Units.{key_of, unit, is_normal, is_build, has_library, hands_on, entries_at, library_by, tool_by, run_by, libraries, tools, runs, own_library, own_run, needs_of, needs, Reaches, direct, onward, IsRoot, library, binary, IsPlanned}
 use Rattle.pb_unit.specs.declared.fault.PlanFault.{PlanFault}
@@ -19,10 +19,10 @@ use Rattle.pb_unit.specs.declared.fault.PlanFault.TheVariants.{Cycle, Profile}
 use Rattle.pb_unit.specs.declared.unit.Unit.{Unit}
 use Rattle.pb_unit.specs.declared.unit.What.{What}
 use Rattle.pb_unit.specs.declared.unit.What.TheVariants.{Lib, Bin, Script, Run}
-use Rattle.pb_package.specs.declared.options.Selection.{Selection}
-use Rattle.pb_package.specs.declared.package.Side.{Side}
-use Rattle.pb_package.specs.declared.package.Side.TheVariants.{Target, Host}
-use Rattle.pb_package.specs.declared.workspace.Workspace.{Workspace}
+use Rattle.pb_workspace_types.specs.declared.options.Selection.{Selection}
+use Rattle.pb_workspace_types.specs.declared.package.Side.{Side}
+use Rattle.pb_workspace_types.specs.declared.package.Side.TheVariants.{Target, Host}
+use Rattle.pb_workspace_types.specs.declared.workspace.Workspace.{Workspace}
 use Rattle.pb_build.proofs.Crowd.{no_more}
 use Rattle.pb_build.proofs.Laid.{map_has, map_gives, pairs_map}
 use Rattle.pb_build.proofs.Once.{same_texts}

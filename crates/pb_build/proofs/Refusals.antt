@@ -2,22 +2,22 @@
 use Rattle.std.proofs.Common.{◌≡◌, ◌⊎◌, ℕ, List, false, Ok, Err, refl, sym, subst, inl, inr}
 use Rattle.pb_feature.specs.Faults as feature
 use Rattle.pb_feature.specs.declared.fault.FeatureFault.{FeatureFault}
-use Rattle.pb_resolved.specs.declared.features.Features.{Features}
-use Rattle.pb_place.specs.World.{World}
-use Rattle.pb_answer.specs.declared.fault.BuildFault.{BuildFault}
-use Rattle.pb_answer.specs.declared.fault.BuildFault.TheVariants.{Plan, Toolchain, Child, Device, Sink, OutOfMemory}
-use Rattle.pb_answer.specs.declared.fault.Refusal.{Refusal}
-use Rattle.pb_answer.specs.declared.fault.Refusal.TheVariants as refusal
+use Rattle.pb_feature_types.specs.declared.features.Features.{Features}
+use Rattle.pb_place_types.specs.World.{World}
+use Rattle.pb_build_result.specs.declared.fault.BuildFault.{BuildFault}
+use Rattle.pb_build_result.specs.declared.fault.BuildFault.TheVariants.{Plan, Toolchain, Child, Device, Sink, OutOfMemory}
+use Rattle.pb_build_result.specs.declared.fault.Refusal.{Refusal}
+use Rattle.pb_build_result.specs.declared.fault.Refusal.TheVariants as refusal
 use Rattle.pb_unit.specs.Plan as plan
 use Rattle.pb_unit.specs.declared.fault.PlanFault.{PlanFault}
-use Rattle.pb_draft.specs.Causes.{is_outside}
+use Rattle.pb_workspace_package.specs.Causes.{is_outside}
 use Rattle.pb_workspace.specs.Loaded.{workspace_of}
 use Rattle.pb_workspace.specs.Selected.{selected}
-use Rattle.pb_package.specs.declared.fault.LoadFault.{LoadFault}
-use Rattle.pb_package.specs.declared.fault.LoadFault.TheVariants as load
-use Rattle.pb_package.specs.declared.options.Options.{Options}
-use Rattle.pb_package.specs.declared.options.Selection.{Selection}
-use Rattle.pb_package.specs.declared.workspace.Workspace.{Workspace}
+use Rattle.pb_workspace_types.specs.declared.fault.LoadFault.{LoadFault}
+use Rattle.pb_workspace_types.specs.declared.fault.LoadFault.TheVariants as load
+use Rattle.pb_workspace_types.specs.declared.options.Options.{Options}
+use Rattle.pb_workspace_types.specs.declared.options.Selection.{Selection}
+use Rattle.pb_workspace_types.specs.declared.workspace.Workspace.{Workspace}
 use Rattle.pb_build.specs.Planning.{IsFeatured, IsToldRefusal, IsRefused, by_load, by_selection, by_feature, by_plan}
 use Rattle.pb_build.specs.Private.{unread, IsUnrefused, IsRefusedOf, HasNoProject}
 use Rattle.pb_build.specs.Private as private

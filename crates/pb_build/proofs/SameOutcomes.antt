@@ -2,35 +2,35 @@
 use Rattle.std.proofs.Common.{◌≡◌, ◌∙◌, ◌++◌, ◌&&◌, ℕ, Bool, true, if◌then◌else◌, List, [], ◌∷◌, map, flat_map, Option, Some, None, Result, Ok, Err, refl, ap, ap₂, slice_get}
 use Rattle.std.specs.List.{list_all}
 use Rattle.pb_command.specs.Command.{words_of, compile_of, run_of, command_by, command_for, command_of}
-use Rattle.pb_project.specs.NamedTexts.{in_order}
-use Rattle.pb_words.specs.Externs.{dependency_words, entry_extern, entry_name, extern, extern_word, externs, leads, own_extern, reads_of}
-use Rattle.pb_judging.specs.Answers.{answered_of}
-use Rattle.pb_variables.specs.Pairs.{about_pairs, package_pairs, version_pairs, building_pairs, feature_pair, links_pairs, own_pairs, pairs_of, passed_at, passed_pairs}
-use Rattle.pb_words.specs.Said.{said_words}
-use Rattle.pb_project.specs.Targets.{library_file, dep_info_of, made_file_of, package_of}
-use Rattle.pb_words.specs.Words.{active_words, crate_words, expected_words, feature_word, output_words, settings_words}
-use Rattle.pb_project.specs.declared.answer.Answered.{Answered}
-use Rattle.pb_project.specs.declared.fault.UnitFault.{UnitFault}
-use Rattle.pb_project.specs.declared.project.Project.{Project}
-use Rattle.pb_project.specs.declared.project.Setup.{Setup}
+use Rattle.pb_command_types.specs.NamedTexts.{in_order}
+use Rattle.pb_command_arguments.specs.Externs.{dependency_words, entry_extern, entry_name, extern, extern_word, externs, leads, own_extern, reads_of}
+use Rattle.pb_command_reply.specs.Answers.{answered_of}
+use Rattle.pb_command_environment.specs.Pairs.{about_pairs, package_pairs, version_pairs, building_pairs, feature_pair, links_pairs, own_pairs, pairs_of, passed_at, passed_pairs}
+use Rattle.pb_command_arguments.specs.Said.{said_words}
+use Rattle.pb_command_types.specs.Targets.{library_file, dep_info_of, made_file_of, package_of}
+use Rattle.pb_command_arguments.specs.Words.{active_words, crate_words, expected_words, feature_word, output_words, settings_words}
+use Rattle.pb_command_types.specs.declared.answer.Answered.{Answered}
+use Rattle.pb_command_types.specs.declared.fault.UnitFault.{UnitFault}
+use Rattle.pb_command_types.specs.declared.project.Project.{Project}
+use Rattle.pb_command_types.specs.declared.project.Setup.{Setup}
 use Rattle.pb_directive.specs.declared.directive.Directive.{Directive}
-use Rattle.pb_resolved.specs.Features.{features_at, is_enabled}
-use Rattle.pb_resolved.specs.declared.features.Features.{Features}
+use Rattle.pb_feature_types.specs.Features.{features_at, is_enabled}
+use Rattle.pb_feature_types.specs.declared.features.Features.{Features}
 use Rattle.pb_message.specs.declared.message.Message.{Message}
 use Rattle.pb_message.specs.declared.message.Message.TheVariants.{CompilerArtifact}
-use Rattle.pb_place.specs.World.{World, Answers}
-use Rattle.pb_place.specs.declared.child.Reply.{Reply}
-use Rattle.pb_place.specs.declared.command.Command.{Command}
+use Rattle.pb_place_types.specs.World.{World, Answers}
+use Rattle.pb_place_types.specs.declared.child.Reply.{Reply}
+use Rattle.pb_place_types.specs.declared.command.Command.{Command}
 use Rattle.pb_run.specs.Outcome.{Outcome, Waiting, directives_of, tabled_from, is_good_at, view_of, ran_by, outcome_by, judged, command_after, outcome_of, outcomes}
 use Rattle.pb_command.specs.Judge.{ended_by, file_at, replied_files}
-use Rattle.pb_unit_messages.specs.Telling.{artifacts, compiler_messages, good_messages, is_binary}
-use Rattle.pb_place.specs.declared.command.Ended.{Ended}
+use Rattle.pb_message_units.specs.Telling.{artifacts, compiler_messages, good_messages, is_binary}
+use Rattle.pb_place_types.specs.declared.command.Ended.{Ended}
 use Rattle.pb_unit.specs.declared.plan.Planned.{Planned}
 use Rattle.pb_unit.specs.declared.unit.What.{What}
 use Rattle.pb_unit.specs.declared.unit.What.TheVariants.{Lib, Bin, Script, Run}
-use Rattle.pb_package.specs.declared.package.Package.{Package}
-use Rattle.pb_package.specs.declared.package.Side.{Side}
-use Rattle.pb_turns.specs.Rows.{rows_of, to_first_bad}
+use Rattle.pb_workspace_types.specs.declared.package.Package.{Package}
+use Rattle.pb_workspace_types.specs.declared.package.Side.{Side}
+use Rattle.pb_build_turns.specs.Rows.{rows_of, to_first_bad}
 use Rattle.pb_build.proofs.Reasons.{placed_same}
 
 -- a table by two steps that give the same

@@ -5,9 +5,9 @@ use Rattle.std.specs.Cmp.Lexicographic.{slice_cmp}
 use Rattle.std.specs.Ordering.{nat_cmp}
 use Rattle.std.specs.declared.cmp.Ordering.TheVariants.{Less}
 use Rattle.pb_feature.specs.Resolved.{IsResolved}
-use Rattle.pb_resolved.specs.declared.features.Features.{Features}
-use Rattle.pb_order.proofs.Elements.{all_at}
-use Rattle.pb_place.specs.Paths.{below}
+use Rattle.pb_feature_types.specs.declared.features.Features.{Features}
+use Rattle.pb_graph.proofs.Elements.{all_at}
+use Rattle.pb_place_types.specs.Paths.{below}
 use Rattle.pb_profile.specs.Line.{Seen}
 use Rattle.pb_profile.specs.Settings.{settings_along}
 use Rattle.pb_unit.specs.Plan.{ComesBefore, above, level_of, level_at, ArePlaces, HasSettings, AreWithoutLibrary, IsPlan, profile_folder}
@@ -15,9 +15,9 @@ use Rattle.pb_unit.specs.Units.{key_of, role_of, needs, Reaches}
 use Rattle.pb_unit.specs.declared.plan.Plan.{Plan}
 use Rattle.pb_unit.specs.declared.plan.Planned.{Planned}
 use Rattle.pb_unit.specs.declared.unit.Unit.{Unit}
-use Rattle.pb_package.specs.declared.options.Selection.{Selection}
-use Rattle.pb_package.specs.declared.package.Package.{Package}
-use Rattle.pb_package.specs.declared.workspace.Workspace.{Workspace}
+use Rattle.pb_workspace_types.specs.declared.options.Selection.{Selection}
+use Rattle.pb_workspace_types.specs.declared.package.Package.{Package}
+use Rattle.pb_workspace_types.specs.declared.workspace.Workspace.{Workspace}
 use Rattle.pb_build.proofs.Laid.{HasLevels, HasPlaces, Earlier, same_place, same_length, same_wanted, same_list}
 use Rattle.pb_build.proofs.Once.{same_texts}
 use Rattle.pb_build.proofs.Reasons.{enabled_same, needs_same, planned_too, reaches_too}

@@ -4,32 +4,32 @@ use Rattle.std.proofs.lemmas.Bool.{cases_Bool, false≢true}
 use Rattle.std.proofs.lemmas.Slice.Eq.{bytes_eq-Decides}
 use Rattle.std.specs.FinMap.{get, get-insert}
 use Rattle.std.specs.Cmp.Lexicographic.{nat_list_cmp_total}
-use Rattle.pb_answer.specs.declared.fault.BuildFault.{BuildFault}
-use Rattle.pb_answer.specs.declared.summary.Summary.{Summary}
+use Rattle.pb_build_result.specs.declared.fault.BuildFault.{BuildFault}
+use Rattle.pb_build_result.specs.declared.summary.Summary.{Summary}
 use Rattle.pb_command.specs.Judge.{judge}
-use Rattle.pb_flight.specs.Events.{Event}
-use Rattle.pb_flight.specs.declared.turn.Step.{Step}
-use Rattle.pb_package.specs.declared.options.Options.{Options}
-use Rattle.pb_place.specs.Paths.{is_at_or_below}
-use Rattle.pb_place.specs.World.{World, Answers, AgreeBut, written, removed, is_same_path}
-use Rattle.pb_place.proofs.MapLemmas.{get-kept, same_bytes}
-use Rattle.pb_place.proofs.Within.{at_below, at_itself, at_then_below}
-use Rattle.pb_answer.specs.declared.bad_unit.BadUnit.{BadUnit}
-use Rattle.pb_project.specs.declared.project.Project.{Project}
-use Rattle.pb_project.specs.declared.project.Setup.{Setup}
+use Rattle.pb_run_flight.specs.Events.{Event}
+use Rattle.pb_run_flight.specs.declared.turn.Step.{Step}
+use Rattle.pb_workspace_types.specs.declared.options.Options.{Options}
+use Rattle.pb_place_types.specs.Paths.{is_at_or_below}
+use Rattle.pb_place_types.specs.World.{World, Answers, AgreeBut, written, removed, is_same_path}
+use Rattle.pb_place_types.proofs.MapLemmas.{get-kept, same_bytes}
+use Rattle.pb_place_types.proofs.Within.{at_below, at_itself, at_then_below}
+use Rattle.pb_build_result.specs.declared.bad_unit.BadUnit.{BadUnit}
+use Rattle.pb_command_types.specs.declared.project.Project.{Project}
+use Rattle.pb_command_types.specs.declared.project.Setup.{Setup}
 use Rattle.pb_run.specs.Halves.{OnRecords}
 use Rattle.pb_run.specs.Standing.{IsInOrder, records_folder}
-use Rattle.pb_session.specs.declared.pick.PickBy.{PickBy}
-use Rattle.pb_session.specs.declared.pick.PickBy.TheVariants.{First, Last}
-use Rattle.pb_session.specs.declared.step.SessionStep.{SessionStep}
-use Rattle.pb_session.specs.declared.step.SessionStep.TheVariants.{Write, Remove, Set, Unset, Build, Die, Fuse}
-use Rattle.pb_soundness.specs.Records.{if_of_key, is_key, place_of, read_text, record_at, reading, records}
-use Rattle.pb_soundness.specs.Sound.{Sound}
-use Rattle.pb_soundness.proofs.Four.{outside}
-use Rattle.pb_soundness.proofs.Places.{place_in}
-use Rattle.pb_turns.specs.Ends.{TurnsEnd}
-use Rattle.pb_turns.specs.Crew.{Moment}
-use Rattle.pb_turns.specs.Story.{OnlyOf}
+use Rattle.pb_build_session.specs.declared.pick.PickBy.{PickBy}
+use Rattle.pb_build_session.specs.declared.pick.PickBy.TheVariants.{First, Last}
+use Rattle.pb_build_session.specs.declared.step.SessionStep.{SessionStep}
+use Rattle.pb_build_session.specs.declared.step.SessionStep.TheVariants.{Write, Remove, Set, Unset, Build, Die, Fuse}
+use Rattle.pb_store_soundness.specs.Records.{if_of_key, is_key, place_of, read_text, record_at, reading, records}
+use Rattle.pb_store_soundness.specs.Sound.{Sound}
+use Rattle.pb_store_soundness.proofs.Four.{outside}
+use Rattle.pb_store_soundness.proofs.Places.{place_in}
+use Rattle.pb_build_turns.specs.Ends.{TurnsEnd}
+use Rattle.pb_build_turns.specs.Crew.{Moment}
+use Rattle.pb_build_turns.specs.Story.{OnlyOf}
 use Rattle.pb_build.specs.Ending.{Works, Builds}
 use Rattle.pb_build.specs.Headline.{records_of, IsHonestBuild, RestsOn, UnitsOf}
 use Rattle.pb_build.specs.Lasting.{ShareNoPath, Spares, SparingCourse, NothingIsSound, RecordsStayTrue, AnyBuildGives}

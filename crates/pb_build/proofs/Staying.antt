@@ -1,25 +1,25 @@
 -- A build leaves its sources as they were, and no child in flight.
 use Rattle.std.proofs.Common.{◌≡◌, ◌∙◌, ◌||◌, Bool, true, false, List, [], ℕ, Option, Result, Ok, Err, inl, inr, ap, subst}
 use Rattle.std.specs.Prelude.{IsTrue, MatchResult}
-use Rattle.pb_answer.specs.declared.fault.BuildFault.{BuildFault}
-use Rattle.pb_answer.specs.declared.summary.Summary.{Summary}
-use Rattle.pb_flight.specs.Events.{Event}
-use Rattle.pb_flight.specs.declared.turn.Step.{Step}
-use Rattle.pb_package.specs.declared.options.Options.{Options}
-use Rattle.pb_place.specs.Paths.{is_at_or_below}
-use Rattle.pb_place.specs.World.{World, Answers, from_nothing}
-use Rattle.pb_place.proofs.Folders.{sources_alike}
-use Rattle.pb_place.proofs.Within.{at_below, at_then_below, outside_within}
-use Rattle.pb_answer.specs.declared.bad_unit.BadUnit.{BadUnit}
-use Rattle.pb_project.specs.declared.project.Project.{Project}
-use Rattle.pb_project.specs.declared.project.Setup.{Setup}
+use Rattle.pb_build_result.specs.declared.fault.BuildFault.{BuildFault}
+use Rattle.pb_build_result.specs.declared.summary.Summary.{Summary}
+use Rattle.pb_run_flight.specs.Events.{Event}
+use Rattle.pb_run_flight.specs.declared.turn.Step.{Step}
+use Rattle.pb_workspace_types.specs.declared.options.Options.{Options}
+use Rattle.pb_place_types.specs.Paths.{is_at_or_below}
+use Rattle.pb_place_types.specs.World.{World, Answers, from_nothing}
+use Rattle.pb_place_types.proofs.Folders.{sources_alike}
+use Rattle.pb_place_types.proofs.Within.{at_below, at_then_below, outside_within}
+use Rattle.pb_build_result.specs.declared.bad_unit.BadUnit.{BadUnit}
+use Rattle.pb_command_types.specs.declared.project.Project.{Project}
+use Rattle.pb_command_types.specs.declared.project.Setup.{Setup}
 use Rattle.pb_run.specs.Standing.{IsInOrder, records_folder}
-use Rattle.pb_soundness.specs.Apart.{is_of}
-use Rattle.pb_soundness.specs.Records.{is_key, out_of, place_of, records}
-use Rattle.pb_soundness.proofs.Places.{out_in, place_in}
-use Rattle.pb_turns.specs.Ends.{TurnsEnd}
-use Rattle.pb_turns.specs.Crew.{Moment}
-use Rattle.pb_turns.specs.Story.{OnlyOf}
+use Rattle.pb_store_soundness.specs.Apart.{is_of}
+use Rattle.pb_store_soundness.specs.Records.{is_key, out_of, place_of, records}
+use Rattle.pb_store_soundness.proofs.Places.{out_in, place_in}
+use Rattle.pb_build_turns.specs.Ends.{TurnsEnd}
+use Rattle.pb_build_turns.specs.Crew.{Moment}
+use Rattle.pb_build_turns.specs.Story.{OnlyOf}
 use Rattle.pb_workspace.proofs.Accepted.{target_kept}
 use Rattle.pb_build.specs.AnyPlan as plan
 use Rattle.pb_build.specs.AnyPlan.{BuildsOn, Readies, WorksOn}

@@ -2,8 +2,8 @@
 use Rattle.std.proofs.Common.{◌≡◌, ◌∙◌, ◌<◌, ◌≤◌, ◌+◌, ℕ, List, [], ◌∷◌, length, drop, refl, sym, ap, subst}
 use Rattle.std.proofs.Math.ListN.{get_or}
 use Rattle.std.proofs.lemmas.List.{drop_more, drop_all}
-use Rattle.pb_place.specs.World.{Answers}
-use Rattle.pb_session.specs.declared.step.SessionStep.{SessionStep}
+use Rattle.pb_place_types.specs.World.{Answers}
+use Rattle.pb_build_session.specs.declared.step.SessionStep.{SessionStep}
 use Rattle.pb_build.specs.Session.{Point, Carries, Course, Loses, Breaks}
 
 -- whatever the rest of the steps comes to, all of them come to

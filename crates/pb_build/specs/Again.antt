@@ -1,11 +1,11 @@
 -- The same build again: after a successful build, it starts no child for a unit.
 use Rattle.std.specs.Prelude.{◌≡◌, [], ℕ, true, List, Ok}
-use Rattle.pb_answer.specs.declared.summary.Summary.{Summary}
-use Rattle.pb_flight.specs.declared.turn.Step.{Step}
-use Rattle.pb_package.specs.declared.options.Options.{Options}
-use Rattle.pb_place.specs.World.{Answers}
+use Rattle.pb_build_result.specs.declared.summary.Summary.{Summary}
+use Rattle.pb_run_flight.specs.declared.turn.Step.{Step}
+use Rattle.pb_workspace_types.specs.declared.options.Options.{Options}
+use Rattle.pb_place_types.specs.World.{Answers}
 use Rattle.pb_run.specs.Halves.{OnRecords}
-use Rattle.pb_turns.specs.Crew.{Moment}
+use Rattle.pb_build_turns.specs.Crew.{Moment}
 use Rattle.pb_build.specs.Ending.{Builds}
 use Rattle.pb_build.specs.Headline.{RestsOn}
 

@@ -1,23 +1,23 @@
 -- A build of a given plan, whatever its moment and options are: it need not be a plan of this world.
 use Rattle.std.specs.Prelude.{◌≡◌, ◌⊎◌, ℕ, Bool, max, List, Some, None, IsTrue, Result, Ok, Err}
-use Rattle.pb_answer.specs.declared.fault.BuildFault.{BuildFault}
-use Rattle.pb_answer.specs.declared.fault.BuildFault.TheVariants.{Plan, Toolchain, Child, Device, Sink, OutOfMemory}
-use Rattle.pb_answer.specs.declared.summary.Summary.{Summary}
-use Rattle.pb_flight.specs.Steps.{TurnsOfJobs}
-use Rattle.pb_flight.specs.declared.turn.First.{First}
-use Rattle.pb_flight.specs.declared.turn.Jobs.{Jobs}
-use Rattle.pb_flight.specs.declared.turn.Step.{Step}
-use Rattle.pb_package.specs.declared.options.Options.{Options}
-use Rattle.pb_place.specs.Counts.{up_starts}
-use Rattle.pb_place.specs.World.{World, Answers, from_nothing}
-use Rattle.pb_project.specs.declared.project.Project.{Project}
+use Rattle.pb_build_result.specs.declared.fault.BuildFault.{BuildFault}
+use Rattle.pb_build_result.specs.declared.fault.BuildFault.TheVariants.{Plan, Toolchain, Child, Device, Sink, OutOfMemory}
+use Rattle.pb_build_result.specs.declared.summary.Summary.{Summary}
+use Rattle.pb_run_flight.specs.Steps.{TurnsOfJobs}
+use Rattle.pb_run_flight.specs.declared.turn.First.{First}
+use Rattle.pb_run_flight.specs.declared.turn.Jobs.{Jobs}
+use Rattle.pb_run_flight.specs.declared.turn.Step.{Step}
+use Rattle.pb_workspace_types.specs.declared.options.Options.{Options}
+use Rattle.pb_place_types.specs.Counts.{up_starts}
+use Rattle.pb_place_types.specs.World.{World, Answers, from_nothing}
+use Rattle.pb_command_types.specs.declared.project.Project.{Project}
 use Rattle.pb_run.specs.Steps.{HasCause}
 use Rattle.pb_run.specs.Standing.{IsInOrder, records_folder}
 use Rattle.pb_store.specs.Looking.{opened_looked}
 use Rattle.pb_store.specs.Folder.{next_in}
-use Rattle.pb_turns.specs.Ends.{TurnsEnd}
-use Rattle.pb_place.specs.Sinks.{Heard}
-use Rattle.pb_turns.specs.Crew.{Moment}
+use Rattle.pb_build_turns.specs.Ends.{TurnsEnd}
+use Rattle.pb_place_types.specs.Sinks.{Heard}
+use Rattle.pb_build_turns.specs.Crew.{Moment}
 use Rattle.pb_build.specs.Causes.{MayReady, Names, ReadyStopsAt, ready_called}
 use Rattle.pb_build.specs.Ending.{Closes, PicksFirstOf, Stays}
 use Rattle.pb_build.specs.Result.{toolchain_of, setup_of}

@@ -1,25 +1,25 @@
 -- How many children a build has started before its units, which calls it
 -- has made, which fault may end it there, and what such a fault names.
 use Rattle.std.specs.Prelude.{◌≡◌, ◌⊎◌, ◌+◌, ◌++◌, ◌∷◌, codes, length, max, List, [], Result, MatchResult, OnErr, OnOk, ℕ}
-use Rattle.pb_place.specs.At.{At}
-use Rattle.pb_place.specs.CallsInTurn.{past_calls}
-use Rattle.pb_place.specs.declared.call.Call.{Call}
-use Rattle.pb_place.specs.declared.call.Call.TheVariants as call
-use Rattle.pb_place.specs.Counts.{Counts, Starts, named_in, one_start, past_call, up_starts, past_start_fault}
-use Rattle.pb_place.specs.World.{World}
-use Rattle.pb_package.specs.declared.options.Options.{Options}
-use Rattle.pb_project.specs.declared.project.Project.{Project}
+use Rattle.pb_place_types.specs.At.{At}
+use Rattle.pb_place_types.specs.CallsInTurn.{past_calls}
+use Rattle.pb_place_types.specs.declared.call.Call.{Call}
+use Rattle.pb_place_types.specs.declared.call.Call.TheVariants as call
+use Rattle.pb_place_types.specs.Counts.{Counts, Starts, named_in, one_start, past_call, up_starts, past_start_fault}
+use Rattle.pb_place_types.specs.World.{World}
+use Rattle.pb_workspace_types.specs.declared.options.Options.{Options}
+use Rattle.pb_command_types.specs.declared.project.Project.{Project}
 use Rattle.pb_run.specs.Steps.{NoStart, StopsAt, HasCause}
 use Rattle.pb_run.specs.Standing.{records_folder}
 use Rattle.pb_store.specs.Looking.{opened_looked}
 use Rattle.pb_workspace.specs.LookedAt.{looked_at}
 use Rattle.pb_build.specs.Environment.{environment_of}
 use Rattle.pb_build.specs.Planning.{IsProject}
-use Rattle.pb_answer.specs.declared.fault.BuildFault.{BuildFault}
-use Rattle.pb_answer.specs.declared.fault.DeviceFault.TheVariants as device
-use Rattle.pb_answer.specs.declared.fault.BuildFault.TheVariants.{Plan, Toolchain, Child, Device, Sink, OutOfMemory}
-use Rattle.pb_place.specs.declared.place.StartFault.{StartFault}
-use Rattle.pb_place.specs.declared.place.StartFault.TheVariants as start
+use Rattle.pb_build_result.specs.declared.fault.BuildFault.{BuildFault}
+use Rattle.pb_build_result.specs.declared.fault.DeviceFault.TheVariants as device
+use Rattle.pb_build_result.specs.declared.fault.BuildFault.TheVariants.{Plan, Toolchain, Child, Device, Sink, OutOfMemory}
+use Rattle.pb_place_types.specs.declared.place.StartFault.{StartFault}
+use Rattle.pb_place_types.specs.declared.place.StartFault.TheVariants as start
 
 -- the faults that may end what comes before the query
 abbrev pub MayPlan : BuildFault → Starts → Starts → Type 0

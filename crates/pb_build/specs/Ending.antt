@@ -1,29 +1,29 @@
 -- How a build ends: a table over its answer.
 use Rattle.std.specs.Prelude.{◌≡◌, ◌⊎◌, ℕ, Bool, false, max, codes, List, [], Some, None, IsTrue, IfOk, IfErr, Result, Ok, Err}
 use Rattle.std.specs.Io.KnownBytes.{Appends}
-use Rattle.pb_answer.specs.declared.fault.BuildFault.{BuildFault}
-use Rattle.pb_answer.specs.declared.fault.BuildFault.TheVariants.{Plan, Toolchain, Child, Device, Sink, OutOfMemory}
-use Rattle.pb_answer.specs.declared.fault.DeviceFault.TheVariants as device
-use Rattle.pb_answer.specs.declared.summary.Summary.{Summary}
-use Rattle.pb_flight.specs.Steps.{PicksFirst, PicksLast, TurnsOfJobs}
-use Rattle.pb_flight.specs.declared.turn.First.{First}
-use Rattle.pb_flight.specs.declared.turn.Jobs.{Jobs}
-use Rattle.pb_flight.specs.declared.turn.Last.{Last}
-use Rattle.pb_flight.specs.declared.turn.Step.{Step}
+use Rattle.pb_build_result.specs.declared.fault.BuildFault.{BuildFault}
+use Rattle.pb_build_result.specs.declared.fault.BuildFault.TheVariants.{Plan, Toolchain, Child, Device, Sink, OutOfMemory}
+use Rattle.pb_build_result.specs.declared.fault.DeviceFault.TheVariants as device
+use Rattle.pb_build_result.specs.declared.summary.Summary.{Summary}
+use Rattle.pb_run_flight.specs.Steps.{PicksFirst, PicksLast, TurnsOfJobs}
+use Rattle.pb_run_flight.specs.declared.turn.First.{First}
+use Rattle.pb_run_flight.specs.declared.turn.Jobs.{Jobs}
+use Rattle.pb_run_flight.specs.declared.turn.Last.{Last}
+use Rattle.pb_run_flight.specs.declared.turn.Step.{Step}
 use Rattle.pb_message.specs.Message.{finish_line}
-use Rattle.pb_package.specs.declared.options.Options.{Options}
-use Rattle.pb_place.specs.CallsInTurn.{past_calls}
-use Rattle.pb_place.specs.Counts.{Counts, named_in, up, up_starts}
-use Rattle.pb_place.specs.Sinks.{Heard, TakesPart}
-use Rattle.pb_place.specs.World.{World, Answers, from_nothing}
-use Rattle.pb_place.specs.declared.place.Failure.TheVariants.{Called, Started}
-use Rattle.pb_project.specs.declared.project.Project.{Project}
+use Rattle.pb_workspace_types.specs.declared.options.Options.{Options}
+use Rattle.pb_place_types.specs.CallsInTurn.{past_calls}
+use Rattle.pb_place_types.specs.Counts.{Counts, named_in, up, up_starts}
+use Rattle.pb_place_types.specs.Sinks.{Heard, TakesPart}
+use Rattle.pb_place_types.specs.World.{World, Answers, from_nothing}
+use Rattle.pb_place_types.specs.declared.place.Failure.TheVariants.{Called, Started}
+use Rattle.pb_command_types.specs.declared.project.Project.{Project}
 use Rattle.pb_run.specs.Steps.{NoStart}
 use Rattle.pb_run.specs.Standing.{IsInOrder, records_folder}
 use Rattle.pb_store.specs.Looking.{opened_looked}
 use Rattle.pb_store.specs.Folder.{next_in}
-use Rattle.pb_turns.specs.Ends.{TurnsEnd}
-use Rattle.pb_turns.specs.Crew.{Moment}
+use Rattle.pb_build_turns.specs.Ends.{TurnsEnd}
+use Rattle.pb_build_turns.specs.Crew.{Moment}
 use Rattle.pb_build.specs.Causes.{MayPlan, NamesCall, PlansInTurn, StopsBefore, plan_called, ready_called, Takes}
 use Rattle.pb_build.specs.Environment.{environment_of}
 use Rattle.pb_build.specs.Planning.{IsProject, IsRefused, IsToldRefusal}

@@ -2,10 +2,10 @@
 use Rattle.std.specs.Prelude.{ℕ, ◌==◌, if◌then◌else◌, codes, List, [], length, Option, Some, None, unwrap_or, Result, Ok, Err}
 use Rattle.std.specs.FinMap as finite
 use Rattle.pb_directive.specs.Directives as line
-use Rattle.pb_place.specs.Paths.{joined, below, folder_of}
-use Rattle.pb_place.specs.declared.path.PathFault.{PathFault}
-use Rattle.pb_place.specs.World.{Map}
-use Rattle.pb_package.specs.declared.options.Options.{Options}
+use Rattle.pb_place_types.specs.Paths.{joined, below, folder_of}
+use Rattle.pb_place_types.specs.declared.path.PathFault.{PathFault}
+use Rattle.pb_place_types.specs.World.{Map}
+use Rattle.pb_workspace_types.specs.declared.options.Options.{Options}
 use Rattle.pb_build.specs.declared.environment.Environment.{Environment}
 
 -- the text of a variable; an empty one counts as absent

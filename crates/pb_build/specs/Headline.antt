@@ -1,42 +1,42 @@
 -- The headline: what a build produces if it rests on true records and an honest child, or on no record.
 use Rattle.std.specs.Prelude.{◌≡◌, ◌⊎◌, ◌∷◌, [], ℕ, Bool, true, false, Contains, List, length, take, Option, Some, None, IsTrue, Result, Ok, Err, slice_get}
 use Rattle.std.specs.Io.KnownBytes.{Appends}
-use Rattle.pb_answer.specs.declared.fault.BuildFault.{BuildFault}
-use Rattle.pb_answer.specs.declared.fault.BuildFault.TheVariants.{Child, Device, Sink, OutOfMemory}
-use Rattle.pb_answer.specs.declared.fault.DeviceFault.TheVariants as device
-use Rattle.pb_answer.specs.declared.summary.Summary.{Summary}
+use Rattle.pb_build_result.specs.declared.fault.BuildFault.{BuildFault}
+use Rattle.pb_build_result.specs.declared.fault.BuildFault.TheVariants.{Child, Device, Sink, OutOfMemory}
+use Rattle.pb_build_result.specs.declared.fault.DeviceFault.TheVariants as device
+use Rattle.pb_build_result.specs.declared.summary.Summary.{Summary}
 use Rattle.pb_command.specs.Judge.{judge}
 use Rattle.pb_directive.specs.declared.directive.Directive.{Directive}
-use Rattle.pb_flight.specs.Events.{Event, Anything, started_by}
-use Rattle.pb_flight.specs.Steps.{Flies, Anyhow, TurnsOfJobs}
-use Rattle.pb_flight.specs.Table.{count_due, is_finished}
-use Rattle.pb_flight.specs.declared.flight.Answer.{Answer}
-use Rattle.pb_flight.specs.declared.flight.State.TheVariants.{Untouched, Begun, Answered}
-use Rattle.pb_flight.specs.declared.turn.First.{First}
-use Rattle.pb_flight.specs.declared.turn.Jobs.{Jobs}
-use Rattle.pb_flight.specs.declared.turn.Last.{Last}
-use Rattle.pb_flight.specs.declared.turn.Step.{Step}
+use Rattle.pb_run_flight.specs.Events.{Event, Anything, started_by}
+use Rattle.pb_run_flight.specs.Steps.{Flies, Anyhow, TurnsOfJobs}
+use Rattle.pb_run_flight.specs.Table.{count_due, is_finished}
+use Rattle.pb_run_flight.specs.declared.flight.Answer.{Answer}
+use Rattle.pb_run_flight.specs.declared.flight.State.TheVariants.{Untouched, Begun, Answered}
+use Rattle.pb_run_flight.specs.declared.turn.First.{First}
+use Rattle.pb_run_flight.specs.declared.turn.Jobs.{Jobs}
+use Rattle.pb_run_flight.specs.declared.turn.Last.{Last}
+use Rattle.pb_run_flight.specs.declared.turn.Step.{Step}
 use Rattle.pb_message.specs.declared.message.Message.{Message}
-use Rattle.pb_package.specs.declared.options.Options.{Options}
-use Rattle.pb_place.specs.CallsInTurn.{own_fault}
-use Rattle.pb_place.specs.Counts.{Starts, name_given, up}
-use Rattle.pb_place.specs.declared.call.Call.{Call}
-use Rattle.pb_place.specs.Folders.{files_in}
-use Rattle.pb_place.specs.Paths.{below}
-use Rattle.pb_place.specs.Sinks.{Heard, TakesPart}
-use Rattle.pb_place.specs.World.{World, Map, Answers, from_nothing}
+use Rattle.pb_workspace_types.specs.declared.options.Options.{Options}
+use Rattle.pb_place_types.specs.CallsInTurn.{own_fault}
+use Rattle.pb_place_types.specs.Counts.{Starts, name_given, up}
+use Rattle.pb_place_types.specs.declared.call.Call.{Call}
+use Rattle.pb_place_types.specs.Folders.{files_in}
+use Rattle.pb_place_types.specs.Paths.{below}
+use Rattle.pb_place_types.specs.Sinks.{Heard, TakesPart}
+use Rattle.pb_place_types.specs.World.{World, Map, Answers, from_nothing}
 use Rattle.pb_profile.specs.Line.{folder_of}
-use Rattle.pb_answer.specs.declared.bad_unit.BadUnit.{BadUnit}
-use Rattle.pb_project.specs.declared.project.Project.{Project}
+use Rattle.pb_build_result.specs.declared.bad_unit.BadUnit.{BadUnit}
+use Rattle.pb_command_types.specs.declared.project.Project.{Project}
 use Rattle.pb_run.specs.Halves.{Footing, OnRecords, OnNothing, Basis, basis, key_at, IsHonestOnUnits}
 use Rattle.pb_run.specs.Outcome.{Outcome, Good, outcomes}
-use Rattle.pb_soundness.specs.Records.{reading, records}
-use Rattle.pb_soundness.specs.Sound.{Sound}
+use Rattle.pb_store_soundness.specs.Records.{reading, records}
+use Rattle.pb_store_soundness.specs.Sound.{Sound}
 use Rattle.pb_store.specs.Looking.{opened_looked}
 use Rattle.pb_store.specs.Folder.{next_in}
-use Rattle.pb_turns.specs.Crew.{needs_of, Moment}
-use Rattle.pb_turns.specs.Rows.{Row, Reasons, fault_in, rows_of, said_from, summary_of}
-use Rattle.pb_turns.specs.Story.{states_in, upped, AllBeganFor, CameAfter, LacksNumber, NumbersGiven, Spends}
+use Rattle.pb_build_turns.specs.Crew.{needs_of, Moment}
+use Rattle.pb_build_turns.specs.Rows.{Row, Reasons, fault_in, rows_of, said_from, summary_of}
+use Rattle.pb_build_turns.specs.Story.{states_in, upped, AllBeganFor, CameAfter, LacksNumber, NumbersGiven, Spends}
 use Rattle.pb_unit.specs.declared.plan.Planned.{Planned}
 use Rattle.pb_build.specs.Ending.{NoneBegan, PicksFirstOf, PicksLastOf, Closes}
 use Rattle.pb_build.specs.Environment.{environment_of}

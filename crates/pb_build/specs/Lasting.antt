@@ -2,15 +2,15 @@
 -- among the steps produces what a clean build of the present workspace produces.
 use Rattle.std.specs.Prelude.{◌≡◌, ◌⊎◌, ◌∷◌, [], ⊤, ℕ, true, false, List, None}
 use Rattle.pb_command.specs.Judge.{judge}
-use Rattle.pb_package.specs.declared.options.Options.{Options}
-use Rattle.pb_place.specs.Paths.{is_at_or_below}
-use Rattle.pb_place.specs.World.{World, Map, Answers}
+use Rattle.pb_workspace_types.specs.declared.options.Options.{Options}
+use Rattle.pb_place_types.specs.Paths.{is_at_or_below}
+use Rattle.pb_place_types.specs.World.{World, Map, Answers}
 use Rattle.pb_run.specs.Halves.{OnRecords}
-use Rattle.pb_session.specs.declared.pick.PickBy.{PickBy}
-use Rattle.pb_session.specs.declared.step.SessionStep.{SessionStep}
-use Rattle.pb_session.specs.declared.step.SessionStep.TheVariants.{Write, Remove, Set, Unset, Build, Die, Fuse}
-use Rattle.pb_soundness.specs.Records.{record_at, reading}
-use Rattle.pb_soundness.specs.Sound.{Sound}
+use Rattle.pb_build_session.specs.declared.pick.PickBy.{PickBy}
+use Rattle.pb_build_session.specs.declared.step.SessionStep.{SessionStep}
+use Rattle.pb_build_session.specs.declared.step.SessionStep.TheVariants.{Write, Remove, Set, Unset, Build, Die, Fuse}
+use Rattle.pb_store_soundness.specs.Records.{record_at, reading}
+use Rattle.pb_store_soundness.specs.Sound.{Sound}
 use Rattle.pb_build.specs.Headline.{records_of, IsHonestBuild, UnitsOf, Gives}
 use Rattle.pb_build.specs.Session.{Point, Carries, CarriesBuild, ByPicked}
 

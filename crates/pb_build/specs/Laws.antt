@@ -1,15 +1,15 @@
 -- Laws of what a build produces, in the words of the rules.
 use Rattle.std.specs.Prelude.{◌≡◌, ℕ, Bool, List, Result}
-use Rattle.pb_answer.specs.declared.fault.BuildFault.{BuildFault}
-use Rattle.pb_answer.specs.declared.summary.Summary.{Summary}
-use Rattle.pb_flight.specs.declared.turn.Step.{Step}
-use Rattle.pb_place.specs.World.{World, Answers, from_nothing}
-use Rattle.pb_package.specs.declared.options.Options.{Options}
+use Rattle.pb_build_result.specs.declared.fault.BuildFault.{BuildFault}
+use Rattle.pb_build_result.specs.declared.summary.Summary.{Summary}
+use Rattle.pb_run_flight.specs.declared.turn.Step.{Step}
+use Rattle.pb_place_types.specs.World.{World, Answers, from_nothing}
+use Rattle.pb_workspace_types.specs.declared.options.Options.{Options}
 use Rattle.pb_build.specs.Ending.{Builds, BuildsFirst}
 use Rattle.pb_build.specs.Environment.{environment_of}
 use Rattle.pb_build.specs.Headline.{ByFirst, ByTurns, Headline, UnitsOf, rows_for}
 use Rattle.pb_build.specs.Result.{BuildResult, Refused, NoToolchain, Finished, IsResult}
-use Rattle.pb_turns.specs.Crew.{Moment}
+use Rattle.pb_build_turns.specs.Crew.{Moment}
 
 -- two worlds with the same variables and the same files outside the target folder give the same results
 abbrev pub LooksAtSources : Type 0

@@ -1,24 +1,24 @@
 -- What a build is about: the workspace that it reads, the selected
 -- packages, their features and the plan; or why it is refused.
 use Rattle.std.specs.Prelude.{◌≡◌, ℕ, List, Ok, Err}
-use Rattle.pb_place.specs.World.{World}
+use Rattle.pb_place_types.specs.World.{World}
 use Rattle.pb_workspace.specs.Loaded.{workspace_of}
 use Rattle.pb_workspace.specs.Selected.{selected}
-use Rattle.pb_package.specs.declared.fault.LoadFault.{LoadFault}
-use Rattle.pb_package.specs.declared.options.Options.{Options}
-use Rattle.pb_package.specs.declared.options.Selection.{Selection}
-use Rattle.pb_package.specs.declared.workspace.Workspace.{Workspace}
+use Rattle.pb_workspace_types.specs.declared.fault.LoadFault.{LoadFault}
+use Rattle.pb_workspace_types.specs.declared.options.Options.{Options}
+use Rattle.pb_workspace_types.specs.declared.options.Selection.{Selection}
+use Rattle.pb_workspace_types.specs.declared.workspace.Workspace.{Workspace}
 use Rattle.pb_feature.specs.Faults as feature
 use Rattle.pb_feature.specs.Resolved.{IsResolved}
 use Rattle.pb_feature.specs.declared.fault.FeatureFault.{FeatureFault}
-use Rattle.pb_resolved.specs.declared.features.Features.{Features}
+use Rattle.pb_feature_types.specs.declared.features.Features.{Features}
 use Rattle.pb_unit.specs.Plan as plan
 use Rattle.pb_unit.specs.declared.fault.PlanFault.{PlanFault}
-use Rattle.pb_project.specs.declared.project.Project.{Project}
-use Rattle.pb_answer.specs.declared.fault.BuildFault.{BuildFault}
-use Rattle.pb_answer.specs.declared.fault.BuildFault.TheVariants as told
-use Rattle.pb_answer.specs.declared.fault.Refusal.{Refusal}
-use Rattle.pb_answer.specs.declared.fault.Refusal.TheVariants.{Load, Feature, Plan}
+use Rattle.pb_command_types.specs.declared.project.Project.{Project}
+use Rattle.pb_build_result.specs.declared.fault.BuildFault.{BuildFault}
+use Rattle.pb_build_result.specs.declared.fault.BuildFault.TheVariants as told
+use Rattle.pb_build_result.specs.declared.fault.Refusal.{Refusal}
+use Rattle.pb_build_result.specs.declared.fault.Refusal.TheVariants.{Load, Feature, Plan}
 
 -- these packages of the workspace are selected
 pub record IsSelected (options : Options) (target : List ℕ) (w : World) (ws : Workspace) (selection : Selection) : Type 0 where

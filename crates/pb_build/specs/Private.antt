@@ -1,18 +1,18 @@
 -- What private functions of the build promise to one another. Nothing here is needed to read what a build produces.
 use Rattle.std.specs.Prelude.{◌≡◌, Ok, Err}
-use Rattle.pb_answer.specs.declared.fault.BuildFault.{BuildFault}
-use Rattle.pb_answer.specs.declared.fault.BuildFault.TheVariants.{Plan, Toolchain, Child, Device, Sink, OutOfMemory}
-use Rattle.pb_answer.specs.declared.fault.DeviceFault.TheVariants as device
-use Rattle.pb_answer.specs.declared.fault.Refusal.{Refusal}
-use Rattle.pb_answer.specs.declared.fault.Refusal.TheVariants as refusal
+use Rattle.pb_build_result.specs.declared.fault.BuildFault.{BuildFault}
+use Rattle.pb_build_result.specs.declared.fault.BuildFault.TheVariants.{Plan, Toolchain, Child, Device, Sink, OutOfMemory}
+use Rattle.pb_build_result.specs.declared.fault.DeviceFault.TheVariants as device
+use Rattle.pb_build_result.specs.declared.fault.Refusal.{Refusal}
+use Rattle.pb_build_result.specs.declared.fault.Refusal.TheVariants as refusal
 use Rattle.pb_feature.specs.Faults as feature
 use Rattle.pb_feature.specs.declared.fault.FeatureFault.{FeatureFault}
-use Rattle.pb_resolved.specs.declared.features.Features.{Features}
-use Rattle.pb_package.specs.declared.fault.LoadFault.{LoadFault}
-use Rattle.pb_package.specs.declared.fault.LoadFault.TheVariants as load
-use Rattle.pb_package.specs.declared.options.Options.{Options}
-use Rattle.pb_package.specs.declared.options.Selection.{Selection}
-use Rattle.pb_package.specs.declared.workspace.Workspace.{Workspace}
+use Rattle.pb_feature_types.specs.declared.features.Features.{Features}
+use Rattle.pb_workspace_types.specs.declared.fault.LoadFault.{LoadFault}
+use Rattle.pb_workspace_types.specs.declared.fault.LoadFault.TheVariants as load
+use Rattle.pb_workspace_types.specs.declared.options.Options.{Options}
+use Rattle.pb_workspace_types.specs.declared.options.Selection.{Selection}
+use Rattle.pb_workspace_types.specs.declared.workspace.Workspace.{Workspace}
 use Rattle.pb_run.specs.Steps.{device_fault}
 use Rattle.pb_store.specs.declared.fault.OpenFault.{OpenFault}
 use Rattle.pb_store.specs.declared.fault.OpenFault.TheVariants as open_fault

@@ -2,16 +2,16 @@
 use Rattle.std.specs.Prelude.{◌≡◌, ℕ, Bool, ◌&&◌, nat_lt, nat_eq, codes, if◌then◌else◌, List, length, Option, Some, None, is_some, is_none}
 use Rattle.std.specs.List.{list_any, starts_with}
 use Rattle.pb_directive.specs.Lines.{lines_of, text_of}
-use Rattle.pb_place.specs.World.{World, Answers, from_nothing}
-use Rattle.pb_place.specs.declared.command.Ended.{Ended}
-use Rattle.pb_judging.specs.Answers.{ended_fault}
+use Rattle.pb_place_types.specs.World.{World, Answers, from_nothing}
+use Rattle.pb_place_types.specs.declared.command.Ended.{Ended}
+use Rattle.pb_command_reply.specs.Answers.{ended_fault}
 use Rattle.pb_command.specs.Command.{query_of}
-use Rattle.pb_project.specs.declared.project.Project.{Project}
-use Rattle.pb_project.specs.declared.project.Setup.{Setup}
-use Rattle.pb_answer.specs.declared.fault.Refusal.{Refusal}
-use Rattle.pb_turns.specs.Rows.{Row, rows_of}
+use Rattle.pb_command_types.specs.declared.project.Project.{Project}
+use Rattle.pb_command_types.specs.declared.project.Setup.{Setup}
+use Rattle.pb_build_result.specs.declared.fault.Refusal.{Refusal}
+use Rattle.pb_build_turns.specs.Rows.{Row, rows_of}
 use Rattle.pb_command.specs.Judge.{ended_by}
-use Rattle.pb_package.specs.declared.options.Options.{Options}
+use Rattle.pb_workspace_types.specs.declared.options.Options.{Options}
 use Rattle.pb_build.specs.Environment.{environment_of}
 use Rattle.pb_build.specs.Planning.{IsProject, IsRefused}
 use Rattle.pb_build.specs.declared.environment.Environment.{Environment}

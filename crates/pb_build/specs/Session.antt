@@ -1,28 +1,28 @@
 -- A session: edits and builds, one after another. Each build's end and its cause are passed on.
 use Rattle.std.specs.Prelude.{◌≡◌, ◌↔◌, ⊤, ℕ, true, List, [], ◌∷◌, ◌++◌, Result}
-use Rattle.pb_place.specs.Sinks.{Heard}
-use Rattle.pb_place.specs.World.{World, Answers, FilesHavePaths, written, removed}
-use Rattle.pb_memory.specs.Memory.{Held, at_in, set, unset}
-use Rattle.pb_memory.specs.Tallies.{one_setting}
-use Rattle.pb_memory.specs.declared.in_flight.Death.{Death}
-use Rattle.pb_answer.specs.declared.bad_unit.BadUnit.{BadUnit}
-use Rattle.pb_answer.specs.declared.fault.BuildFault.{BuildFault}
-use Rattle.pb_answer.specs.declared.summary.Summary.{Summary}
-use Rattle.pb_flight.specs.Events.{Event}
-use Rattle.pb_project.specs.declared.project.Project.{Project}
-use Rattle.pb_session.specs.Deaths.{fault_of}
-use Rattle.pb_session.specs.declared.pick.PickBy.{PickBy}
-use Rattle.pb_session.specs.declared.pick.PickBy.TheVariants.{First, Last}
-use Rattle.pb_session.specs.declared.step.SessionStep.{SessionStep}
-use Rattle.pb_session.specs.declared.step.SessionStep.TheVariants.{Write, Remove, Set, Unset, Build, Die, Fuse}
+use Rattle.pb_place_types.specs.Sinks.{Heard}
+use Rattle.pb_place_types.specs.World.{World, Answers, FilesHavePaths, written, removed}
+use Rattle.pb_place.specs.Memory.{Held, at_in, set, unset}
+use Rattle.pb_place.specs.Tallies.{one_setting}
+use Rattle.pb_place.specs.declared.in_flight.Death.{Death}
+use Rattle.pb_build_result.specs.declared.bad_unit.BadUnit.{BadUnit}
+use Rattle.pb_build_result.specs.declared.fault.BuildFault.{BuildFault}
+use Rattle.pb_build_result.specs.declared.summary.Summary.{Summary}
+use Rattle.pb_run_flight.specs.Events.{Event}
+use Rattle.pb_command_types.specs.declared.project.Project.{Project}
+use Rattle.pb_build_session.specs.Deaths.{fault_of}
+use Rattle.pb_build_session.specs.declared.pick.PickBy.{PickBy}
+use Rattle.pb_build_session.specs.declared.pick.PickBy.TheVariants.{First, Last}
+use Rattle.pb_build_session.specs.declared.step.SessionStep.{SessionStep}
+use Rattle.pb_build_session.specs.declared.step.SessionStep.TheVariants.{Write, Remove, Set, Unset, Build, Die, Fuse}
 use Rattle.pb_build.specs.declared.sessions.Answer.{Answer}
 use Rattle.pb_build.specs.Ending.{BuildsFirst, BuildsLast}
-use Rattle.pb_turns.specs.Crew.{Moment, moment}
+use Rattle.pb_build_turns.specs.Crew.{Moment, moment}
 use Rattle.pb_build.specs.Environment.{environment_of}
 use Rattle.pb_build.specs.Headline.{ByFirst, ByLast, Headline}
 use Rattle.pb_build.specs.Kept.{SourcesStay}
 use Rattle.pb_build.specs.Result.{BuildResult, IsResult}
-use Rattle.pb_package.specs.declared.options.Options.{Options}
+use Rattle.pb_workspace_types.specs.declared.options.Options.{Options}
 
 -- a moment of a session: the answers of the builds so far, the number of
 -- the call that is to fail (0 for none), and the starts that are to fail

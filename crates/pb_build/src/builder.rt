@@ -13,27 +13,27 @@ ghost use Rattle.pb_build.specs.Result.{setup_of};
 ghost use Rattle.pb_message.specs.Message.{finish_line};
 ghost use Rattle.pb_run.specs.Steps.{MakesInTurn};
 ghost use Rattle.pb_run.specs.Standing.{records_folder};
-ghost use Rattle.pb_project.specs.declared.project.Project.{Project};
-ghost use Rattle.pb_soundness.specs.Records.{records};
+ghost use Rattle.pb_command_types.specs.declared.project.Project.{Project};
+ghost use Rattle.pb_store_soundness.specs.Records.{records};
 ghost use Rattle.pb_store.specs.Folder.{HasNumbers, OpensStore};
 ghost use Rattle.pb_store.specs.Looking.{opened_looked};
-ghost use Rattle.pb_place.specs.Sinks.{Heard};
-ghost use Rattle.pb_turns.specs.Crew.{Moment, moment};
+ghost use Rattle.pb_place_types.specs.Sinks.{Heard};
+ghost use Rattle.pb_build_turns.specs.Crew.{Moment, moment};
 
 use crate::environment::{Environment, environment_of};
 use crate::planning::planned;
 use crate::toolchain::ask;
-use pb_answer::{BuildFault, Summary};
+use pb_build_result::{BuildFault, Summary};
 use pb_data::{Bytes, Items, Text, TryCopy};
-use pb_flight::{First, Jobs, Pick, Turn};
+use pb_run_flight::{First, Jobs, Pick, Turn};
 use pb_message::{finish_line, write_lines};
-use pb_package::Options;
-use pb_place::{Out, PathText, Place, RelativePath};
+use pb_workspace_types::Options;
+use pb_place_types::{Out, PathText, Place, RelativePath};
 use pb_profile::folder_of;
-use pb_project::Setup;
+use pb_command_types::Setup;
 use pb_run::{OrderedProject, deviceless};
 use pb_store::{OpenFault, Store};
-use pb_turns::run_turns;
+use pb_build_turns::run_turns;
 use std::alloc::{AllocError, Global};
 
 /// What the units of a build start from.

@@ -2,19 +2,19 @@
 
 ghost use Rattle.std.specs.Prelude.{◌≡◌, ◌∷◌, [], IfOk, IfErr, IsTrue, codes};
 ghost use Rattle.std.specs.FinMap as finite;
-ghost use Rattle.pb_place.specs.declared.call.Call.TheVariants as call;
-ghost use Rattle.pb_place.specs.Paths.{below};
+ghost use Rattle.pb_place_types.specs.declared.call.Call.TheVariants as call;
+ghost use Rattle.pb_place_types.specs.Paths.{below};
 ghost use Rattle.pb_directive.specs.Directives.{words_of};
 ghost use Rattle.pb_build.specs.Causes.{MayPlan, variables_asked, OnlyLooks};
 ghost use Rattle.pb_build.specs.Environment.{set_text, rustc_of, flags_of, told_or, target_of, environment_of, environment_with};
 ghost use Rattle.pb_build.specs.Private.{IsUnrefused};
 ghost use Rattle.pb_run.specs.Steps.{MakesInTurn};
 
-use pb_answer::BuildFault;
+use pb_build_result::BuildFault;
 use pb_data::{Items, Text, TryCopy};
 use pb_directive::words::words_of;
-use pb_package::Options;
-use pb_place::{PathFault, PathText, Place, RelativePath};
+use pb_workspace_types::Options;
+use pb_place_types::{PathFault, PathText, Place, RelativePath};
 use pb_run::deviceless;
 use std::alloc::{AllocError, Global};
 

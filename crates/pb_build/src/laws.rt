@@ -5,7 +5,7 @@ ghost use Rattle.pb_build.specs.Lasting.{AnyBuildGives, NothingIsSound, RecordsS
 ghost use Rattle.pb_build.specs.Laws.{LooksAtSources, GivesFromNothing, HasOneResult, UnitsAreOfResult, BuildsKeepHeadline, FirstBuildsKeepHeadline};
 ghost use Rattle.pb_build.specs.Session.{Unaffected};
 
-use pb_flight::Turn;
+use pb_run_flight::Turn;
 
 /// A build does not see what exists in the target folder: two worlds with
 /// the same variables and the same files outside it give the same

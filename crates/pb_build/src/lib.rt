@@ -19,8 +19,8 @@ pub use laws::{
     earlier_builds_change_nothing, records_stay_true, same_build_starts_none,
     units_are_of_the_result, worlds_have_one_result,
 };
-pub use pb_answer::{BuildFault, Refusal, Summary, result_line};
-pub use pb_package::Options;
-pub use pb_project::UnitFault;
-pub use pb_session::{BadSession, SessionStep, read_session};
+pub use pb_build_result::{BuildFault, Refusal, Summary, result_line};
+pub use pb_workspace_types::Options;
+pub use pb_command_types::UnitFault;
+pub use pb_build_session::{BadSession, SessionStep, read_session};
 pub use sessions::{Answer, session};

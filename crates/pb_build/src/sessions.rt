@@ -1,24 +1,24 @@
 //! Sessions in memory: edits and builds, one after another.
 
 ghost use Rattle.std.specs.Prelude.{◌≡◌, List, [], true, false, IfOk, OnOk, OnErr};
-ghost use Rattle.pb_session.specs.declared.step.SessionStep.TheVariants.{Build};
+ghost use Rattle.pb_build_session.specs.declared.step.SessionStep.TheVariants.{Build};
 ghost use Rattle.pb_build.specs.declared.sessions.Answer as declared;
 ghost use Rattle.pb_build.specs.Environment.{environment_of};
 ghost use Rattle.pb_build.specs.Headline.{Headline};
 ghost use Rattle.pb_build.specs.Kept.{SourcesStay};
 ghost use Rattle.pb_build.specs.Session.{Picked, ByPicked, Carries, Course, Loses, Breaks, point};
-ghost use Rattle.pb_memory.specs.Memory.{at_in, counts_in, may_fail};
-ghost use Rattle.pb_memory.specs.Tallies.{one_setting};
-ghost use Rattle.pb_turns.specs.Crew.{moment};
+ghost use Rattle.pb_place.specs.Memory.{at_in, counts_in, may_fail};
+ghost use Rattle.pb_place.specs.Tallies.{one_setting};
+ghost use Rattle.pb_build_turns.specs.Crew.{moment};
 
 use crate::builder::{build, build_with};
-use pb_answer::{BuildFault, Summary};
+use pb_build_result::{BuildFault, Summary};
 use pb_data::Items;
-use pb_flight::Last;
-use pb_memory::{Memory, Unfailing};
-use pb_package::Options;
-use pb_place::{Child, Out, Place};
-use pb_session::{PickBy, SessionStep};
+use pb_run_flight::Last;
+use pb_place::{Memory, Unfailing};
+use pb_workspace_types::Options;
+use pb_place_types::{Child, Out, Place};
+use pb_build_session::{PickBy, SessionStep};
 use std::alloc::{AllocError, Global};
 
 /// The answer of one build of a session.

@@ -2,21 +2,21 @@
 
 ghost use Rattle.std.specs.Prelude.{◌≡◌, ◌⊎◌, ◌+◌, max, length, IsTrue, IfOk, OnErr, OnOk, MatchResult, Some, None};
 ghost use Rattle.std.specs.List.{list_any};
-ghost use Rattle.pb_place.specs.World.{ChangesOnlyInSome, Ends, from_nothing};
+ghost use Rattle.pb_place_types.specs.World.{ChangesOnlyInSome, Ends, from_nothing};
 ghost use Rattle.pb_build.specs.Causes.{AskEnds, MayAsk, OnlyAsks, MayStart, OneStart, RunsOnce, SpawnEnds, Takes, child_fault};
 ghost use Rattle.pb_build.specs.Result.{is_host, says_host, toolchain_in, toolchain_of};
 ghost use Rattle.pb_directive.specs.Lines.{lines_of};
-ghost use Rattle.pb_answer.specs.declared.fault.BuildFault.TheVariants as build_fault;
+ghost use Rattle.pb_build_result.specs.declared.fault.BuildFault.TheVariants as build_fault;
 ghost use Rattle.pb_run.specs.Running.{Calls};
 
 use crate::environment::Environment;
-use pb_answer::BuildFault;
+use pb_build_result::BuildFault;
 use pb_command::{ended_fault, query};
 use pb_data::{Bytes, Text};
 use pb_directive::lines::lines_of;
 use pb_directive::texts::text_of;
-use pb_place::{Command, Ended, Place, StartFault};
-use pb_project::Project;
+use pb_place_types::{Command, Ended, Place, StartFault};
+use pb_command_types::Project;
 use std::alloc::Global;
 
 /// Returns whether a line names the host: `host: ` and something after it.

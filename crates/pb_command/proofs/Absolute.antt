@@ -3,18 +3,18 @@ use Rattle.std.proofs.Common.{◌≡◌, ℕ, true, List, [], ◌∷◌, Option,
 use Rattle.std.specs.List.{flat_map}
 use Rattle.std.proofs.lemmas.List.Elements.{All-append, All-from_recursion}
 use Rattle.pb_directive.specs.declared.directive.Directive.{Directive}
-use Rattle.pb_closure.proofs.Membership.{all_at}
-use Rattle.pb_place.specs.Paths.{is_path}
+use Rattle.pb_graph.proofs.Membership.{all_at}
+use Rattle.pb_place_types.specs.Paths.{is_path}
 use Rattle.pb_unit.specs.declared.plan.Planned.{Planned}
 use Rattle.pb_unit.specs.declared.unit.What.{What}
 use Rattle.pb_unit.specs.declared.unit.What.TheVariants.{Lib, Bin, Script, Run}
-use Rattle.pb_package.specs.declared.package.Package.{Package}
-use Rattle.pb_project.specs.declared.project.Project.{Project}
-use Rattle.pb_project.specs.declared.project.Setup.{Setup}
+use Rattle.pb_workspace_types.specs.declared.package.Package.{Package}
+use Rattle.pb_command_types.specs.declared.project.Project.{Project}
+use Rattle.pb_command_types.specs.declared.project.Setup.{Setup}
 use Rattle.pb_command.specs.Command.{command_by, command_for}
-use Rattle.pb_words.specs.Externs.{folder_in, read_at}
+use Rattle.pb_command_arguments.specs.Externs.{folder_in, read_at}
 use Rattle.pb_command.specs.Laws.{HasPaths, IsAbsolute, CommandsAreAbsolute}
-use Rattle.pb_project.specs.Targets.{package_of, unit_at}
+use Rattle.pb_command_types.specs.Targets.{package_of, unit_at}
 
 module _ (project : Project) (has : HasPaths project) where
   one_read : (place : ℕ) (unit : Option Planned) → slice_get project.plan.planned place ≡ unit → All (λ folder. is_path folder ≡ true) (folder_in unit)

@@ -2,9 +2,9 @@
 use Rattle.std.proofs.Common.{◌≡◌, ℕ, Bool, true, false, cond, codes, List, Option, Some, refl, sym, ap, subst, ◌∙◌}
 use Rattle.std.specs.Str.{bytes_eq}
 use Rattle.pb_directive.specs.declared.directive.Directive.{Directive}
-use Rattle.pb_closure.proofs.Membership.{all_at}
-use Rattle.pb_place.specs.declared.child.Reply.{Reply}
-use Rattle.pb_package.specs.declared.package.Package.{Package}
+use Rattle.pb_graph.proofs.Membership.{all_at}
+use Rattle.pb_place_types.specs.declared.child.Reply.{Reply}
+use Rattle.pb_workspace_types.specs.declared.package.Package.{Package}
 use Rattle.pb_unit.specs.Laws.{last_word, TellsWhat}
 use Rattle.pb_unit.specs.Plan.{HasSettings}
 use Rattle.pb_unit.specs.Units.{what_name}
@@ -12,12 +12,12 @@ use Rattle.pb_unit.proofs.Telling.{keys_tell_what}
 use Rattle.pb_unit.specs.declared.plan.Planned.{Planned}
 use Rattle.pb_unit.specs.declared.unit.What.{What}
 use Rattle.pb_unit.specs.declared.unit.What.TheVariants.{Lib, Bin, Script, Run}
-use Rattle.pb_project.specs.Targets.{package_of, package_folder, dep_info_of, dep_info_by, crate_name_of, folder_of}
-use Rattle.pb_project.specs.declared.project.Project.{Project}
-use Rattle.pb_project.specs.declared.project.Setup.{Setup}
-use Rattle.pb_judging.specs.Answers.{compile_answered, run_answered, unless_fault, ended_fault, answered_by, answered_of}
+use Rattle.pb_command_types.specs.Targets.{package_of, package_folder, dep_info_of, dep_info_by, crate_name_of, folder_of}
+use Rattle.pb_command_types.specs.declared.project.Project.{Project}
+use Rattle.pb_command_types.specs.declared.project.Setup.{Setup}
+use Rattle.pb_command_reply.specs.Answers.{compile_answered, run_answered, unless_fault, ended_fault, answered_by, answered_of}
 use Rattle.pb_command.specs.Command.{command_for, command_by, compile_of, run_of}
-use Rattle.pb_words.specs.Words.{name_words, option}
+use Rattle.pb_command_arguments.specs.Words.{name_words, option}
 use Rattle.pb_command.specs.Judge.{ended_by, replied_files, file_at, is_of_run, crate_in, inputs_if, judge, JudgesAsAnswered}
 
 run_or_not : (out : List ℕ) (word : List ℕ) (b : Bool) → last_word out ≡ word → bytes_eq word (codes "run") ≡ b → is_of_run out ≡ b

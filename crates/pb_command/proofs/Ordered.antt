@@ -6,8 +6,8 @@ use Rattle.std.specs.Ordering.{nat_cmp, ordering_then}
 use Rattle.std.specs.declared.cmp.Ordering.{Ordering}
 use Rattle.std.specs.declared.cmp.Ordering.TheVariants.{Less, Equal, Greater}
 use Rattle.std.proofs.lemmas.Bool.{false≢true}
-use Rattle.pb_place.specs.Paths.{has_byte_0}
-use Rattle.pb_words.specs.Externs.{extern_key}
+use Rattle.pb_place_types.specs.Paths.{has_byte_0}
+use Rattle.pb_command_arguments.specs.Externs.{extern_key}
 use Rattle.pb_command.specs.Laws.{LibrariesInOrder}
 
 then_assoc : (a b c : Ordering) → ordering_then a (ordering_then b c) ≡ ordering_then (ordering_then a b) c

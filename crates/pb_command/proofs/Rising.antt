@@ -12,20 +12,20 @@ use Rattle.std.specs.FinMap.{entries_sorted, get-entries, get-insert, get-empty}
 use Rattle.std.specs.FinMap.Entries.{is_sorted, below_all, find}
 use Rattle.std.proofs.lemmas.Cmp.{nat_list_cmp_total}
 use Rattle.std.proofs.lemmas.Map.Text.{is_eq-slice_cmp}
-use Rattle.pb_place.specs.World.{Map}
+use Rattle.pb_place_types.specs.World.{Map}
 use Rattle.pb_data.specs.Table.{value_at, names_of, last_value}
 use Rattle.pb_directive.specs.declared.directive.Directive.{Directive}
 use Rattle.pb_unit.specs.declared.plan.Planned.{Planned}
 use Rattle.pb_unit.specs.declared.unit.What.{What}
 use Rattle.pb_unit.specs.declared.unit.What.TheVariants.{Lib, Bin, Script, Run}
-use Rattle.pb_package.specs.declared.package.Package.{Package}
-use Rattle.pb_project.specs.declared.project.Project.{Project}
-use Rattle.pb_project.specs.declared.project.Setup.{Setup}
+use Rattle.pb_workspace_types.specs.declared.package.Package.{Package}
+use Rattle.pb_command_types.specs.declared.project.Project.{Project}
+use Rattle.pb_command_types.specs.declared.project.Setup.{Setup}
 use Rattle.pb_command.specs.Command.{command_by, command_for}
-use Rattle.pb_project.specs.NamedTexts.{all_set, in_order}
+use Rattle.pb_command_types.specs.NamedTexts.{all_set, in_order}
 use Rattle.pb_command.specs.Laws.{PairsRise}
-use Rattle.pb_variables.specs.Pairs.{composed}
-use Rattle.pb_project.specs.Targets.{package_of}
+use Rattle.pb_command_environment.specs.Pairs.{composed}
+use Rattle.pb_command_types.specs.Targets.{package_of}
 
 -- Names rise.
 

@@ -2,18 +2,18 @@
 -- query of a compiler's version (The Cargo Book, cargo build, Build Scripts, Environment Variables).
 use Rattle.std.specs.Prelude.{ℕ, codes, List, [], ◌∷◌, ◌++◌, Option, Some, None}
 use Rattle.pb_directive.specs.declared.directive.Directive.{Directive}
-use Rattle.pb_place.specs.declared.command.Command.{Command}
+use Rattle.pb_place_types.specs.declared.command.Command.{Command}
 use Rattle.pb_unit.specs.declared.plan.Planned.{Planned}
 use Rattle.pb_unit.specs.declared.unit.What.{What}
 use Rattle.pb_unit.specs.declared.unit.What.TheVariants.{Lib, Bin, Script, Run}
-use Rattle.pb_package.specs.declared.package.Package.{Package}
-use Rattle.pb_project.specs.declared.project.Project.{Project}
-use Rattle.pb_project.specs.declared.project.Setup.{Setup}
-use Rattle.pb_project.specs.Targets.{package_of, script_file, script_source}
-use Rattle.pb_words.specs.Words.{crate_words, output_words, settings_words, feature_words}
-use Rattle.pb_words.specs.Externs.{library_words, reads_of}
-use Rattle.pb_words.specs.Said.{said_words}
-use Rattle.pb_variables.specs.Pairs.{pairs_of}
+use Rattle.pb_workspace_types.specs.declared.package.Package.{Package}
+use Rattle.pb_command_types.specs.declared.project.Project.{Project}
+use Rattle.pb_command_types.specs.declared.project.Setup.{Setup}
+use Rattle.pb_command_types.specs.Targets.{package_of, script_file, script_source}
+use Rattle.pb_command_arguments.specs.Words.{crate_words, output_words, settings_words, feature_words}
+use Rattle.pb_command_arguments.specs.Externs.{library_words, reads_of}
+use Rattle.pb_command_arguments.specs.Said.{said_words}
+use Rattle.pb_command_environment.specs.Pairs.{pairs_of}
 
 -- the query of a compiler's version, given the compiler, the workspace's root and the target folder
 abbrev pub query_of : List ℕ → List ℕ → List ℕ → Command

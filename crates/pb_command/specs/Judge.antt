@@ -4,23 +4,23 @@ use Rattle.std.specs.Prelude.{◌≡◌, ℕ, Bool, if◌then◌else◌, codes, 
 use Rattle.std.specs.FinMap as finite
 use Rattle.std.specs.Str.{bytes_eq}
 use Rattle.pb_directive.specs.declared.directive.Directive.{Directive}
-use Rattle.pb_place.specs.Folders.{files_in}
-use Rattle.pb_place.specs.World.{Map, put_files}
-use Rattle.pb_place.specs.declared.child.Reply.{Reply}
-use Rattle.pb_place.specs.declared.command.Command.{Command}
-use Rattle.pb_place.specs.declared.command.Ended.{Ended}
-use Rattle.pb_package.specs.Settled.{IsSettled}
-use Rattle.pb_package.specs.declared.options.Selection.{Selection}
+use Rattle.pb_place_types.specs.Folders.{files_in}
+use Rattle.pb_place_types.specs.World.{Map, put_files}
+use Rattle.pb_place_types.specs.declared.child.Reply.{Reply}
+use Rattle.pb_place_types.specs.declared.command.Command.{Command}
+use Rattle.pb_place_types.specs.declared.command.Ended.{Ended}
+use Rattle.pb_workspace_types.specs.Settled.{IsSettled}
+use Rattle.pb_workspace_types.specs.declared.options.Selection.{Selection}
 use Rattle.pb_unit.specs.Laws.{last_word}
 use Rattle.pb_unit.specs.Plan.{IsPlan}
 use Rattle.pb_unit.specs.declared.plan.Planned.{Planned}
-use Rattle.pb_project.specs.Targets.{dep_info_of, file_in}
-use Rattle.pb_project.specs.declared.answer.Answered.{Answered}
+use Rattle.pb_command_types.specs.Targets.{dep_info_of, file_in}
+use Rattle.pb_command_types.specs.declared.answer.Answered.{Answered}
 use Rattle.pb_record.specs.declared.record.InputName.{InputName}
-use Rattle.pb_project.specs.declared.fault.UnitFault.{UnitFault}
-use Rattle.pb_project.specs.declared.project.Project.{Project}
-use Rattle.pb_project.specs.declared.project.Setup.{Setup}
-use Rattle.pb_judging.specs.Answers.{compile_answered, run_answered, unless_fault, ended_fault, answered_of}
+use Rattle.pb_command_types.specs.declared.fault.UnitFault.{UnitFault}
+use Rattle.pb_command_types.specs.declared.project.Project.{Project}
+use Rattle.pb_command_types.specs.declared.project.Setup.{Setup}
+use Rattle.pb_command_reply.specs.Answers.{compile_answered, run_answered, unless_fault, ended_fault, answered_of}
 use Rattle.pb_command.specs.Command.{command_of}
 
 -- how the child of this reply ended

@@ -4,16 +4,16 @@ use Rattle.std.specs.Cmp.Lexicographic.{slice_cmp}
 use Rattle.std.specs.Ordering.{nat_cmp, ordering_then}
 use Rattle.pb_data.specs.Table.{value_at, names_of, last_value}
 use Rattle.pb_directive.specs.declared.directive.Directive.{Directive}
-use Rattle.pb_place.specs.Paths.{is_path, has_byte_0}
-use Rattle.pb_place.specs.declared.command.Command.{Command}
+use Rattle.pb_place_types.specs.Paths.{is_path, has_byte_0}
+use Rattle.pb_place_types.specs.declared.command.Command.{Command}
 use Rattle.pb_unit.specs.declared.plan.Planned.{Planned}
-use Rattle.pb_package.specs.Settled.{IsAscending}
-use Rattle.pb_package.specs.declared.package.Package.{Package}
-use Rattle.pb_project.specs.declared.project.Project.{Project}
-use Rattle.pb_project.specs.declared.project.Setup.{Setup}
+use Rattle.pb_workspace_types.specs.Settled.{IsAscending}
+use Rattle.pb_workspace_types.specs.declared.package.Package.{Package}
+use Rattle.pb_command_types.specs.declared.project.Project.{Project}
+use Rattle.pb_command_types.specs.declared.project.Setup.{Setup}
 use Rattle.pb_command.specs.Command.{command_of}
-use Rattle.pb_words.specs.Externs.{extern_key}
-use Rattle.pb_variables.specs.Pairs.{composed, pairs_of}
+use Rattle.pb_command_arguments.specs.Externs.{extern_key}
+use Rattle.pb_command_environment.specs.Pairs.{composed, pairs_of}
 
 -- the names of the variables are in ascending byte order, so each occurs once
 abbrev pub PairsRise : Type 0

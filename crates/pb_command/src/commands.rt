@@ -1,19 +1,19 @@
 //! The command of a unit, and the query of a compiler's version.
 
 ghost use Rattle.std.specs.Prelude.{◌≡◌, ◌++◌, IfOk, OnOk, option_map, Some};
-ghost use Rattle.pb_project.specs.Targets.{script_source};
-ghost use Rattle.pb_words.specs.Externs.{reads_of};
-ghost use Rattle.pb_variables.specs.Pairs.{pairs_of};
+ghost use Rattle.pb_command_types.specs.Targets.{script_source};
+ghost use Rattle.pb_command_arguments.specs.Externs.{reads_of};
+ghost use Rattle.pb_command_environment.specs.Pairs.{pairs_of};
 ghost use Rattle.pb_command.specs.Command.{query_of, crate_part, asked_part, words_of, compile_of, script_path, run_program, run_words, run_of, command_by, nothing_of, command_of};
 
 use pb_data::{Bytes, Items, Text, TryCopy, with_next};
 use pb_directive::Directives;
-use pb_package::{Package, Workspace};
-use pb_place::{Command, PathText};
-use pb_project::{Project, Setup, package_of, script_file};
+use pb_workspace_types::{Package, Workspace};
+use pb_place_types::{Command, PathText};
+use pb_command_types::{Project, Setup, package_of, script_file};
 use pb_unit::{Planned, What};
-use pb_variables::pairs_of;
-use pb_words::{
+use pb_command_environment::pairs_of;
+use pb_command_arguments::{
     push_copies, push_crate, push_features, push_libraries, push_output, push_said, push_settings,
     push_word, reads_of,
 };

@@ -3,7 +3,7 @@ use Rattle.std.proofs.Common.{◌≡◌, ◌≢◌, ℕ, if◌then◌else◌, Bo
 use Rattle.std.specs.List.{flat_map, list_any}
 use Rattle.std.specs.Str.{bytes_eq}
 use Rattle.pb_data.proofs.MentionLemmas.{bytes_eq_comm}
-use Rattle.pb_judging.specs.Answers.{changed_path, changed_variable, is_error}
+use Rattle.pb_command_reply.specs.Answers.{changed_path, changed_variable, is_error}
 use Rattle.pb_directive.specs.declared.directive.Directive.{Directive}
 use Rattle.pb_directive.specs.declared.directive.Directive.TheVariants.{LinkSearch, LinkLib, Cfg, CheckCfg, LinkArg, LinkArgBins, LinkArgBin, RerunIfChanged, RerunIfEnvChanged, Error}
 use Rattle.pb_command_laws.specs.Compiles.{as_line, asked}

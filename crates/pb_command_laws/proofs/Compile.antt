@@ -3,23 +3,23 @@ use Rattle.std.proofs.Common.{◌≡◌, ◌&&◌, is_some, cond, ℕ, true, fal
 use Rattle.std.proofs.lemmas.List.{append-nil}
 use Rattle.std.specs.List.{flat_map}
 use Rattle.pb_directive.specs.declared.directive.Directive.{Directive}
-use Rattle.pb_resolved.specs.Features.{features_at}
-use Rattle.pb_manifest.specs.Library.{crate_type_text}
-use Rattle.pb_manifest.specs.Package.{edition_text}
-use Rattle.pb_package.specs.Settled.{IsSettled}
-use Rattle.pb_package.specs.declared.package.Package.{Package}
-use Rattle.pb_place.specs.Paths.{is_path}
+use Rattle.pb_feature_types.specs.Features.{features_at}
+use Rattle.pb_manifest_types.specs.Library.{crate_type_text}
+use Rattle.pb_manifest_types.specs.Package.{edition_text}
+use Rattle.pb_workspace_types.specs.Settled.{IsSettled}
+use Rattle.pb_workspace_types.specs.declared.package.Package.{Package}
+use Rattle.pb_place_types.specs.Paths.{is_path}
 use Rattle.pb_unit.specs.declared.plan.Planned.{Planned}
 use Rattle.pb_unit.specs.declared.unit.What.{What}
 use Rattle.pb_unit.specs.declared.unit.What.TheVariants.{Lib, Bin, Script, Run}
-use Rattle.pb_project.specs.Targets.{package_of, crate_name_of, crate_types, source_by, is_run, said_at, own_said}
-use Rattle.pb_project.specs.declared.project.Project.{Project}
-use Rattle.pb_project.specs.declared.project.Setup.{Setup}
+use Rattle.pb_command_types.specs.Targets.{package_of, crate_name_of, crate_types, source_by, is_run, said_at, own_said}
+use Rattle.pb_command_types.specs.declared.project.Project.{Project}
+use Rattle.pb_command_types.specs.declared.project.Setup.{Setup}
 use Rattle.pb_command.specs.Command.{crate_part, words_of, command_by, command_for}
-use Rattle.pb_project.specs.NamedTexts.{in_order}
-use Rattle.pb_words.specs.Externs.{dependency_words, extern_words, externs, library_words}
-use Rattle.pb_words.specs.Said.{search_words, own_words, said_words}
-use Rattle.pb_words.specs.Words.{crate_words, output_words, settings_words, feature_words}
+use Rattle.pb_command_types.specs.NamedTexts.{in_order}
+use Rattle.pb_command_arguments.specs.Externs.{dependency_words, extern_words, externs, library_words}
+use Rattle.pb_command_arguments.specs.Said.{search_words, own_words, said_words}
+use Rattle.pb_command_arguments.specs.Words.{crate_words, output_words, settings_words, feature_words}
 use Rattle.pb_command_laws.specs.Compiles.{CompileSays, CompilesSay, is_binary, settings_table, heard, feature_is_on, features_there_are, libraries_at}
 use Rattle.pb_command_laws.specs.Libraries.{assigned, IsLibrary}
 use Rattle.pb_command_laws.specs.Reading.{said_by}

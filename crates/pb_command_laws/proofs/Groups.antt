@@ -9,30 +9,30 @@ use Rattle.std.specs.List.{flat_map, filter_map, cons_option}
 use Rattle.std.specs.Str.{bytes_eq}
 use Rattle.pb_directive.specs.declared.directive.Directive.{Directive}
 use Rattle.pb_directive.specs.declared.directive.Directive.TheVariants.{LinkSearch, LinkLib, Cfg, CheckCfg, LinkArg, LinkArgBins, LinkArgBin}
-use Rattle.pb_resolved.specs.Features.{features_at}
-use Rattle.pb_manifest.specs.Library.{crate_type_text}
-use Rattle.pb_manifest.specs.Package.{edition_text}
-use Rattle.pb_manifest.specs.declared.feature.Feature.{Feature}
-use Rattle.pb_manifest.specs.declared.package.Edition.{Edition}
-use Rattle.pb_manifest.specs.declared.package.Edition.TheVariants as edition
-use Rattle.pb_manifest.specs.declared.profile.Lto.{Lto}
-use Rattle.pb_manifest.specs.declared.profile.Lto.TheVariants as lto
-use Rattle.pb_manifest.specs.declared.profile.Strip.{Strip}
-use Rattle.pb_manifest.specs.declared.profile.Strip.TheVariants as strip
-use Rattle.pb_manifest.specs.declared.target.CrateType.{CrateType}
-use Rattle.pb_place.specs.Paths.{is_path, is_relative}
+use Rattle.pb_feature_types.specs.Features.{features_at}
+use Rattle.pb_manifest_types.specs.Library.{crate_type_text}
+use Rattle.pb_manifest_types.specs.Package.{edition_text}
+use Rattle.pb_manifest_types.specs.declared.feature.Feature.{Feature}
+use Rattle.pb_manifest_types.specs.declared.package.Edition.{Edition}
+use Rattle.pb_manifest_types.specs.declared.package.Edition.TheVariants as edition
+use Rattle.pb_manifest_types.specs.declared.profile.Lto.{Lto}
+use Rattle.pb_manifest_types.specs.declared.profile.Lto.TheVariants as lto
+use Rattle.pb_manifest_types.specs.declared.profile.Strip.{Strip}
+use Rattle.pb_manifest_types.specs.declared.profile.Strip.TheVariants as strip
+use Rattle.pb_manifest_types.specs.declared.target.CrateType.{CrateType}
+use Rattle.pb_place_types.specs.Paths.{is_path, is_relative}
 use Rattle.pb_profile.specs.Words.{opt_level_text}
 use Rattle.pb_profile.specs.declared.settings.Settings.{Settings}
 use Rattle.pb_unit.specs.declared.plan.Planned.{Planned}
 use Rattle.pb_unit.specs.declared.unit.What.{What}
 use Rattle.pb_unit.specs.declared.unit.What.TheVariants.{Lib, Bin, Script, Run}
-use Rattle.pb_package.specs.declared.package.Library.{Library}
-use Rattle.pb_package.specs.declared.package.Package.{Package}
-use Rattle.pb_project.specs.Targets.{unit_at, crate_name_of, crate_types, source_by, is_library, said_at}
-use Rattle.pb_project.specs.declared.project.Project.{Project}
-use Rattle.pb_words.specs.Externs.{folder_words, folder_words_in, folder_words_at, extern_word}
-use Rattle.pb_words.specs.Said.{search_word, link_word, condition_word, check_word, argument_word, binaries_word, binary_word, searched_words, condition_words, argument_words, binary_link_words, own_words}
-use Rattle.pb_words.specs.Words.{option, name_words, edition_word, format_words, crate_words, type_word, type_words, emit_words, out_words, output_words, setting, rpath_words, strip_words, lto_text_words, lto_words, level_words, debug_words, assertion_words, overflow_words, codegen_words, panic_words, common_settings, settings_words, feature_text, feature_word, expected_text, active_words, expected_words, feature_words, quoted, switch, debug_info_text, panic_text}
+use Rattle.pb_workspace_types.specs.declared.package.Library.{Library}
+use Rattle.pb_workspace_types.specs.declared.package.Package.{Package}
+use Rattle.pb_command_types.specs.Targets.{unit_at, crate_name_of, crate_types, source_by, is_library, said_at}
+use Rattle.pb_command_types.specs.declared.project.Project.{Project}
+use Rattle.pb_command_arguments.specs.Externs.{folder_words, folder_words_in, folder_words_at, extern_word}
+use Rattle.pb_command_arguments.specs.Said.{search_word, link_word, condition_word, check_word, argument_word, binaries_word, binary_word, searched_words, condition_words, argument_words, binary_link_words, own_words}
+use Rattle.pb_command_arguments.specs.Words.{option, name_words, edition_word, format_words, crate_words, type_word, type_words, emit_words, out_words, output_words, setting, rpath_words, strip_words, lto_text_words, lto_words, level_words, debug_words, assertion_words, overflow_words, codegen_words, panic_words, common_settings, settings_words, feature_text, feature_word, expected_text, active_words, expected_words, feature_words, quoted, switch, debug_info_text, panic_text}
 use Rattle.pb_mini.specs.CommandLine.{takes_value}
 use Rattle.pb_command_laws.specs.Libraries.{assigned}
 use Rattle.pb_command_laws.specs.Compiles.{is_binary, hears, strip_value, lto_value, row, settings_table, linker_flags, feature_is_on, features_there_are, libraries_at}

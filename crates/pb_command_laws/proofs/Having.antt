@@ -8,16 +8,16 @@ use Rattle.semver.specs.Parse.{version_parts}
 use Rattle.pb_data.specs.Table.{value_at, last_value}
 use Rattle.pb_directive.specs.declared.directive.Directive.{Directive}
 use Rattle.pb_directive.specs.declared.directive.Directive.TheVariants.{Env}
-use Rattle.pb_package.specs.declared.package.Package.{Package}
+use Rattle.pb_workspace_types.specs.declared.package.Package.{Package}
 use Rattle.pb_unit.specs.declared.plan.Planned.{Planned}
 use Rattle.pb_unit.specs.declared.unit.What.{What}
 use Rattle.pb_unit.specs.declared.unit.What.TheVariants.{Lib, Bin, Script, Run}
-use Rattle.pb_project.specs.Targets.{package_of, unit_at, crate_name_of, is_run, own_run, said_at, said_there, own_said}
-use Rattle.pb_project.specs.declared.project.Project.{Project}
-use Rattle.pb_project.specs.declared.project.Setup.{Setup}
+use Rattle.pb_command_types.specs.Targets.{package_of, unit_at, crate_name_of, is_run, own_run, said_at, said_there, own_said}
+use Rattle.pb_command_types.specs.declared.project.Project.{Project}
+use Rattle.pb_command_types.specs.declared.project.Setup.{Setup}
 use Rattle.pb_command.proofs.Rising.{last_counts}
 use Rattle.pb_command.specs.Command.{command_by, command_for, command_of}
-use Rattle.pb_variables.specs.Pairs.{package_pairs, about_pairs, numbers_in, version_pairs, version_texts, env_pair, out_pairs, run_there, own_pairs, composed, pairs_of}
+use Rattle.pb_command_environment.specs.Pairs.{package_pairs, about_pairs, numbers_in, version_pairs, version_texts, env_pair, out_pairs, run_there, own_pairs, composed, pairs_of}
 use Rattle.pb_command_laws.specs.Compiles.{binary_name, heard, row, hears}
 use Rattle.pb_command_laws.specs.Variables.{compile_table, package_table, variable_set, folder_at, CompilesHave}
 use Rattle.pb_command_laws.proofs.Lasting.{from_behind}

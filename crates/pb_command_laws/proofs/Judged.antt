@@ -8,7 +8,7 @@ use Rattle.std.specs.Option.{option_to_list}
 use Rattle.std.specs.Ordering.{int_eq}
 use Rattle.std.specs.Result.{result_ok}
 use Rattle.pb_command.proofs.Ordered.{first_off, second_off}
-use Rattle.pb_judging.specs.Answers.{answered_by, compile_answered, ended_fault, info_in, info_inputs, inherited, inputs_of, is_covered, is_error, is_foreign, is_source, is_too_long, path_or_none, path_said, paths_from, read_info, read_or_none, rerun_inputs, run_answered, said_in, said_inputs, unless_error, unless_fault, unless_foreign}
+use Rattle.pb_command_reply.specs.Answers.{answered_by, compile_answered, ended_fault, info_in, info_inputs, inherited, inputs_of, is_covered, is_error, is_foreign, is_source, is_too_long, path_or_none, path_said, paths_from, read_info, read_or_none, rerun_inputs, run_answered, said_in, said_inputs, unless_error, unless_fault, unless_foreign}
 use Rattle.pb_data.specs.Gives.{◌>>=◌, lifted}
 use Rattle.pb_data.specs.Mentions.{once}
 use Rattle.pb_directive.specs.DepInfo.{dep_info_of}
@@ -16,14 +16,14 @@ use Rattle.pb_directive.specs.Directives.{directives_of}
 use Rattle.pb_directive.specs.declared.dep_info.DepInfo.{DepInfo}
 use Rattle.pb_directive.specs.declared.directive.Directive.{Directive}
 use Rattle.pb_directive.specs.declared.fault.LineFault.{LineFault}
-use Rattle.pb_place.specs.Paths.{is_at_or_below, joined}
-use Rattle.pb_place.specs.declared.command.Command.{Command}
-use Rattle.pb_place.specs.declared.command.Ended.{Ended}
-use Rattle.pb_place.specs.declared.path.PathFault.{PathFault}
-use Rattle.pb_project.specs.Targets.{folder_of, is_run}
-use Rattle.pb_project.specs.declared.answer.Answered.{Answered}
-use Rattle.pb_project.specs.declared.fault.UnitFault.{UnitFault}
-use Rattle.pb_project.specs.declared.fault.UnitFault.TheVariants as unit_fault
+use Rattle.pb_place_types.specs.Paths.{is_at_or_below, joined}
+use Rattle.pb_place_types.specs.declared.command.Command.{Command}
+use Rattle.pb_place_types.specs.declared.command.Ended.{Ended}
+use Rattle.pb_place_types.specs.declared.path.PathFault.{PathFault}
+use Rattle.pb_command_types.specs.Targets.{folder_of, is_run}
+use Rattle.pb_command_types.specs.declared.answer.Answered.{Answered}
+use Rattle.pb_command_types.specs.declared.fault.UnitFault.{UnitFault}
+use Rattle.pb_command_types.specs.declared.fault.UnitFault.TheVariants as unit_fault
 use Rattle.pb_record.specs.declared.record.InputName.{InputName}
 use Rattle.pb_record.specs.declared.record.InputName.TheVariants.{Path, Variable}
 use Rattle.pb_unit.specs.declared.unit.What.{What}

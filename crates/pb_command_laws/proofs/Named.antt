@@ -7,25 +7,25 @@ use Rattle.std.specs.List.{list_all, AllByRecursion}
 use Rattle.std.specs.List.Sorted.{IsStrictlySortedBy}
 use Rattle.std.specs.Ordering.{nat_cmp}
 use Rattle.std.specs.declared.cmp.Ordering.TheVariants.{Less}
-use Rattle.pb_closure.proofs.Membership.{none, single, head, tail, cases}
-use Rattle.pb_closure.proofs.Placed.{placed_to, placed_from}
-use Rattle.pb_closure.specs.Placed.{placed}
+use Rattle.pb_graph.proofs.Membership.{none, single, head, tail, cases}
+use Rattle.pb_graph.proofs.Placed.{placed_to, placed_from}
+use Rattle.pb_graph.specs.Placed.{placed}
 use Rattle.pb_command.proofs.Ordered.{by_name_then_path, first_off, second_off}
 use Rattle.pb_command.proofs.Rising.{rising}
-use Rattle.pb_project.specs.NamedTexts.{in_order}
-use Rattle.pb_words.specs.Externs.{leads, library_name_at, entry_name, extern_key, extern_text, extern, entry_extern, own_extern, externs}
+use Rattle.pb_command_types.specs.NamedTexts.{in_order}
+use Rattle.pb_command_arguments.specs.Externs.{leads, library_name_at, entry_name, extern_key, extern_text, extern, entry_extern, own_extern, externs}
 use Rattle.pb_data.specs.Table.{names_of}
-use Rattle.pb_resolved.specs.Features.{is_enabled}
-use Rattle.pb_manifest.specs.Letters.{is_name, is_name_byte, is_crate_name, is_crate_name_byte, underscored, underscored_byte}
-use Rattle.pb_package.specs.Settled.{IsSettled, IsPackage}
-use Rattle.pb_package.specs.declared.package.DependencyKind.{DependencyKind}
-use Rattle.pb_package.specs.declared.package.DependencyKind.TheVariants.{Normal, Build}
-use Rattle.pb_package.specs.declared.package.Entry.{Entry}
-use Rattle.pb_package.specs.declared.package.Library.{Library}
-use Rattle.pb_package.specs.declared.package.Package.{Package}
-use Rattle.pb_place.specs.Paths.{has_byte_0}
-use Rattle.pb_project.specs.Targets.{package_of, library_in, library_name, library_file, is_script, is_run}
-use Rattle.pb_project.specs.declared.project.Project.{Project}
+use Rattle.pb_feature_types.specs.Features.{is_enabled}
+use Rattle.pb_manifest_types.specs.Letters.{is_name, is_name_byte, is_crate_name, is_crate_name_byte, underscored, underscored_byte}
+use Rattle.pb_workspace_types.specs.Settled.{IsSettled, IsPackage}
+use Rattle.pb_workspace_types.specs.declared.package.DependencyKind.{DependencyKind}
+use Rattle.pb_workspace_types.specs.declared.package.DependencyKind.TheVariants.{Normal, Build}
+use Rattle.pb_workspace_types.specs.declared.package.Entry.{Entry}
+use Rattle.pb_workspace_types.specs.declared.package.Library.{Library}
+use Rattle.pb_workspace_types.specs.declared.package.Package.{Package}
+use Rattle.pb_place_types.specs.Paths.{has_byte_0}
+use Rattle.pb_command_types.specs.Targets.{package_of, library_in, library_name, library_file, is_script, is_run}
+use Rattle.pb_command_types.specs.declared.project.Project.{Project}
 use Rattle.pb_unit.specs.Units.{is_build}
 use Rattle.pb_unit.specs.declared.plan.Planned.{Planned}
 use Rattle.pb_unit.specs.declared.unit.What.{What}

@@ -4,9 +4,9 @@ use Rattle.std.specs.Option.{option_map}
 use Rattle.pb_command.specs.Command.{command_of}
 use Rattle.pb_command.proofs.Rising.{commands_rise}
 use Rattle.pb_directive.specs.declared.directive.Directive.{Directive}
-use Rattle.pb_package.specs.declared.package.Package.{Package}
-use Rattle.pb_project.specs.Targets.{own_run, own_said, said_at, said_there}
-use Rattle.pb_project.specs.declared.project.Project.{Project}
+use Rattle.pb_workspace_types.specs.declared.package.Package.{Package}
+use Rattle.pb_command_types.specs.Targets.{own_run, own_said, said_at, said_there}
+use Rattle.pb_command_types.specs.declared.project.Project.{Project}
 use Rattle.pb_unit.specs.declared.plan.Planned.{Planned}
 use Rattle.pb_command_laws.specs.Compiles.{CompileSays, hears, heard}
 use Rattle.pb_command_laws.specs.OfPlans as plans

@@ -9,9 +9,9 @@ use Rattle.std.specs.List.Sorted.{IsStrictlySortedBy}
 use Rattle.std.specs.Ordering.{nat_cmp, is_eq}
 use Rattle.std.specs.Str.{bytes_eq}
 use Rattle.std.specs.declared.cmp.Ordering.TheVariants.{Less}
-use Rattle.pb_closure.proofs.Membership.{none, head, tail, cases}
+use Rattle.pb_graph.proofs.Membership.{none, head, tail, cases}
 use Rattle.pb_command.proofs.Rising.{rising, last_counts}
-use Rattle.pb_project.specs.NamedTexts.{in_order}
+use Rattle.pb_command_types.specs.NamedTexts.{in_order}
 use Rattle.pb_data.proofs.MentionLemmas.{bytes_eq_comm, bytes_eq_same}
 use Rattle.pb_data.specs.Table.{value_at, names_of, last_value}
 

@@ -11,20 +11,20 @@ use Rattle.pb_data.specs.Mentions.{is_mentioned}
 use Rattle.pb_data.specs.Table.{value_at, names_of, last_value}
 use Rattle.pb_directive.specs.Metadata.{in_capitals, passed, dep_pairs}
 use Rattle.pb_directive.specs.declared.directive.Directive.{Directive}
-use Rattle.pb_resolved.specs.Features.{features_at}
-use Rattle.pb_manifest.specs.declared.profile.DebugInfo.{DebugInfo}
-use Rattle.pb_manifest.specs.declared.profile.DebugInfo.TheVariants as debug_info
-use Rattle.pb_package.specs.declared.package.Package.{Package}
+use Rattle.pb_feature_types.specs.Features.{features_at}
+use Rattle.pb_manifest_types.specs.declared.profile.DebugInfo.{DebugInfo}
+use Rattle.pb_manifest_types.specs.declared.profile.DebugInfo.TheVariants as debug_info
+use Rattle.pb_workspace_types.specs.declared.package.Package.{Package}
 use Rattle.pb_profile.specs.Line.{Seen, checked_line}
 use Rattle.pb_profile.specs.Words.{opt_level_text}
 use Rattle.pb_profile.specs.declared.fault.ProfileFault.{ProfileFault}
 use Rattle.pb_unit.specs.declared.plan.Planned.{Planned}
 use Rattle.pb_unit.specs.declared.unit.What.{What}
 use Rattle.pb_unit.specs.declared.unit.What.TheVariants.{Lib, Bin, Script, Run}
-use Rattle.pb_project.specs.Targets.{package_of, unit_at, is_run, said_at}
-use Rattle.pb_project.specs.declared.project.Project.{Project}
-use Rattle.pb_project.specs.declared.project.Setup.{Setup}
-use Rattle.pb_variables.specs.Pairs.{links_pairs, feature_name, feature_pair, triple_of, is_debugged, truth_text, released_text, platform_pairs, compiler_pairs, linked_pairs, links_in, passed_by, passed_at, passed_pairs, run_pairs, own_pairs}
+use Rattle.pb_command_types.specs.Targets.{package_of, unit_at, is_run, said_at}
+use Rattle.pb_command_types.specs.declared.project.Project.{Project}
+use Rattle.pb_command_types.specs.declared.project.Setup.{Setup}
+use Rattle.pb_command_environment.specs.Pairs.{links_pairs, feature_name, feature_pair, triple_of, is_debugged, truth_text, released_text, platform_pairs, compiler_pairs, linked_pairs, links_in, passed_by, passed_at, passed_pairs, run_pairs, own_pairs}
 use Rattle.pb_command_laws.specs.Compiles.{row}
 use Rattle.pb_command_laws.specs.Variables.{package_table, debug_text, links_of_run, handed_on, run_table, RunsHave}
 use Rattle.pb_command_laws.proofs.Having.{value_is}

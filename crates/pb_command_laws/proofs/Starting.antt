@@ -2,15 +2,15 @@
 use Rattle.std.proofs.Common.{◌≡◌, ℕ, true, false, List, [], ◌∷◌, ◌++◌, map, Option, Some, None, refl, sym, ap, subst}
 use Rattle.std.specs.List.{flat_map, filter_map, cons_option}
 use Rattle.pb_directive.specs.declared.directive.Directive.{Directive}
-use Rattle.pb_package.specs.declared.package.Package.{Package}
+use Rattle.pb_workspace_types.specs.declared.package.Package.{Package}
 use Rattle.pb_unit.specs.declared.plan.Planned.{Planned}
 use Rattle.pb_unit.specs.declared.unit.What.{What}
 use Rattle.pb_unit.specs.declared.unit.What.TheVariants.{Lib, Bin, Script, Run}
-use Rattle.pb_project.specs.Targets.{unit_at, is_run, script_source, script_file}
-use Rattle.pb_project.specs.declared.project.Project.{Project}
-use Rattle.pb_project.specs.declared.project.Setup.{Setup}
+use Rattle.pb_command_types.specs.Targets.{unit_at, is_run, script_source, script_file}
+use Rattle.pb_command_types.specs.declared.project.Project.{Project}
+use Rattle.pb_command_types.specs.declared.project.Setup.{Setup}
 use Rattle.pb_command.specs.Command.{run_program, run_words, compile_of, run_of, command_by, command_for}
-use Rattle.pb_words.specs.Externs.{folder_in, read_at}
+use Rattle.pb_command_arguments.specs.Externs.{folder_in, read_at}
 use Rattle.pb_command_laws.specs.Starts.{StartsCompiler, StartsScript, CompilesStart, RunsStart}
 
 abbrev Lines : Type 0

@@ -1,17 +1,17 @@
 -- Which units of a plan a command speaks of.
 use Rattle.std.proofs.Common.{◌≡◌, ◌⊎◌, inl, inr, ℕ, Bool, true, false, cond, codes, is_some, List, ◌++◌, Contains, Option, Some, None, refl, sym, ◌∙◌, ap, subst, slice_get}
-use Rattle.pb_closure.proofs.Membership.{head}
-use Rattle.pb_manifest.specs.Letters.{underscored}
-use Rattle.pb_package.specs.declared.package.DependencyKind.{DependencyKind}
-use Rattle.pb_package.specs.declared.package.DependencyKind.TheVariants.{Normal, Build}
-use Rattle.pb_package.specs.declared.package.Entry.{Entry}
-use Rattle.pb_package.specs.declared.package.Library.{Library}
-use Rattle.pb_package.specs.declared.package.Package.{Package}
-use Rattle.pb_package.specs.declared.package.Side.{Side}
-use Rattle.pb_package.specs.declared.package.Side.TheVariants.{Host}
-use Rattle.pb_place.specs.Paths.{below}
-use Rattle.pb_project.specs.Targets.{unit_at, library_in, library_name, crate_name, file_in, file_by, is_library, is_script, is_run, needed, own_run, file_at, file_there, library_file, script_file}
-use Rattle.pb_project.specs.declared.project.Project.{Project}
+use Rattle.pb_graph.proofs.Membership.{head}
+use Rattle.pb_manifest_types.specs.Letters.{underscored}
+use Rattle.pb_workspace_types.specs.declared.package.DependencyKind.{DependencyKind}
+use Rattle.pb_workspace_types.specs.declared.package.DependencyKind.TheVariants.{Normal, Build}
+use Rattle.pb_workspace_types.specs.declared.package.Entry.{Entry}
+use Rattle.pb_workspace_types.specs.declared.package.Library.{Library}
+use Rattle.pb_workspace_types.specs.declared.package.Package.{Package}
+use Rattle.pb_workspace_types.specs.declared.package.Side.{Side}
+use Rattle.pb_workspace_types.specs.declared.package.Side.TheVariants.{Host}
+use Rattle.pb_place_types.specs.Paths.{below}
+use Rattle.pb_command_types.specs.Targets.{unit_at, library_in, library_name, crate_name, file_in, file_by, is_library, is_script, is_run, needed, own_run, file_at, file_there, library_file, script_file}
+use Rattle.pb_command_types.specs.declared.project.Project.{Project}
 use Rattle.pb_unit.specs.Plan.{profile_folder}
 use Rattle.pb_unit.specs.Units.{unit, key_of, role_of, has_library, has_script, is_build, entries_of, needs_of}
 use Rattle.pb_unit.specs.declared.plan.Planned.{Planned}

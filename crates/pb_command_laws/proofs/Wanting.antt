@@ -3,20 +3,20 @@ use Rattle.std.proofs.Common.{◌≡◌, ◌⊎◌, inl, inr, ℕ, ◌&&◌, ◌
 use Rattle.std.proofs.lemmas.Bool.Decides.{Decides-eqb}
 use Rattle.std.proofs.lemmas.List.Elements.{Contains-append_left, Contains-append_right, Contains-append_cases}
 use Rattle.std.specs.List.{find}
-use Rattle.pb_closure.proofs.Membership.{none, single, head, tail, cases}
-use Rattle.pb_closure.proofs.Placed.{placed_to, placed_from, where_true, at_true}
-use Rattle.pb_resolved.specs.Features.{is_enabled}
-use Rattle.pb_resolved.specs.declared.features.Features.{Features}
-use Rattle.pb_order.proofs.Elements.{contains_map, map_contains, at_from_contains, contains_from_at}
-use Rattle.pb_package.specs.declared.options.Selection.{Selection}
-use Rattle.pb_package.specs.declared.package.DependencyKind.{DependencyKind}
-use Rattle.pb_package.specs.declared.package.DependencyKind.TheVariants.{Normal, Build}
-use Rattle.pb_package.specs.declared.package.Entry.{Entry}
-use Rattle.pb_package.specs.declared.package.Side.{Side}
-use Rattle.pb_package.specs.declared.package.Side.TheVariants.{Host}
-use Rattle.pb_package.specs.declared.workspace.Workspace.{Workspace}
-use Rattle.pb_project.specs.Targets.{unit_at, is_library, is_script, is_run, is_one_of, needed}
-use Rattle.pb_project.specs.declared.project.Project.{Project}
+use Rattle.pb_graph.proofs.Membership.{none, single, head, tail, cases}
+use Rattle.pb_graph.proofs.Placed.{placed_to, placed_from, where_true, at_true}
+use Rattle.pb_feature_types.specs.Features.{is_enabled}
+use Rattle.pb_feature_types.specs.declared.features.Features.{Features}
+use Rattle.pb_graph.proofs.Elements.{contains_map, map_contains, at_from_contains, contains_from_at}
+use Rattle.pb_workspace_types.specs.declared.options.Selection.{Selection}
+use Rattle.pb_workspace_types.specs.declared.package.DependencyKind.{DependencyKind}
+use Rattle.pb_workspace_types.specs.declared.package.DependencyKind.TheVariants.{Normal, Build}
+use Rattle.pb_workspace_types.specs.declared.package.Entry.{Entry}
+use Rattle.pb_workspace_types.specs.declared.package.Side.{Side}
+use Rattle.pb_workspace_types.specs.declared.package.Side.TheVariants.{Host}
+use Rattle.pb_workspace_types.specs.declared.workspace.Workspace.{Workspace}
+use Rattle.pb_command_types.specs.Targets.{unit_at, is_library, is_script, is_run, is_one_of, needed}
+use Rattle.pb_command_types.specs.declared.project.Project.{Project}
 use Rattle.pb_unit.specs.Plan.{ArePlaces, IsPlan}
 use Rattle.pb_unit.specs.Units.{unit, has_library, has_script, hands_on, entries_at, is_normal, is_build, library_by, tool_by, run_by, libraries, tools, runs, own_library, own_run, needs_of, needs, Reaches, direct, onward, IsPlanned}
 use Rattle.pb_unit.specs.declared.plan.Planned.{Planned}

@@ -6,27 +6,27 @@ use Rattle.std.specs.List.{flat_map, filter_map, join_by}
 use Rattle.std.specs.Option.{option_map, option_to_list}
 use Rattle.pb_directive.specs.declared.directive.Directive.{Directive}
 use Rattle.pb_directive.specs.declared.directive.Directive.TheVariants.{LinkSearch, LinkLib, Cfg, CheckCfg, LinkArg, LinkArgBins, LinkArgBin, RerunIfChanged, RerunIfEnvChanged, Error}
-use Rattle.pb_manifest.specs.Library.{crate_type_text}
-use Rattle.pb_manifest.specs.Package.{edition_text}
-use Rattle.pb_manifest.specs.declared.feature.Feature.{Feature}
-use Rattle.pb_manifest.specs.declared.profile.Lto.{Lto}
-use Rattle.pb_manifest.specs.declared.profile.Lto.TheVariants as lto
-use Rattle.pb_manifest.specs.declared.profile.Strip.{Strip}
-use Rattle.pb_manifest.specs.declared.profile.Strip.TheVariants as strip
+use Rattle.pb_manifest_types.specs.Library.{crate_type_text}
+use Rattle.pb_manifest_types.specs.Package.{edition_text}
+use Rattle.pb_manifest_types.specs.declared.feature.Feature.{Feature}
+use Rattle.pb_manifest_types.specs.declared.profile.Lto.{Lto}
+use Rattle.pb_manifest_types.specs.declared.profile.Lto.TheVariants as lto
+use Rattle.pb_manifest_types.specs.declared.profile.Strip.{Strip}
+use Rattle.pb_manifest_types.specs.declared.profile.Strip.TheVariants as strip
 use Rattle.pb_profile.specs.Words.{opt_level_text}
 use Rattle.pb_profile.specs.declared.settings.Settings.{Settings}
-use Rattle.pb_resolved.specs.Features.{features_at}
-use Rattle.pb_package.specs.Settled.{IsSettled}
-use Rattle.pb_package.specs.declared.package.Package.{Package}
-use Rattle.pb_place.specs.Paths.{is_path}
+use Rattle.pb_feature_types.specs.Features.{features_at}
+use Rattle.pb_workspace_types.specs.Settled.{IsSettled}
+use Rattle.pb_workspace_types.specs.declared.package.Package.{Package}
+use Rattle.pb_place_types.specs.Paths.{is_path}
 use Rattle.pb_unit.specs.declared.plan.Planned.{Planned}
 use Rattle.pb_unit.specs.declared.unit.What.{What}
 use Rattle.pb_unit.specs.declared.unit.What.TheVariants.{Bin}
-use Rattle.pb_project.specs.Targets.{package_of, unit_at, crate_name_of, crate_types, source_by, is_library, is_run, said_at, own_said}
-use Rattle.pb_project.specs.declared.project.Project.{Project}
-use Rattle.pb_project.specs.declared.project.Setup.{Setup}
+use Rattle.pb_command_types.specs.Targets.{package_of, unit_at, crate_name_of, crate_types, source_by, is_library, is_run, said_at, own_said}
+use Rattle.pb_command_types.specs.declared.project.Project.{Project}
+use Rattle.pb_command_types.specs.declared.project.Setup.{Setup}
 use Rattle.pb_command.specs.Command.{command_of}
-use Rattle.pb_words.specs.Words.{switch, debug_info_text, panic_text}
+use Rattle.pb_command_arguments.specs.Words.{switch, debug_info_text, panic_text}
 use Rattle.pb_command_laws.specs.Libraries.{AreLibraries, IsLibrary, assigned}
 use Rattle.pb_command_laws.specs.Reading.{said_by, values}
 

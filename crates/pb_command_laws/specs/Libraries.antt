@@ -5,12 +5,12 @@ use Rattle.std.specs.Cmp.Lexicographic.{slice_cmp}
 use Rattle.std.specs.List.Sorted.{IsStrictlySortedBy}
 use Rattle.std.specs.Ordering.{nat_cmp, ordering_then}
 use Rattle.std.specs.declared.cmp.Ordering.{Ordering}
-use Rattle.pb_resolved.specs.Features.{is_enabled}
-use Rattle.pb_manifest.specs.Letters.{underscored}
-use Rattle.pb_package.specs.declared.package.Entry.{Entry}
-use Rattle.pb_package.specs.declared.package.Package.{Package}
-use Rattle.pb_project.specs.Targets.{library_in, library_name, library_file, is_script}
-use Rattle.pb_project.specs.declared.project.Project.{Project}
+use Rattle.pb_feature_types.specs.Features.{is_enabled}
+use Rattle.pb_manifest_types.specs.Letters.{underscored}
+use Rattle.pb_workspace_types.specs.declared.package.Entry.{Entry}
+use Rattle.pb_workspace_types.specs.declared.package.Package.{Package}
+use Rattle.pb_command_types.specs.Targets.{library_in, library_name, library_file, is_script}
+use Rattle.pb_command_types.specs.declared.project.Project.{Project}
 use Rattle.pb_unit.specs.Units.{is_build}
 use Rattle.pb_unit.specs.declared.plan.Planned.{Planned}
 use Rattle.pb_unit.specs.declared.unit.What.TheVariants.{Bin}

@@ -2,15 +2,15 @@
 -- (The Cargo Book, cargo build, Build Scripts, Environment Variables, Specifying Dependencies).
 use Rattle.std.specs.Prelude.{◌≡◌, ℕ, true, false, ◌&&◌, ◌++◌, codes, is_some, List, [], Option, Some, None}
 use Rattle.pb_command.specs.Command.{command_of}
-use Rattle.pb_project.specs.declared.project.Setup.{Setup}
+use Rattle.pb_command_types.specs.declared.project.Setup.{Setup}
 use Rattle.pb_data.specs.Table.{names_of}
 use Rattle.pb_directive.specs.declared.directive.Directive.{Directive}
-use Rattle.pb_package.specs.Settled.{IsAscending, IsSettled}
-use Rattle.pb_package.specs.declared.package.Package.{Package}
-use Rattle.pb_place.specs.Paths.{below, is_path}
-use Rattle.pb_place.specs.declared.command.Command.{Command}
-use Rattle.pb_project.specs.Targets.{is_run, said_at, source_by, unit_at}
-use Rattle.pb_project.specs.declared.project.Project.{Project}
+use Rattle.pb_workspace_types.specs.Settled.{IsAscending, IsSettled}
+use Rattle.pb_workspace_types.specs.declared.package.Package.{Package}
+use Rattle.pb_place_types.specs.Paths.{below, is_path}
+use Rattle.pb_place_types.specs.declared.command.Command.{Command}
+use Rattle.pb_command_types.specs.Targets.{is_run, said_at, source_by, unit_at}
+use Rattle.pb_command_types.specs.declared.project.Project.{Project}
 use Rattle.pb_unit.specs.Units.{unit}
 use Rattle.pb_unit.specs.declared.plan.Planned.{Planned}
 use Rattle.pb_unit.specs.declared.unit.What.TheVariants.{Run, Script}

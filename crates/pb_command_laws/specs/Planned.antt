@@ -1,17 +1,17 @@
 -- Which units of a plan a command is about: the libraries that are passed to a compile, the run that a
 -- compile hears, and the script that a run starts (The Cargo Book, Specifying Dependencies, Build Scripts).
 use Rattle.std.specs.Prelude.{◌≡◌, ◌↔◌, ℕ, ◌++◌, true, false, if◌then◌else◌, codes, is_some, List, Some, None, slice_get}
-use Rattle.pb_resolved.specs.Features.{is_enabled}
+use Rattle.pb_feature_types.specs.Features.{is_enabled}
 use Rattle.pb_directive.specs.Metadata.{underscored}
-use Rattle.pb_package.specs.declared.options.Selection.{Selection}
-use Rattle.pb_package.specs.declared.package.DependencyKind.TheVariants.{Normal, Build}
-use Rattle.pb_package.specs.declared.package.Entry.{Entry}
-use Rattle.pb_package.specs.declared.package.Library.{Library}
-use Rattle.pb_package.specs.declared.package.Package.{Package}
-use Rattle.pb_package.specs.declared.package.Side.{Side}
-use Rattle.pb_place.specs.Paths.{below}
-use Rattle.pb_project.specs.Targets.{package_of, unit_at, file_in, is_script, is_run, own_run, script_file}
-use Rattle.pb_project.specs.declared.project.Project.{Project}
+use Rattle.pb_workspace_types.specs.declared.options.Selection.{Selection}
+use Rattle.pb_workspace_types.specs.declared.package.DependencyKind.TheVariants.{Normal, Build}
+use Rattle.pb_workspace_types.specs.declared.package.Entry.{Entry}
+use Rattle.pb_workspace_types.specs.declared.package.Library.{Library}
+use Rattle.pb_workspace_types.specs.declared.package.Package.{Package}
+use Rattle.pb_workspace_types.specs.declared.package.Side.{Side}
+use Rattle.pb_place_types.specs.Paths.{below}
+use Rattle.pb_command_types.specs.Targets.{package_of, unit_at, file_in, is_script, is_run, own_run, script_file}
+use Rattle.pb_command_types.specs.declared.project.Project.{Project}
 use Rattle.pb_unit.specs.Plan.{IsPlan, profile_folder}
 use Rattle.pb_unit.specs.Units.{unit, key_of, role_of}
 use Rattle.pb_unit.specs.declared.plan.Planned.{Planned}

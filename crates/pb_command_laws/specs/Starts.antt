@@ -2,12 +2,12 @@
 use Rattle.std.specs.Prelude.{◌≡◌, ℕ, true, false, List, [], ◌∷◌, ◌++◌, map, Option, Some}
 use Rattle.std.specs.List.{filter_map}
 use Rattle.pb_directive.specs.declared.directive.Directive.{Directive}
-use Rattle.pb_package.specs.declared.package.Package.{Package}
-use Rattle.pb_place.specs.declared.command.Command.{Command}
+use Rattle.pb_workspace_types.specs.declared.package.Package.{Package}
+use Rattle.pb_place_types.specs.declared.command.Command.{Command}
 use Rattle.pb_unit.specs.declared.plan.Planned.{Planned}
-use Rattle.pb_project.specs.Targets.{package_of, unit_at, is_run, script_file}
-use Rattle.pb_project.specs.declared.project.Project.{Project}
-use Rattle.pb_project.specs.declared.project.Setup.{Setup}
+use Rattle.pb_command_types.specs.Targets.{package_of, unit_at, is_run, script_file}
+use Rattle.pb_command_types.specs.declared.project.Project.{Project}
+use Rattle.pb_command_types.specs.declared.project.Setup.{Setup}
 use Rattle.pb_command.specs.Command.{command_of}
 
 -- a unit's command starts in a folder and writes into the unit's folder;

@@ -11,19 +11,19 @@ use Rattle.pb_data.specs.Table.{value_at}
 use Rattle.pb_directive.specs.Metadata.{in_capitals, passed}
 use Rattle.pb_directive.specs.declared.directive.Directive.{Directive}
 use Rattle.pb_directive.specs.declared.directive.Directive.TheVariants.{Env}
-use Rattle.pb_resolved.specs.Features.{features_at}
-use Rattle.pb_manifest.specs.declared.profile.DebugInfo.{DebugInfo}
-use Rattle.pb_manifest.specs.declared.profile.DebugInfo.TheVariants as debug_info
-use Rattle.pb_package.specs.declared.package.Package.{Package}
-use Rattle.pb_place.specs.declared.command.Command.{Command}
+use Rattle.pb_feature_types.specs.Features.{features_at}
+use Rattle.pb_manifest_types.specs.declared.profile.DebugInfo.{DebugInfo}
+use Rattle.pb_manifest_types.specs.declared.profile.DebugInfo.TheVariants as debug_info
+use Rattle.pb_workspace_types.specs.declared.package.Package.{Package}
+use Rattle.pb_place_types.specs.declared.command.Command.{Command}
 use Rattle.pb_profile.specs.Line.{Seen, checked_line}
 use Rattle.pb_profile.specs.Words.{opt_level_text}
 use Rattle.pb_unit.specs.declared.plan.Planned.{Planned}
-use Rattle.pb_project.specs.Targets.{package_of, unit_at, crate_name_of, is_run, own_run, said_at}
-use Rattle.pb_project.specs.declared.project.Project.{Project}
-use Rattle.pb_project.specs.declared.project.Setup.{Setup}
+use Rattle.pb_command_types.specs.Targets.{package_of, unit_at, crate_name_of, is_run, own_run, said_at}
+use Rattle.pb_command_types.specs.declared.project.Project.{Project}
+use Rattle.pb_command_types.specs.declared.project.Setup.{Setup}
 use Rattle.pb_command.specs.Command.{command_of}
-use Rattle.pb_variables.specs.Pairs.{triple_of}
+use Rattle.pb_command_environment.specs.Pairs.{triple_of}
 use Rattle.pb_command_laws.specs.Compiles.{binary_name, row, hears, heard}
 
 -- a command has exactly the variables of a table: each name has the

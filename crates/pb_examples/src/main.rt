@@ -12,7 +12,7 @@
 #![tactic(auto)]
 
 use pb_mini_program::compiler;
-use pb_place::Over;
+use pb_place_types::Over;
 use pb_tool_program::{run_session, tool};
 use std::os::unix::fs::symlink;
 use std::process::{Command, ExitCode};

@@ -2,9 +2,9 @@
 use Rattle.std.proofs.Common.{◌≡◌, inl, inr, ℕ, zero, suc, ◌+◌, ◌*◌, ◌<◌, ◌≤◌, List, [], ◌∷◌, Some, length, get_or, refl, sym, ◌∙◌, ap, subst, arith}
 use Rattle.std.specs.Prelude.{slice_get}
 use Rattle.std.proofs.lemmas.Bool.{cases_order}
-use Rattle.pb_package.specs.declared.package.Side.{Side}
-use Rattle.pb_package.specs.declared.package.Side.TheVariants.{Target, Host}
-use Rattle.pb_package.specs.declared.package.Package.{Package}
+use Rattle.pb_workspace_types.specs.declared.package.Side.{Side}
+use Rattle.pb_workspace_types.specs.declared.package.Side.TheVariants.{Target, Host}
+use Rattle.pb_workspace_types.specs.declared.package.Package.{Package}
 use Rattle.pb_feature.specs.Numbers.{width_of, bases_from, end_from, side_number, number_at}
 
 -- that a package is on; that it has the feature of a slot; that an entry is enabled

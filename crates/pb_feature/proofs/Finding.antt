@@ -10,19 +10,19 @@ use Rattle.std.specs.Str.{bytes_eq}
 use Rattle.std.proofs.lemmas.Bool.{lt-ltb, le-ltb, ltb-true, ltb-false, false≢true, eqb-true}
 use Rattle.std.proofs.lemmas.Option.{slice_get_past}
 use Rattle.std.proofs.lemmas.Cmp.{nat_list_cmp_total, tied_itself}
-use Rattle.pb_manifest.specs.declared.feature.Feature.{Feature}
-use Rattle.pb_package.specs.ByKey.{table_key}
-use Rattle.pb_package.specs.Workspace.{has_feature_named}
-use Rattle.pb_package.specs.declared.package.DependencyKind.{DependencyKind}
-use Rattle.pb_package.specs.declared.package.DependencyKind.TheVariants.{Normal, Build}
-use Rattle.pb_manifest.specs.declared.feature.FeatureItem.{FeatureItem}
-use Rattle.pb_manifest.specs.declared.feature.FeatureItem.TheVariants.{Own, Dependency, Of, OfEnabled}
-use Rattle.pb_package.specs.declared.package.Entry.{Entry}
-use Rattle.pb_package.specs.declared.package.Package.{Package}
-use Rattle.pb_package.specs.declared.package.Side.{Side}
-use Rattle.pb_package.specs.declared.package.Side.TheVariants.{Target, Host}
-use Rattle.pb_closure.specs.Placed.{placed}
-use Rattle.pb_closure.specs.declared.table.Rule.{Rule}
+use Rattle.pb_manifest_types.specs.declared.feature.Feature.{Feature}
+use Rattle.pb_workspace_types.specs.ByKey.{table_key}
+use Rattle.pb_workspace_types.specs.Workspace.{has_feature_named}
+use Rattle.pb_workspace_types.specs.declared.package.DependencyKind.{DependencyKind}
+use Rattle.pb_workspace_types.specs.declared.package.DependencyKind.TheVariants.{Normal, Build}
+use Rattle.pb_manifest_types.specs.declared.feature.FeatureItem.{FeatureItem}
+use Rattle.pb_manifest_types.specs.declared.feature.FeatureItem.TheVariants.{Own, Dependency, Of, OfEnabled}
+use Rattle.pb_workspace_types.specs.declared.package.Entry.{Entry}
+use Rattle.pb_workspace_types.specs.declared.package.Package.{Package}
+use Rattle.pb_workspace_types.specs.declared.package.Side.{Side}
+use Rattle.pb_workspace_types.specs.declared.package.Side.TheVariants.{Target, Host}
+use Rattle.pb_graph.specs.Placed.{placed}
+use Rattle.pb_graph.specs.declared.table.Rule.{Rule}
 use Rattle.pb_feature.specs.Found.{entry_named, given_by, found, is_optional}
 use Rattle.pb_feature.specs.Rules.{item_rules, both_item_rules}
 use Rattle.pb_feature.specs.Numbers.{after, slot}

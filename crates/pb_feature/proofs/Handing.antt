@@ -1,18 +1,18 @@
 -- The laws of what is computed, in the words of the calls that compute it.
 use Rattle.std.proofs.Common.{◌≡◌, ◌≢◌, ◌⊎◌, inl, inr, ℕ, ◌*◌, ◌<◌, Bool, true, List, Contains, All, length, sym, ◌∙◌, ap, subst}
 use Rattle.std.specs.Prelude.{slice_get}
-use Rattle.pb_package.specs.declared.package.Package.{Package}
-use Rattle.pb_package.specs.declared.options.Selection.{Selection}
-use Rattle.pb_package.specs.declared.workspace.Workspace.{Workspace}
-use Rattle.pb_package.specs.Workspace.{has_feature_named}
-use Rattle.pb_package.specs.Settled.{IsSettled}
-use Rattle.pb_closure.specs.declared.table.Rule.{Rule}
-use Rattle.pb_closure.specs.Closure.{Least, IsLeast, is_on}
-use Rattle.pb_closure.specs.Table.{IsInRange, joined_by}
-use Rattle.pb_closure.specs.Placed.{placed}
+use Rattle.pb_workspace_types.specs.declared.package.Package.{Package}
+use Rattle.pb_workspace_types.specs.declared.options.Selection.{Selection}
+use Rattle.pb_workspace_types.specs.declared.workspace.Workspace.{Workspace}
+use Rattle.pb_workspace_types.specs.Workspace.{has_feature_named}
+use Rattle.pb_workspace_types.specs.Settled.{IsSettled}
+use Rattle.pb_graph.specs.declared.table.Rule.{Rule}
+use Rattle.pb_graph.specs.Closure.{Least, IsLeast, is_on}
+use Rattle.pb_graph.specs.Table.{IsInRange, joined_by}
+use Rattle.pb_graph.specs.Placed.{placed}
 use Rattle.pb_feature.specs.declared.fault.FeatureFault.{FeatureFault}
 use Rattle.pb_feature.specs.declared.fault.FeatureFault.TheVariants.{OutOfMemory, NoSuchFeature}
-use Rattle.pb_resolved.specs.declared.features.Features.{Features}
+use Rattle.pb_feature_types.specs.declared.features.Features.{Features}
 use Rattle.pb_feature.specs.Facts.{Has}
 use Rattle.pb_feature.specs.Faults.{IsMissing}
 use Rattle.pb_feature.specs.Numbers.{bases_from, end_from, slot}

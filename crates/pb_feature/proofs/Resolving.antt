@@ -11,29 +11,29 @@ use Rattle.std.proofs.lemmas.Bool.{false≢true, and_parts}
 use Rattle.std.proofs.lemmas.Option.{slice_get_within, get_or_from_slice_get, unwrap_or-slice_get, slice_get_cases}
 use Rattle.std.proofs.lemmas.List.Folds.{Any-from_list_any}
 use Rattle.std.proofs.lemmas.List.Elements.{All-contains, Contains-get_or}
-use Rattle.pb_manifest.specs.declared.feature.Feature.{Feature}
-use Rattle.pb_package.specs.declared.package.Side.{Side}
-use Rattle.pb_package.specs.declared.package.Side.TheVariants.{Target, Host}
-use Rattle.pb_package.specs.declared.package.Package.{Package}
-use Rattle.pb_package.specs.declared.package.Entry.{Entry}
-use Rattle.pb_package.specs.declared.options.Selection.{Selection}
-use Rattle.pb_package.specs.declared.workspace.Workspace.{Workspace}
-use Rattle.pb_package.specs.Workspace.{HasFeature}
-use Rattle.pb_package.specs.Settled.{IsSettled, IsPackage, IsAscending}
-use Rattle.pb_closure.specs.declared.table.Rule.{Rule}
-use Rattle.pb_closure.specs.Closure.{seed, joined, IsLeast, is_on}
-use Rattle.pb_closure.specs.Table.{IsInRange}
-use Rattle.pb_closure.specs.Placed.{placed}
-use Rattle.pb_closure.proofs.Membership.{none, single, cases, head, all_at}
-use Rattle.pb_closure.proofs.Placed.{placed_from, placed_to, where_true, at_true}
-use Rattle.pb_resolved.specs.declared.features.Part.{Part}
-use Rattle.pb_resolved.specs.declared.features.Sides.{Sides}
-use Rattle.pb_resolved.specs.declared.features.Features.{Features}
+use Rattle.pb_manifest_types.specs.declared.feature.Feature.{Feature}
+use Rattle.pb_workspace_types.specs.declared.package.Side.{Side}
+use Rattle.pb_workspace_types.specs.declared.package.Side.TheVariants.{Target, Host}
+use Rattle.pb_workspace_types.specs.declared.package.Package.{Package}
+use Rattle.pb_workspace_types.specs.declared.package.Entry.{Entry}
+use Rattle.pb_workspace_types.specs.declared.options.Selection.{Selection}
+use Rattle.pb_workspace_types.specs.declared.workspace.Workspace.{Workspace}
+use Rattle.pb_workspace_types.specs.Workspace.{HasFeature}
+use Rattle.pb_workspace_types.specs.Settled.{IsSettled, IsPackage, IsAscending}
+use Rattle.pb_graph.specs.declared.table.Rule.{Rule}
+use Rattle.pb_graph.specs.Closure.{seed, joined, IsLeast, is_on}
+use Rattle.pb_graph.specs.Table.{IsInRange}
+use Rattle.pb_graph.specs.Placed.{placed}
+use Rattle.pb_graph.proofs.Membership.{none, single, cases, head, all_at}
+use Rattle.pb_graph.proofs.Placed.{placed_from, placed_to, where_true, at_true}
+use Rattle.pb_feature_types.specs.declared.features.Part.{Part}
+use Rattle.pb_feature_types.specs.declared.features.Sides.{Sides}
+use Rattle.pb_feature_types.specs.declared.features.Features.{Features}
 use Rattle.pb_feature.specs.Facts.{On, Has, Enabled, of_package, IsChosen, all, asked, asked_of, default, Holds, selected, chosen}
 use Rattle.pb_feature.specs.Numbers.{bases_from, end_from, slot, slot_at, on, has, enabled}
 use Rattle.pb_feature.specs.Rules.{pair, rules_of, is_text_of, is_chosen, chosen_seeds, owner_seeds, selected_seeds, seeds_of}
 use Rattle.pb_feature.specs.Resolved.{IsResolved}
-use Rattle.pb_resolved.specs.Features.{part_of, active_of, names_of, enabled_of, is_active, features_at, is_enabled}
+use Rattle.pb_feature_types.specs.Features.{part_of, active_of, names_of, enabled_of, is_active, features_at, is_enabled}
 use Rattle.pb_feature.specs.Marked.{marked_name, marked_entry, marked_part, marked_sides, NoneMarkedMissing}
 use Rattle.pb_feature.proofs.Slots.{IsSlot, slot_named, slot_at_place, same_name}
 use Rattle.pb_feature.proofs.Cells.{Cell, IsOn, HasSlot, IsEnabled, Numbered, exact, below}

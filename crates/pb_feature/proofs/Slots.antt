@@ -8,9 +8,9 @@ use Rattle.std.specs.Cmp.Lexicographic.{slice_cmp}
 use Rattle.std.proofs.lemmas.Bool.{false≢true}
 use Rattle.std.proofs.lemmas.Slice.Eq.{bytes_eq-Decides}
 use Rattle.std.proofs.lemmas.Map.Text.{is_eq-slice_cmp}
-use Rattle.pb_package.specs.Workspace.{has_feature_named}
+use Rattle.pb_workspace_types.specs.Workspace.{has_feature_named}
 use Rattle.std.specs.Str.{bytes_eq}
-use Rattle.pb_manifest.specs.declared.feature.Feature.{Feature}
+use Rattle.pb_manifest_types.specs.declared.feature.Feature.{Feature}
 use Rattle.pb_feature.specs.Numbers.{after, slot}
 
 pub same_name : (a b : List ℕ) → bytes_eq a b ≡ true → a ≡ b

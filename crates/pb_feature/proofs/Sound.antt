@@ -5,21 +5,21 @@ use Rattle.std.specs.Str.{bytes_eq}
 use Rattle.std.proofs.lemmas.Bool.{eq-eqb, false≢true}
 use Rattle.std.proofs.lemmas.Option.{slice_get_within, get_or_from_slice_get, slice_get_cases}
 use Rattle.std.proofs.lemmas.List.Elements.{Contains-append_cases}
-use Rattle.pb_manifest.specs.declared.feature.Feature.{Feature}
-use Rattle.pb_manifest.specs.declared.feature.FeatureItem.{FeatureItem}
-use Rattle.pb_manifest.specs.declared.feature.FeatureItem.TheVariants.{Own, Dependency, Of, OfEnabled}
-use Rattle.pb_package.specs.declared.package.Side.{Side}
-use Rattle.pb_package.specs.declared.package.Side.TheVariants.{Target, Host}
-use Rattle.pb_package.specs.declared.package.Package.{Package}
-use Rattle.pb_package.specs.declared.package.Entry.{Entry}
-use Rattle.pb_package.specs.declared.options.Selection.{Selection}
-use Rattle.pb_package.specs.declared.workspace.Workspace.{Workspace}
-use Rattle.pb_package.specs.Workspace.{side_of, HasEntry, ListsItem, HasFeature}
-use Rattle.pb_package.specs.Settled.{IsSettled, IsPackage}
-use Rattle.pb_closure.specs.declared.table.Rule.{Rule}
-use Rattle.pb_closure.specs.Placed.{placed}
-use Rattle.pb_closure.proofs.Membership.{none, single, cases, head, all_at}
-use Rattle.pb_closure.proofs.Placed.{placed_from, where_true, where_false}
+use Rattle.pb_manifest_types.specs.declared.feature.Feature.{Feature}
+use Rattle.pb_manifest_types.specs.declared.feature.FeatureItem.{FeatureItem}
+use Rattle.pb_manifest_types.specs.declared.feature.FeatureItem.TheVariants.{Own, Dependency, Of, OfEnabled}
+use Rattle.pb_workspace_types.specs.declared.package.Side.{Side}
+use Rattle.pb_workspace_types.specs.declared.package.Side.TheVariants.{Target, Host}
+use Rattle.pb_workspace_types.specs.declared.package.Package.{Package}
+use Rattle.pb_workspace_types.specs.declared.package.Entry.{Entry}
+use Rattle.pb_workspace_types.specs.declared.options.Selection.{Selection}
+use Rattle.pb_workspace_types.specs.declared.workspace.Workspace.{Workspace}
+use Rattle.pb_workspace_types.specs.Workspace.{side_of, HasEntry, ListsItem, HasFeature}
+use Rattle.pb_workspace_types.specs.Settled.{IsSettled, IsPackage}
+use Rattle.pb_graph.specs.declared.table.Rule.{Rule}
+use Rattle.pb_graph.specs.Placed.{placed}
+use Rattle.pb_graph.proofs.Membership.{none, single, cases, head, all_at}
+use Rattle.pb_graph.proofs.Placed.{placed_from, where_true, where_false}
 use Rattle.pb_feature.specs.Facts.{On, Has, Enabled, Holds, required, listed, named, of_enables, of_asks, of_gives, of_enabled, leads, with_listed, with_asked, with_default}
 use Rattle.pb_feature.specs.Numbers.{bases_from, slot, features_of, slot_at, on, has, enabled}
 use Rattle.pb_feature.specs.Rules.{pair, alone, there_rules, given_rules, enabled_rules, entry_rules, of_rules, item_rules, own_rules, both_item_rules, both_own_rules, one_item_rules, feature_rules, both_entry_rules, package_rules, rules_of}

@@ -1,7 +1,7 @@
 -- A step of a loop over what each of a list gives by its place alone.
 use Rattle.std.proofs.Common.{◌≡◌, ℕ, ◌+◌, ◌<◌, List, ◌++◌, length, get_or, drop, sym, ◌∙◌, ap}
 use Rattle.std.proofs.lemmas.List.{drop_more, append_assoc}
-use Rattle.pb_closure.specs.Placed.{placed}
+use Rattle.pb_graph.specs.Placed.{placed}
 use Rattle.pb_feature.proofs.Sound.{one_at}
 
 pub placed_step : {A B : Type 0} (g : ℕ → A → List B) (xs : List A) (ys zs all w : List B) (i : ℕ) → i < length xs → ((x : A) → g i x ≡ w)

@@ -1,9 +1,9 @@
 -- Whether a requested text is a feature of a package; only private functions need these definitions.
 use Rattle.std.specs.Prelude.{◌≡◌, ℕ, Bool, false, List, Option, Some, None, Contains, slice_get}
 use Rattle.std.specs.List.{list_any}
-use Rattle.pb_manifest.specs.declared.feature.Feature.{Feature}
-use Rattle.pb_package.specs.declared.package.Package.{Package}
-use Rattle.pb_package.specs.declared.options.Selection.{Selection}
+use Rattle.pb_manifest_types.specs.declared.feature.Feature.{Feature}
+use Rattle.pb_workspace_types.specs.declared.package.Package.{Package}
+use Rattle.pb_workspace_types.specs.declared.options.Selection.{Selection}
 use Rattle.pb_feature.specs.Rules.{is_text_of}
 
 abbrev pub is_owner_of : Package → List ℕ → Bool

@@ -1,12 +1,12 @@
 -- Which packages, features and entries are on: the least set of facts closed under the rules of The Cargo Book, Features (resolver 2).
 use Rattle.std.specs.Prelude.{◌≡◌, ℕ, true, false, codes, List, ◌∷◌, ◌++◌, Contains}
-use Rattle.pb_manifest.specs.declared.feature.FeatureItem.TheVariants.{Own, Dependency, Of, OfEnabled}
-use Rattle.pb_package.specs.declared.package.Side.{Side}
-use Rattle.pb_package.specs.declared.package.Side.TheVariants.{Target}
-use Rattle.pb_package.specs.declared.package.Entry.{Entry}
-use Rattle.pb_package.specs.declared.options.Selection.{Selection}
-use Rattle.pb_package.specs.declared.workspace.Workspace.{Workspace}
-use Rattle.pb_package.specs.Workspace.{side_of, HasEntry, ListsItem, HasFeature}
+use Rattle.pb_manifest_types.specs.declared.feature.FeatureItem.TheVariants.{Own, Dependency, Of, OfEnabled}
+use Rattle.pb_workspace_types.specs.declared.package.Side.{Side}
+use Rattle.pb_workspace_types.specs.declared.package.Side.TheVariants.{Target}
+use Rattle.pb_workspace_types.specs.declared.package.Entry.{Entry}
+use Rattle.pb_workspace_types.specs.declared.options.Selection.{Selection}
+use Rattle.pb_workspace_types.specs.declared.workspace.Workspace.{Workspace}
+use Rattle.pb_workspace_types.specs.Workspace.{side_of, HasEntry, ListsItem, HasFeature}
 
 -- a package, known by its index, is on at a side; it has a feature there; its entry
 -- of an index is enabled there; a feature is requested of the package of that entry

@@ -1,8 +1,8 @@
 -- What an entry at an index yields, if one was found; only private functions need these definitions.
 use Rattle.std.specs.Prelude.{ℕ, Bool, List, Option, Some, None, slice_get}
-use Rattle.pb_manifest.specs.declared.feature.FeatureItem.{FeatureItem}
-use Rattle.pb_manifest.specs.declared.feature.FeatureItem.TheVariants.{Own, Dependency, Of, OfEnabled}
-use Rattle.pb_package.specs.declared.package.Entry.{Entry}
+use Rattle.pb_manifest_types.specs.declared.feature.FeatureItem.{FeatureItem}
+use Rattle.pb_manifest_types.specs.declared.feature.FeatureItem.TheVariants.{Own, Dependency, Of, OfEnabled}
+use Rattle.pb_workspace_types.specs.declared.package.Entry.{Entry}
 
 -- the name of the entries that an item names, if it names any
 abbrev pub entry_named : FeatureItem → Option (List ℕ)

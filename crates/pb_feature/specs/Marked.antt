@@ -1,14 +1,14 @@
 -- The resolved features as they are made from marked numbers; only private functions need these definitions.
 use Rattle.std.specs.Prelude.{◌≡◌, ℕ, ◌+◌, ◌<◌, Bool, true, false, List, [], ◌∷◌, length, if◌then◌else◌}
-use Rattle.pb_manifest.specs.declared.feature.Feature.{Feature}
-use Rattle.pb_package.specs.declared.package.Side.{Side}
-use Rattle.pb_package.specs.declared.package.Side.TheVariants.{Target, Host}
-use Rattle.pb_package.specs.declared.package.Package.{Package}
-use Rattle.pb_package.specs.declared.package.Entry.{Entry}
-use Rattle.pb_closure.specs.Closure.{is_on}
-use Rattle.pb_closure.specs.Placed.{placed}
-use Rattle.pb_resolved.specs.declared.features.Part.{Part}
-use Rattle.pb_resolved.specs.declared.features.Sides.{Sides}
+use Rattle.pb_manifest_types.specs.declared.feature.Feature.{Feature}
+use Rattle.pb_workspace_types.specs.declared.package.Side.{Side}
+use Rattle.pb_workspace_types.specs.declared.package.Side.TheVariants.{Target, Host}
+use Rattle.pb_workspace_types.specs.declared.package.Package.{Package}
+use Rattle.pb_workspace_types.specs.declared.package.Entry.{Entry}
+use Rattle.pb_graph.specs.Closure.{is_on}
+use Rattle.pb_graph.specs.Placed.{placed}
+use Rattle.pb_feature_types.specs.declared.features.Part.{Part}
+use Rattle.pb_feature_types.specs.declared.features.Sides.{Sides}
 use Rattle.pb_feature.specs.Numbers.{on, has, enabled}
 
 -- the name of a feature, if it is marked

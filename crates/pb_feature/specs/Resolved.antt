@@ -1,11 +1,11 @@
 -- What is on in a workspace.
 use Rattle.std.specs.Prelude.{◌↔◌, ℕ, IsTrue, List, Contains}
-use Rattle.pb_package.specs.declared.package.Side.{Side}
-use Rattle.pb_package.specs.declared.options.Selection.{Selection}
-use Rattle.pb_package.specs.declared.workspace.Workspace.{Workspace}
-use Rattle.pb_package.specs.Settled.{IsAscending}
-use Rattle.pb_resolved.specs.Features.{is_active, features_at, is_enabled}
-use Rattle.pb_resolved.specs.declared.features.Features.{Features}
+use Rattle.pb_workspace_types.specs.declared.package.Side.{Side}
+use Rattle.pb_workspace_types.specs.declared.options.Selection.{Selection}
+use Rattle.pb_workspace_types.specs.declared.workspace.Workspace.{Workspace}
+use Rattle.pb_workspace_types.specs.Settled.{IsAscending}
+use Rattle.pb_feature_types.specs.Features.{is_active, features_at, is_enabled}
+use Rattle.pb_feature_types.specs.declared.features.Features.{Features}
 use Rattle.pb_feature.specs.Facts.{On, Has, Enabled, Holds}
 
 -- the resolved features are exactly the facts: each package that is

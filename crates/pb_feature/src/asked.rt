@@ -8,7 +8,7 @@ ghost use Rattle.pb_feature.specs.declared.fault.FeatureFault.TheVariants.{OutOf
 
 use crate::fault::FeatureFault;
 use crate::seeds::of_package;
-use pb_package::{Package, Selection};
+use pb_workspace_types::{Package, Selection};
 use std::alloc::{AllocError, Global};
 
 /// Returns whether a text is this feature of the package of this name.

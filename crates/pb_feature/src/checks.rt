@@ -5,7 +5,7 @@ ghost use Rattle.pb_feature.specs.Checked.{is_lesser, is_lesser_at, picked, IsFi
 
 use crate::fault::FeatureFault;
 use crate::items::package_fault;
-use pb_package::Package;
+use pb_workspace_types::Package;
 
 /// A package with a wrong item.
 #[derive(Clone, Copy)]

@@ -4,15 +4,15 @@ ghost use Rattle.std.specs.Prelude.{◌≡◌, ◌||◌, false};
 ghost use Rattle.std.specs.Option.{is_some};
 ghost use Rattle.std.specs.List.{list_any};
 ghost use Rattle.std.specs.Str.{bytes_eq};
-ghost use Rattle.pb_package.specs.Workspace.{has_feature_named};
+ghost use Rattle.pb_workspace_types.specs.Workspace.{has_feature_named};
 ghost use Rattle.pb_feature.specs.Found.{found, is_optional};
 ghost use Rattle.pb_feature.specs.Faults.{absent_fault, entry_fault, optional_fault, item_fault, items_fault, features_fault, package_fault};
 
 use crate::fault::FeatureFault;
 use crate::numbers::slot;
 use pb_data::Text;
-use pb_manifest::FeatureItem;
-use pb_package::{DependencyKind, EntriesByKey, FeaturesByName, Package};
+use pb_manifest_types::FeatureItem;
+use pb_workspace_types::{DependencyKind, EntriesByKey, FeaturesByName, Package};
 
 /// Returns whether a feature has this name.
 fn has_feature_named(features: &FeaturesByName, name: &[u8]) -> bool

@@ -15,5 +15,5 @@ mod rules_of_items;
 mod seeds;
 
 pub use fault::FeatureFault;
-pub use pb_resolved::{Features, Part, Sides};
+pub use pb_feature_types::{Features, Part, Sides};
 pub use resolution::resolve;

@@ -4,7 +4,7 @@
 ghost use Rattle.std.specs.Prelude.{◌≡◌, ◌+◌, ◌*◌, IfOk, IfSome};
 ghost use Rattle.pb_feature.specs.Numbers.{width_of, bases_from, end_from, side_number, number_from, number_at, slot, slot_at, on, has, enabled};
 
-use pb_package::{FeaturesByName, Package, Side};
+use pb_workspace_types::{FeaturesByName, Package, Side};
 use std::alloc::{AllocError, Global};
 
 /// Where the numbers of each package begin, and how many numbers there are.

@@ -2,10 +2,10 @@
 //! in their order, and then the least set of what the rules yield.
 
 ghost use Rattle.std.specs.Prelude.{◌≡◌, ℕ, ◌*◌, ◌<◌, ◌⊎◌, ◌||◌, IfOk, IfErr, OnOk, All, Contains, length};
-ghost use Rattle.pb_package.specs.Settled.{IsSettled};
-ghost use Rattle.pb_closure.specs.Closure.{Least, IsLeast, is_on};
-ghost use Rattle.pb_closure.specs.Table.{joined_by};
-ghost use Rattle.pb_package.specs.declared.package.Side.TheVariants.{Target, Host};
+ghost use Rattle.pb_workspace_types.specs.Settled.{IsSettled};
+ghost use Rattle.pb_graph.specs.Closure.{Least, IsLeast, is_on};
+ghost use Rattle.pb_graph.specs.Table.{joined_by};
+ghost use Rattle.pb_workspace_types.specs.declared.package.Side.TheVariants.{Target, Host};
 ghost use Rattle.pb_feature.specs.Faults.{IsMissing, Refuses};
 ghost use Rattle.pb_feature.specs.declared.fault.FeatureFault.{FeatureFault};
 ghost use Rattle.pb_feature.specs.Numbers.{bases_from, end_from, has};
@@ -21,9 +21,9 @@ use crate::numbers::{Ground, bases_of};
 use crate::resolved::features_marked;
 use crate::rules::rules_of;
 use crate::seeds::seeds_of;
-use pb_closure::derived;
-use pb_package::{Package, SelectedWorkspace, Side};
-use pb_resolved::{Features, is_marked};
+use pb_graph::derived;
+use pb_workspace_types::{Package, SelectedWorkspace, Side};
+use pb_feature_types::{Features, is_marked};
 use std::alloc::{AllocError, Global};
 
 /// Returns the packages of the workspace from which packages are selected.

@@ -1,16 +1,16 @@
 //! The resolved features, as they are returned.
 
 ghost use Rattle.std.specs.Prelude.{◌≡◌, ◌++◌, [], ◌∷◌, IfOk, OnOk};
-ghost use Rattle.pb_closure.specs.Closure.{is_on};
-ghost use Rattle.pb_closure.specs.Placed.{placed};
+ghost use Rattle.pb_graph.specs.Closure.{is_on};
+ghost use Rattle.pb_graph.specs.Placed.{placed};
 ghost use Rattle.pb_feature.specs.Marked.{marked_name, marked_entry, marked_part, marked_sides};
 ghost use Rattle.pb_feature.specs.Numbers.{enabled as enabled_at};
 
 use crate::numbers::Ground;
 use pb_data::{Items, Text, TryCopy};
-use pb_manifest::Feature;
-use pb_package::{Entry, Package, Side};
-use pb_resolved::{Features, Part, Sides, is_marked};
+use pb_manifest_types::Feature;
+use pb_workspace_types::{Entry, Package, Side};
+use pb_feature_types::{Features, Part, Sides, is_marked};
 use std::alloc::{AllocError, Global};
 
 /// Adds the name of a feature that is marked.

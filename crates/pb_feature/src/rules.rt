@@ -6,8 +6,8 @@ ghost use Rattle.pb_feature.specs.Rules.{package_rules, rules_of};
 use crate::numbers::Ground;
 use crate::rules_of_entries::add_both_entries;
 use crate::rules_of_items::add_feature;
-use pb_closure::Rule;
-use pb_package::Package;
+use pb_graph::Rule;
+use pb_workspace_types::Package;
 use std::alloc::{AllocError, Global};
 
 /// Adds the rules of a package, on both sides.

@@ -1,14 +1,14 @@
 //! The rules that the entries of a package yield, written with numbers.
 
 ghost use Rattle.std.specs.Prelude.{◌≡◌, ◌++◌, [], ◌∷◌, OnOk};
-ghost use Rattle.pb_package.specs.Workspace.{side_of};
-ghost use Rattle.pb_closure.specs.Placed.{placed};
+ghost use Rattle.pb_workspace_types.specs.Workspace.{side_of};
+ghost use Rattle.pb_graph.specs.Placed.{placed};
 ghost use Rattle.pb_feature.specs.Rules.{alone, there_rules, given_rules, enabled_rules, entry_rules, both_entry_rules};
 
 use crate::numbers::Ground;
-use pb_closure::Rule;
+use pb_graph::Rule;
 use pb_data::Text;
-use pb_package::{DependencyKind, Entry, Package, Side};
+use pb_workspace_types::{DependencyKind, Entry, Package, Side};
 use std::alloc::AllocError;
 
 /// Returns the side on which an entry's package is made.

@@ -3,18 +3,18 @@
 
 ghost use Rattle.std.specs.Prelude.{◌≡◌, ◌+◌, ◌++◌, [], ◌∷◌, Some, OnOk, IfOk, length, if◌then◌else◌};
 ghost use Rattle.std.specs.Option.{option_copied};
-ghost use Rattle.pb_package.specs.Workspace.{side_of};
-ghost use Rattle.pb_closure.specs.Placed.{placed};
+ghost use Rattle.pb_workspace_types.specs.Workspace.{side_of};
+ghost use Rattle.pb_graph.specs.Placed.{placed};
 ghost use Rattle.pb_feature.specs.Found.{entry_named, found};
 ghost use Rattle.pb_feature.specs.Numbers.{has, enabled, slot};
 ghost use Rattle.pb_feature.specs.Rules.{alone, pair, of_rules, both_item_rules, both_own_rules, one_item_rules};
 
 use crate::numbers::{Ground, slot};
 use crate::rules_of_entries::{add_alone, add_there, side_made};
-use pb_closure::Rule;
+use pb_graph::Rule;
 use pb_data::Text;
-use pb_manifest::FeatureItem;
-use pb_package::{DependencyKind, Entry, FeaturesByName, Package, Side};
+use pb_manifest_types::FeatureItem;
+use pb_workspace_types::{DependencyKind, Entry, FeaturesByName, Package, Side};
 use std::alloc::AllocError;
 
 /// Adds the rule of a feature that lists one of its own package, by their slots.

@@ -8,8 +8,8 @@ ghost use Rattle.pb_feature.specs.Rules.{is_text_of, is_chosen, chosen_seeds, ow
 
 use crate::numbers::Ground;
 use pb_data::Text;
-use pb_manifest::Feature;
-use pb_package::{Package, Selection, Side};
+use pb_manifest_types::Feature;
+use pb_workspace_types::{Package, Selection, Side};
 use std::alloc::{AllocError, Global};
 
 /// Returns the text `PACKAGE/FEATURE`.

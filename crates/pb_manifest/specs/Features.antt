@@ -1,10 +1,62 @@
--- Texts that are split at a byte, as the items of features are (The Cargo Book, Features).
-use Rattle.std.specs.Prelude.{ℕ, ◌==◌, if◌then◌else◌, Option, Some, None, length}
-use Rattle.std.specs.List.{before_first, after_first, position_or_len}
-use Rattle.pb_manifest.specs.Values.{Text}
+-- The table `[features]` (The Cargo Book, Features).
+use Rattle.std.specs.Prelude.{List, ◌&&◌, ◌==◌, if◌then◌else◌, Option, Some, None, Ok, Err, codes, length}
+use Rattle.std.specs.Str.{bytes_eq}
+use Rattle.toml.specs.Data.{Data, Members}
+use Rattle.pb_data.specs.Gives.{◌>>=◌}
+use Rattle.pb_manifest_types.specs.Features.{parted}
+use Rattle.pb_manifest_types.specs.Letters.{is_name, is_feature_name}
+use Rattle.pb_manifest_types.specs.Values.{Text, Read}
+use Rattle.pb_manifest.specs.Values.{text_of, array_of, each, entries_at}
+use Rattle.pb_manifest_types.specs.declared.key.Key.TheVariants as key
+use Rattle.pb_manifest_types.specs.declared.fault.ManifestFault.TheVariants.{BadFeature}
+use Rattle.pb_manifest_types.specs.declared.feature.FeatureItem.{FeatureItem}
+use Rattle.pb_manifest_types.specs.declared.feature.FeatureItem.TheVariants as item
+use Rattle.pb_manifest_types.specs.declared.feature.Feature.{Feature}
 
--- the texts before and after the first such byte, if there is one
-unfoldable pub parted : ℕ → Text → Option (Text × Text)
-parted mark text =
-    if position_or_len (λ b. b == mark) text == length text then None
-    else Some (before_first (λ b. b == mark) text, after_first (λ b. b == mark) text)
+-- `F`
+abbrev pub own_item : Text → Read FeatureItem
+own_item text = if is_feature_name text then Ok (item.Own text) else Err BadFeature
+
+-- `dep:N`
+abbrev pub dependency_item : Text → Text → Read FeatureItem
+dependency_item word name = if bytes_eq word (codes "dep") && is_name name then Ok (item.Dependency name) else Err BadFeature
+
+abbrev pub whole_item : Text → Option (Text × Text) → Read FeatureItem
+whole_item text None = own_item text
+whole_item text (Some parts) = dependency_item parts.0 parts.1
+
+-- `N/F`
+abbrev pub item_of : Text → Text → Read FeatureItem
+item_of name feature = if is_name name && is_feature_name feature then Ok (item.Of name feature) else Err BadFeature
+
+-- `N?/F`, with nothing between `?` and `/`
+abbrev pub item_of_enabled : Text → Text → Text → Read FeatureItem
+item_of_enabled name between feature =
+    if length between == 0 && is_name name && is_feature_name feature then Ok (item.OfEnabled name feature) else Err BadFeature
+
+abbrev pub parted_item : Text → Option (Text × Text) → Text → Read FeatureItem
+parted_item name None feature = item_of name feature
+parted_item name (Some parts) feature = item_of_enabled parts.0 parts.1 feature
+
+abbrev pub item_from : Text → Option (Text × Text) → Read FeatureItem
+item_from text None = whole_item text (parted 58 text)
+item_from text (Some parts) = parted_item parts.0 (parted 63 parts.0) parts.1
+
+-- an item: split at `/`, and then at `?` or at `:`
+abbrev pub item_in : Text → Read FeatureItem
+item_in text = item_from text (parted 47 text)
+
+abbrev pub feature_item_of : Data → Read FeatureItem
+feature_item_of d = text_of key.Features d >>= item_in
+
+-- the items of a feature, in the manifest's order
+abbrev pub feature_items_of : Data → Read (List FeatureItem)
+feature_items_of d = array_of key.Features d >>= each feature_item_of
+
+-- a feature: first its name is checked, then its list is read
+unfoldable pub feature_of : Text → Data → Read Feature
+feature_of name d = if is_feature_name name then (feature_items_of d >>= (λ items. Ok record { name = name; items = items })) else Err BadFeature
+
+-- the features, in byte order of their names
+abbrev pub features_at : Members → Read (List Feature)
+features_at ms = entries_at feature_of key.Features ms

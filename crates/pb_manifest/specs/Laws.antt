@@ -1,10 +1,97 @@
--- A law about these definitions, in the terms of the rules.
-use Rattle.std.specs.Prelude.{◌≡◌, map, Some, None}
-use Rattle.pb_manifest.specs.Letters.{underscored_byte}
-use Rattle.pb_manifest.specs.Library.{library_name}
-use Rattle.pb_manifest.specs.Values.{Text}
-use Rattle.pb_manifest.specs.declared.target.Library.{Library}
+-- Laws of the reader, each about a definition, in the terms of the rules.
+use Rattle.std.specs.Prelude.{◌≡◌, ◌≢◌, ◌<◌, ℕ, true, List, [], ◌∷◌, ◌++◌, if◌then◌else◌, length, codes, Some, None, Ok, Err}
+use Rattle.toml.specs.Data.{Data, Items, no_items, item, Members, no_members, member, same_key, members_are_sorted}
+use Rattle.pb_manifest_types.specs.Keys.{spelled}
+use Rattle.pb_manifest_types.specs.Values.{Text, Read}
+use Rattle.pb_manifest.specs.Values.{value_at, table_at, keys_of, each}
+use Rattle.pb_manifest.specs.Binaries.{binary_of}
+use Rattle.pb_manifest.specs.Document.{document_in, manifest_of, greatest_length}
+use Rattle.pb_manifest.specs.Features.{item_in}
+use Rattle.pb_manifest_types.specs.Letters.{is_name}
+use Rattle.pb_manifest.specs.Package.{package_of}
+use Rattle.pb_manifest.specs.Promises.{Ascend, IsItem, IsManifest}
+use Rattle.pb_manifest_types.specs.declared.key.Key.{Key}
+use Rattle.pb_manifest_types.specs.declared.key.Key.TheVariants as key
+use Rattle.pb_manifest_types.specs.declared.fault.ManifestFault.TheVariants.{TooLarge}
+use Rattle.pb_manifest_types.specs.declared.feature.FeatureItem.{FeatureItem}
+use Rattle.pb_manifest_types.specs.declared.feature.FeatureItem.TheVariants as feature_item
+use Rattle.pb_manifest_types.specs.declared.inherited.Inherited.TheVariants.{Written}
+use Rattle.pb_manifest_types.specs.declared.manifest.Manifest.{Manifest}
+use Rattle.pb_manifest_types.specs.declared.package.Edition.TheVariants.{E2015}
+use Rattle.pb_manifest_types.specs.declared.package.Package.{Package}
+use Rattle.pb_manifest_types.specs.declared.target.Binary.{Binary}
 
--- a library without a written name has the package's name with `_` for each `-`
-abbrev pub DefaultLibraryName : Type 0
-DefaultLibraryName = (name : Text) (library : Library) → library.name ≡ None → (library_name name None ≡ map underscored_byte name) × (library_name name (Some library) ≡ map underscored_byte name)
+-- no rule names this key
+abbrev pub IsUnnamed : Text → Type 0
+IsUnnamed name = (k : Key) → spelled k ≢ name
+
+-- a table without one of its keys
+unfoldable pub without : Text → Members → Members
+without name no_members = no_members
+without name (member l d ms) = if same_key name l then without name ms else member l d (without name ms)
+
+-- a key that no rule names never changes the result of a reading
+abbrev pub PassesOver : {A : Type 0} → (Members → Read A) → Type 0
+PassesOver read = (name : Text) (ms : Members) → IsUnnamed name → read (without name ms) ≡ read ms
+
+-- the keys of each table of a document are in ascending order
+abbrev pub OrdersTables : Type 0
+OrdersTables = (bytes : List ℕ) (ms : Members) → document_in bytes ≡ Ok ms → members_are_sorted ms ≡ true
+
+-- the keys of the table at a key are in ascending order
+abbrev pub OrdersInnerTables : Type 0
+OrdersInnerTables = (k : Key) (ms inner : Members) → members_are_sorted ms ≡ true → table_at k ms ≡ Ok (Some inner) → members_are_sorted inner ≡ true
+
+-- in a table with ascending keys, each key is less than all keys after it
+abbrev pub OrdersKeys : Type 0
+OrdersKeys = (ms : Members) → members_are_sorted ms ≡ true → Ascend (keys_of ms)
+
+-- a manifest over the size limit is refused, whatever it contains
+abbrev pub RefusesLarge : Type 0
+RefusesLarge = (bytes : List ℕ) → greatest_length < length bytes → manifest_of bytes ≡ Err TooLarge
+
+-- each manifest that was read keeps the promises
+abbrev pub KeepsPromises : Type 0
+KeepsPromises = (bytes : List ℕ) (m : Manifest) → manifest_of bytes ≡ Ok m → IsManifest m
+
+-- how an item of a feature is spelled, in its four forms
+abbrev pub item_text : FeatureItem → Text
+item_text (feature_item.Own feature) = feature
+item_text (feature_item.Dependency name) = codes "dep:" ++ name
+item_text (feature_item.Of name feature) = name ++ (codes "/" ++ feature)
+item_text (feature_item.OfEnabled name feature) = name ++ (codes "?/" ++ feature)
+
+-- the text spells the item, and the item's names have valid letters
+pub record IsSpelled (text : Text) (i : FeatureItem) : Type 0 where
+  pub spelling : text ≡ item_text i
+  pub letters : IsItem i
+
+-- if a text is read as an item, it is the item's own spelling
+abbrev pub SpellsItems : Type 0
+SpellsItems = (text : Text) (i : FeatureItem) → item_in text ≡ Ok i → IsSpelled text i
+
+-- each spelling of an item with valid names is read as that item
+abbrev pub ReadsSpellings : Type 0
+ReadsSpellings = (i : FeatureItem) → IsItem i → item_in (item_text i) ≡ Ok i
+
+-- a package that was read has a valid, non-empty name
+abbrev pub NamesPackages : Type 0
+NamesPackages = (bytes : List ℕ) (m : Manifest) (p : Package) → manifest_of bytes ≡ Ok m → m.package ≡ Some p → is_name p.name ≡ true
+
+-- a package without an edition has the edition 2015, and one without a version has the version 0.0.0
+abbrev pub DefaultEdition : Type 0
+DefaultEdition = (ms : Members) (p : Package) → value_at key.Edition ms ≡ None → package_of ms ≡ Ok p → p.edition ≡ Written E2015
+
+abbrev pub DefaultVersion : Type 0
+DefaultVersion = (ms : Members) (p : Package) → value_at key.Version ms ≡ None → package_of ms ≡ Ok p → p.version ≡ Written (codes "0.0.0")
+
+-- the values of a list are read one for one, in its order
+abbrev pub AreReadInOrder : {A : Type 0} → (Data → Read A) → Items → List A → Type 0
+AreReadInOrder read no_items [] = Unit {0}
+AreReadInOrder read no_items (x ∷ xs) = ⊥
+AreReadInOrder read (item d ds) [] = ⊥
+AreReadInOrder read (item d ds) (x ∷ xs) = (read d ≡ Ok x) × AreReadInOrder read ds xs
+
+-- the binaries are those of the list, in the list's order
+abbrev pub KeepsOrder : Type 0
+KeepsOrder = (ds : Items) (binaries : List Binary) → each binary_of ds ≡ Ok binaries → AreReadInOrder binary_of ds binaries

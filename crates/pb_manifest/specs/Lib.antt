@@ -1,8 +1,14 @@
+pub mod Binaries
+pub mod Dependencies
+pub mod Document
 pub mod Features
-pub mod Keys
+pub mod FirstFaults
 pub mod Laws
-pub mod Letters
 pub mod Library
+pub mod OwnKeys
 pub mod Package
+pub mod Profiles
+pub mod Promises
 pub mod Values
 pub mod Versions
+pub mod Workspace

@@ -1,27 +1,55 @@
--- How crate types are spelled, and the name of a package's library (The Cargo Book, Cargo Targets).
-use Rattle.std.specs.Prelude.{ℕ, List, [], ◌∷◌, map, Option, Some, None, codes}
-use Rattle.pb_manifest.specs.Letters.{underscored}
-use Rattle.pb_manifest.specs.Values.{Text}
-use Rattle.pb_manifest.specs.declared.target.CrateType.{CrateType}
-use Rattle.pb_manifest.specs.declared.target.CrateType.TheVariants.{Lib, Rlib, Bin}
-use Rattle.pb_manifest.specs.declared.target.Library.{Library}
+-- The table `[lib]` (The Cargo Book, Manifest Format and Cargo Targets).
+use Rattle.std.specs.Prelude.{List, Bool, if◌then◌else◌, Option, Some, None, Ok, Err, codes}
+use Rattle.std.specs.Str.{bytes_eq}
+use Rattle.toml.specs.Data.{Data, Members}
+use Rattle.pb_data.specs.Gives.{◌>>=◌}
+use Rattle.pb_manifest_types.specs.Letters.{is_crate_name}
+use Rattle.pb_manifest_types.specs.Values.{Text, Read}
+use Rattle.pb_manifest.specs.Values.{text_of, array_of, optional, each, value_at, text_at, path_at, truth_at, listed, is_true}
+use Rattle.pb_manifest_types.specs.declared.key.Key.TheVariants as key
+use Rattle.pb_manifest_types.specs.declared.fault.ManifestFault.TheVariants.{BadName, UnsupportedCrateType}
+use Rattle.pb_manifest_types.specs.declared.target.CrateType.{CrateType}
+use Rattle.pb_manifest_types.specs.declared.target.CrateType.TheVariants.{Lib, Rlib, Bin}
+use Rattle.pb_manifest_types.specs.declared.target.Library.{Library}
 
--- a crate type as a manifest and the compiler's `--crate-type` spell it
-abbrev pub crate_type_text : CrateType → List ℕ
-crate_type_text Lib = codes "lib"
-crate_type_text Rlib = codes "rlib"
-crate_type_text Bin = codes "bin"
+-- a supported crate type
+abbrev pub crate_type_in : Text → Read CrateType
+crate_type_in text =
+    if bytes_eq text (codes "lib") then Ok Lib
+    else if bytes_eq text (codes "rlib") then Ok Rlib
+    else if bytes_eq text (codes "bin") then Ok Bin
+    else Err UnsupportedCrateType
 
--- the crate types of a library, in the manifest's order; `lib` if none is written
-abbrev pub crate_type_texts : List CrateType → List (List ℕ)
-crate_type_texts [] = codes "lib" ∷ []
-crate_type_texts (t ∷ ts) = map crate_type_text (t ∷ ts)
+abbrev pub crate_type_of : Data → Read CrateType
+crate_type_of d = text_of key.CrateType d >>= crate_type_in
 
-abbrev pub named_or : Option Text → Text → Text
-named_or None default = default
-named_or (Some own) default = own
+abbrev pub crate_types_of : Data → Read (List CrateType)
+crate_types_of d = array_of key.CrateType d >>= each crate_type_of
 
--- the name of a package's library: its own, or the package's with `_` for each `-`
-abbrev pub library_name : Text → Option Library → Text
-library_name name None = underscored name
-library_name name (Some library) = named_or library.name (underscored name)
+-- the crate types of `[lib]`, none if the key is missing
+abbrev pub crate_types_at : Members → Read (List CrateType)
+crate_types_at ms = optional crate_types_of (value_at key.CrateType ms) >>= (λ found. Ok (listed found))
+
+-- the name of the crate, if one is written
+abbrev pub crate_name_in : Option Text → Read (Option Text)
+crate_name_in None = Ok None
+crate_name_in (Some text) = if is_crate_name text then Ok (Some text) else Err BadName
+
+abbrev pub crate_name_at : Members → Read (Option Text)
+crate_name_at ms = text_at key.Name ms >>= crate_name_in
+
+-- `proc-macro = true` is an error, since it requests an unsupported crate type
+abbrev pub proc_macro_in : Option Bool → Read (Unit {0})
+proc_macro_in found = if is_true found then Err UnsupportedCrateType else Ok tt
+
+abbrev pub proc_macro_at : Members → Read (Unit {0})
+proc_macro_at ms = truth_at key.ProcMacro ms >>= proc_macro_in
+
+-- the keys of `[lib]`, in byte order
+abbrev pub library_of : Members → Read Library
+library_of ms =
+    crate_types_at ms >>= (λ crate_types.
+    crate_name_at ms >>= (λ name.
+    path_at key.Path ms >>= (λ path.
+    proc_macro_at ms >>= (λ proc_macro.
+    Ok record { crate_types = crate_types; name = name; path = path }))))

@@ -1,84 +1,132 @@
-//! The tables of dependencies (The Cargo Book, Specifying Dependencies and Workspaces).
+//! Reads `[dependencies]` and `[build-dependencies]` (The Cargo Book, Specifying Dependencies).
 
-use crate::version::Requirement;
-use crate::written_path::WrittenPath;
-use pb_data::{Items, Text, TryCopy};
-use std::alloc::{AllocError, Global};
+ghost use Rattle.std.specs.Prelude.{◌≡◌, false};
+ghost use Rattle.toml.specs.View.{view, table_view};
+ghost use Rattle.pb_manifest_types.specs.Values.{Gives};
+ghost use Rattle.pb_manifest.specs.Values.{each_entry};
+ghost use Rattle.pb_manifest.specs.Dependencies.{own_path, last_keys, source_of, dependency_keys, dependency_of, dependencies_at};
 
-/// The package that an entry with a path requests.
-#[derive(Drop)]
-pub struct PathSource {
-    /// The package's folder, relative to the manifest's folder, or in `[workspace.dependencies]`
-    /// relative to the workspace's root.
-    pub path: WrittenPath,
-    /// The package's name. None means the entry's key.
-    pub package: Option<Text>,
-    /// The requirement on the package's version. None means any version.
-    pub version: Option<Requirement>,
-    /// Whether the package's feature `default` is requested. True unless `default-features =
-    /// false`.
-    pub default_features: bool,
-}
+use crate::entry::{
+    FirstKeys, LastKeys, at_path, first_keys, refused_where, version_and_workspace,
+};
+use crate::values::{has, path_at, table_at, takes_workspace};
+use pb_data::{Items, Text, with_next};
+use pb_manifest_types::letters::is_name;
+use pb_manifest_types::{Dependency, Key, ManifestFault, Requirement, Source, WrittenPath};
+use std::alloc::Global;
+use toml::{Table, Value};
 
-impl TryCopy for PathSource {
-    fn copy(&self, alloc: Global) -> Result<PathSource, AllocError> {
-        let path = self.path.copy(alloc)?;
-        let package = self.package.copy(alloc)?;
-        let version = self.version.copy(alloc)?;
-        Ok(PathSource {
-            path,
-            package,
-            version,
-            default_features: self.default_features,
-        })
+/// Returns the path of an entry: none if `workspace = true` is written, and required otherwise.
+fn own_path(taken: bool, path: Option<WrittenPath>) -> Result<Option<WrittenPath>, ManifestFault>
+    ensures { result ≡ own_path taken path }
+{
+    if taken {
+        return Ok(None);
+    }
+    match path {
+        Some(path) => Ok(Some(path)),
+        None => Err(ManifestFault::UnsupportedSource),
     }
 }
 
-/// The source of a package's own dependency.
-#[derive(Drop)]
-pub enum Source {
-    /// A folder.
-    Path(PathSource),
-    /// `workspace = true`: the entry with this key in `[workspace.dependencies]`. The entry's
-    /// `path`, `package` and `version` have no effect next to it.
-    Workspace {
-        /// Whether `default-features = true` is written next to it, which requests the package's
-        /// feature `default` even if that entry does not. `default-features = false` has no effect:
-        /// our own choice.
-        default_features: bool,
-    },
+/// Returns the keys of an entry from `path` to `workspace`.
+fn last_keys(alloc: Global, table: &Table) -> Result<LastKeys, ManifestFault>
+    ensures { Gives result (last_keys (table_view table.now)) }
+{
+    let path = own_path(takes_workspace(table), path_at(alloc, table, Key::Path)?)?;
+    refused_where(has(table, Key::Registry))?;
+    let version = version_and_workspace(alloc, table)?;
+    Ok(LastKeys { path, version })
 }
 
-/// An entry of `[dependencies]` or `[build-dependencies]`.
-#[derive(Drop)]
-pub struct Dependency {
-    /// The name that the manifest uses for it, with the letters of package names.
-    pub key: Text,
-    /// The source of the dependency.
-    pub source: Source,
-    /// False if it is not written.
-    pub optional: bool,
-    /// The features that it requests, in the manifest's order. With `workspace = true` they are
-    /// added to those of the workspace's entry.
-    pub features: Items<Text>,
+/// Returns the source of an entry.
+fn source_of(
+    default_features: Option<bool>,
+    package: Option<Text>,
+    version: Option<Requirement>,
+    path: Option<WrittenPath>,
+) -> Source
+    ensures { result ≡ source_of default_features «package» version path }
+{
+    match path {
+        Some(path) => Source::Path(at_path(default_features, package, version, path)),
+        None => Source::Workspace {
+            default_features: default_features.unwrap_or(false),
+        },
+    }
 }
 
-/// The source of an entry of `[workspace.dependencies]`.
-#[derive(Drop)]
-pub enum WorkspaceSource {
-    /// A folder.
-    Path(PathSource),
-    /// `git`, `registry` or no path. It is refused only if a package inherits the entry.
-    Unsupported,
+/// Returns an entry that is a table.
+fn dependency_keys(alloc: Global, name: &str, table: &Table) -> Result<Dependency, ManifestFault>
+    ensures { Gives result (dependency_keys name.now (table_view table.now)) }
+{
+    let first = first_keys(alloc, false, table)?;
+    let (first, last) = with_next(first, last_keys(alloc, table))?;
+    let ((first, last), key) = with_next((first, last), Text::from_str(alloc, name))?;
+    let FirstKeys {
+        default_features,
+        features,
+        optional,
+        package,
+    } = first;
+    let LastKeys { path, version } = last;
+    Ok(Dependency {
+        key,
+        source: source_of(default_features, package, version, path),
+        optional,
+        features,
+    })
 }
 
-/// An entry of `[workspace.dependencies]`. Its `optional` has no effect.
-#[derive(Drop)]
-pub struct WorkspaceDependency {
-    /// The name by which packages inherit it, with the letters of package names.
-    pub key: Text,
-    /// The source of the dependency.
-    pub source: WorkspaceSource,
-    /// The features that it requests, in the manifest's order.
-    pub features: Items<Text>,
+/// Returns an entry of the table at a key. An entry that is a version is refused, since it has no
+/// path.
+#[tactic(auto, unfolding(crate::specs::Dependencies::dependency_of))]
+fn dependency_of(
+    alloc: Global,
+    key: Key,
+    name: &str,
+    value: &Value,
+) -> Result<Dependency, ManifestFault>
+    ensures { Gives result (dependency_of key name.now (view value.now)) }
+{
+    if !is_name(name) {
+        return Err(ManifestFault::BadName);
+    }
+    if value.as_str().is_some() {
+        return Err(ManifestFault::UnsupportedSource);
+    }
+    match value.as_table() {
+        Some(table) => dependency_keys(alloc, name, table),
+        None => Err(ManifestFault::BadKind(key)),
+    }
+}
+
+/// Returns the entries of a table, in byte order of their keys.
+fn each_dependency(
+    alloc: Global,
+    key: Key,
+    table: &Table,
+) -> Result<Items<Dependency>, ManifestFault>
+    ensures { Gives result (each_entry (dependency_of key) (table_view table.now)) }
+{
+    let mut dependencies = Items::new(alloc);
+    for (name, value) in table {
+        dependencies.push(dependency_of(alloc, key, name.as_str(), value)?)?;
+    }
+    Ok(dependencies)
+}
+
+/// Returns the entries of `[dependencies]` or `[build-dependencies]`, none if there is no such
+/// table.
+pub(crate) fn dependencies_at(
+    alloc: Global,
+    key: Key,
+    table: &Table,
+) -> Result<Items<Dependency>, ManifestFault>
+    ensures { Gives result (dependencies_at key (table_view table.now)) }
+{
+    match table_at(table, key)? {
+        None => Ok(Items::new(alloc)),
+        Some(entries) => each_dependency(alloc, key, entries),
+    }
 }

@@ -1,25 +1,181 @@
-//! The table `[features]`.
+//! Reads `[features]` (The Cargo Book, Features).
 
+ghost use Rattle.std.specs.Prelude.{◌≡◌, option_map};
+ghost use Rattle.toml.specs.View.{view, table_view, items_view};
+ghost use Rattle.pb_manifest_types.specs.Features.{parted};
+ghost use Rattle.pb_manifest_types.specs.Values.{Gives};
+ghost use Rattle.pb_manifest.specs.Values.{each, each_entry};
+ghost use Rattle.pb_manifest.specs.Features.{own_item, dependency_item, whole_item, item_of, item_of_enabled, parted_item, item_in, feature_item_of, feature_items_of, feature_of, features_at};
+
+use crate::values::{array_of, table_at};
 use pb_data::{Items, Text};
+use pb_manifest_types::letters::{is_feature_name, is_name};
+use pb_manifest_types::{Feature, FeatureItem, Key, ManifestFault};
+use std::alloc::Global;
+use toml::{Table, Value};
 
-/// An item that a feature enables (The Cargo Book, Features).
-#[derive(Drop)]
-pub enum FeatureItem {
-    /// `F`: a feature of the package itself.
-    Own(Text),
-    /// `dep:N`: the optional dependency N.
-    Dependency(Text),
-    /// `N/F`: the dependency N and its feature F.
-    Of { dependency: Text, feature: Text },
-    /// `N?/F`: the feature F of the dependency N, if N is enabled.
-    OfEnabled { dependency: Text, feature: Text },
+/// Returns the texts before and after the first `/`, if there is one.
+#[tactic(auto, unfolding(pb_manifest_types::specs::Features::parted))]
+fn parted_at_slash(text: &str) -> Option<(&str, &str)>
+    ensures { option_map (λ x. (x.0.now, x.1.now)) result ≡ parted 47 text.now }
+{
+    text.split_once('/')
 }
 
-/// A feature and the items that it enables, in the manifest's order.
-#[derive(Drop)]
-pub struct Feature {
-    /// Its name: ASCII letters, digits and `_`, after the first also `-`, `+` and `.`; not empty.
-    pub name: Text,
-    /// The items that it enables, in the manifest's order.
-    pub items: Items<FeatureItem>,
+/// Returns the texts before and after the first `?`, if there is one.
+#[tactic(auto, unfolding(pb_manifest_types::specs::Features::parted))]
+fn parted_at_question_mark(text: &str) -> Option<(&str, &str)>
+    ensures { option_map (λ x. (x.0.now, x.1.now)) result ≡ parted 63 text.now }
+{
+    text.split_once('?')
+}
+
+/// Returns the texts before and after the first `:`, if there is one.
+#[tactic(auto, unfolding(pb_manifest_types::specs::Features::parted))]
+fn parted_at_colon(text: &str) -> Option<(&str, &str)>
+    ensures { option_map (λ x. (x.0.now, x.1.now)) result ≡ parted 58 text.now }
+{
+    text.split_once(':')
+}
+
+/// Returns the item `F`.
+fn own_item(alloc: Global, text: &str) -> Result<FeatureItem, ManifestFault>
+    ensures { Gives result (own_item text.now) }
+{
+    if !is_feature_name(text) {
+        return Err(ManifestFault::BadFeature);
+    }
+    let feature = Text::from_str(alloc, text)?;
+    Ok(FeatureItem::Own(feature))
+}
+
+/// Returns the item `dep:N` of the text before the colon and the name after it.
+fn dependency_item(alloc: Global, word: &str, name: &str) -> Result<FeatureItem, ManifestFault>
+    ensures { Gives result (dependency_item word.now name.now) }
+{
+    if word != "dep" || !is_name(name) {
+        return Err(ManifestFault::BadFeature);
+    }
+    let name = Text::from_str(alloc, name)?;
+    Ok(FeatureItem::Dependency(name))
+}
+
+/// Returns an item without `/`.
+fn whole_item(alloc: Global, text: &str) -> Result<FeatureItem, ManifestFault>
+    ensures { Gives result (whole_item text.now (parted 58 text.now)) }
+{
+    match parted_at_colon(text) {
+        None => own_item(alloc, text),
+        Some((word, name)) => dependency_item(alloc, word, name),
+    }
+}
+
+/// Returns the item `N/F`.
+fn item_of(alloc: Global, name: &str, feature: &str) -> Result<FeatureItem, ManifestFault>
+    ensures { Gives result (item_of name.now feature.now) }
+{
+    if !is_name(name) || !is_feature_name(feature) {
+        return Err(ManifestFault::BadFeature);
+    }
+    let dependency = Text::from_str(alloc, name)?;
+    let feature = Text::from_str(alloc, feature)?;
+    Ok(FeatureItem::Of {
+        dependency,
+        feature,
+    })
+}
+
+/// Returns the item `N?/F`, if nothing is between `?` and `/`.
+fn item_of_enabled(
+    alloc: Global,
+    name: &str,
+    between: &str,
+    feature: &str,
+) -> Result<FeatureItem, ManifestFault>
+    ensures { Gives result (item_of_enabled name.now between.now feature.now) }
+{
+    if !between.is_empty() || !is_name(name) || !is_feature_name(feature) {
+        return Err(ManifestFault::BadFeature);
+    }
+    let dependency = Text::from_str(alloc, name)?;
+    let feature = Text::from_str(alloc, feature)?;
+    Ok(FeatureItem::OfEnabled {
+        dependency,
+        feature,
+    })
+}
+
+/// Returns an item with `/`.
+fn parted_item(alloc: Global, name: &str, feature: &str) -> Result<FeatureItem, ManifestFault>
+    ensures { Gives result (parted_item name.now (parted 63 name.now) feature.now) }
+{
+    match parted_at_question_mark(name) {
+        None => item_of(alloc, name, feature),
+        Some((name, between)) => item_of_enabled(alloc, name, between, feature),
+    }
+}
+
+/// Returns an item of a feature.
+fn item_in(alloc: Global, text: &str) -> Result<FeatureItem, ManifestFault>
+    ensures { Gives result (item_in text.now) }
+{
+    match parted_at_slash(text) {
+        None => whole_item(alloc, text),
+        Some((name, feature)) => parted_item(alloc, name, feature),
+    }
+}
+
+/// Returns an item of a feature.
+fn feature_item_of(alloc: Global, value: &Value) -> Result<FeatureItem, ManifestFault>
+    ensures { Gives result (feature_item_of (view value.now)) }
+{
+    match value.as_str() {
+        Some(text) => item_in(alloc, text),
+        None => Err(ManifestFault::BadKind(Key::Features)),
+    }
+}
+
+/// Returns the items of a list.
+fn each_feature_item(alloc: Global, values: &[Value]) -> Result<Items<FeatureItem>, ManifestFault>
+    ensures { Gives result (each feature_item_of (items_view values.now)) }
+{
+    let mut items = Items::new(alloc);
+    for value in values {
+        items.push(feature_item_of(alloc, value)?)?;
+    }
+    Ok(items)
+}
+
+/// Returns a feature.
+#[tactic(auto, unfolding(crate::specs::Features::feature_of))]
+fn feature_of(alloc: Global, name: &str, value: &Value) -> Result<Feature, ManifestFault>
+    ensures { Gives result (feature_of name.now (view value.now)) }
+{
+    if !is_feature_name(name) {
+        return Err(ManifestFault::BadFeature);
+    }
+    let items = each_feature_item(alloc, array_of(value, Key::Features)?)?;
+    let name = Text::from_str(alloc, name)?;
+    Ok(Feature { name, items })
+}
+
+/// Returns the features of a table, in byte order of their names.
+fn each_feature(alloc: Global, table: &Table) -> Result<Items<Feature>, ManifestFault>
+    ensures { Gives result (each_entry feature_of (table_view table.now)) }
+{
+    let mut features = Items::new(alloc);
+    for (name, value) in table {
+        features.push(feature_of(alloc, name.as_str(), value)?)?;
+    }
+    Ok(features)
+}
+
+/// Returns the table `[features]`, empty if there is none.
+pub(crate) fn features_at(alloc: Global, table: &Table) -> Result<Items<Feature>, ManifestFault>
+    ensures { Gives result (features_at (table_view table.now)) }
+{
+    match table_at(table, Key::Features)? {
+        None => Ok(Items::new(alloc)),
+        Some(entries) => each_feature(alloc, entries),
+    }
 }

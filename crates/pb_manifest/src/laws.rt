@@ -1,9 +1,121 @@
-//! A law about the definitions. The function does nothing; its contract is the law.
+//! Laws about the reader's definitions, in the terms of the rules. Each function does nothing; its
+//! contract is the law.
 
-ghost use Rattle.pb_manifest.specs.Laws.{DefaultLibraryName};
+ghost use Rattle.std.specs.Prelude.{◌≡◌, ◌<◌, ℕ, List};
+ghost use Rattle.pb_manifest.specs.Binaries.{binary_keys};
+ghost use Rattle.pb_manifest.specs.Dependencies.{dependency_keys, dependency_of, shared_dependency_keys, shared_dependency_of};
+ghost use Rattle.pb_manifest.specs.Document.{document_of};
+ghost use Rattle.pb_manifest.specs.Laws.{OrdersTables, OrdersInnerTables, OrdersKeys, SpellsItems, ReadsSpellings, KeepsPromises, PassesOver, RefusesLarge, NamesPackages, DefaultEdition, DefaultVersion, KeepsOrder};
+ghost use Rattle.pb_manifest.specs.FirstFaults.{TellsLowest, TellsLowestEntry, faults_of_package, faults_of_library, faults_of_binary, faults_of_dependency, faults_of_shared_dependency, faults_of_inherited, faults_of_workspace};
+ghost use Rattle.pb_manifest.specs.Features.{feature_of};
+ghost use Rattle.pb_manifest.specs.Library.{library_of};
+ghost use Rattle.pb_manifest.specs.OwnKeys.{LooksAt, of_package, of_library, of_binary, of_dependency, of_settings, of_profile, of_workspace, of_inherited, of_document};
+ghost use Rattle.pb_manifest.specs.Package.{package_of};
+ghost use Rattle.pb_manifest.specs.Profiles.{override_of, profile_keys, profile_of, profile_of_table};
+ghost use Rattle.pb_manifest_types.specs.Values.{Text};
+ghost use Rattle.pb_manifest.specs.Workspace.{workspace_of, workspace_package_of};
+ghost use Rattle.pb_manifest_types.specs.declared.key.Key.{Key};
 
-/// A library without a name of its own has its package's name, with `_` for each `-`.
-#[tactic(auto, unfolding(crate::specs::Letters::underscored))]
-pub fn default_library_name()
-    ensures { DefaultLibraryName }
+/// In each table with fixed keys, a key that no rule names never changes the result (The Cargo
+/// Book, Manifest Format: unused keys cause at most a warning).
+pub fn unnamed_keys_change_nothing()
+    ensures package { PassesOver package_of }
+    ensures library { PassesOver library_of }
+    ensures binary { PassesOver binary_keys }
+    ensures dependency { (name : Text) → PassesOver (dependency_keys name) }
+    ensures shared_dependency { (name : Text) → PassesOver (shared_dependency_keys name) }
+    ensures profile { (name : Text) → PassesOver (profile_of_table name) }
+    ensures settings { PassesOver profile_keys }
+    ensures workspace { PassesOver workspace_of }
+    ensures inherited { PassesOver workspace_package_of }
+    ensures document { PassesOver document_of }
+{}
+
+/// The reading of each table looks only at the table's own keys: it returns the same for two tables
+/// with the same values at these keys.
+pub fn tables_look_at_their_own_keys()
+    ensures package { LooksAt of_package package_of }
+    ensures library { LooksAt of_library library_of }
+    ensures binary { LooksAt of_binary binary_keys }
+    ensures dependency { (name : Text) → LooksAt of_dependency (dependency_keys name) }
+    ensures shared_dependency { (name : Text) → LooksAt of_dependency (shared_dependency_keys name) }
+    ensures profile { (name : Text) → LooksAt of_profile (profile_of_table name) }
+    ensures settings { LooksAt of_settings profile_keys }
+    ensures workspace { LooksAt of_workspace workspace_of }
+    ensures inherited { LooksAt of_inherited workspace_package_of }
+    ensures document { LooksAt of_document document_of }
+{}
+
+/// A manifest over the size limit is refused, whatever it contains.
+pub fn large_manifests_are_refused()
+    ensures { RefusesLarge }
+{}
+
+/// The keys of each table of a document that `toml` reads are in byte order without repeats. This
+/// is so for the document itself, and for the table at a key of a table.
+pub fn documents_are_in_order()
+    ensures document { OrdersTables }
+    ensures tables { OrdersInnerTables }
+    ensures keys { OrdersKeys }
+{}
+
+/// Each manifest that was read keeps the promises of `specs/Promises.antt`.
+///
+/// - Names have valid letters, and paths contain no byte 0.
+/// - `codegen-units` is from 1 to 65,536.
+/// - A custom profile has `inherits`, and none is called `debug`.
+/// - The entries of each table are in byte order of their keys, without repeats.
+pub fn manifests_keep_promises()
+    ensures { KeepsPromises }
+{}
+
+/// A text is read as an item of a feature if and only if it is the item's own spelling: `F`,
+/// `dep:N`, `N/F` or `N?/F`. N has the letters of package names, and F those of feature names (The
+/// Cargo Book, Features).
+pub fn items_have_their_spelling()
+    ensures only { SpellsItems }
+    ensures each { ReadsSpellings }
+{}
+
+/// The package of a manifest that was read has a non-empty name of ASCII letters, digits, `-` and
+/// `_` (The Cargo Book, Manifest Format).
+pub fn packages_have_names()
+    ensures { NamesPackages }
+{}
+
+/// A package without a written edition has the edition 2015.
+pub fn default_edition()
+    ensures { DefaultEdition }
+{}
+
+/// A package without a written version has the version 0.0.0.
+pub fn default_version()
+    ensures { DefaultVersion }
+{}
+
+/// The binaries of `[[bin]]` are those of the list, one for one and in order.
+pub fn binaries_keep_their_order()
+    ensures { KeepsOrder }
+{}
+
+/// If a table with fixed keys has several faults, that of the lowest key in byte order is reported.
+/// These tables are `[package]`, `[lib]`, a `[[bin]]`, an entry of dependencies, one of
+/// `[workspace.dependencies]`, `[workspace.package]` and `[workspace]`. In `[profile]` all faults
+/// are the same.
+///
+/// If a table whose keys the user chooses has several bad entries, that of the lowest key is
+/// reported. The keys of each table of a document are in byte order.
+pub fn lowest_faults_are_told()
+    ensures package_table { TellsLowest faults_of_package package_of }
+    ensures library { TellsLowest faults_of_library library_of }
+    ensures binary { TellsLowest faults_of_binary binary_keys }
+    ensures dependency { (name : Text) → TellsLowest faults_of_dependency (dependency_keys name) }
+    ensures shared_dependency { (name : Text) → TellsLowest faults_of_shared_dependency (shared_dependency_keys name) }
+    ensures inherited { TellsLowest faults_of_inherited workspace_package_of }
+    ensures workspace { TellsLowest faults_of_workspace workspace_of }
+    ensures dependencies { (k : Key) → TellsLowestEntry (dependency_of k) }
+    ensures shared_dependencies { TellsLowestEntry shared_dependency_of }
+    ensures features { TellsLowestEntry feature_of }
+    ensures overrides { TellsLowestEntry override_of }
+    ensures profiles { TellsLowestEntry profile_of }
 {}

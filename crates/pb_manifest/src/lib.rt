@@ -1,35 +1,21 @@
-//! The contents of a manifest, by The Cargo Book: its types, and why a manifest is refused.
+//! The manifest reader: what the bytes of a `Cargo.toml` mean, by The Cargo Book.
 //!
-//! `pb_manifest_reader` reads a manifest. The fields of each type describe their possible values.
-//! The types of versions, requirements and paths guarantee that these are valid.
+//! `read_manifest` is its only function. Its contract names one definition, `manifest_of` of
+//! `specs/Document.antt`, which is composed of one small definition for each table and key.
 #![tactic(auto)]
 
-mod crate_names;
-pub mod dependency;
-pub mod fault;
-pub mod feature;
-pub mod inherited;
-pub mod key;
+mod dependency;
+mod document;
+mod entry;
+mod feature;
 mod laws;
-pub mod letters;
-pub mod manifest;
-pub mod package;
-pub mod profile;
-mod spelling;
-pub mod target;
+mod package;
+mod profile;
+mod profile_values;
+mod shared_dependency;
+mod target;
+mod values;
 mod version;
-mod written_path;
+mod workspace;
 
-pub use crate_names::{crate_name, library_name};
-pub use dependency::{Dependency, PathSource, Source, WorkspaceDependency, WorkspaceSource};
-pub use fault::ManifestFault;
-pub use feature::{Feature, FeatureItem};
-pub use inherited::{Inheritable, Inherited};
-pub use key::Key;
-pub use manifest::{Manifest, WorkspacePackage, WorkspaceTable};
-pub use package::{Build, Edition, Package, Readme};
-pub use profile::{DebugInfo, Lto, OptLevel, Panic, Profile, ProfileKeys, ProfileOverride, Strip};
-pub use spelling::crate_type_texts;
-pub use target::{Binary, CrateType, Library};
-pub use version::{Requirement, Version};
-pub use written_path::WrittenPath;
+pub use document::{GREATEST_LENGTH, read_manifest};

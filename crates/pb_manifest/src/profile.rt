@@ -1,117 +1,182 @@
-//! The table `[profile]` (The Cargo Book, Profiles).
+//! Reads `[profile]` (The Cargo Book, Profiles).
 
+ghost use Rattle.std.specs.Prelude.{◌≡◌, Ok, Err, IfOk, IfErr};
+ghost use Rattle.toml.specs.Data.{as_str};
+ghost use Rattle.toml.specs.View.{view, table_view};
+ghost use Rattle.pb_manifest_types.specs.Values.{Gives};
+ghost use Rattle.pb_manifest.specs.Values.{each_entry};
+ghost use Rattle.pb_manifest.specs.Profiles.{profile_value, profile_keys, profile_table, override_of, overrides_at, build_override_at, is_built_in, may_be_profile, profile_of_table, profile_of, profiles_at};
+ghost use Rattle.pb_manifest_types.specs.declared.key.Key.TheVariants as key;
+
+use crate::profile_values::{
+    codegen_units_at, debug_at, lto_at, opt_level_at, panic_at, strip_at, truth_at,
+};
+use crate::values::value_at;
 use pb_data::{Items, Text};
+use pb_manifest_types::letters::is_name;
+use pb_manifest_types::{Key, ManifestFault, Profile, ProfileKeys, ProfileOverride};
+use std::alloc::Global;
+use toml::{Table, Value};
 
-/// `opt-level`.
-#[derive(Clone, Copy, Debug, PartialEq, Eq)]
-pub enum OptLevel {
-    /// `0`.
-    Zero,
-    /// `1`.
-    One,
-    /// `2`.
-    Two,
-    /// `3`.
-    Three,
-    /// `"s"`.
-    Size,
-    /// `"z"`.
-    SmallestSize,
+/// Returns the value at `inherits`, if there is one.
+fn inherits_at(alloc: Global, table: &Table) -> Result<Option<Text>, ManifestFault>
+    ensures { Gives result (profile_value as_str key.Inherits (table_view table.now)) }
+{
+    match value_at(table, Key::Inherits) {
+        None => Ok(None),
+        Some(value) => match value.as_str() {
+            Some(text) => {
+                let name = Text::from_str(alloc, text)?;
+                Ok(Some(name))
+            }
+            None => Err(ManifestFault::BadProfile),
+        },
+    }
 }
 
-/// `debug`.
-#[derive(Clone, Copy, Debug, PartialEq, Eq)]
-pub enum DebugInfo {
-    /// `0`, `false` and `"none"`.
-    Nothing,
-    /// `1` and `"limited"`.
-    Limited,
-    /// `2`, `true` and `"full"`.
-    Full,
-    /// `"line-tables-only"`.
-    LineTablesOnly,
-    /// `"line-directives-only"`.
-    LineDirectivesOnly,
+/// Returns the keys that a profile or an override sets.
+fn profile_keys(table: &Table) -> Result<ProfileKeys, ManifestFault>
+    ensures { result ≡ profile_keys (table_view table.now) }
+{
+    let codegen_units = codegen_units_at(table)?;
+    let debug = debug_at(table)?;
+    let debug_assertions = truth_at(table, Key::DebugAssertions)?;
+    let lto = lto_at(table)?;
+    let opt_level = opt_level_at(table)?;
+    let overflow_checks = truth_at(table, Key::OverflowChecks)?;
+    let panic = panic_at(table)?;
+    let rpath = truth_at(table, Key::Rpath)?;
+    let strip = strip_at(table)?;
+    Ok(ProfileKeys {
+        codegen_units,
+        debug,
+        debug_assertions,
+        lto,
+        opt_level,
+        overflow_checks,
+        panic,
+        rpath,
+        strip,
+    })
 }
 
-/// `lto`.
-#[derive(Clone, Copy, Debug, PartialEq, Eq)]
-pub enum Lto {
-    /// `false`.
-    ThinLocal,
-    /// `true` and `"fat"`.
-    Fat,
-    /// `"thin"`.
-    Thin,
-    /// `"off"`.
-    Off,
+/// Returns the table of a profile or an override.
+fn profile_table<'a>(value: &'a Value) -> Result<&'a Table, ManifestFault>
+    ensures ok { IfOk result (λ t. profile_table (view value.now) ≡ Ok (table_view t.now)) }
+    ensures err { IfErr result (λ e. profile_table (view value.now) ≡ Err e) }
+{
+    match value.as_table() {
+        Some(table) => Ok(table),
+        None => Err(ManifestFault::BadProfile),
+    }
 }
 
-/// `panic`.
-#[derive(Clone, Copy, Debug, PartialEq, Eq)]
-pub enum Panic {
-    /// `"unwind"`.
-    Unwind,
-    /// `"abort"`.
-    Abort,
+/// Returns an override by a package's name.
+#[tactic(auto, unfolding(crate::specs::Profiles::override_of))]
+fn override_of(alloc: Global, name: &str, value: &Value) -> Result<ProfileOverride, ManifestFault>
+    ensures { Gives result (override_of name.now (view value.now)) }
+{
+    let keys = profile_keys(profile_table(value)?)?;
+    let name = Text::from_str(alloc, name)?;
+    Ok(ProfileOverride { name, keys })
 }
 
-/// `strip`.
-#[derive(Clone, Copy, Debug, PartialEq, Eq)]
-pub enum Strip {
-    /// `false` and `"none"`.
-    Nothing,
-    /// `"debuginfo"`.
-    DebugInfo,
-    /// `true` and `"symbols"`.
-    Symbols,
+/// Returns the overrides of a table, in byte order of their names.
+fn each_override(alloc: Global, table: &Table) -> Result<Items<ProfileOverride>, ManifestFault>
+    ensures { Gives result (each_entry override_of (table_view table.now)) }
+{
+    let mut overrides = Items::new(alloc);
+    for (name, value) in table {
+        overrides.push(override_of(alloc, name.as_str(), value)?)?;
+    }
+    Ok(overrides)
 }
 
-/// The keys that a profile or an override sets. A key that is not written is none.
-#[derive(Clone, Copy, PartialEq, Eq)]
-pub struct ProfileKeys {
-    /// From 1 to 65,536.
-    pub codegen_units: Option<u32>,
-    /// `debug`.
-    pub debug: Option<DebugInfo>,
-    /// `debug-assertions`.
-    pub debug_assertions: Option<bool>,
-    /// An override may not set it, which is reported when the profile is used.
-    pub lto: Option<Lto>,
-    /// `opt-level`.
-    pub opt_level: Option<OptLevel>,
-    /// `overflow-checks`.
-    pub overflow_checks: Option<bool>,
-    /// An override may not set it, which is reported when the profile is used.
-    pub panic: Option<Panic>,
-    /// An override may not set it, which is reported when the profile is used.
-    pub rpath: Option<bool>,
-    /// `strip`.
-    pub strip: Option<Strip>,
+/// Returns the overrides by packages' names, none if there is no table of them.
+fn overrides_at(alloc: Global, table: &Table) -> Result<Items<ProfileOverride>, ManifestFault>
+    ensures { Gives result (overrides_at (table_view table.now)) }
+{
+    match value_at(table, Key::Package) {
+        None => Ok(Items::new(alloc)),
+        Some(value) => each_override(alloc, profile_table(value)?),
+    }
 }
 
-/// A table of `[profile.NAME.package]`.
-#[derive(Drop)]
-pub struct ProfileOverride {
-    /// A package's name, or `*` for every package that is no member.
-    pub name: Text,
-    /// The keys that it sets.
-    pub keys: ProfileKeys,
+/// Returns the override for build scripts and what they depend on, if there is one.
+fn build_override_at(table: &Table) -> Result<Option<ProfileKeys>, ManifestFault>
+    ensures { result ≡ build_override_at (table_view table.now) }
+{
+    match value_at(table, Key::BuildOverride) {
+        None => Ok(None),
+        Some(value) => {
+            let keys = profile_keys(profile_table(value)?)?;
+            Ok(Some(keys))
+        }
+    }
 }
 
-/// A table of `[profile]`.
-#[derive(Drop)]
-pub struct Profile {
-    /// `dev`, `release`, `test`, `bench`, or a custom profile's name, which has the letters of
-    /// package names and is not `debug`.
-    pub name: Text,
-    /// The keys that it sets.
-    pub keys: ProfileKeys,
-    /// Present in each custom profile. It has no effect in a built-in one: our own choice.
-    pub inherits: Option<Text>,
-    /// In byte order of their names.
-    pub packages: Items<ProfileOverride>,
-    /// The keys that `build-override` sets, for build scripts and what they depend on. None if it
-    /// is not written.
-    pub build_override: Option<ProfileKeys>,
+/// Returns whether a profile exists without being written.
+#[tactic(auto, unfolding(crate::specs::Profiles::is_built_in))]
+fn is_built_in(name: &str) -> bool
+    ensures { result ≡ is_built_in name.now }
+{
+    name == "dev" || name == "release" || name == "test" || name == "bench"
+}
+
+/// Returns whether a profile with this name may be written, with this `inherits`.
+#[tactic(auto, unfolding(crate::specs::Profiles::may_be_profile))]
+fn may_be_profile(name: &str, inherits: &Option<Text>) -> bool
+    ensures { result ≡ may_be_profile name.now inherits.now }
+{
+    is_built_in(name) || (is_name(name) && name != "debug" && inherits.is_some())
+}
+
+/// Returns a profile that is a table.
+fn profile_of_table(alloc: Global, name: &str, table: &Table) -> Result<Profile, ManifestFault>
+    ensures { Gives result (profile_of_table name.now (table_view table.now)) }
+{
+    let build_override = build_override_at(table)?;
+    let keys = profile_keys(table)?;
+    let inherits = inherits_at(alloc, table)?;
+    let packages = overrides_at(alloc, table)?;
+    if !may_be_profile(name, &inherits) {
+        return Err(ManifestFault::BadProfile);
+    }
+    let name = Text::from_str(alloc, name)?;
+    Ok(Profile {
+        name,
+        keys,
+        inherits,
+        packages,
+        build_override,
+    })
+}
+
+/// Returns a profile.
+#[tactic(auto, unfolding(crate::specs::Profiles::profile_of))]
+fn profile_of(alloc: Global, name: &str, value: &Value) -> Result<Profile, ManifestFault>
+    ensures { Gives result (profile_of name.now (view value.now)) }
+{
+    profile_of_table(alloc, name, profile_table(value)?)
+}
+
+/// Returns the profiles of a table, in byte order of their names.
+fn each_profile(alloc: Global, table: &Table) -> Result<Items<Profile>, ManifestFault>
+    ensures { Gives result (each_entry profile_of (table_view table.now)) }
+{
+    let mut profiles = Items::new(alloc);
+    for (name, value) in table {
+        profiles.push(profile_of(alloc, name.as_str(), value)?)?;
+    }
+    Ok(profiles)
+}
+
+/// Returns the table `[profile]`, empty if there is none.
+pub(crate) fn profiles_at(alloc: Global, table: &Table) -> Result<Items<Profile>, ManifestFault>
+    ensures { Gives result (profiles_at (table_view table.now)) }
+{
+    match value_at(table, Key::Profile) {
+        None => Ok(Items::new(alloc)),
+        Some(value) => each_profile(alloc, profile_table(value)?),
+    }
 }

@@ -1,7 +1,7 @@
 -- Readings one after another, none of which looks at what another gave.
 use Rattle.std.proofs.Common.{◌≡◌, ◌∙◌, Ok, Err, refl, ap}
 use Rattle.pb_data.specs.Gives.{◌>>=◌}
-use Rattle.pb_manifest.specs.Values.{Read}
+use Rattle.pb_manifest_types.specs.Values.{Read}
 
 pub three : {A B C D : Type 0} (y : D) (p : Read A) (q : Read B) (r : Read C) (f : A → B → C → D) → (p >>= (λ a. q >>= (λ b. r >>= (λ c. Ok (f a b c))))) ≡ Ok y
     → (a : A) × (b : B) × (c : C) × (p ≡ Ok a) × (q ≡ Ok b) × (r ≡ Ok c) × (f a b c ≡ y)

@@ -2,19 +2,19 @@
 use Rattle.std.proofs.Common.{◌≡◌, ◌∙◌, ℕ, Bool, true, false, not, ◌&&◌, if◌then◌else◌, List, codes, Option, Some, None, Ok, Err, is_some, unwrap_or, refl, sym, ap, subst}
 use Rattle.toml.specs.Data.{Data, string, boolean, table, Members, get_member, as_str, as_table}
 use Rattle.pb_data.specs.Gives.{◌>>=◌}
-use Rattle.pb_manifest_reader.specs.Dependencies.{refused_where, workspace_in, workspace_at, first_keys, version_and_workspace, own_path, last_keys, source_of, dependency_keys, dependency_from, dependency_of}
-use Rattle.pb_manifest.specs.Keys.{spelled}
-use Rattle.pb_manifest.specs.Letters.{is_name}
-use Rattle.pb_manifest_reader.specs.Values.{value_at, has, text_of, text_at, truth_of, truth_at, path_of, path_at, listed_texts_at, is_true, truth_in, takes_workspace}
-use Rattle.pb_manifest.specs.Versions.{requirement_in, is_requirement}
-use Rattle.pb_manifest_reader.specs.Versions.{requirement_of, requirement_at}
-use Rattle.pb_manifest.specs.declared.dependency.Dependency.{Dependency}
-use Rattle.pb_manifest.specs.declared.dependency.Source.{Source}
-use Rattle.pb_manifest.specs.declared.dependency.Source.TheVariants as own
-use Rattle.pb_manifest.specs.declared.fault.ManifestFault.TheVariants.{BadName, BadVersion}
-use Rattle.pb_manifest.specs.declared.key.Key.{Key}
-use Rattle.pb_manifest.specs.declared.key.Key.TheVariants as key
-use Rattle.pb_manifest_reader.proofs.Came.{came}
+use Rattle.pb_manifest.specs.Dependencies.{refused_where, workspace_in, workspace_at, first_keys, version_and_workspace, own_path, last_keys, source_of, dependency_keys, dependency_from, dependency_of}
+use Rattle.pb_manifest_types.specs.Keys.{spelled}
+use Rattle.pb_manifest_types.specs.Letters.{is_name}
+use Rattle.pb_manifest.specs.Values.{value_at, has, text_of, text_at, truth_of, truth_at, path_of, path_at, listed_texts_at, is_true, truth_in, takes_workspace}
+use Rattle.pb_manifest_types.specs.Versions.{requirement_in, is_requirement}
+use Rattle.pb_manifest.specs.Versions.{requirement_of, requirement_at}
+use Rattle.pb_manifest_types.specs.declared.dependency.Dependency.{Dependency}
+use Rattle.pb_manifest_types.specs.declared.dependency.Source.{Source}
+use Rattle.pb_manifest_types.specs.declared.dependency.Source.TheVariants as own
+use Rattle.pb_manifest_types.specs.declared.fault.ManifestFault.TheVariants.{BadName, BadVersion}
+use Rattle.pb_manifest_types.specs.declared.key.Key.{Key}
+use Rattle.pb_manifest_types.specs.declared.key.Key.TheVariants as key
+use Rattle.pb_manifest.proofs.Came.{came}
 use Rattle.pb_manifest_laws.specs.Dependencies.{IsSource, IsDependencyEntry}
 use Rattle.pb_manifest_laws.specs.Laws.{ReadsDependencies}
 use Rattle.pb_manifest_laws.specs.Values.{IsPath, Holds, HoldsValid, HoldsOr, Lists, OfTable}

@@ -7,22 +7,22 @@ use Rattle.std.specs.Str.{is_utf8}
 use Rattle.toml.specs.Data.{Data, string, integer, float, boolean, datetime, array, table, Members, get_member, as_table}
 use Rattle.toml.specs.Parse.{parse_document}
 use Rattle.pb_data.specs.Gives.{◌>>=◌, some_or}
-use Rattle.pb_manifest_reader.specs.Binaries.{binary_keys, binary_of, binaries_in, binaries_at}
-use Rattle.pb_manifest_reader.specs.Dependencies.{dependency_of, dependencies_at}
-use Rattle.pb_manifest_reader.specs.Document.{supported, text_in, is_one, says_one, asks_old_resolver, not_old, package_in, package_at, library_in, library_at, workspace_in, workspace_at, targets_of, tables_of, document_of, document_in, greatest_length, manifest_of}
-use Rattle.pb_manifest_reader.specs.Features.{feature_of, features_at}
-use Rattle.pb_manifest.specs.Keys.{spelled}
-use Rattle.pb_manifest_reader.specs.Library.{library_of}
-use Rattle.pb_manifest_reader.specs.Package.{package_of}
-use Rattle.pb_manifest_reader.specs.Profiles.{profile_of, profiles_at}
-use Rattle.pb_manifest_reader.specs.Values.{optional, value_at, has, table_of, table_in, keys_in, keys_at, keys_of}
-use Rattle.pb_manifest_reader.specs.Workspace.{workspace_of}
-use Rattle.pb_manifest.specs.declared.fault.ManifestFault.TheVariants.{TooLarge, NotToml, UnsupportedTable, OldResolver, BadKind, BadProfile}
-use Rattle.pb_manifest.specs.declared.key.Key.TheVariants as key
-use Rattle.pb_manifest.specs.declared.manifest.Manifest.{Manifest}
-use Rattle.pb_manifest.specs.declared.package.Package.{Package}
-use Rattle.pb_manifest.specs.declared.target.Binary.{Binary}
-use Rattle.pb_manifest_reader.proofs.Came.{came}
+use Rattle.pb_manifest.specs.Binaries.{binary_keys, binary_of, binaries_in, binaries_at}
+use Rattle.pb_manifest.specs.Dependencies.{dependency_of, dependencies_at}
+use Rattle.pb_manifest.specs.Document.{supported, text_in, is_one, says_one, asks_old_resolver, not_old, package_in, package_at, library_in, library_at, workspace_in, workspace_at, targets_of, tables_of, document_of, document_in, greatest_length, manifest_of}
+use Rattle.pb_manifest.specs.Features.{feature_of, features_at}
+use Rattle.pb_manifest_types.specs.Keys.{spelled}
+use Rattle.pb_manifest.specs.Library.{library_of}
+use Rattle.pb_manifest.specs.Package.{package_of}
+use Rattle.pb_manifest.specs.Profiles.{profile_of, profiles_at}
+use Rattle.pb_manifest.specs.Values.{optional, value_at, has, table_of, table_in, keys_in, keys_at, keys_of}
+use Rattle.pb_manifest.specs.Workspace.{workspace_of}
+use Rattle.pb_manifest_types.specs.declared.fault.ManifestFault.TheVariants.{TooLarge, NotToml, UnsupportedTable, OldResolver, BadKind, BadProfile}
+use Rattle.pb_manifest_types.specs.declared.key.Key.TheVariants as key
+use Rattle.pb_manifest_types.specs.declared.manifest.Manifest.{Manifest}
+use Rattle.pb_manifest_types.specs.declared.package.Package.{Package}
+use Rattle.pb_manifest_types.specs.declared.target.Binary.{Binary}
+use Rattle.pb_manifest.proofs.Came.{came}
 use Rattle.pb_manifest_laws.specs.Dependencies.{IsDependencyEntry}
 use Rattle.pb_manifest_laws.specs.Documents.{IsDocument, AreManifest}
 use Rattle.pb_manifest_laws.specs.Laws.{ReadsDocuments, ReadsManifests, DocumentsSayOne}

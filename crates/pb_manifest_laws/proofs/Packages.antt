@@ -4,32 +4,32 @@ use Rattle.std.specs.List.{AllByRecursion}
 use Rattle.std.specs.Str.{bytes_eq}
 use Rattle.std.proofs.lemmas.Slice.Eq.{bytes_eq-Decides}
 use Rattle.semver.specs.Parse.{digits_from}
-use Rattle.pb_closure.proofs.Membership.{cases, single}
+use Rattle.pb_graph.proofs.Membership.{cases, single}
 use Rattle.toml.specs.Data.{Data, string, boolean, Members, as_table}
 use Rattle.pb_data.specs.Gives.{◌>>=◌}
-use Rattle.pb_manifest.specs.Keys.{spelled}
-use Rattle.pb_manifest.specs.Letters.{is_name}
-use Rattle.pb_manifest.specs.Package.{edition_text}
-use Rattle.pb_manifest_reader.specs.Package.{package_of, package_from, first_keys, middle_keys, last_keys, name_at, name_in, edition_of, edition_in, inherited_edition_at, build_at, build_in, readme_of, inheritable_readme_at, resolver_at, resolver_in}
-use Rattle.pb_manifest.specs.Values.{Read}
-use Rattle.pb_manifest_reader.specs.Values.{optional, value_at, text_of, text_at, truth_at, truth_of, texts_of, inheritable_in, inheritable_text_at, inheritable_texts_at, zero_free}
-use Rattle.pb_manifest.specs.Versions.{version_in, is_version}
-use Rattle.pb_manifest_reader.specs.Versions.{inherited_version_at, version_of, zero}
-use Rattle.pb_manifest.specs.declared.fault.ManifestFault.TheVariants.{BadKind, BadName, BadVersion}
-use Rattle.pb_manifest.specs.declared.inherited.Inheritable.{Inheritable}
-use Rattle.pb_manifest.specs.declared.inherited.Inheritable.TheVariants as inheritable
-use Rattle.pb_manifest.specs.declared.inherited.Inherited.{Inherited}
-use Rattle.pb_manifest.specs.declared.inherited.Inherited.TheVariants.{Written, Workspace}
-use Rattle.pb_manifest.specs.declared.key.Key.{Key}
-use Rattle.pb_manifest.specs.declared.key.Key.TheVariants as key
-use Rattle.pb_manifest.specs.declared.package.Build.{Build}
-use Rattle.pb_manifest.specs.declared.package.Build.TheVariants as build
-use Rattle.pb_manifest.specs.declared.package.Edition.{Edition}
-use Rattle.pb_manifest.specs.declared.package.Edition.TheVariants.{E2015, E2018, E2021, E2024}
-use Rattle.pb_manifest.specs.declared.package.Package.{Package}
-use Rattle.pb_manifest.specs.declared.package.Readme.{Readme}
-use Rattle.pb_manifest.specs.declared.package.Readme.TheVariants as readme
-use Rattle.pb_manifest_reader.proofs.Came.{came}
+use Rattle.pb_manifest_types.specs.Keys.{spelled}
+use Rattle.pb_manifest_types.specs.Letters.{is_name}
+use Rattle.pb_manifest_types.specs.Package.{edition_text}
+use Rattle.pb_manifest.specs.Package.{package_of, package_from, first_keys, middle_keys, last_keys, name_at, name_in, edition_of, edition_in, inherited_edition_at, build_at, build_in, readme_of, inheritable_readme_at, resolver_at, resolver_in}
+use Rattle.pb_manifest_types.specs.Values.{Read}
+use Rattle.pb_manifest.specs.Values.{optional, value_at, text_of, text_at, truth_at, truth_of, texts_of, inheritable_in, inheritable_text_at, inheritable_texts_at, zero_free}
+use Rattle.pb_manifest_types.specs.Versions.{version_in, is_version}
+use Rattle.pb_manifest.specs.Versions.{inherited_version_at, version_of, zero}
+use Rattle.pb_manifest_types.specs.declared.fault.ManifestFault.TheVariants.{BadKind, BadName, BadVersion}
+use Rattle.pb_manifest_types.specs.declared.inherited.Inheritable.{Inheritable}
+use Rattle.pb_manifest_types.specs.declared.inherited.Inheritable.TheVariants as inheritable
+use Rattle.pb_manifest_types.specs.declared.inherited.Inherited.{Inherited}
+use Rattle.pb_manifest_types.specs.declared.inherited.Inherited.TheVariants.{Written, Workspace}
+use Rattle.pb_manifest_types.specs.declared.key.Key.{Key}
+use Rattle.pb_manifest_types.specs.declared.key.Key.TheVariants as key
+use Rattle.pb_manifest_types.specs.declared.package.Build.{Build}
+use Rattle.pb_manifest_types.specs.declared.package.Build.TheVariants as build
+use Rattle.pb_manifest_types.specs.declared.package.Edition.{Edition}
+use Rattle.pb_manifest_types.specs.declared.package.Edition.TheVariants.{E2015, E2018, E2021, E2024}
+use Rattle.pb_manifest_types.specs.declared.package.Package.{Package}
+use Rattle.pb_manifest_types.specs.declared.package.Readme.{Readme}
+use Rattle.pb_manifest_types.specs.declared.package.Readme.TheVariants as readme
+use Rattle.pb_manifest.proofs.Came.{came}
 use Rattle.pb_manifest_laws.specs.Laws.{ReadsPackages}
 use Rattle.pb_manifest_laws.specs.Packages.{edition, IsBuild, readme_value, IsVersion, IsResolver, IsPackageTable}
 use Rattle.pb_manifest_laws.specs.Values.{texts, Holds, HoldsOrTakes}

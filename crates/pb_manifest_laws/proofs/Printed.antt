@@ -10,41 +10,41 @@ use Rattle.std.specs.Ordering.{nat_cmp, is_lt}
 use Rattle.toml.specs.Data.{Data, string, integer, boolean, array, Items, Members, is_before, depth, items_depth, members_depth, has_valid_dates, items_have_valid_dates, members_have_valid_dates, is_sorted, items_are_sorted, members_are_sorted}
 use Rattle.toml.specs.View.{items_of}
 use Rattle.toml.proofs.ReadBack.{parse_document-printed}
-use Rattle.pb_manifest.specs.Library.{crate_type_text}
-use Rattle.pb_manifest.specs.Package.{edition_text}
-use Rattle.pb_manifest.specs.declared.dependency.Dependency.{Dependency}
-use Rattle.pb_manifest.specs.declared.dependency.Source.{Source}
-use Rattle.pb_manifest.specs.declared.dependency.Source.TheVariants as own
-use Rattle.pb_manifest.specs.declared.dependency.WorkspaceDependency.{WorkspaceDependency}
-use Rattle.pb_manifest.specs.declared.dependency.WorkspaceSource.{WorkspaceSource}
-use Rattle.pb_manifest.specs.declared.dependency.WorkspaceSource.TheVariants as shared
-use Rattle.pb_manifest.specs.declared.feature.Feature.{Feature}
-use Rattle.pb_manifest.specs.declared.inherited.Inheritable.{Inheritable}
-use Rattle.pb_manifest.specs.declared.inherited.Inheritable.TheVariants.{Written, Workspace, Absent}
-use Rattle.pb_manifest.specs.declared.inherited.Inherited.{Inherited}
-use Rattle.pb_manifest.specs.declared.inherited.Inherited.TheVariants as inherited
-use Rattle.pb_manifest.specs.declared.manifest.Manifest.{Manifest}
-use Rattle.pb_manifest.specs.declared.manifest.WorkspacePackage.{WorkspacePackage}
-use Rattle.pb_manifest.specs.declared.manifest.WorkspaceTable.{WorkspaceTable}
-use Rattle.pb_manifest.specs.declared.package.Build.{Build}
-use Rattle.pb_manifest.specs.declared.package.Build.TheVariants as build
-use Rattle.pb_manifest.specs.declared.package.Edition.{Edition}
-use Rattle.pb_manifest.specs.declared.package.Package.{Package}
-use Rattle.pb_manifest.specs.declared.package.Readme.{Readme}
-use Rattle.pb_manifest.specs.declared.package.Readme.TheVariants as readme
-use Rattle.pb_manifest.specs.declared.profile.OptLevel.TheVariants.{Zero, One, Two, Three, Size, SmallestSize}
-use Rattle.pb_manifest.specs.declared.profile.DebugInfo.TheVariants as debug
-use Rattle.pb_manifest.specs.declared.profile.Lto.TheVariants as lto
-use Rattle.pb_manifest.specs.declared.profile.Panic.TheVariants.{Unwind, Abort}
-use Rattle.pb_manifest.specs.declared.profile.Strip.TheVariants as strip
-use Rattle.pb_manifest.specs.declared.profile.Profile.{Profile}
-use Rattle.pb_manifest.specs.declared.profile.ProfileKeys.{ProfileKeys}
-use Rattle.pb_manifest.specs.declared.profile.ProfileOverride.{ProfileOverride}
-use Rattle.pb_manifest.specs.declared.target.Binary.{Binary}
-use Rattle.pb_manifest.specs.declared.target.Library.{Library}
-use Rattle.pb_manifest_reader.specs.Laws.{item_text}
-use Rattle.pb_manifest_reader.specs.Promises.{Ascend, IsProfile, IsWorkspaceTable, IsManifest}
-use Rattle.pb_manifest_reader.proofs.Manifests.{manifest_is}
+use Rattle.pb_manifest_types.specs.Library.{crate_type_text}
+use Rattle.pb_manifest_types.specs.Package.{edition_text}
+use Rattle.pb_manifest_types.specs.declared.dependency.Dependency.{Dependency}
+use Rattle.pb_manifest_types.specs.declared.dependency.Source.{Source}
+use Rattle.pb_manifest_types.specs.declared.dependency.Source.TheVariants as own
+use Rattle.pb_manifest_types.specs.declared.dependency.WorkspaceDependency.{WorkspaceDependency}
+use Rattle.pb_manifest_types.specs.declared.dependency.WorkspaceSource.{WorkspaceSource}
+use Rattle.pb_manifest_types.specs.declared.dependency.WorkspaceSource.TheVariants as shared
+use Rattle.pb_manifest_types.specs.declared.feature.Feature.{Feature}
+use Rattle.pb_manifest_types.specs.declared.inherited.Inheritable.{Inheritable}
+use Rattle.pb_manifest_types.specs.declared.inherited.Inheritable.TheVariants.{Written, Workspace, Absent}
+use Rattle.pb_manifest_types.specs.declared.inherited.Inherited.{Inherited}
+use Rattle.pb_manifest_types.specs.declared.inherited.Inherited.TheVariants as inherited
+use Rattle.pb_manifest_types.specs.declared.manifest.Manifest.{Manifest}
+use Rattle.pb_manifest_types.specs.declared.manifest.WorkspacePackage.{WorkspacePackage}
+use Rattle.pb_manifest_types.specs.declared.manifest.WorkspaceTable.{WorkspaceTable}
+use Rattle.pb_manifest_types.specs.declared.package.Build.{Build}
+use Rattle.pb_manifest_types.specs.declared.package.Build.TheVariants as build
+use Rattle.pb_manifest_types.specs.declared.package.Edition.{Edition}
+use Rattle.pb_manifest_types.specs.declared.package.Package.{Package}
+use Rattle.pb_manifest_types.specs.declared.package.Readme.{Readme}
+use Rattle.pb_manifest_types.specs.declared.package.Readme.TheVariants as readme
+use Rattle.pb_manifest_types.specs.declared.profile.OptLevel.TheVariants.{Zero, One, Two, Three, Size, SmallestSize}
+use Rattle.pb_manifest_types.specs.declared.profile.DebugInfo.TheVariants as debug
+use Rattle.pb_manifest_types.specs.declared.profile.Lto.TheVariants as lto
+use Rattle.pb_manifest_types.specs.declared.profile.Panic.TheVariants.{Unwind, Abort}
+use Rattle.pb_manifest_types.specs.declared.profile.Strip.TheVariants as strip
+use Rattle.pb_manifest_types.specs.declared.profile.Profile.{Profile}
+use Rattle.pb_manifest_types.specs.declared.profile.ProfileKeys.{ProfileKeys}
+use Rattle.pb_manifest_types.specs.declared.profile.ProfileOverride.{ProfileOverride}
+use Rattle.pb_manifest_types.specs.declared.target.Binary.{Binary}
+use Rattle.pb_manifest_types.specs.declared.target.Library.{Library}
+use Rattle.pb_manifest.specs.Laws.{item_text}
+use Rattle.pb_manifest.specs.Promises.{Ascend, IsProfile, IsWorkspaceTable, IsManifest}
+use Rattle.pb_manifest.proofs.Manifests.{manifest_is}
 use Rattle.pb_manifest_laws.specs.Laws.{ReadsWhatIsPrinted}
 use Rattle.pb_manifest_laws.specs.Packages.{edition, readme_value}
 use Rattle.pb_manifest_laws.specs.Profiles.{opt_levels, debug_infos, ltos, strips, panics}

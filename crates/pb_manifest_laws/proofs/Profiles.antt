@@ -6,28 +6,28 @@ use Rattle.std.proofs.lemmas.Slice.Eq.{bytes_eq-Decides}
 use Rattle.std.specs.List.{AllByRecursion}
 use Rattle.std.specs.Ordering.{int_eq}
 use Rattle.std.specs.Str.{bytes_eq}
-use Rattle.pb_closure.proofs.Membership.{none, cases}
+use Rattle.pb_graph.proofs.Membership.{none, cases}
 use Rattle.toml.specs.Data.{Data, string, integer, boolean, table, Members, as_bool, as_str, as_table}
 use Rattle.pb_data.specs.Gives.{◌>>=◌, some_or}
-use Rattle.pb_manifest.specs.Keys.{spelled}
-use Rattle.pb_manifest_reader.specs.Profiles.{opt_level_in, debug_in, lto_in, strip_in, panic_in, codegen_units_in, profile_value, profile_keys, profile_table, override_of, overrides_at, build_override_in, build_override_at, may_be_profile, profile_of_table, profile_of}
-use Rattle.pb_manifest_reader.specs.Values.{optional, value_at}
-use Rattle.pb_manifest.specs.declared.fault.ManifestFault.TheVariants.{BadProfile}
-use Rattle.pb_manifest.specs.declared.key.Key.TheVariants as key
-use Rattle.pb_manifest.specs.declared.profile.OptLevel.{OptLevel}
-use Rattle.pb_manifest.specs.declared.profile.OptLevel.TheVariants.{Zero, One, Two, Three, Size, SmallestSize}
-use Rattle.pb_manifest.specs.declared.profile.DebugInfo.{DebugInfo}
-use Rattle.pb_manifest.specs.declared.profile.DebugInfo.TheVariants as debug
-use Rattle.pb_manifest.specs.declared.profile.Lto.{Lto}
-use Rattle.pb_manifest.specs.declared.profile.Lto.TheVariants as lto
-use Rattle.pb_manifest.specs.declared.profile.Panic.{Panic}
-use Rattle.pb_manifest.specs.declared.profile.Panic.TheVariants.{Unwind, Abort}
-use Rattle.pb_manifest.specs.declared.profile.Strip.{Strip}
-use Rattle.pb_manifest.specs.declared.profile.Strip.TheVariants as strip
-use Rattle.pb_manifest.specs.declared.profile.ProfileKeys.{ProfileKeys}
-use Rattle.pb_manifest.specs.declared.profile.ProfileOverride.{ProfileOverride}
-use Rattle.pb_manifest.specs.declared.profile.Profile.{Profile}
-use Rattle.pb_manifest_reader.proofs.Came.{came}
+use Rattle.pb_manifest_types.specs.Keys.{spelled}
+use Rattle.pb_manifest.specs.Profiles.{opt_level_in, debug_in, lto_in, strip_in, panic_in, codegen_units_in, profile_value, profile_keys, profile_table, override_of, overrides_at, build_override_in, build_override_at, may_be_profile, profile_of_table, profile_of}
+use Rattle.pb_manifest.specs.Values.{optional, value_at}
+use Rattle.pb_manifest_types.specs.declared.fault.ManifestFault.TheVariants.{BadProfile}
+use Rattle.pb_manifest_types.specs.declared.key.Key.TheVariants as key
+use Rattle.pb_manifest_types.specs.declared.profile.OptLevel.{OptLevel}
+use Rattle.pb_manifest_types.specs.declared.profile.OptLevel.TheVariants.{Zero, One, Two, Three, Size, SmallestSize}
+use Rattle.pb_manifest_types.specs.declared.profile.DebugInfo.{DebugInfo}
+use Rattle.pb_manifest_types.specs.declared.profile.DebugInfo.TheVariants as debug
+use Rattle.pb_manifest_types.specs.declared.profile.Lto.{Lto}
+use Rattle.pb_manifest_types.specs.declared.profile.Lto.TheVariants as lto
+use Rattle.pb_manifest_types.specs.declared.profile.Panic.{Panic}
+use Rattle.pb_manifest_types.specs.declared.profile.Panic.TheVariants.{Unwind, Abort}
+use Rattle.pb_manifest_types.specs.declared.profile.Strip.{Strip}
+use Rattle.pb_manifest_types.specs.declared.profile.Strip.TheVariants as strip
+use Rattle.pb_manifest_types.specs.declared.profile.ProfileKeys.{ProfileKeys}
+use Rattle.pb_manifest_types.specs.declared.profile.ProfileOverride.{ProfileOverride}
+use Rattle.pb_manifest_types.specs.declared.profile.Profile.{Profile}
+use Rattle.pb_manifest.proofs.Came.{came}
 use Rattle.pb_manifest_laws.specs.Laws.{ReadsSettings, ReadsProfiles}
 use Rattle.pb_manifest_laws.specs.Profiles.{opt_levels, debug_infos, ltos, strips, panics, HoldsOne, AreSettings, IsOverrideEntry, IsProfileEntry}
 use Rattle.pb_manifest_laws.specs.Values.{Holds, OfTable}

@@ -6,18 +6,18 @@ use Rattle.std.proofs.lemmas.Slice.Eq.{bytes_eq-Decides}
 use Rattle.toml.specs.Data.{Data, string, boolean, array, table, Items, no_items, item, Members, get_member, as_table}
 use Rattle.toml.specs.View.{items_of}
 use Rattle.pb_data.specs.Gives.{◌>>=◌}
-use Rattle.pb_manifest.specs.Keys.{spelled}
-use Rattle.pb_manifest.specs.Letters.{has_zero}
-use Rattle.pb_manifest.specs.Values.{Read}
-use Rattle.pb_manifest_reader.specs.Values.{optional, each, text_of, truth_of, array_of, path_of, zero_free, value_at, listed, is_true, truth_in, takes_workspace, is_taken, inheritable_in, or_default}
-use Rattle.pb_manifest.specs.declared.fault.ManifestFault.TheVariants.{BadKind}
-use Rattle.pb_manifest.specs.declared.inherited.Inheritable.{Inheritable}
-use Rattle.pb_manifest.specs.declared.inherited.Inheritable.TheVariants.{Written, Workspace, Absent}
-use Rattle.pb_manifest.specs.declared.inherited.Inherited.{Inherited}
-use Rattle.pb_manifest.specs.declared.inherited.Inherited.TheVariants as inherited
-use Rattle.pb_manifest.specs.declared.key.Key.{Key}
-use Rattle.pb_manifest.specs.declared.key.Key.TheVariants as key
-use Rattle.pb_manifest_reader.proofs.Came.{came}
+use Rattle.pb_manifest_types.specs.Keys.{spelled}
+use Rattle.pb_manifest_types.specs.Letters.{has_zero}
+use Rattle.pb_manifest_types.specs.Values.{Read}
+use Rattle.pb_manifest.specs.Values.{optional, each, text_of, truth_of, array_of, path_of, zero_free, value_at, listed, is_true, truth_in, takes_workspace, is_taken, inheritable_in, or_default}
+use Rattle.pb_manifest_types.specs.declared.fault.ManifestFault.TheVariants.{BadKind}
+use Rattle.pb_manifest_types.specs.declared.inherited.Inheritable.{Inheritable}
+use Rattle.pb_manifest_types.specs.declared.inherited.Inheritable.TheVariants.{Written, Workspace, Absent}
+use Rattle.pb_manifest_types.specs.declared.inherited.Inherited.{Inherited}
+use Rattle.pb_manifest_types.specs.declared.inherited.Inherited.TheVariants as inherited
+use Rattle.pb_manifest_types.specs.declared.key.Key.{Key}
+use Rattle.pb_manifest_types.specs.declared.key.Key.TheVariants as key
+use Rattle.pb_manifest.proofs.Came.{came}
 use Rattle.pb_manifest_laws.specs.Values.{IsPath, Holds, HoldsOr, Lists, HoldsOrTakes, HasOrTakes}
 
 -- a value is read just where it stands, written so

@@ -5,10 +5,10 @@ use Rattle.std.specs.List.{AllZip}
 use Rattle.std.specs.Option.{option_map, option_or}
 use Rattle.std.specs.Ordering.{nat_cmp, match_ordering}
 use Rattle.toml.specs.Data.{Data, string, boolean, Members, no_members, member, get_member}
-use Rattle.pb_manifest.specs.declared.inherited.Inheritable.{Inheritable}
-use Rattle.pb_manifest.specs.declared.inherited.Inheritable.TheVariants.{Written, Workspace, Absent}
-use Rattle.pb_manifest.specs.declared.inherited.Inherited.{Inherited}
-use Rattle.pb_manifest.specs.declared.inherited.Inherited.TheVariants as inherited
+use Rattle.pb_manifest_types.specs.declared.inherited.Inheritable.{Inheritable}
+use Rattle.pb_manifest_types.specs.declared.inherited.Inheritable.TheVariants.{Written, Workspace, Absent}
+use Rattle.pb_manifest_types.specs.declared.inherited.Inherited.{Inherited}
+use Rattle.pb_manifest_types.specs.declared.inherited.Inherited.TheVariants as inherited
 use Rattle.pb_manifest_laws.specs.Values.{OfTable, HoldsOrTakes, HasOrTakes, IsTableAt, AreTablesAt, AreEntriesAt}
 use Rattle.pb_manifest_laws.specs.Written.{Rows, with_key, members_with, table_with, list, entries, inheritable, inherited_value}
 

@@ -3,18 +3,18 @@ use Rattle.std.proofs.Common.{inl, inr, ◌≡◌, ◌⊎◌, ◌∙◌, ℕ, Bo
 use Rattle.std.specs.Option.{option_map}
 use Rattle.toml.specs.Data.{Data, string, boolean, table, Members, get_member, as_str, as_table}
 use Rattle.pb_data.specs.Gives.{◌>>=◌}
-use Rattle.pb_manifest_reader.specs.Dependencies.{refused_where, workspace_in, workspace_at, first_keys, version_and_workspace, supported_path, shared_keys, shared_source_of, shared_dependency_keys, shared_version, shared_dependency_from, shared_dependency_of}
-use Rattle.pb_manifest.specs.Keys.{spelled}
-use Rattle.pb_manifest.specs.Letters.{is_name}
-use Rattle.pb_manifest_reader.specs.Values.{value_at, has, text_of, text_at, truth_of, truth_at, path_of, path_at, listed_texts_at, is_true, takes_workspace}
-use Rattle.pb_manifest.specs.Versions.{requirement_in, is_requirement}
-use Rattle.pb_manifest_reader.specs.Versions.{requirement_of, requirement_at}
-use Rattle.pb_manifest.specs.declared.dependency.WorkspaceDependency.{WorkspaceDependency}
-use Rattle.pb_manifest.specs.declared.dependency.WorkspaceSource.{WorkspaceSource}
-use Rattle.pb_manifest.specs.declared.dependency.WorkspaceSource.TheVariants as shared
-use Rattle.pb_manifest.specs.declared.fault.ManifestFault.TheVariants.{BadName, BadVersion}
-use Rattle.pb_manifest.specs.declared.key.Key.TheVariants as key
-use Rattle.pb_manifest_reader.proofs.Came.{came}
+use Rattle.pb_manifest.specs.Dependencies.{refused_where, workspace_in, workspace_at, first_keys, version_and_workspace, supported_path, shared_keys, shared_source_of, shared_dependency_keys, shared_version, shared_dependency_from, shared_dependency_of}
+use Rattle.pb_manifest_types.specs.Keys.{spelled}
+use Rattle.pb_manifest_types.specs.Letters.{is_name}
+use Rattle.pb_manifest.specs.Values.{value_at, has, text_of, text_at, truth_of, truth_at, path_of, path_at, listed_texts_at, is_true, takes_workspace}
+use Rattle.pb_manifest_types.specs.Versions.{requirement_in, is_requirement}
+use Rattle.pb_manifest.specs.Versions.{requirement_of, requirement_at}
+use Rattle.pb_manifest_types.specs.declared.dependency.WorkspaceDependency.{WorkspaceDependency}
+use Rattle.pb_manifest_types.specs.declared.dependency.WorkspaceSource.{WorkspaceSource}
+use Rattle.pb_manifest_types.specs.declared.dependency.WorkspaceSource.TheVariants as shared
+use Rattle.pb_manifest_types.specs.declared.fault.ManifestFault.TheVariants.{BadName, BadVersion}
+use Rattle.pb_manifest_types.specs.declared.key.Key.TheVariants as key
+use Rattle.pb_manifest.proofs.Came.{came}
 use Rattle.pb_manifest_laws.specs.Dependencies.{HasIdleKeys, IsSharedSource, IsSharedTable, IsSharedVersion, IsSharedEntry}
 use Rattle.pb_manifest_laws.specs.Laws.{ReadsSharedDependencies}
 use Rattle.pb_manifest_laws.specs.Values.{IsPath, Holds, Lists, OfTable}

@@ -2,27 +2,27 @@
 use Rattle.std.proofs.Common.{◌≡◌, ◌∙◌, ℕ, Bool, true, false, if◌then◌else◌, List, codes, Option, Some, None, Ok, Err, IfSome, refl, sym, ap, subst}
 use Rattle.toml.specs.Data.{Data, string, boolean, Members}
 use Rattle.pb_data.specs.Gives.{◌>>=◌}
-use Rattle.pb_manifest_reader.specs.Binaries.{binary_keys}
-use Rattle.pb_manifest_reader.specs.Features.{feature_of, feature_items_of, feature_item_of, item_in}
-use Rattle.pb_manifest.specs.Keys.{spelled}
-use Rattle.pb_manifest_reader.specs.Laws.{item_text}
-use Rattle.pb_manifest.specs.Letters.{is_crate_name, is_feature_name}
-use Rattle.pb_manifest.specs.Library.{crate_type_text}
-use Rattle.pb_manifest_reader.specs.Library.{library_of, crate_types_at, crate_type_of, crate_type_in, crate_name_at, crate_name_in, proc_macro_at, proc_macro_in}
-use Rattle.pb_manifest_reader.specs.Package.{name_at}
-use Rattle.pb_manifest_reader.specs.Promises.{IsItem}
-use Rattle.pb_manifest_reader.specs.Values.{optional, value_at, text_of, truth_of, path_at, path_of, listed_texts_at}
-use Rattle.pb_manifest.specs.declared.fault.ManifestFault.TheVariants.{BadName, BadFeature}
-use Rattle.pb_manifest.specs.declared.feature.Feature.{Feature}
-use Rattle.pb_manifest.specs.declared.feature.FeatureItem.{FeatureItem}
-use Rattle.pb_manifest.specs.declared.key.Key.TheVariants as key
-use Rattle.pb_manifest.specs.declared.target.Binary.{Binary}
-use Rattle.pb_manifest.specs.declared.target.CrateType.{CrateType}
-use Rattle.pb_manifest.specs.declared.target.CrateType.TheVariants as crate_type
-use Rattle.pb_manifest.specs.declared.target.Library.{Library}
-use Rattle.pb_manifest_reader.proofs.Came.{came}
-use Rattle.pb_manifest_reader.proofs.Items.{item_spelled}
-use Rattle.pb_manifest_reader.proofs.Spelled.{spelling_read}
+use Rattle.pb_manifest.specs.Binaries.{binary_keys}
+use Rattle.pb_manifest.specs.Features.{feature_of, feature_items_of, feature_item_of, item_in}
+use Rattle.pb_manifest_types.specs.Keys.{spelled}
+use Rattle.pb_manifest.specs.Laws.{item_text}
+use Rattle.pb_manifest_types.specs.Letters.{is_crate_name, is_feature_name}
+use Rattle.pb_manifest_types.specs.Library.{crate_type_text}
+use Rattle.pb_manifest.specs.Library.{library_of, crate_types_at, crate_type_of, crate_type_in, crate_name_at, crate_name_in, proc_macro_at, proc_macro_in}
+use Rattle.pb_manifest.specs.Package.{name_at}
+use Rattle.pb_manifest.specs.Promises.{IsItem}
+use Rattle.pb_manifest.specs.Values.{optional, value_at, text_of, truth_of, path_at, path_of, listed_texts_at}
+use Rattle.pb_manifest_types.specs.declared.fault.ManifestFault.TheVariants.{BadName, BadFeature}
+use Rattle.pb_manifest_types.specs.declared.feature.Feature.{Feature}
+use Rattle.pb_manifest_types.specs.declared.feature.FeatureItem.{FeatureItem}
+use Rattle.pb_manifest_types.specs.declared.key.Key.TheVariants as key
+use Rattle.pb_manifest_types.specs.declared.target.Binary.{Binary}
+use Rattle.pb_manifest_types.specs.declared.target.CrateType.{CrateType}
+use Rattle.pb_manifest_types.specs.declared.target.CrateType.TheVariants as crate_type
+use Rattle.pb_manifest_types.specs.declared.target.Library.{Library}
+use Rattle.pb_manifest.proofs.Came.{came}
+use Rattle.pb_manifest.proofs.Items.{item_spelled}
+use Rattle.pb_manifest.proofs.Spelled.{spelling_read}
 use Rattle.pb_manifest_laws.specs.Laws.{ReadsLibraries, ReadsBinaries, ReadsFeatures}
 use Rattle.pb_manifest_laws.specs.Packages.{IsLibraryTable, IsBinaryTable, IsFeatureEntry}
 use Rattle.pb_manifest_laws.specs.Values.{IsPath, Holds, HoldsOr}

@@ -3,19 +3,19 @@ use Rattle.std.proofs.Common.{◌≡◌, ◌↔◌, ◌∙◌, ℕ, List, Option
 use Rattle.std.specs.List.{AllByRecursion}
 use Rattle.toml.specs.Data.{string, Members}
 use Rattle.pb_data.specs.Gives.{◌>>=◌}
-use Rattle.pb_manifest_reader.specs.Dependencies.{shared_dependency_of, shared_dependencies_at}
-use Rattle.pb_manifest.specs.Keys.{spelled}
-use Rattle.pb_manifest_reader.specs.Package.{edition_of, edition_at, readme_of, readme_at, resolver_at}
-use Rattle.pb_manifest_reader.specs.Values.{value_at, text_of, text_at, texts_of, texts_at, path_of, paths_of, paths_at}
-use Rattle.pb_manifest.specs.Versions.{is_version}
-use Rattle.pb_manifest_reader.specs.Versions.{version_of, version_at}
-use Rattle.pb_manifest_reader.specs.Workspace.{first_keys, last_keys, workspace_package_of, workspace_package_in, workspace_package_at, listed_paths_at, workspace_of}
-use Rattle.pb_manifest.specs.declared.fault.ManifestFault.TheVariants.{BadKind}
-use Rattle.pb_manifest.specs.declared.key.Key.{Key}
-use Rattle.pb_manifest.specs.declared.key.Key.TheVariants as key
-use Rattle.pb_manifest.specs.declared.manifest.WorkspacePackage.{WorkspacePackage}
-use Rattle.pb_manifest.specs.declared.manifest.WorkspaceTable.{WorkspaceTable}
-use Rattle.pb_manifest_reader.proofs.Came.{came}
+use Rattle.pb_manifest.specs.Dependencies.{shared_dependency_of, shared_dependencies_at}
+use Rattle.pb_manifest_types.specs.Keys.{spelled}
+use Rattle.pb_manifest.specs.Package.{edition_of, edition_at, readme_of, readme_at, resolver_at}
+use Rattle.pb_manifest.specs.Values.{value_at, text_of, text_at, texts_of, texts_at, path_of, paths_of, paths_at}
+use Rattle.pb_manifest_types.specs.Versions.{is_version}
+use Rattle.pb_manifest.specs.Versions.{version_of, version_at}
+use Rattle.pb_manifest.specs.Workspace.{first_keys, last_keys, workspace_package_of, workspace_package_in, workspace_package_at, listed_paths_at, workspace_of}
+use Rattle.pb_manifest_types.specs.declared.fault.ManifestFault.TheVariants.{BadKind}
+use Rattle.pb_manifest_types.specs.declared.key.Key.{Key}
+use Rattle.pb_manifest_types.specs.declared.key.Key.TheVariants as key
+use Rattle.pb_manifest_types.specs.declared.manifest.WorkspacePackage.{WorkspacePackage}
+use Rattle.pb_manifest_types.specs.declared.manifest.WorkspaceTable.{WorkspaceTable}
+use Rattle.pb_manifest.proofs.Came.{came}
 use Rattle.pb_manifest_laws.specs.Dependencies.{IsSharedEntry}
 use Rattle.pb_manifest_laws.specs.Laws.{ReadsWorkspaces}
 use Rattle.pb_manifest_laws.specs.Packages.{edition, readme_value}

@@ -3,34 +3,34 @@ use Rattle.std.proofs.Common.{inl, inr, ◌≡◌, ◌∙◌, ℕ, Bool, pos, tr
 use Rattle.std.specs.List.{AllByRecursion, slice_get}
 use Rattle.std.specs.Option.{option_and_then, option_map, option_map_or}
 use Rattle.toml.specs.Data.{Data, string, integer, boolean, Members, get_member, as_table}
-use Rattle.pb_manifest.specs.Letters.{is_name, is_feature_name}
-use Rattle.pb_manifest.specs.Library.{crate_type_text}
-use Rattle.pb_manifest.specs.declared.dependency.Dependency.{Dependency}
-use Rattle.pb_manifest.specs.declared.dependency.Source.{Source}
-use Rattle.pb_manifest.specs.declared.dependency.Source.TheVariants as own
-use Rattle.pb_manifest.specs.declared.dependency.WorkspaceDependency.{WorkspaceDependency}
-use Rattle.pb_manifest.specs.declared.dependency.WorkspaceSource.{WorkspaceSource}
-use Rattle.pb_manifest.specs.declared.dependency.WorkspaceSource.TheVariants as shared
-use Rattle.pb_manifest.specs.declared.feature.Feature.{Feature}
-use Rattle.pb_manifest.specs.declared.manifest.Manifest.{Manifest}
-use Rattle.pb_manifest.specs.declared.manifest.WorkspacePackage.{WorkspacePackage}
-use Rattle.pb_manifest.specs.declared.manifest.WorkspaceTable.{WorkspaceTable}
-use Rattle.pb_manifest.specs.declared.package.Build.{Build}
-use Rattle.pb_manifest.specs.declared.package.Build.TheVariants as build
-use Rattle.pb_manifest.specs.declared.package.Edition.TheVariants.{E2015}
-use Rattle.pb_manifest.specs.declared.package.Package.{Package}
-use Rattle.pb_manifest.specs.declared.profile.OptLevel.TheVariants.{Zero, One, Two, Three, Size, SmallestSize}
-use Rattle.pb_manifest.specs.declared.profile.DebugInfo.TheVariants as debug
-use Rattle.pb_manifest.specs.declared.profile.Lto.TheVariants as lto
-use Rattle.pb_manifest.specs.declared.profile.Panic.TheVariants.{Unwind, Abort}
-use Rattle.pb_manifest.specs.declared.profile.Profile.{Profile}
-use Rattle.pb_manifest.specs.declared.profile.ProfileKeys.{ProfileKeys}
-use Rattle.pb_manifest.specs.declared.profile.ProfileOverride.{ProfileOverride}
-use Rattle.pb_manifest.specs.declared.profile.Strip.TheVariants as strip
-use Rattle.pb_manifest.specs.declared.target.Binary.{Binary}
-use Rattle.pb_manifest.specs.declared.target.Library.{Library}
-use Rattle.pb_manifest_reader.specs.Profiles.{may_be_profile}
-use Rattle.pb_manifest_reader.specs.Values.{keys_of}
+use Rattle.pb_manifest_types.specs.Letters.{is_name, is_feature_name}
+use Rattle.pb_manifest_types.specs.Library.{crate_type_text}
+use Rattle.pb_manifest_types.specs.declared.dependency.Dependency.{Dependency}
+use Rattle.pb_manifest_types.specs.declared.dependency.Source.{Source}
+use Rattle.pb_manifest_types.specs.declared.dependency.Source.TheVariants as own
+use Rattle.pb_manifest_types.specs.declared.dependency.WorkspaceDependency.{WorkspaceDependency}
+use Rattle.pb_manifest_types.specs.declared.dependency.WorkspaceSource.{WorkspaceSource}
+use Rattle.pb_manifest_types.specs.declared.dependency.WorkspaceSource.TheVariants as shared
+use Rattle.pb_manifest_types.specs.declared.feature.Feature.{Feature}
+use Rattle.pb_manifest_types.specs.declared.manifest.Manifest.{Manifest}
+use Rattle.pb_manifest_types.specs.declared.manifest.WorkspacePackage.{WorkspacePackage}
+use Rattle.pb_manifest_types.specs.declared.manifest.WorkspaceTable.{WorkspaceTable}
+use Rattle.pb_manifest_types.specs.declared.package.Build.{Build}
+use Rattle.pb_manifest_types.specs.declared.package.Build.TheVariants as build
+use Rattle.pb_manifest_types.specs.declared.package.Edition.TheVariants.{E2015}
+use Rattle.pb_manifest_types.specs.declared.package.Package.{Package}
+use Rattle.pb_manifest_types.specs.declared.profile.OptLevel.TheVariants.{Zero, One, Two, Three, Size, SmallestSize}
+use Rattle.pb_manifest_types.specs.declared.profile.DebugInfo.TheVariants as debug
+use Rattle.pb_manifest_types.specs.declared.profile.Lto.TheVariants as lto
+use Rattle.pb_manifest_types.specs.declared.profile.Panic.TheVariants.{Unwind, Abort}
+use Rattle.pb_manifest_types.specs.declared.profile.Profile.{Profile}
+use Rattle.pb_manifest_types.specs.declared.profile.ProfileKeys.{ProfileKeys}
+use Rattle.pb_manifest_types.specs.declared.profile.ProfileOverride.{ProfileOverride}
+use Rattle.pb_manifest_types.specs.declared.profile.Strip.TheVariants as strip
+use Rattle.pb_manifest_types.specs.declared.target.Binary.{Binary}
+use Rattle.pb_manifest_types.specs.declared.target.Library.{Library}
+use Rattle.pb_manifest.specs.Profiles.{may_be_profile}
+use Rattle.pb_manifest.specs.Values.{keys_of}
 use Rattle.pb_manifest_laws.specs.Dependencies.{IsSource, IsDependencyEntry, IsSharedSource, IsSharedTable, IsSharedEntry}
 use Rattle.pb_manifest_laws.specs.Documents.{IsDocument}
 use Rattle.pb_manifest_laws.specs.Laws.{ReadsWhatIsWritten}

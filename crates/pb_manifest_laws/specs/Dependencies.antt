@@ -3,15 +3,15 @@
 use Rattle.std.specs.Prelude.{◌≡◌, ◌⊎◌, ℕ, Bool, true, false, List, [], ◌∷◌, codes, Option, Some, None}
 use Rattle.std.specs.List.{AllByRecursion}
 use Rattle.toml.specs.Data.{Data, string, boolean, Members, get_member}
-use Rattle.pb_manifest.specs.Letters.{is_name}
-use Rattle.pb_manifest.specs.Versions.{is_requirement}
-use Rattle.pb_manifest.specs.declared.dependency.Dependency.{Dependency}
-use Rattle.pb_manifest.specs.declared.dependency.PathSource.{PathSource}
-use Rattle.pb_manifest.specs.declared.dependency.Source.{Source}
-use Rattle.pb_manifest.specs.declared.dependency.Source.TheVariants as own
-use Rattle.pb_manifest.specs.declared.dependency.WorkspaceDependency.{WorkspaceDependency}
-use Rattle.pb_manifest.specs.declared.dependency.WorkspaceSource.{WorkspaceSource}
-use Rattle.pb_manifest.specs.declared.dependency.WorkspaceSource.TheVariants as shared
+use Rattle.pb_manifest_types.specs.Letters.{is_name}
+use Rattle.pb_manifest_types.specs.Versions.{is_requirement}
+use Rattle.pb_manifest_types.specs.declared.dependency.Dependency.{Dependency}
+use Rattle.pb_manifest_types.specs.declared.dependency.PathSource.{PathSource}
+use Rattle.pb_manifest_types.specs.declared.dependency.Source.{Source}
+use Rattle.pb_manifest_types.specs.declared.dependency.Source.TheVariants as own
+use Rattle.pb_manifest_types.specs.declared.dependency.WorkspaceDependency.{WorkspaceDependency}
+use Rattle.pb_manifest_types.specs.declared.dependency.WorkspaceSource.{WorkspaceSource}
+use Rattle.pb_manifest_types.specs.declared.dependency.WorkspaceSource.TheVariants as shared
 use Rattle.pb_manifest_laws.specs.Values.{IsPath, Holds, HoldsValid, HoldsOr, Lists, OfTable}
 
 -- the package at a path, whose feature `default` is requested unless `default-features = false`

@@ -5,8 +5,8 @@ use Rattle.std.specs.Option.{option_and_then, option_map_or}
 use Rattle.std.specs.Str.{is_utf8}
 use Rattle.toml.specs.Data.{Members, as_table, get_member}
 use Rattle.toml.specs.Parse.{parse_document}
-use Rattle.pb_manifest_reader.specs.Values.{keys_of}
-use Rattle.pb_manifest.specs.declared.manifest.Manifest.{Manifest}
+use Rattle.pb_manifest.specs.Values.{keys_of}
+use Rattle.pb_manifest_types.specs.declared.manifest.Manifest.{Manifest}
 use Rattle.pb_manifest_laws.specs.Dependencies.{IsDependencyEntry}
 use Rattle.pb_manifest_laws.specs.Packages.{IsPackageTable, IsLibraryTable, IsBinaryTable, IsFeatureEntry}
 use Rattle.pb_manifest_laws.specs.Profiles.{IsProfileEntry}

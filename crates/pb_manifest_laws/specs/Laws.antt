@@ -3,17 +3,17 @@ use Rattle.std.specs.Prelude.{◌≡◌, ◌↔◌, ◌≤◌, ℕ, Bool, true, 
 use Rattle.std.specs.Str.{is_utf8}
 use Rattle.toml.specs.Data.{Members}
 use Rattle.toml.specs.Text.{IsDocumentText}
-use Rattle.pb_manifest.specs.Values.{Read}
-use Rattle.pb_manifest_reader.specs.Binaries.{binary_keys}
-use Rattle.pb_manifest_reader.specs.Dependencies.{dependency_of, shared_dependency_of}
-use Rattle.pb_manifest_reader.specs.Document.{document_of, manifest_of}
-use Rattle.pb_manifest_reader.specs.Features.{feature_of}
-use Rattle.pb_manifest_reader.specs.Library.{library_of}
-use Rattle.pb_manifest_reader.specs.Package.{package_of}
-use Rattle.pb_manifest_reader.specs.Profiles.{profile_keys, profile_of}
-use Rattle.pb_manifest_reader.specs.Workspace.{workspace_of}
-use Rattle.pb_manifest.specs.declared.key.Key.{Key}
-use Rattle.pb_manifest.specs.declared.manifest.Manifest.{Manifest}
+use Rattle.pb_manifest_types.specs.Values.{Read}
+use Rattle.pb_manifest.specs.Binaries.{binary_keys}
+use Rattle.pb_manifest.specs.Dependencies.{dependency_of, shared_dependency_of}
+use Rattle.pb_manifest.specs.Document.{document_of, manifest_of}
+use Rattle.pb_manifest.specs.Features.{feature_of}
+use Rattle.pb_manifest.specs.Library.{library_of}
+use Rattle.pb_manifest.specs.Package.{package_of}
+use Rattle.pb_manifest.specs.Profiles.{profile_keys, profile_of}
+use Rattle.pb_manifest.specs.Workspace.{workspace_of}
+use Rattle.pb_manifest_types.specs.declared.key.Key.{Key}
+use Rattle.pb_manifest_types.specs.declared.manifest.Manifest.{Manifest}
 use Rattle.pb_manifest_laws.specs.Dependencies.{IsDependencyEntry, IsSharedEntry}
 use Rattle.pb_manifest_laws.specs.Documents.{IsDocument, AreManifest}
 use Rattle.pb_manifest_laws.specs.Profiles.{AreSettings, IsProfileEntry}

@@ -4,25 +4,25 @@ use Rattle.std.specs.Prelude.{◌≡◌, ℕ, true, false, List, [], ◌∷◌, 
 use Rattle.std.specs.List.{AllByRecursion}
 use Rattle.toml.specs.Data.{Data, string, boolean, array, Members, get_member}
 use Rattle.toml.specs.View.{items_of}
-use Rattle.pb_manifest_reader.specs.Laws.{item_text}
-use Rattle.pb_manifest.specs.Letters.{is_name, is_crate_name, is_feature_name}
-use Rattle.pb_manifest.specs.Library.{crate_type_text}
-use Rattle.pb_manifest.specs.Package.{edition_text}
-use Rattle.pb_manifest_reader.specs.Promises.{IsItem}
-use Rattle.pb_manifest.specs.Versions.{is_version}
-use Rattle.pb_manifest.specs.declared.inherited.Inheritable.{Inheritable}
-use Rattle.pb_manifest.specs.declared.inherited.Inherited.{Inherited}
-use Rattle.pb_manifest.specs.declared.inherited.Inherited.TheVariants.{Written, Workspace}
-use Rattle.pb_manifest.specs.declared.feature.Feature.{Feature}
-use Rattle.pb_manifest.specs.declared.package.Build.{Build}
-use Rattle.pb_manifest.specs.declared.package.Build.TheVariants as build
-use Rattle.pb_manifest.specs.declared.package.Edition.{Edition}
-use Rattle.pb_manifest.specs.declared.package.Edition.TheVariants.{E2015}
-use Rattle.pb_manifest.specs.declared.package.Package.{Package}
-use Rattle.pb_manifest.specs.declared.package.Readme.{Readme}
-use Rattle.pb_manifest.specs.declared.package.Readme.TheVariants as readme
-use Rattle.pb_manifest.specs.declared.target.Binary.{Binary}
-use Rattle.pb_manifest.specs.declared.target.Library.{Library}
+use Rattle.pb_manifest.specs.Laws.{item_text}
+use Rattle.pb_manifest_types.specs.Letters.{is_name, is_crate_name, is_feature_name}
+use Rattle.pb_manifest_types.specs.Library.{crate_type_text}
+use Rattle.pb_manifest_types.specs.Package.{edition_text}
+use Rattle.pb_manifest.specs.Promises.{IsItem}
+use Rattle.pb_manifest_types.specs.Versions.{is_version}
+use Rattle.pb_manifest_types.specs.declared.inherited.Inheritable.{Inheritable}
+use Rattle.pb_manifest_types.specs.declared.inherited.Inherited.{Inherited}
+use Rattle.pb_manifest_types.specs.declared.inherited.Inherited.TheVariants.{Written, Workspace}
+use Rattle.pb_manifest_types.specs.declared.feature.Feature.{Feature}
+use Rattle.pb_manifest_types.specs.declared.package.Build.{Build}
+use Rattle.pb_manifest_types.specs.declared.package.Build.TheVariants as build
+use Rattle.pb_manifest_types.specs.declared.package.Edition.{Edition}
+use Rattle.pb_manifest_types.specs.declared.package.Edition.TheVariants.{E2015}
+use Rattle.pb_manifest_types.specs.declared.package.Package.{Package}
+use Rattle.pb_manifest_types.specs.declared.package.Readme.{Readme}
+use Rattle.pb_manifest_types.specs.declared.package.Readme.TheVariants as readme
+use Rattle.pb_manifest_types.specs.declared.target.Binary.{Binary}
+use Rattle.pb_manifest_types.specs.declared.target.Library.{Library}
 use Rattle.pb_manifest_laws.specs.Values.{texts, IsPath, Holds, HoldsValid, HoldsOr, Lists, HoldsOrTakes, HasOrTakes}
 
 abbrev pub edition : Edition → Data

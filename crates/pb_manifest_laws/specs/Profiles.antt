@@ -4,19 +4,19 @@ use Rattle.std.specs.List.{AllZip, position}
 use Rattle.std.specs.Option.{option_map_or, option_to_list}
 use Rattle.std.specs.Str.{bytes_eq}
 use Rattle.toml.specs.Data.{Data, string, integer, boolean, Members, get_member}
-use Rattle.pb_manifest_reader.specs.Profiles.{may_be_profile}
-use Rattle.pb_manifest.specs.declared.profile.OptLevel.{OptLevel}
-use Rattle.pb_manifest.specs.declared.profile.DebugInfo.{DebugInfo}
-use Rattle.pb_manifest.specs.declared.profile.DebugInfo.TheVariants as debug
-use Rattle.pb_manifest.specs.declared.profile.Lto.{Lto}
-use Rattle.pb_manifest.specs.declared.profile.Lto.TheVariants as lto
-use Rattle.pb_manifest.specs.declared.profile.Panic.{Panic}
-use Rattle.pb_manifest.specs.declared.profile.Panic.TheVariants.{Unwind, Abort}
-use Rattle.pb_manifest.specs.declared.profile.Strip.{Strip}
-use Rattle.pb_manifest.specs.declared.profile.Strip.TheVariants as strip
-use Rattle.pb_manifest.specs.declared.profile.ProfileKeys.{ProfileKeys}
-use Rattle.pb_manifest.specs.declared.profile.ProfileOverride.{ProfileOverride}
-use Rattle.pb_manifest.specs.declared.profile.Profile.{Profile}
+use Rattle.pb_manifest.specs.Profiles.{may_be_profile}
+use Rattle.pb_manifest_types.specs.declared.profile.OptLevel.{OptLevel}
+use Rattle.pb_manifest_types.specs.declared.profile.DebugInfo.{DebugInfo}
+use Rattle.pb_manifest_types.specs.declared.profile.DebugInfo.TheVariants as debug
+use Rattle.pb_manifest_types.specs.declared.profile.Lto.{Lto}
+use Rattle.pb_manifest_types.specs.declared.profile.Lto.TheVariants as lto
+use Rattle.pb_manifest_types.specs.declared.profile.Panic.{Panic}
+use Rattle.pb_manifest_types.specs.declared.profile.Panic.TheVariants.{Unwind, Abort}
+use Rattle.pb_manifest_types.specs.declared.profile.Strip.{Strip}
+use Rattle.pb_manifest_types.specs.declared.profile.Strip.TheVariants as strip
+use Rattle.pb_manifest_types.specs.declared.profile.ProfileKeys.{ProfileKeys}
+use Rattle.pb_manifest_types.specs.declared.profile.ProfileOverride.{ProfileOverride}
+use Rattle.pb_manifest_types.specs.declared.profile.Profile.{Profile}
 use Rattle.pb_profile.specs.Words.{opt_level_text}
 use Rattle.pb_manifest_laws.specs.Values.{Holds, HoldsValid, OfTable, IsTableAt, AreEntriesAt}
 

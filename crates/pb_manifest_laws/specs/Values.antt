@@ -4,11 +4,11 @@ use Rattle.std.specs.List.{AllZip}
 use Rattle.std.specs.Option.{option_map, option_to_list}
 use Rattle.toml.specs.Data.{Data, string, boolean, array, table, Members, no_members, member, get_member}
 use Rattle.toml.specs.View.{items_of}
-use Rattle.pb_manifest.specs.declared.inherited.Inheritable.{Inheritable}
-use Rattle.pb_manifest.specs.declared.inherited.Inheritable.TheVariants.{Written, Workspace, Absent}
-use Rattle.pb_manifest.specs.declared.inherited.Inherited.{Inherited}
-use Rattle.pb_manifest.specs.declared.inherited.Inherited.TheVariants as inherited
-use Rattle.pb_place.specs.Paths.{has_byte_0}
+use Rattle.pb_manifest_types.specs.declared.inherited.Inheritable.{Inheritable}
+use Rattle.pb_manifest_types.specs.declared.inherited.Inheritable.TheVariants.{Written, Workspace, Absent}
+use Rattle.pb_manifest_types.specs.declared.inherited.Inherited.{Inherited}
+use Rattle.pb_manifest_types.specs.declared.inherited.Inherited.TheVariants as inherited
+use Rattle.pb_place_types.specs.Paths.{has_byte_0}
 
 abbrev pub texts : List (List ℕ) → Data
 texts xs = array (items_of (map string xs))

@@ -2,9 +2,9 @@
 use Rattle.std.specs.Prelude.{◌≡◌, ℕ, true, codes, List, [], ◌∷◌, Option}
 use Rattle.std.specs.List.{AllByRecursion}
 use Rattle.toml.specs.Data.{string, Members, get_member}
-use Rattle.pb_manifest.specs.Versions.{is_version}
-use Rattle.pb_manifest.specs.declared.manifest.WorkspacePackage.{WorkspacePackage}
-use Rattle.pb_manifest.specs.declared.manifest.WorkspaceTable.{WorkspaceTable}
+use Rattle.pb_manifest_types.specs.Versions.{is_version}
+use Rattle.pb_manifest_types.specs.declared.manifest.WorkspacePackage.{WorkspacePackage}
+use Rattle.pb_manifest_types.specs.declared.manifest.WorkspaceTable.{WorkspaceTable}
 use Rattle.pb_manifest_laws.specs.Dependencies.{IsSharedEntry}
 use Rattle.pb_manifest_laws.specs.Packages.{edition, readme_value, IsResolver}
 use Rattle.pb_manifest_laws.specs.Values.{texts, IsPath, Holds, HoldsValid, Lists, IsTableAt, AreEntriesAt}

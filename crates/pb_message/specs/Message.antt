@@ -3,9 +3,9 @@
 use Rattle.std.specs.Prelude.{ℕ, Bool, true, false, if◌then◌else◌, codes, List, [], ◌∷◌, ◌++◌, nat_eq}
 use Rattle.std.specs.List.{ends_with, concat}
 use Rattle.pb_json.specs.Json.{json_string}
-use Rattle.pb_manifest.specs.Package.{edition_text}
-use Rattle.pb_manifest.specs.declared.profile.DebugInfo.{DebugInfo}
-use Rattle.pb_manifest.specs.declared.profile.DebugInfo.TheVariants.{Nothing, Limited, Full, LineTablesOnly, LineDirectivesOnly}
+use Rattle.pb_manifest_types.specs.Package.{edition_text}
+use Rattle.pb_manifest_types.specs.declared.profile.DebugInfo.{DebugInfo}
+use Rattle.pb_manifest_types.specs.declared.profile.DebugInfo.TheVariants.{Nothing, Limited, Full, LineTablesOnly, LineDirectivesOnly}
 use Rattle.pb_profile.specs.Words.{opt_level_text}
 use Rattle.pb_profile.specs.declared.settings.Settings.{Settings}
 use Rattle.pb_message.specs.Json.{truth_text, json_texts, json_pairs}

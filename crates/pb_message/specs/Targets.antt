@@ -1,8 +1,8 @@
 -- The targets of a package as message lines describe them (The Cargo Book, External Tools).
 use Rattle.std.specs.Prelude.{ℕ, codes, List, [], ◌∷◌}
-use Rattle.pb_manifest.specs.Library.{crate_type_texts}
-use Rattle.pb_manifest.specs.declared.package.Edition.{Edition}
-use Rattle.pb_manifest.specs.declared.target.CrateType.{CrateType}
+use Rattle.pb_manifest_types.specs.Library.{crate_type_texts}
+use Rattle.pb_manifest_types.specs.declared.package.Edition.{Edition}
+use Rattle.pb_manifest_types.specs.declared.target.CrateType.{CrateType}
 use Rattle.pb_message.specs.declared.subject.Target.{Target}
 
 -- the target of a library, whose kinds are its crate types

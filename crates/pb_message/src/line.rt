@@ -9,8 +9,8 @@ use crate::message::{Artifact, Executed, Level, Message};
 use crate::subject::{Subject, Target};
 use pb_data::Text;
 use pb_json::json_string;
-use pb_manifest::DebugInfo;
-use pb_place::PathText;
+use pb_manifest_types::DebugInfo;
+use pb_place_types::PathText;
 use pb_profile::{Settings, opt_level_text};
 use std::alloc::{AllocError, Global};
 

@@ -1,7 +1,7 @@
 //! Messages as values. They do not contain whether a child was started for their unit.
 
 use pb_data::{Items, Text};
-use pb_place::PathText;
+use pb_place_types::PathText;
 use pb_profile::Settings;
 
 /// The level of a note.

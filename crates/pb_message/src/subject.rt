@@ -1,12 +1,12 @@
 //! The subject of message lines: a package, and one of its targets.
 
 ghost use Rattle.std.specs.Prelude.{◌≡◌, IfOk, map};
-ghost use Rattle.pb_manifest.specs.Library.{crate_type_texts};
+ghost use Rattle.pb_manifest_types.specs.Library.{crate_type_texts};
 ghost use Rattle.pb_message.specs.Targets.{library_target, binary_target, script_target};
 
 use pb_data::{Items, Text};
-use pb_manifest::{CrateType, Edition, crate_type_texts};
-use pb_place::PathText;
+use pb_manifest_types::{CrateType, Edition, crate_type_texts};
+use pb_place_types::PathText;
 use std::alloc::{AllocError, Global};
 
 /// A target of a package, as message lines describe it (The Cargo Book, External Tools).

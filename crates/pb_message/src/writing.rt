@@ -2,10 +2,10 @@
 
 ghost use Rattle.std.specs.Prelude.{◌≡◌, OnOk, OnErr};
 ghost use Rattle.std.specs.Io.KnownBytes.{Appends};
-ghost use Rattle.pb_place.specs.Counts.{up};
-ghost use Rattle.pb_place.specs.Sinks.{TakesPart};
+ghost use Rattle.pb_place_types.specs.Counts.{up};
+ghost use Rattle.pb_place_types.specs.Sinks.{TakesPart};
 
-use pb_place::{Out, write_all};
+use pb_place_types::{Out, write_all};
 
 /// The sink did not take all of the bytes.
 #[derive(Clone, Copy, Debug, PartialEq, Eq)]

@@ -1,3 +1,5 @@
 mod Lines
 mod Diagnostics
 mod Telling
+pub mod Texts
+pub mod Streams

@@ -9,11 +9,11 @@ use Rattle.std.specs.List.{concat, AllByRecursion}
 use Rattle.json.specs.Print.{escape_letter, escape_byte, escape}
 use Rattle.pb_directive.specs.Lines.{has_byte}
 use Rattle.pb_json.specs.Json.{json_string}
-use Rattle.pb_manifest.specs.Package.{edition_text}
-use Rattle.pb_manifest.specs.declared.profile.DebugInfo.{DebugInfo}
-use Rattle.pb_manifest.specs.declared.profile.DebugInfo.TheVariants.{Nothing, Limited, Full, LineTablesOnly, LineDirectivesOnly}
-use Rattle.pb_manifest.specs.declared.profile.OptLevel.{OptLevel}
-use Rattle.pb_manifest.specs.declared.profile.OptLevel.TheVariants as opt
+use Rattle.pb_manifest_types.specs.Package.{edition_text}
+use Rattle.pb_manifest_types.specs.declared.profile.DebugInfo.{DebugInfo}
+use Rattle.pb_manifest_types.specs.declared.profile.DebugInfo.TheVariants.{Nothing, Limited, Full, LineTablesOnly, LineDirectivesOnly}
+use Rattle.pb_manifest_types.specs.declared.profile.OptLevel.{OptLevel}
+use Rattle.pb_manifest_types.specs.declared.profile.OptLevel.TheVariants as opt
 use Rattle.pb_profile.specs.Words.{opt_level_text}
 use Rattle.pb_profile.specs.declared.settings.Settings.{Settings}
 use Rattle.pb_message.specs.Json.{truth_text, after_commas, listed, json_texts, json_pair, json_pairs}

@@ -1,2 +1,4 @@
 pub mod OneLine
 pub mod Told
+pub mod Objects
+pub mod Streams

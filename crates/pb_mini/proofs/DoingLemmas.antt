@@ -2,7 +2,7 @@
 use Rattle.std.proofs.Common.{◌≡◌, ℕ, ◌+◌, ◌<◌, true, false, cond, List, ◌∷◌, map, drop, length, get_or, Option, refl, sym, ap, ◌∙◌, subst, append_assoc}
 use Rattle.std.proofs.lemmas.List.{append-nil, drop_more}
 use Rattle.std.specs.Borrow.{Bor}
-use Rattle.pb_place.specs.World.{World}
+use Rattle.pb_place_types.specs.World.{World}
 use Rattle.pb_mini.specs.Effects.{no_effects, joined, followed_by, Does, copied, asks}
 use Rattle.pb_mini.specs.Lines.{word_in, rest_of}
 use Rattle.pb_mini.specs.Verbs.{line_meant, env_line, told, verb_of, is_passed_over, effect_by, effect_meant, effect_of, effects_from}

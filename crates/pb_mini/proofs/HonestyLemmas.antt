@@ -7,10 +7,10 @@ use Rattle.std.specs.Str.{bytes_eq}
 use Rattle.std.specs.FinMap as finite
 use Rattle.pb_data.specs.Table.{value_at, table_of}
 use Rattle.pb_data.proofs.MentionLemmas.{mentioned_all-once}
-use Rattle.pb_place.specs.Paths.{is_absolute, below}
-use Rattle.pb_place.specs.World.{World}
-use Rattle.pb_place.specs.declared.child.Reply.{Reply}
-use Rattle.pb_place.specs.declared.command.Command.{Command}
+use Rattle.pb_place_types.specs.Paths.{is_absolute, below}
+use Rattle.pb_place_types.specs.World.{World}
+use Rattle.pb_place_types.specs.declared.child.Reply.{Reply}
+use Rattle.pb_place_types.specs.declared.command.Command.{Command}
 use Rattle.pb_mini.specs.Answer.{request_of, replied_if}
 use Rattle.pb_mini.specs.Compile.{text_of, text_at, source_effects, effects_of, replied, image_file}
 use Rattle.pb_mini.specs.Diagnostics.{has_error}

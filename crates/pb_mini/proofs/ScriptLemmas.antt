@@ -1,8 +1,8 @@
 -- Steps of a script.
 use Rattle.std.proofs.Common.{◌≡◌, ℕ, false, cond, List, [], ◌∷◌, ◌++◌, Option, Some, None, codes, sym, ap, ◌∙◌, append_assoc}
 use Rattle.std.proofs.lemmas.List.{append-nil}
-use Rattle.pb_place.specs.Paths.{is_absolute}
-use Rattle.pb_place.specs.World.{World}
+use Rattle.pb_place_types.specs.Paths.{is_absolute}
+use Rattle.pb_place_types.specs.World.{World}
 use Rattle.pb_mini.specs.Lines.{ended}
 use Rattle.pb_mini.specs.Lookups.{value_of}
 use Rattle.pb_mini.specs.Script.{before, after_step, Goes, Wrote, shown, first_line, first_line_set, below_text, full_path, step_by}

@@ -3,8 +3,8 @@ use Rattle.std.specs.Prelude.{ℕ, pos, if◌then◌else◌, codes, List, [], �
 use Rattle.std.specs.Str.{bytes_eq}
 use Rattle.pb_data.specs.Gives.{◌>>=◌}
 use Rattle.pb_data.specs.Table.{table_of}
-use Rattle.pb_place.specs.World.{World}
-use Rattle.pb_place.specs.declared.child.Reply.{Reply}
+use Rattle.pb_place_types.specs.World.{World}
+use Rattle.pb_place_types.specs.declared.child.Reply.{Reply}
 use Rattle.pb_mini.specs.CommandLine.{command_line_of}
 use Rattle.pb_mini.specs.Compile.{compiled}
 use Rattle.pb_mini.specs.Script.{ran}

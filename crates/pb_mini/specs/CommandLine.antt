@@ -3,7 +3,7 @@ use Rattle.std.specs.Prelude.{ℕ, nat_eq, Bool, ◌||◌, if◌then◌else◌, 
 use Rattle.std.specs.List.{starts_with}
 use Rattle.std.specs.Str.{bytes_eq}
 use Rattle.pb_data.specs.Gives.{◌>>=◌}
-use Rattle.pb_place.specs.Paths.{is_relative, parsed}
+use Rattle.pb_place_types.specs.Paths.{is_relative, parsed}
 use Rattle.pb_mini.specs.declared.command_line.Role.{Role}
 use Rattle.pb_mini.specs.declared.command_line.Role.TheVariants.{CrateName, CrateType, OutDir, Source, Extern, Condition, Unused}
 use Rattle.pb_mini.specs.declared.command_line.CrateType as kind
@@ -13,7 +13,7 @@ use Rattle.pb_mini.specs.declared.command_line.Settled.{Settled}
 use Rattle.pb_mini.specs.declared.command_line.CommandLine.{CommandLine}
 use Rattle.pb_mini.specs.declared.command_line.CommandLineFault.{CommandLineFault}
 use Rattle.pb_mini.specs.declared.command_line.CommandLineFault.TheVariants.{Bad}
-use Rattle.pb_place.specs.declared.path.PathFault.{PathFault}
+use Rattle.pb_place_types.specs.declared.path.PathFault.{PathFault}
 
 -- the option's value is the next argument
 abbrev pub takes_value : List ℕ → Bool

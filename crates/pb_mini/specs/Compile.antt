@@ -1,9 +1,9 @@
 -- A compile: its source, its image and its reply.
 use Rattle.std.specs.Prelude.{ℕ, ℤ, pos, Bool, if◌then◌else◌, codes, List, [], ◌∷◌, ◌++◌, Option, Some, None, option_and_then}
 use Rattle.std.specs.Str.{is_utf8}
-use Rattle.pb_place.specs.Paths.{below}
-use Rattle.pb_place.specs.World.{World}
-use Rattle.pb_place.specs.declared.child.Reply.{Reply}
+use Rattle.pb_place_types.specs.Paths.{below}
+use Rattle.pb_place_types.specs.World.{World}
+use Rattle.pb_place_types.specs.declared.child.Reply.{Reply}
 use Rattle.pb_mini.specs.Diagnostics.{has_error, diagnostics_text}
 use Rattle.pb_mini.specs.DepInfo.{dep_info_text}
 use Rattle.pb_mini.specs.Effects.{joined, diagnosed, reads, names_once}

@@ -5,9 +5,9 @@ use Rattle.std.specs.Str.{bytes_eq}
 use Rattle.std.specs.FinMap as finite
 use Rattle.pb_data.specs.Mentions.{once}
 use Rattle.pb_data.specs.Table.{value_at, table_of}
-use Rattle.pb_place.specs.Paths.{is_absolute, below, is_below}
-use Rattle.pb_place.specs.World.{World}
-use Rattle.pb_place.specs.declared.command.Command.{Command}
+use Rattle.pb_place_types.specs.Paths.{is_absolute, below, is_below}
+use Rattle.pb_place_types.specs.World.{World}
+use Rattle.pb_place_types.specs.declared.command.Command.{Command}
 use Rattle.pb_mini.specs.Answer.{request_of, answered}
 use Rattle.pb_mini.specs.Compile.{text_of, effects_of}
 use Rattle.pb_mini.specs.DepInfo.{dep_info_text}

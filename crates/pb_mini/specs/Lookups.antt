@@ -3,9 +3,9 @@ use Rattle.std.specs.Prelude.{ℕ, List, Option, Some, None, option_and_then, Re
 use Rattle.std.specs.Option.{option_or}
 use Rattle.std.specs.FinMap as map
 use Rattle.pb_data.specs.Table.{value_at}
-use Rattle.pb_place.specs.Paths.{parsed, joined}
-use Rattle.pb_place.specs.World.{World}
-use Rattle.pb_place.specs.declared.path.PathFault.{PathFault}
+use Rattle.pb_place_types.specs.Paths.{parsed, joined}
+use Rattle.pb_place_types.specs.World.{World}
+use Rattle.pb_place_types.specs.declared.path.PathFault.{PathFault}
 
 abbrev pub path_said : Result (List ℕ) PathFault → Option (List ℕ)
 path_said (Ok path) = Some path

@@ -3,7 +3,7 @@ use Rattle.std.specs.Prelude.{ℕ, List, [], ◌∷◌, if◌then◌else◌, map
 use Rattle.std.specs.Option.{is_some}
 use Rattle.pb_data.specs.Mentions.{once}
 use Rattle.pb_data.specs.Table.{value_at, with_entry}
-use Rattle.pb_place.specs.Paths.{folder_of}
+use Rattle.pb_place_types.specs.Paths.{folder_of}
 use Rattle.pb_mini.specs.Lines.{name_in, value_in}
 use Rattle.pb_mini.specs.declared.command_line.CommandLine.{CommandLine}
 use Rattle.pb_mini.specs.declared.scope.Scope.{Scope}

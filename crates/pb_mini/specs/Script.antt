@@ -2,9 +2,9 @@
 use Rattle.std.specs.Prelude.{◌≡◌, ℕ, pos, ◌==◌, ◌*◌, ◌+◌, ◌-◌, nat_lt, Bool, not, ◌&&◌, if◌then◌else◌, codes, List, [], ◌∷◌, ◌++◌, Option, Some, None, unwrap_or}
 use Rattle.std.specs.List.{list_any, before_first}
 use Rattle.std.specs.Str.{bytes_eq}
-use Rattle.pb_place.specs.Paths.{is_absolute, is_relative}
-use Rattle.pb_place.specs.World.{World}
-use Rattle.pb_place.specs.declared.child.Reply.{Reply}
+use Rattle.pb_place_types.specs.Paths.{is_absolute, is_relative}
+use Rattle.pb_place_types.specs.World.{World}
+use Rattle.pb_place_types.specs.declared.child.Reply.{Reply}
 use Rattle.pb_mini.specs.Compile.{text_of, text_at}
 use Rattle.pb_mini.specs.Lines.{lines_of, word_in, rest_of, ended}
 use Rattle.pb_mini.specs.Lookups.{path_of, file_at, value_of}

@@ -6,7 +6,7 @@ use Rattle.std.specs.Str.{bytes_eq}
 use Rattle.std.specs.List.{join_with_byte}
 use Rattle.pb_data.specs.Mentions.{is_mentioned}
 use Rattle.pb_data.specs.Table.{value_at}
-use Rattle.pb_place.specs.World.{World}
+use Rattle.pb_place_types.specs.World.{World}
 use Rattle.pb_mini.specs.DepInfo.{value_text}
 use Rattle.pb_mini.specs.Effects.{no_effects, joined, copied, copied_file, diagnosed, reads, asks}
 use Rattle.pb_mini.specs.Lines.{word_in, rest_of}

@@ -9,7 +9,7 @@ ghost use Rattle.pb_mini.specs.declared.command_line.CommandLineFault.TheVariant
 ghost use Rattle.pb_mini.specs.declared.command_line.Arguments.{Arguments};
 
 use pb_data::{Items, Text, TryCopy, with_next};
-use pb_place::{PathFault, PathText, RelativePath};
+use pb_place_types::{PathFault, PathText, RelativePath};
 use std::alloc::{AllocError, AllocFailed, Global};
 use thiserror::Error;
 

@@ -7,8 +7,8 @@ ghost use Rattle.pb_mini.specs.Verbs.{effects_from};
 ghost use Rattle.pb_mini.specs.Compile.{text_of, text_at, no_source, source_of, source_effects, effects_of, title, image_text, replied, files_of, compiled};
 ghost use Rattle.pb_mini.specs.DepInfo.{dep_info_text};
 ghost use Rattle.pb_mini.specs.Diagnostics.{diagnostics_text};
-ghost use Rattle.pb_place.specs.Paths.{below};
-ghost use Rattle.pb_place.specs.declared.child.ViewFault.TheVariants as view_fault;
+ghost use Rattle.pb_place_types.specs.Paths.{below};
+ghost use Rattle.pb_place_types.specs.declared.child.ViewFault.TheVariants as view_fault;
 
 use crate::buffer::Buffer;
 use crate::command_line::{CommandLine, CrateType};
@@ -20,7 +20,7 @@ use crate::lookups::{file_at, path_of};
 use crate::scope::Scope;
 use crate::verbs::add_lines;
 use pb_data::{Bytes, Items, Table, Text, TryCopy, with_next};
-use pb_place::{PathText, RelativePath, Reply, View, ViewFault};
+use pb_place_types::{PathText, RelativePath, Reply, View, ViewFault};
 use std::alloc::{AllocError, Global};
 
 /// Returns the text of some bytes, or none if they are not UTF-8.

@@ -4,7 +4,7 @@ ghost use Rattle.std.specs.Prelude.{◌≡◌, ◌++◌, IfOk, OnOk, ℕ, List};
 ghost use Rattle.pb_mini.specs.DepInfo.{rule_text, spelled, paths_text, value_text, variable_text, variables_text, dep_info_text};
 
 use pb_data::{Items, Mentions, Table, Text, with_next};
-use pb_place::PathText;
+use pb_place_types::PathText;
 use std::alloc::{AllocError, Global};
 
 /// The names of all that a compile read, without repeats, in order of first mention. The small

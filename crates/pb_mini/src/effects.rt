@@ -8,7 +8,7 @@ use crate::dep_info::Names;
 use crate::diagnostic::{Diagnostic, Level};
 use crate::lines::{push_line, push_quoted};
 use pb_data::{Items, Mentions, Table, Text};
-use pb_place::PathText;
+use pb_place_types::PathText;
 use std::alloc::{AllocError, Global};
 
 /// The effects of the lines of a source, together.

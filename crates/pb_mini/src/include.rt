@@ -12,7 +12,7 @@ use crate::effects::{Effects, add_diagnostic, add_file, add_path, add_variable};
 use crate::lookups::{file_at, path_from, value_of};
 use crate::scope::Scope;
 use pb_data::{Bytes, Table, Text, with_next};
-use pb_place::{PathText, View, ViewFault};
+use pb_place_types::{PathText, View, ViewFault};
 use std::alloc::{AllocError, Global};
 
 /// Returns the text before the first slash, and the text after it, if there is one.

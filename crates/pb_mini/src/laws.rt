@@ -1,8 +1,8 @@
 //! Laws of the small compiler. Each function does nothing; its contract is the law.
 
 ghost use Rattle.std.specs.Prelude.{ℕ, List};
-ghost use Rattle.pb_place.specs.World.{World};
-ghost use Rattle.pb_place.specs.declared.command.Command.{Command};
+ghost use Rattle.pb_place_types.specs.World.{World};
+ghost use Rattle.pb_place_types.specs.declared.command.Command.{Command};
 ghost use Rattle.pb_mini.specs.Honesty.{AnswersHonestly, TellsNames};
 ghost use Rattle.pb_mini.specs.declared.command_line.CommandLine.{CommandLine};
 

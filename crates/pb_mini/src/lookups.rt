@@ -4,10 +4,10 @@
 ghost use Rattle.std.specs.Prelude.{◌≡◌, IfOk, OnOk, IfErr, IsTrue, ℕ, List};
 ghost use Rattle.pb_data.specs.Table.{with_entry, with_entries, table_of};
 ghost use Rattle.pb_mini.specs.Lookups.{path_of, path_from, file_at, value_of};
-ghost use Rattle.pb_place.specs.declared.child.ViewFault.TheVariants as view_fault;
+ghost use Rattle.pb_place_types.specs.declared.child.ViewFault.TheVariants as view_fault;
 
 use pb_data::{Bytes, Table, Text, TryCopy};
-use pb_place::{PathFault, PathText, View, ViewFault};
+use pb_place_types::{PathFault, PathText, View, ViewFault};
 use std::alloc::{AllocError, Global};
 
 /// Returns the path of a text, or none if it is no absolute path.

@@ -9,7 +9,7 @@ use crate::lookups::table_of;
 use crate::request::{Request, request_of};
 use crate::script::run;
 use pb_data::{Bytes, Items, Table, Text};
-use pb_place::{Child, Command, Reply, View, ViewFault};
+use pb_place_types::{Child, Command, Reply, View, ViewFault};
 use std::alloc::{AllocError, Global};
 
 /// Returns a reply without files.

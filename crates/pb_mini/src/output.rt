@@ -5,7 +5,7 @@ ghost use Rattle.pb_mini.specs.Script.{no_output, before, ending};
 
 use crate::buffer::Buffer;
 use pb_data::{Bytes, Items};
-use pb_place::{RelativePath, Reply};
+use pb_place_types::{RelativePath, Reply};
 use std::alloc::Global;
 
 /// What a script has written so far.

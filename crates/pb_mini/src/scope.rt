@@ -2,13 +2,13 @@
 
 ghost use Rattle.std.specs.Prelude.{◌≡◌, IfOk, OnOk, map};
 ghost use Rattle.pb_data.specs.Mentions.{mentioned_all, once};
-ghost use Rattle.pb_place.specs.Paths.{folder_of};
+ghost use Rattle.pb_place_types.specs.Paths.{folder_of};
 ghost use Rattle.pb_mini.specs.Scope.{library_of, with_first, with_firsts, libraries_of, scope_of};
 
 use crate::command_line::CommandLine;
 use crate::lines::name_and_value;
 use pb_data::{Mentions, Table, Text, TryCopy, with_next};
-use pb_place::PathText;
+use pb_place_types::PathText;
 use std::alloc::{AllocError, Global};
 
 /// What the lines of a source can name: libraries, conditions and variables, and the folder at

@@ -5,8 +5,8 @@ ghost use Rattle.std.specs.List.{list_any};
 ghost use Rattle.pb_mini.specs.Lines.{ended, lines_of};
 ghost use Rattle.pb_mini.specs.Lookups.{path_of, file_at};
 ghost use Rattle.pb_mini.specs.Script.{before, Goes, Wrote, printed, shown_text, shown, first_line, read_text, was_read, below_text, full_path, text_read, is_file_name, was_put, is_digit, is_leading, status_in, three_digits, deed_of, step_by, step_of, lines_run, no_image, ran};
-ghost use Rattle.pb_place.specs.Paths.{is_absolute};
-ghost use Rattle.pb_place.specs.declared.child.ViewFault.TheVariants as view_fault;
+ghost use Rattle.pb_place_types.specs.Paths.{is_absolute};
+ghost use Rattle.pb_place_types.specs.declared.child.ViewFault.TheVariants as view_fault;
 
 use crate::buffer::Buffer;
 use crate::compile::{text_at, text_of};
@@ -14,7 +14,7 @@ use crate::lines::{byte_lines, push_line, word_and_rest};
 use crate::lookups::{file_at, path_of, value_of};
 use crate::output::Output;
 use pb_data::{Bytes, Items, Table, Text};
-use pb_place::{PathText, RelativePath, Reply, View, ViewFault};
+use pb_place_types::{PathText, RelativePath, Reply, View, ViewFault};
 use std::alloc::{AllocError, Global};
 
 /// What a line does, by its first word.

@@ -14,7 +14,7 @@ use crate::lines::word_and_rest;
 use crate::lookups::{file_at, path_of, value_of};
 use crate::scope::Scope;
 use pb_data::{Bytes, Mentions, Text};
-use pb_place::{PathText, View, ViewFault};
+use pb_place_types::{PathText, View, ViewFault};
 use std::alloc::{AllocError, Global};
 
 /// The first word of a line.

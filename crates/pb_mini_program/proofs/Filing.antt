@@ -3,14 +3,14 @@ use Rattle.std.proofs.Common.{◌≡◌, ◌∙◌, ◌<◌, ◌+◌, ◌==◌, 
 use Rattle.std.proofs.lemmas.List.{drop_more, take_more, take-append-drop}
 use Rattle.std.proofs.lemmas.Bool.Decides.{Decides-eqb}
 use Rattle.std.specs.FinMap as map
-use Rattle.pb_place.specs.CallsInTurn.{past_calls}
-use Rattle.pb_place.specs.declared.call.Call.TheVariants as call
-use Rattle.pb_place.specs.Counts.{Counts, past_call, past_place_fault}
-use Rattle.pb_place.specs.Paths.{below}
-use Rattle.pb_place.specs.World.{World, Map, Torn, put_files, put_reply, written}
-use Rattle.pb_place.specs.declared.place.PlaceFault.{PlaceFault}
-use Rattle.pb_place.specs.declared.place.PlaceFault.TheVariants as place
-use Rattle.pb_place.proofs.CallsInTurn.{made_both}
+use Rattle.pb_place_types.specs.CallsInTurn.{past_calls}
+use Rattle.pb_place_types.specs.declared.call.Call.TheVariants as call
+use Rattle.pb_place_types.specs.Counts.{Counts, past_call, past_place_fault}
+use Rattle.pb_place_types.specs.Paths.{below}
+use Rattle.pb_place_types.specs.World.{World, Map, Torn, put_files, put_reply, written}
+use Rattle.pb_place_types.specs.declared.place.PlaceFault.{PlaceFault}
+use Rattle.pb_place_types.specs.declared.place.PlaceFault.TheVariants as place
+use Rattle.pb_place_types.proofs.CallsInTurn.{made_both}
 use Rattle.pb_mini_program.specs.Writing.{FailsToPut, Kept, PutsIn, StopsPutting, writes_in}
 
 -- one file more

@@ -4,8 +4,8 @@ use Rattle.std.proofs.lemmas.Bool.{false≢true}
 use Rattle.std.proofs.lemmas.Slice.Eq.{bytes_eq-Decides}
 use Rattle.std.specs.Str.{bytes_eq}
 use Rattle.pb_data.specs.Gives.{◌>>=◌}
-use Rattle.pb_place.specs.Paths.{parsed}
-use Rattle.pb_place.specs.declared.path.PathFault.{PathFault}
+use Rattle.pb_place_types.specs.Paths.{parsed}
+use Rattle.pb_place_types.specs.declared.path.PathFault.{PathFault}
 use Rattle.pb_mini.specs.Answer.{request_of, compile_in}
 use Rattle.pb_mini.specs.CommandLine.{takes_value, role_of, role_alone, is_setting, no_arguments, with_value, arguments_after, only, first, file_named, image_name, dep_info_name, crate_type_of, settled_by, command_line_of, folder_in}
 use Rattle.pb_mini.specs.declared.command_line.Role.{Role}

@@ -3,12 +3,12 @@ use Rattle.std.proofs.Common.{◌≡◌, ◌≢◌, ◌==◌, ◌∙◌, ℕ, Bo
 use Rattle.std.proofs.lemmas.Bool.{false≢true}
 use Rattle.std.specs.Io.KnownBytes.{Appends}
 use Rattle.pb_data.specs.Table.{table_of}
-use Rattle.pb_place.specs.Counts.{up}
-use Rattle.pb_place.specs.Sinks.{Heard, TakesPart}
-use Rattle.pb_place.specs.World.{World}
-use Rattle.pb_place.specs.declared.child.Reply.{Reply}
-use Rattle.pb_place.specs.declared.place.PlaceFault.{PlaceFault}
-use Rattle.pb_place.specs.declared.place.PlaceFault.TheVariants as place
+use Rattle.pb_place_types.specs.Counts.{up}
+use Rattle.pb_place_types.specs.Sinks.{Heard, TakesPart}
+use Rattle.pb_place_types.specs.World.{World}
+use Rattle.pb_place_types.specs.declared.child.Reply.{Reply}
+use Rattle.pb_place_types.specs.declared.place.PlaceFault.{PlaceFault}
+use Rattle.pb_place_types.specs.declared.place.PlaceFault.TheVariants as place
 use Rattle.pb_mini.specs.Answer.{request_of, replied_if, answered}
 use Rattle.pb_mini.specs.declared.command_line.CommandLine.{CommandLine}
 use Rattle.pb_mini.specs.declared.command_line.CommandLineFault.{CommandLineFault}

@@ -2,16 +2,16 @@
 -- Nothing is written after a failed write.
 use Rattle.std.specs.Prelude.{◌≡◌, ◌⊎◌, ℕ, Bool, List, [], ◌∷◌, ◌++◌, Option, Some, None, IsTrue}
 use Rattle.std.specs.Io.KnownBytes.{Appends}
-use Rattle.pb_place.specs.At.{At}
-use Rattle.pb_place.specs.CallsInTurn.{past_calls}
-use Rattle.pb_place.specs.declared.call.Call.{Call}
-use Rattle.pb_place.specs.declared.call.Call.TheVariants as call
-use Rattle.pb_place.specs.Counts.{Counts, up, past_place_fault}
-use Rattle.pb_place.specs.Paths.{below}
-use Rattle.pb_place.specs.Sinks.{Heard, TakesPart}
-use Rattle.pb_place.specs.World.{World, Torn, put_reply}
-use Rattle.pb_place.specs.declared.child.Reply.{Reply}
-use Rattle.pb_place.specs.declared.place.PlaceFault.TheVariants as place
+use Rattle.pb_place_types.specs.At.{At}
+use Rattle.pb_place_types.specs.CallsInTurn.{past_calls}
+use Rattle.pb_place_types.specs.declared.call.Call.{Call}
+use Rattle.pb_place_types.specs.declared.call.Call.TheVariants as call
+use Rattle.pb_place_types.specs.Counts.{Counts, up, past_place_fault}
+use Rattle.pb_place_types.specs.Paths.{below}
+use Rattle.pb_place_types.specs.Sinks.{Heard, TakesPart}
+use Rattle.pb_place_types.specs.World.{World, Torn, put_reply}
+use Rattle.pb_place_types.specs.declared.child.Reply.{Reply}
+use Rattle.pb_place_types.specs.declared.place.PlaceFault.TheVariants as place
 use Rattle.pb_mini.specs.Answer.{answered}
 use Rattle.pb_mini_program.specs.OutFolder.{out_folder}
 

@@ -4,7 +4,7 @@ ghost use Rattle.std.specs.Prelude.{◌≡◌};
 ghost use Rattle.pb_mini_program.specs.Faults.{of_view, of_place};
 ghost use Rattle.pb_mini_program.specs.declared.fault.Fault.TheVariants as fault;
 
-use pb_place::{PlaceFault, ViewFault};
+use pb_place_types::{PlaceFault, ViewFault};
 use std::alloc::{AllocError, AllocFailed};
 use thiserror::Error;
 

@@ -2,8 +2,8 @@
 
 use crate::program::carry_out;
 use pb_data::{Items, Text};
-use pb_host::{HostPlace, HostView};
-use pb_place::Over;
+use pb_place_host::{HostPlace, HostView};
+use pb_place_types::Over;
 use std::{env, io};
 
 /// Returns the arguments after the program's own name.

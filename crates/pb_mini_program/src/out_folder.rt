@@ -9,7 +9,7 @@ ghost use Rattle.pb_mini.specs.declared.request.Request.TheVariants.{Run, Compil
 ghost use Rattle.pb_mini_program.specs.OutFolder.{asks_run, out_dir_variable, waiting_after, first_out_dir};
 
 use pb_data::Text;
-use pb_place::{PathFault, PathText, View, ViewFault};
+use pb_place_types::{PathFault, PathText, View, ViewFault};
 use std::alloc::{AllocError, Global};
 
 /// An option that waits for its value.

@@ -2,9 +2,9 @@
 
 ghost use Rattle.std.specs.Prelude.{◌≡◌, ◌≢◌, ◌⊎◌, ℕ, List, [], Option, Some, OnOk, IfOk, IfErr, IsTrue};
 ghost use Rattle.std.specs.Io.KnownBytes.{Appends};
-ghost use Rattle.pb_place.specs.CallsInTurn.{past_calls};
-ghost use Rattle.pb_place.specs.World.{put_reply};
-ghost use Rattle.pb_place.specs.declared.child.Reply.{Reply};
+ghost use Rattle.pb_place_types.specs.CallsInTurn.{past_calls};
+ghost use Rattle.pb_place_types.specs.World.{put_reply};
+ghost use Rattle.pb_place_types.specs.declared.child.Reply.{Reply};
 ghost use Rattle.pb_mini.specs.Answer.{answered};
 ghost use Rattle.pb_mini_program.specs.OutFolder.{out_folder};
 ghost use Rattle.pb_mini_program.specs.Writing.{FailsToPut, IsFolderOf, IsReply, MemoryEnds, PutsIn, StopsPutting, WriteFails, WritesAll, kept, outside, writes_in};
@@ -13,7 +13,7 @@ use crate::fault::Fault;
 use crate::out_folder::out_folder;
 use pb_data::{Bytes, Text};
 use pb_mini::answer;
-use pb_place::{Out, PathText, Place, PlaceFault, RelativePath, View, write_all};
+use pb_place_types::{Out, PathText, Place, PlaceFault, RelativePath, View, write_all};
 use std::alloc::Global;
 
 /// Writes files in a folder, one after another, by their paths there.

@@ -5,11 +5,11 @@ use Rattle.std.specs.Str.{bytes_eq}
 use Rattle.std.specs.Option.{option_or, option_map}
 use Rattle.std.proofs.lemmas.Bool.{false≢true}
 use Rattle.pb_data.specs.Gives.{◌>>=◌}
-use Rattle.pb_manifest.specs.declared.profile.Profile.{Profile}
-use Rattle.pb_manifest.specs.declared.profile.ProfileKeys.{ProfileKeys}
-use Rattle.pb_package.specs.declared.package.Package.{Package}
-use Rattle.pb_package.specs.declared.package.Side.{Side}
-use Rattle.pb_package.specs.declared.package.Side.TheVariants.{Target, Host}
+use Rattle.pb_manifest_types.specs.declared.profile.Profile.{Profile}
+use Rattle.pb_manifest_types.specs.declared.profile.ProfileKeys.{ProfileKeys}
+use Rattle.pb_workspace_types.specs.declared.package.Package.{Package}
+use Rattle.pb_workspace_types.specs.declared.package.Side.{Side}
+use Rattle.pb_workspace_types.specs.declared.package.Side.TheVariants.{Target, Host}
 use Rattle.pb_profile.specs.declared.fault.ProfileFault.{ProfileFault}
 use Rattle.pb_profile.specs.Line.{Seen, seen_at, parent_of, custom_parent, inherited, is_either, above}
 use Rattle.pb_profile.specs.Settings.{Place, no_keys, in_build_override, of_hosts, own, built_in, dev_keys, release_keys, in_package, of_others, of_role, places_of, along, looked_up}

@@ -3,7 +3,7 @@ use Rattle.std.proofs.Common.{◌≡◌, ℕ, zero, suc, Bool, true, false, List
 use Rattle.std.specs.Option.{option_map}
 use Rattle.std.specs.Str.{bytes_eq}
 use Rattle.pb_data.specs.Gives.{◌>>=◌}
-use Rattle.pb_manifest.specs.declared.profile.Profile.{Profile}
+use Rattle.pb_manifest_types.specs.declared.profile.Profile.{Profile}
 use Rattle.pb_profile.specs.declared.fault.ProfileFault.{ProfileFault}
 use Rattle.pb_profile.specs.declared.fault.ProfileFault.TheVariants.{NoSuchProfile, InheritsCycle}
 use Rattle.pb_profile.specs.Line.{Seen, seen_at, parent_of, custom_parent, inherited, is_either, above, then_above, line_within}

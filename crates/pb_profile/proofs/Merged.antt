@@ -1,9 +1,9 @@
 -- Merged keys give what the places say, key by key.
 use Rattle.std.proofs.Common.{◌≡◌, List, [], ◌∷◌, ◌++◌, Option, Some, None, refl, sym, ◌∙◌, ap, map}
 use Rattle.std.specs.Option.{option_or}
-use Rattle.pb_manifest.specs.declared.profile.ProfileKeys.{ProfileKeys}
-use Rattle.pb_package.specs.declared.package.Package.{Package}
-use Rattle.pb_package.specs.declared.package.Side.{Side}
+use Rattle.pb_manifest_types.specs.declared.profile.ProfileKeys.{ProfileKeys}
+use Rattle.pb_workspace_types.specs.declared.package.Package.{Package}
+use Rattle.pb_workspace_types.specs.declared.package.Side.{Side}
 use Rattle.std.specs.List.{list_all}
 use Rattle.std.proofs.lemmas.List.Folds.{list_all-map}
 use Rattle.pb_profile.specs.declared.line.Ancestor.{Ancestor}

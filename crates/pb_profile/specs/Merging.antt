@@ -2,16 +2,16 @@
 -- These definitions serve private functions only; the result is proved to be that of `Settings`.
 use Rattle.std.specs.Prelude.{true, false, List, [], ◌∷◌, unwrap_or}
 use Rattle.std.specs.Option.{option_or}
-use Rattle.pb_manifest.specs.declared.profile.ProfileKeys.{ProfileKeys}
+use Rattle.pb_manifest_types.specs.declared.profile.ProfileKeys.{ProfileKeys}
 use Rattle.pb_profile.specs.Line.{Seen}
-use Rattle.pb_manifest.specs.declared.profile.Profile.{Profile}
+use Rattle.pb_manifest_types.specs.declared.profile.Profile.{Profile}
 use Rattle.pb_profile.specs.Settings.{Place, no_keys, keys_or_none, override_named, in_package, in_build_override, of_hosts, own, built_in, panic_of}
-use Rattle.pb_manifest.specs.declared.profile.OptLevel.TheVariants.{Zero}
-use Rattle.pb_manifest.specs.declared.profile.DebugInfo.TheVariants as debug
-use Rattle.pb_manifest.specs.declared.profile.Lto.TheVariants as lto
-use Rattle.pb_manifest.specs.declared.profile.Panic.TheVariants as panic
-use Rattle.pb_manifest.specs.declared.profile.Strip.TheVariants as strip
-use Rattle.pb_package.specs.declared.package.Side.{Side}
+use Rattle.pb_manifest_types.specs.declared.profile.OptLevel.TheVariants.{Zero}
+use Rattle.pb_manifest_types.specs.declared.profile.DebugInfo.TheVariants as debug
+use Rattle.pb_manifest_types.specs.declared.profile.Lto.TheVariants as lto
+use Rattle.pb_manifest_types.specs.declared.profile.Panic.TheVariants as panic
+use Rattle.pb_manifest_types.specs.declared.profile.Strip.TheVariants as strip
+use Rattle.pb_workspace_types.specs.declared.package.Side.{Side}
 use Rattle.pb_profile.specs.declared.settings.Settings.{Settings}
 use Rattle.pb_profile.specs.declared.keys.Source.{Source}
 use Rattle.pb_profile.specs.declared.keys.Source.TheVariants.{Package, BuildOverride, OfHosts, Own, BuiltIn}

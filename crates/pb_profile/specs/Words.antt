@@ -1,7 +1,7 @@
 -- The spelling of settings on a compiler's command line and in message lines.
 use Rattle.std.specs.Prelude.{ℕ, codes, List}
-use Rattle.pb_manifest.specs.declared.profile.OptLevel.{OptLevel}
-use Rattle.pb_manifest.specs.declared.profile.OptLevel.TheVariants.{Zero, One, Two, Three, Size, SmallestSize}
+use Rattle.pb_manifest_types.specs.declared.profile.OptLevel.{OptLevel}
+use Rattle.pb_manifest_types.specs.declared.profile.OptLevel.TheVariants.{Zero, One, Two, Three, Size, SmallestSize}
 
 abbrev pub opt_level_text : OptLevel → List ℕ
 opt_level_text Zero = codes "0"

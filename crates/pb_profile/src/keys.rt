@@ -6,8 +6,8 @@ ghost use Rattle.pb_profile.specs.Settings.{no_keys, keys_or_none, own, override
 ghost use Rattle.pb_profile.specs.Merging.{keys_or, keys_along, keys_at, sought, written_in};
 
 use crate::line::Ancestor;
-use pb_manifest::{DebugInfo, Lto, OptLevel, Panic, Profile, ProfileKeys, Strip};
-use pb_package::{Package, Side};
+use pb_manifest_types::{DebugInfo, Lto, OptLevel, Panic, Profile, ProfileKeys, Strip};
+use pb_workspace_types::{Package, Side};
 
 /// Returns no keys.
 pub(crate) fn no_keys() -> ProfileKeys

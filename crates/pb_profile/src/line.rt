@@ -7,7 +7,7 @@ ghost use Rattle.pb_profile.specs.Line.{folder_of, named, seen_at, parent_of, ab
 ghost use Rattle.pb_profile.specs.declared.fault.ProfileFault.TheVariants as profile_fault;
 
 use crate::fault::ProfileFault;
-use pb_manifest::{Profile, ProfileKeys, ProfileOverride};
+use pb_manifest_types::{Profile, ProfileKeys, ProfileOverride};
 use std::alloc::Global;
 
 /// A profile in a line.

@@ -10,8 +10,8 @@ ghost use Rattle.pb_profile.specs.declared.fault.ProfileFault.TheVariants as pro
 use crate::fault::ProfileFault;
 use crate::keys::keys_at;
 use crate::line::{Ancestor, line_of};
-use pb_manifest::{DebugInfo, Lto, OptLevel, Panic, ProfileKeys, Strip};
-use pb_package::{Package, Side, Workspace};
+use pb_manifest_types::{DebugInfo, Lto, OptLevel, Panic, ProfileKeys, Strip};
+use pb_workspace_types::{Package, Side, Workspace};
 use std::alloc::Global;
 
 /// The settings of a package in a role: one value for each key of a profile (The Cargo Book,

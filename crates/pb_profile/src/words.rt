@@ -3,7 +3,7 @@
 ghost use Rattle.std.specs.Prelude.{◌≡◌};
 ghost use Rattle.pb_profile.specs.Words.{opt_level_text};
 
-use pb_manifest::OptLevel;
+use pb_manifest_types::OptLevel;
 
 /// Returns an optimisation level as `opt-level` spells it (The Cargo Book, Profiles).
 pub fn opt_level_text(level: OptLevel) -> &'static str

@@ -7,7 +7,7 @@ use Rattle.std.proofs.lemmas.Bool.{cases_Bool, cases_eq, cases_lt}
 use Rattle.std.proofs.lemmas.List.{append_assoc}
 use Rattle.std.proofs.lemmas.Slice.Eq.{bytes_eq-Decides}
 use Rattle.std.proofs.lemmas.Str.{IsUtf8-from_is_utf8, is_utf8-from_IsUtf8}
-use Rattle.pb_place.specs.Paths.{is_path, is_relative}
+use Rattle.pb_place_types.specs.Paths.{is_path, is_relative}
 use Rattle.pb_record.specs.Grammar.{line, decimals, number, block, listed, both, files, perhaps, input_bytes, asked_bytes}
 use Rattle.pb_record.specs.Parts.{IsAny, IsNumber, IsPlace, IsInside, AreBoth, IsPerhaps, AreFiles, ArePairs, IsInput, IsAsked, Says, Reads, IsReading}
 use Rattle.pb_record.specs.Reading.{Stands, StandsNone, IsSpelling, HasCount, HasNoFeed}

@@ -1,6 +1,6 @@
 -- Laws of records.
 use Rattle.std.specs.Prelude.{◌≡◌, ◌≢◌, ◌<◌, ◌^◌, ℕ, false, List, ◌∷◌, ◌++◌, length, take, codes, Option}
-use Rattle.pb_place.specs.Paths.{has_byte_0}
+use Rattle.pb_place_types.specs.Paths.{has_byte_0}
 use Rattle.pb_record.specs.Grammar.{line, number, record_bytes}
 use Rattle.pb_record.specs.Parts.{IsPlace, IsRecord, Says, Reads, IsReading}
 use Rattle.pb_record.specs.declared.record.Record.{Record}

@@ -10,7 +10,7 @@ ghost use Rattle.pb_record.specs.Whole.{asked_of};
 use crate::pairs::Pairs;
 use crate::part::Part;
 use pb_data::{Bytes, Items, Text};
-use pb_place::PathText;
+use pb_place_types::PathText;
 use std::alloc::{AllocError, Global};
 
 /// What was requested of a unit's child: a command with an output folder and sorted variables.

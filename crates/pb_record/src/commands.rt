@@ -6,7 +6,7 @@ ghost use Rattle.pb_record.specs.Commands.{command_of, asked_in, AsksAs};
 use crate::asked::Asked;
 use crate::pairs::Pairs;
 use pb_data::{Items, Text};
-use pb_place::{Command, PathText};
+use pb_place_types::{Command, PathText};
 
 /// Returns whether two lists of texts are equal.
 #[tactic(auto, using(crate::proofs::CommandLemmas::texts_same))]

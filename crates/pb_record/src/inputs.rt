@@ -10,7 +10,7 @@ use crate::pairs::Pairs;
 use crate::part::Part;
 use crate::record::Input;
 use pb_data::{Bytes, Items, Text};
-use pb_place::{PathText, RelativePath};
+use pb_place_types::{PathText, RelativePath};
 use std::alloc::{AllocError, Global};
 
 impl Part for Option<Text> {

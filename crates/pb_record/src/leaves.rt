@@ -6,7 +6,7 @@ use crate::block::{block_at, push_block, text_at};
 use crate::number::{number_at, push_number};
 use crate::part::Part;
 use pb_data::{Bytes, Text};
-use pb_place::{PathText, RelativePath};
+use pb_place_types::{PathText, RelativePath};
 use std::alloc::{AllocError, Global};
 
 impl Part for u64 {

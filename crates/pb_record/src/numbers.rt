@@ -12,7 +12,7 @@ use crate::front::after;
 use crate::part::Part;
 use crate::record::Input;
 use pb_data::{Bytes, Items, Text};
-use pb_place::RelativePath;
+use pb_place_types::RelativePath;
 use std::alloc::{AllocError, Global};
 
 /// The run numbers in a record.

@@ -11,7 +11,7 @@ use crate::front::after;
 use crate::part::Part;
 use crate::record::{Input, Needed, Record};
 use pb_data::{Bytes, Items, Text};
-use pb_place::RelativePath;
+use pb_place_types::RelativePath;
 use std::alloc::{AllocError, Global};
 
 /// The parts of a record of format 2, in the order of its text.

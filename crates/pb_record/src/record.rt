@@ -2,7 +2,7 @@
 
 use crate::asked::Asked;
 use pb_data::{Bytes, Items, Text, TryCopy};
-use pb_place::{PathText, RelativePath};
+use pb_place_types::{PathText, RelativePath};
 use std::alloc::{AllocError, Global};
 
 /// The name of something on which a unit's answer depends besides its command and the units that it

@@ -4,7 +4,7 @@
 use crate::asked::Asked;
 use crate::record::{Input, Needed, Record};
 use pb_data::{Bytes, Items, Text};
-use pb_place::{PathText, RelativePath};
+use pb_place_types::{PathText, RelativePath};
 
 /// The room for a number and the line feeds around it: at most 20 digits.
 const LINE: usize = 22;

@@ -12,7 +12,7 @@ use crate::part::Part;
 use crate::record::{Needed, Record};
 use crate::room::room_for;
 use pb_data::{Bytes, Items, Text};
-use pb_place::RelativePath;
+use pb_place_types::RelativePath;
 use std::alloc::{AllocError, Global};
 
 /// Adds what comes before the needed units.

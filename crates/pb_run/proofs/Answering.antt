@@ -4,23 +4,23 @@ use Rattle.std.specs.Prelude.{IfSome}
 use Rattle.std.specs.Cmp.Lexicographic.{slice_cmp, nat_list_cmp_total}
 use Rattle.std.specs.FinMap.{get, insert, empty, retain_keys, get-empty, get-insert}
 use Rattle.std.specs.Ordering.{nat_cmp, eq_by_cmp}
-use Rattle.pb_judging.specs.Answers.{answered_of}
+use Rattle.pb_command_reply.specs.Answers.{answered_of}
 use Rattle.pb_command.specs.Judge.{ended_by, file_at, replied_files}
 use Rattle.pb_directive.specs.declared.directive.Directive.{Directive}
-use Rattle.pb_flight.specs.declared.flight.State.{State}
-use Rattle.pb_flight.specs.Table.{is_good_at, are_good}
-use Rattle.pb_place.specs.Children.{LandsAs, child_at, child_spawned, inside_out, landing, put_back}
-use Rattle.pb_place.specs.Folders.{files_in, first_of}
-use Rattle.pb_place.specs.Paths.{below, is_below, is_at_or_below, is_path}
-use Rattle.pb_place.specs.World.{World, Map, ChangesOnly, ChangesOnlyInSome, put_files, seen_by}
-use Rattle.pb_place.specs.declared.child.Reply.{Reply}
-use Rattle.pb_place.specs.declared.child_in_flight.ChildInFlight.{ChildInFlight}
-use Rattle.pb_place.specs.declared.command.Command.{Command}
-use Rattle.pb_place.specs.declared.command.Ended.{Ended}
-use Rattle.pb_place.proofs.Folders.{files_alike, get-files_in, get-over, only_started}
-use Rattle.pb_place.proofs.MapLemmas.{get-kept}
-use Rattle.pb_project.specs.Targets.{crate_name_of, dep_info_of, unit_at}
-use Rattle.pb_answer.specs.declared.bad_unit.BadUnit.{BadUnit}
+use Rattle.pb_run_flight.specs.declared.flight.State.{State}
+use Rattle.pb_run_flight.specs.Table.{is_good_at, are_good}
+use Rattle.pb_place_types.specs.Children.{LandsAs, child_at, child_spawned, inside_out, landing, put_back}
+use Rattle.pb_place_types.specs.Folders.{files_in, first_of}
+use Rattle.pb_place_types.specs.Paths.{below, is_below, is_at_or_below, is_path}
+use Rattle.pb_place_types.specs.World.{World, Map, ChangesOnly, ChangesOnlyInSome, put_files, seen_by}
+use Rattle.pb_place_types.specs.declared.child.Reply.{Reply}
+use Rattle.pb_place_types.specs.declared.child_in_flight.ChildInFlight.{ChildInFlight}
+use Rattle.pb_place_types.specs.declared.command.Command.{Command}
+use Rattle.pb_place_types.specs.declared.command.Ended.{Ended}
+use Rattle.pb_place_types.proofs.Folders.{files_alike, get-files_in, get-over, only_started}
+use Rattle.pb_place_types.proofs.MapLemmas.{get-kept}
+use Rattle.pb_command_types.specs.Targets.{crate_name_of, dep_info_of, unit_at}
+use Rattle.pb_build_result.specs.declared.bad_unit.BadUnit.{BadUnit}
 use Rattle.pb_unit.specs.declared.plan.Planned.{Planned}
 use Rattle.pb_run.specs.Halves.{Basis, CanAnswer, IsBegun, IsInFlight, Keeps, WaitsBy, begun_with, command_in, outcomes_in, view_in}
 use Rattle.pb_run.specs.Outcome.{Waiting, directives_of, judged, judgement_by, outcome_by, outcome_of, ran_by, ran_of}
@@ -36,10 +36,10 @@ use Rattle.pb_run.proofs.Spawning.{join, out_within, place_within, widen}
 use Rattle.pb_run.proofs.Tables.{tabled-unfold}
 use Rattle.pb_run.proofs.Units.{dep_info_inside, inside_file}
 use Rattle.pb_run.proofs.Views.{is_for}
-use Rattle.pb_soundness.specs.Apart.{is_of}
-use Rattle.pb_soundness.specs.Records.{is_key, out_of, place_of}
-use Rattle.pb_soundness.proofs.Becoming.{one}
-use Rattle.pb_soundness.proofs.Places.{folder_still, out_place_apart}
+use Rattle.pb_store_soundness.specs.Apart.{is_of}
+use Rattle.pb_store_soundness.specs.Records.{is_key, out_of, place_of}
+use Rattle.pb_store_soundness.proofs.Becoming.{one}
+use Rattle.pb_store_soundness.proofs.Places.{folder_still, out_place_apart}
 
 -- What has landed in an empty folder.
 

@@ -5,15 +5,15 @@ use Rattle.std.specs.Option.{is_some}
 use Rattle.pb_command.specs.Command.{command_of}
 use Rattle.pb_command.specs.Judge.{file_at, judge}
 use Rattle.pb_directive.specs.declared.directive.Directive.{Directive}
-use Rattle.pb_judging.specs.Answers.{answered_of}
-use Rattle.pb_place.specs.At.{At}
-use Rattle.pb_place.specs.Children.{LandsAs, StaysStillBut, child_at, KeepsStill, KeepsStillOutside}
-use Rattle.pb_place.specs.Counts.{Starts, without}
-use Rattle.pb_place.specs.Paths.{is_at_or_below}
-use Rattle.pb_place.specs.World.{ChangesOnlyInSome}
-use Rattle.pb_place.specs.declared.command.Command.{Command}
-use Rattle.pb_place.specs.declared.command.Ended.{Ended}
-use Rattle.pb_project.specs.Targets.{dep_info_of, unit_at}
+use Rattle.pb_command_reply.specs.Answers.{answered_of}
+use Rattle.pb_place_types.specs.At.{At}
+use Rattle.pb_place_types.specs.Children.{LandsAs, StaysStillBut, child_at, KeepsStill, KeepsStillOutside}
+use Rattle.pb_place_types.specs.Counts.{Starts, without}
+use Rattle.pb_place_types.specs.Paths.{is_at_or_below}
+use Rattle.pb_place_types.specs.World.{ChangesOnlyInSome}
+use Rattle.pb_place_types.specs.declared.command.Command.{Command}
+use Rattle.pb_place_types.specs.declared.command.Ended.{Ended}
+use Rattle.pb_command_types.specs.Targets.{dep_info_of, unit_at}
 use Rattle.pb_record.specs.declared.record.Record.{Record}
 use Rattle.pb_run.specs.Running.{AnswersBuild, BeginsBuild, ChangesUnit, DropsFor, IsSpawned}
 use Rattle.pb_run.specs.Halves.{Basis, begun_with, needed_keys}
@@ -29,10 +29,10 @@ use Rattle.pb_run.proofs.Kept.{keeps_bad_ended, keeps_ended, keeps_kept, keeps_o
 use Rattle.pb_run.proofs.Parts.{begun_whole}
 use Rattle.pb_run.proofs.Reusing.{Renewed, Renewing, keeps_bad_again, keeps_numbered, keeps_renewed, keeps_unchanged, keeps_unrenewed, others_renewed, others_unchanged, renewed_outcome, replay_outcome}
 use Rattle.pb_run.proofs.Settling.{Keeping, Stands}
-use Rattle.pb_soundness.specs.Apart.{is_of}
-use Rattle.pb_soundness.specs.Numbers.{after}
-use Rattle.pb_soundness.specs.Records.{place_of, reading, records}
-use Rattle.pb_soundness.specs.Reuse.{IsSame}
+use Rattle.pb_store_soundness.specs.Apart.{is_of}
+use Rattle.pb_store_soundness.specs.Numbers.{after}
+use Rattle.pb_store_soundness.specs.Records.{place_of, reading, records}
+use Rattle.pb_store_soundness.specs.Reuse.{IsSame}
 use Rattle.pb_store.specs.Folder.{TakesNumber}
 use Rattle.pb_store.specs.Differences.{IsReplayed}
 use Rattle.pb_store.specs.declared.replaying.Replayed.{Replayed}

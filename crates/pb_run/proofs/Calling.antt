@@ -1,14 +1,14 @@
 -- Calls in turn, with the faults that a build ends with.
 use Rattle.std.proofs.Common.{◌≡◌, ◌≢◌, ◌++◌, inl, inr, ℕ, List, [], ◌∷◌, sym, subst}
-use Rattle.pb_answer.specs.declared.fault.BuildFault.{BuildFault}
-use Rattle.pb_answer.specs.declared.fault.BuildFault.TheVariants.{Plan, Toolchain, Child, Device, Sink, OutOfMemory}
-use Rattle.pb_answer.specs.declared.fault.DeviceFault.TheVariants.{Place, NumbersSpent}
-use Rattle.pb_place.specs.CallsInTurn.{own_fault, MakesSome, past_calls}
-use Rattle.pb_place.specs.Counts.{Counts, past_place_fault}
-use Rattle.pb_place.specs.declared.call.Call.{Call}
-use Rattle.pb_place.specs.declared.place.PlaceFault.{PlaceFault}
-use Rattle.pb_place.specs.declared.place.PlaceFault.TheVariants as place
-use Rattle.pb_place.proofs.CallsInTurn.{fails_left, fails_right, some_all, some_left, some_none, some_right}
+use Rattle.pb_build_result.specs.declared.fault.BuildFault.{BuildFault}
+use Rattle.pb_build_result.specs.declared.fault.BuildFault.TheVariants.{Plan, Toolchain, Child, Device, Sink, OutOfMemory}
+use Rattle.pb_build_result.specs.declared.fault.DeviceFault.TheVariants.{Place, NumbersSpent}
+use Rattle.pb_place_types.specs.CallsInTurn.{own_fault, MakesSome, past_calls}
+use Rattle.pb_place_types.specs.Counts.{Counts, past_place_fault}
+use Rattle.pb_place_types.specs.declared.call.Call.{Call}
+use Rattle.pb_place_types.specs.declared.place.PlaceFault.{PlaceFault}
+use Rattle.pb_place_types.specs.declared.place.PlaceFault.TheVariants as place
+use Rattle.pb_place_types.proofs.CallsInTurn.{fails_left, fails_right, some_all, some_left, some_none, some_right}
 use Rattle.pb_run.specs.Steps.{StopsAt, device_fault}
 
 -- a first step stops it, and no second comes

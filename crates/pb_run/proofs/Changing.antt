@@ -1,12 +1,12 @@
 -- What a half of a unit's run changes, step by step.
 use Rattle.std.proofs.Common.{◌≡◌, ◌∙◌, ℕ, true, List, Option, Some, None, Result, refl, sym, ap, subst}
 use Rattle.std.specs.Prelude.{IfSome}
-use Rattle.pb_place.specs.At.{At}
-use Rattle.pb_place.specs.Children.{StandsStill, StaysStillBut, child_at, is_flying, KeepsStill, KeepsStillOutside}
-use Rattle.pb_place.specs.Counts.{Starts, without}
-use Rattle.pb_place.specs.Paths.{is_at_or_below}
-use Rattle.pb_place.specs.World.{World, ChangesOnly, ChangesOnlyInSome}
-use Rattle.pb_place.specs.declared.child_in_flight.ChildInFlight.{ChildInFlight}
+use Rattle.pb_place_types.specs.At.{At}
+use Rattle.pb_place_types.specs.Children.{StandsStill, StaysStillBut, child_at, is_flying, KeepsStill, KeepsStillOutside}
+use Rattle.pb_place_types.specs.Counts.{Starts, without}
+use Rattle.pb_place_types.specs.Paths.{is_at_or_below}
+use Rattle.pb_place_types.specs.World.{World, ChangesOnly, ChangesOnlyInSome}
+use Rattle.pb_place_types.specs.declared.child_in_flight.ChildInFlight.{ChildInFlight}
 use Rattle.pb_run.specs.Running.{ChangesUnit}
 use Rattle.pb_run.specs.Halves.{WritesTo}
 use Rattle.pb_run.specs.Steps.{StepTakes}
@@ -15,8 +15,8 @@ use Rattle.pb_run.specs.declared.faults.StepFault.{StepFault}
 use Rattle.pb_run.proofs.RecordedOthers.{still_over}
 use Rattle.pb_run.proofs.Spawning.{launched_only, launched_still, place_within, still_widen, widen}
 use Rattle.pb_run.proofs.Writes.{none_changed, record_only, stays_apart, unkept_only}
-use Rattle.pb_soundness.specs.Apart.{is_of}
-use Rattle.pb_soundness.specs.Records.{out_of, place_of}
+use Rattle.pb_store_soundness.specs.Apart.{is_of}
+use Rattle.pb_store_soundness.specs.Records.{out_of, place_of}
 
 -- what is said of a record's place, by the folder and the key as they are named
 pub at_place : (Said : List ℕ → Type 0) (folder root key k : List ℕ) → folder ≡ root → key ≡ k → Said (place_of folder key) → Said (place_of root k)

@@ -2,19 +2,19 @@
 use Rattle.std.proofs.Common.{◌≡◌, ◌∙◌, ◌++◌, ℕ, Bool, true, false, cond, List, [], ◌∷◌, Option, Some, None, Contains, refl, sym, ap, subst}
 use Rattle.std.specs.List.{find, flat_map, slice_get}
 use Rattle.pb_directive.specs.declared.directive.Directive.{Directive}
-use Rattle.pb_package.specs.declared.package.Package.{Package}
-use Rattle.pb_project.specs.Targets.{package_of, unit_at, is_one_of, is_run, own_run, own_said, said_at, said_in, said_there}
-use Rattle.pb_project.specs.declared.project.Project.{Project}
-use Rattle.pb_project.specs.declared.project.Setup.{Setup}
+use Rattle.pb_workspace_types.specs.declared.package.Package.{Package}
+use Rattle.pb_command_types.specs.Targets.{package_of, unit_at, is_one_of, is_run, own_run, own_said, said_at, said_in, said_there}
+use Rattle.pb_command_types.specs.declared.project.Project.{Project}
+use Rattle.pb_command_types.specs.declared.project.Setup.{Setup}
 use Rattle.pb_unit.specs.declared.plan.Planned.{Planned}
 use Rattle.pb_unit.specs.declared.unit.What.{What}
 use Rattle.pb_unit.specs.declared.unit.What.TheVariants.{Lib, Bin, Script, Run}
 use Rattle.pb_command.specs.Command.{command_by, command_for, command_of, compile_of, run_of, words_of, asked_part, crate_part}
-use Rattle.pb_project.specs.NamedTexts.{in_order}
-use Rattle.pb_words.specs.Externs.{library_words}
-use Rattle.pb_variables.specs.Pairs.{about_pairs, binary_pairs, building_pairs, crate_pairs, described_pairs, env_pair, out_pairs, own_pairs, package_pairs, pairs_of, passed_at, passed_by, passed_pairs, run_there, version_pairs}
-use Rattle.pb_words.specs.Said.{own_words, said_words, search_word, search_words, searched_words}
-use Rattle.pb_soundness.proofs.Flying.{contains_head, contains_tail}
+use Rattle.pb_command_types.specs.NamedTexts.{in_order}
+use Rattle.pb_command_arguments.specs.Externs.{library_words}
+use Rattle.pb_command_environment.specs.Pairs.{about_pairs, binary_pairs, building_pairs, crate_pairs, described_pairs, env_pair, out_pairs, own_pairs, package_pairs, pairs_of, passed_at, passed_by, passed_pairs, run_there, version_pairs}
+use Rattle.pb_command_arguments.specs.Said.{own_words, said_words, search_word, search_words, searched_words}
+use Rattle.pb_store_soundness.proofs.Flying.{contains_head, contains_tail}
 
 flat_same : {A B : Type 0} (f g : A → List B) (xs : List A) → ((x : A) → Contains xs x → f x ≡ g x) → flat_map f xs ≡ flat_map g xs
 flat_same f g [] same = refl

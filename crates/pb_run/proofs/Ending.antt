@@ -1,8 +1,8 @@
 -- The counters over the end of a child and the calls after it.
 use Rattle.std.proofs.Common.{◌≡◌, ◌≢◌, ◌⊎◌, ◌∙◌, ℕ, Option, Some, None, refl, ap, subst, inl, inr}
-use Rattle.pb_place.specs.Counts.{Counts, Starts, up, landed, past_finish_fault}
-use Rattle.pb_place.specs.declared.place.StartFault.{StartFault}
-use Rattle.pb_place.specs.declared.place.StartFault.TheVariants as start
+use Rattle.pb_place_types.specs.Counts.{Counts, Starts, up, landed, past_finish_fault}
+use Rattle.pb_place_types.specs.declared.place.StartFault.{StartFault}
+use Rattle.pb_place_types.specs.declared.place.StartFault.TheVariants as start
 use Rattle.pb_run.specs.Steps.{IsLifted, LandsBy, started, MayAnswer, MayBegin, MayFollow, StepCause}
 use Rattle.pb_run.specs.declared.begun.Launched.{Launched}
 use Rattle.pb_run.specs.declared.faults.StepFault.{StepFault}

@@ -3,19 +3,19 @@ use Rattle.std.proofs.Common.{◌≡◌, ◌∙◌, ℕ, Bool, false, List, [], 
 use Rattle.pb_command.specs.Command.{command_of}
 use Rattle.pb_command.specs.Judge.{judge}
 use Rattle.pb_directive.specs.declared.directive.Directive.{Directive}
-use Rattle.pb_flight.specs.declared.flight.State.{State}
-use Rattle.pb_flight.specs.declared.flight.State.TheVariants.{Begun as begun_state}
-use Rattle.pb_flight.specs.Table.{is_good_at}
-use Rattle.pb_place.specs.Children.{StandsStill, child_at, KeepsStill, KeepsStillOutside}
-use Rattle.pb_place.specs.Counts.{Starts}
-use Rattle.pb_place.specs.World.{World, ChangesOnly, seen_by}
-use Rattle.pb_place.specs.declared.child_in_flight.ChildInFlight.{ChildInFlight}
-use Rattle.pb_place.specs.declared.command.Command.{Command}
-use Rattle.pb_place.proofs.Folders.{only_same}
-use Rattle.pb_project.specs.Targets.{unit_at}
-use Rattle.pb_answer.specs.declared.bad_unit.BadUnit.{BadUnit}
-use Rattle.pb_project.specs.declared.project.Project.{Project}
-use Rattle.pb_project.specs.declared.project.Setup.{Setup}
+use Rattle.pb_run_flight.specs.declared.flight.State.{State}
+use Rattle.pb_run_flight.specs.declared.flight.State.TheVariants.{Begun as begun_state}
+use Rattle.pb_run_flight.specs.Table.{is_good_at}
+use Rattle.pb_place_types.specs.Children.{StandsStill, child_at, KeepsStill, KeepsStillOutside}
+use Rattle.pb_place_types.specs.Counts.{Starts}
+use Rattle.pb_place_types.specs.World.{World, ChangesOnly, seen_by}
+use Rattle.pb_place_types.specs.declared.child_in_flight.ChildInFlight.{ChildInFlight}
+use Rattle.pb_place_types.specs.declared.command.Command.{Command}
+use Rattle.pb_place_types.proofs.Folders.{only_same}
+use Rattle.pb_command_types.specs.Targets.{unit_at}
+use Rattle.pb_build_result.specs.declared.bad_unit.BadUnit.{BadUnit}
+use Rattle.pb_command_types.specs.declared.project.Project.{Project}
+use Rattle.pb_command_types.specs.declared.project.Setup.{Setup}
 use Rattle.pb_record.specs.declared.record.Record.{Record}
 use Rattle.pb_unit.specs.declared.plan.Planned.{Planned}
 use Rattle.pb_run.specs.Steps.{IsLifted, MayBegin}
@@ -32,11 +32,11 @@ use Rattle.pb_run.proofs.RecordedBegin.{begun_child, begun_same, keeps_begun}
 use Rattle.pb_run.proofs.RecordedOthers.{Left, flies_beside, if_records, left_dropped, stays_begun}
 use Rattle.pb_run.proofs.Shown.{AllStand, commanded, sees_view}
 use Rattle.pb_run.proofs.Views.{is_for}
-use Rattle.pb_soundness.specs.Apart.{is_of}
-use Rattle.pb_soundness.specs.Numbers.{IsAhead, after}
-use Rattle.pb_soundness.specs.Records.{out_of, reading, records}
-use Rattle.pb_soundness.specs.Reuse.{IsSame}
-use Rattle.pb_soundness.specs.Sound.{Sound}
+use Rattle.pb_store_soundness.specs.Apart.{is_of}
+use Rattle.pb_store_soundness.specs.Numbers.{IsAhead, after}
+use Rattle.pb_store_soundness.specs.Records.{out_of, reading, records}
+use Rattle.pb_store_soundness.specs.Reuse.{IsSame}
+use Rattle.pb_store_soundness.specs.Sound.{Sound}
 use Rattle.pb_store.specs.Folder.{Leaves, TakesNumber}
 use Rattle.pb_store.specs.Differences.{IsReplayed}
 use Rattle.pb_store.specs.declared.fault.StoreFault.TheVariants as store

@@ -1,14 +1,14 @@
 -- The run numbers that a store has, and what differs first, as units begin and answer.
 use Rattle.std.proofs.Common.{◌≡◌, ℕ, true, List, Option, Some, Result, Ok, Err, sym, subst}
 use Rattle.std.specs.Prelude.{IfSome}
-use Rattle.pb_place.specs.Children.{child_at, is_flying}
-use Rattle.pb_place.specs.CallsInTurn.{past_calls}
-use Rattle.pb_place.specs.Counts.{Counts}
-use Rattle.pb_place.specs.World.{World, Answers, ChangesOnlyInSome}
-use Rattle.pb_place.specs.declared.child_in_flight.ChildInFlight.{ChildInFlight}
-use Rattle.pb_place.specs.declared.command.Command.{Command}
-use Rattle.pb_project.specs.Targets.{unit_at}
-use Rattle.pb_project.specs.declared.project.Project.{Project}
+use Rattle.pb_place_types.specs.Children.{child_at, is_flying}
+use Rattle.pb_place_types.specs.CallsInTurn.{past_calls}
+use Rattle.pb_place_types.specs.Counts.{Counts}
+use Rattle.pb_place_types.specs.World.{World, Answers, ChangesOnlyInSome}
+use Rattle.pb_place_types.specs.declared.child_in_flight.ChildInFlight.{ChildInFlight}
+use Rattle.pb_place_types.specs.declared.command.Command.{Command}
+use Rattle.pb_command_types.specs.Targets.{unit_at}
+use Rattle.pb_command_types.specs.declared.project.Project.{Project}
 use Rattle.pb_run.specs.Halves.{WritesTo}
 use Rattle.pb_run.specs.Running.{DropsFor, IsSpawned}
 use Rattle.pb_run.specs.Standing.{IsInOrder, records_folder}
@@ -17,8 +17,8 @@ use Rattle.pb_run.specs.declared.begun.Launched.{Launched}
 use Rattle.pb_run.proofs.Halving.{lies_at}
 use Rattle.pb_run.proofs.Spawning.{launched_held}
 use Rattle.pb_run.proofs.Writes.{ended_only}
-use Rattle.pb_soundness.specs.Apart.{is_of}
-use Rattle.pb_soundness.specs.Records.{reading, records}
+use Rattle.pb_store_soundness.specs.Apart.{is_of}
+use Rattle.pb_store_soundness.specs.Records.{reading, records}
 use Rattle.pb_store.specs.Differences.{FirstDifference, CarriesReplayed, IsReplayed, difference_in}
 use Rattle.pb_store.specs.Folder.{HasNumbers}
 use Rattle.pb_store.specs.Looking.{unit_looked}

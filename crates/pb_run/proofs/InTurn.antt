@@ -1,9 +1,9 @@
 -- What a unit that has begun is asked with.
 use Rattle.std.proofs.Common.{◌≡◌, ◌∙◌, ◌==◌, ◌||◌, ◌++◌, ◌∷◌, [], ℕ, Bool, true, false, List, Option, Some, None, IfSome, refl, ap, subst}
-use Rattle.pb_place.specs.Children.{is_flying}
-use Rattle.pb_place.specs.Counts.{Starts}
-use Rattle.pb_place.specs.declared.child_in_flight.ChildInFlight.{ChildInFlight}
-use Rattle.pb_place.proofs.InFlight.{same_number}
+use Rattle.pb_place_types.specs.Children.{is_flying}
+use Rattle.pb_place_types.specs.Counts.{Starts}
+use Rattle.pb_place_types.specs.declared.child_in_flight.ChildInFlight.{ChildInFlight}
+use Rattle.pb_place_types.proofs.InFlight.{same_number}
 use Rattle.pb_run.specs.Steps.{BeginsBy, IsLifted}
 use Rattle.pb_run.specs.declared.begun.Launched.{Launched}
 

@@ -8,24 +8,24 @@ use Rattle.std.specs.List.Sorted.{IsStrictlySortedBy}
 use Rattle.std.specs.Option.{is_some}
 use Rattle.std.specs.Ordering.{nat_cmp, is_lt}
 use Rattle.std.specs.declared.cmp.Ordering.TheVariants.{Less}
-use Rattle.pb_judging.specs.Answers.{answered_of}
+use Rattle.pb_command_reply.specs.Answers.{answered_of}
 use Rattle.pb_command.specs.Judge.{ended_by, file_at, replied_files}
 use Rattle.pb_command.proofs.Rising.{commands_rise}
 use Rattle.pb_data.specs.Table.{names_of}
 use Rattle.pb_directive.specs.declared.directive.Directive.{Directive}
-use Rattle.pb_flight.specs.declared.flight.State.{State}
-use Rattle.pb_flight.specs.declared.flight.State.TheVariants.{Answered}
-use Rattle.pb_place.specs.Children.{LandsAs, StaysStillBut, child_at, child_spawned, inside_out, landing, KeepsStill, KeepsStillOutside}
-use Rattle.pb_place.specs.Counts.{Starts, without}
-use Rattle.pb_place.specs.Folders.{files_in}
-use Rattle.pb_place.specs.Paths.{is_at_or_below}
-use Rattle.pb_place.specs.World.{World, Map, ChangesOnly, ChangesOnlyInSome, seen_by}
-use Rattle.pb_place.specs.declared.child_in_flight.ChildInFlight.{ChildInFlight}
-use Rattle.pb_place.specs.declared.command.Command.{Command}
-use Rattle.pb_place.specs.declared.command.Ended.{Ended}
-use Rattle.pb_project.specs.Targets.{dep_info_of, unit_at}
-use Rattle.pb_answer.specs.declared.bad_unit.BadUnit.{BadUnit}
-use Rattle.pb_project.specs.declared.project.Project.{Project}
+use Rattle.pb_run_flight.specs.declared.flight.State.{State}
+use Rattle.pb_run_flight.specs.declared.flight.State.TheVariants.{Answered}
+use Rattle.pb_place_types.specs.Children.{LandsAs, StaysStillBut, child_at, child_spawned, inside_out, landing, KeepsStill, KeepsStillOutside}
+use Rattle.pb_place_types.specs.Counts.{Starts, without}
+use Rattle.pb_place_types.specs.Folders.{files_in}
+use Rattle.pb_place_types.specs.Paths.{is_at_or_below}
+use Rattle.pb_place_types.specs.World.{World, Map, ChangesOnly, ChangesOnlyInSome, seen_by}
+use Rattle.pb_place_types.specs.declared.child_in_flight.ChildInFlight.{ChildInFlight}
+use Rattle.pb_place_types.specs.declared.command.Command.{Command}
+use Rattle.pb_place_types.specs.declared.command.Ended.{Ended}
+use Rattle.pb_command_types.specs.Targets.{dep_info_of, unit_at}
+use Rattle.pb_build_result.specs.declared.bad_unit.BadUnit.{BadUnit}
+use Rattle.pb_command_types.specs.declared.project.Project.{Project}
 use Rattle.pb_record.specs.Sorted.{are_sorted, leads}
 use Rattle.pb_unit.specs.declared.plan.Planned.{Planned}
 use Rattle.pb_run.specs.Halves.{Basis, BeginsApart, CanAnswer, IsBegun, Keeps, begun_with, command_in, needed_keys, outcomes_in, view_in}
@@ -44,9 +44,9 @@ use Rattle.pb_run.proofs.RecordedLanding.{left_kept}
 use Rattle.pb_run.proofs.RecordedOthers.{still_over}
 use Rattle.pb_run.proofs.Settling.{Keeping, Stands, keeps_bad, keeps_good, keeps_landed, keeps_unkept, others_landed, others_unkept, stood_over}
 use Rattle.pb_run.proofs.Spawning.{place_within, still_widen}
-use Rattle.pb_soundness.specs.Apart.{is_of}
-use Rattle.pb_soundness.specs.Inputs.{input_in}
-use Rattle.pb_soundness.specs.Records.{place_of}
+use Rattle.pb_store_soundness.specs.Apart.{is_of}
+use Rattle.pb_store_soundness.specs.Inputs.{input_in}
+use Rattle.pb_store_soundness.specs.Records.{place_of}
 use Rattle.pb_store.specs.declared.fault.StoreFault.TheVariants as store
 
 -- What the call that keeps a record asks.

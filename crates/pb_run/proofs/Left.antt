@@ -1,12 +1,12 @@
 -- The record of a unit that has answered and is good.
 use Rattle.std.proofs.Common.{◌≡◌, ◌∙◌, ℕ, true, false, cond, Option, Some, map, sym, ap}
 use Rattle.pb_command.specs.Judge.{file_at}
-use Rattle.pb_judging.specs.Answers.{answered_of}
-use Rattle.pb_place.specs.World.{World}
-use Rattle.pb_place.specs.declared.command.Command.{Command}
-use Rattle.pb_place.specs.declared.command.Ended.{Ended}
-use Rattle.pb_project.specs.Targets.{dep_info_of}
-use Rattle.pb_project.specs.declared.project.Project.{Project}
+use Rattle.pb_command_reply.specs.Answers.{answered_of}
+use Rattle.pb_place_types.specs.World.{World}
+use Rattle.pb_place_types.specs.declared.command.Command.{Command}
+use Rattle.pb_place_types.specs.declared.command.Ended.{Ended}
+use Rattle.pb_command_types.specs.Targets.{dep_info_of}
+use Rattle.pb_command_types.specs.declared.project.Project.{Project}
 use Rattle.pb_run.specs.Halves.{needed_keys}
 use Rattle.pb_run.specs.Running.{record_left, record_of}
 use Rattle.pb_run.specs.Outcome.{judgement_by}
@@ -14,8 +14,8 @@ use Rattle.pb_run.specs.Standing.{records_folder}
 use Rattle.pb_run.specs.declared.begun.Awaited.TheVariants as awaited
 use Rattle.pb_run.specs.declared.ran.Judgement.{Judgement}
 use Rattle.pb_run.proofs.Settling.{Stands}
-use Rattle.pb_soundness.specs.Inputs.{input_in}
-use Rattle.pb_soundness.specs.Records.{records}
+use Rattle.pb_store_soundness.specs.Inputs.{input_in}
+use Rattle.pb_store_soundness.specs.Records.{records}
 use Rattle.pb_store.specs.Folder.{kept_of, numbered, migrated}
 use Rattle.pb_store.specs.declared.replaying.Replayed.{Replayed}
 use Rattle.pb_unit.specs.declared.plan.Planned.{Planned}

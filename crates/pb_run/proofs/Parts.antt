@@ -1,13 +1,13 @@
 -- A unit that has begun, whole and by its parts: what is said of it leaves out what differed.
 use Rattle.std.proofs.Common.{ℕ, Bool, List, Option, Result, Ok, Err}
 use Rattle.std.specs.Prelude.{IfOk}
-use Rattle.pb_answer.specs.declared.bad_unit.BadUnit.{BadUnit}
+use Rattle.pb_build_result.specs.declared.bad_unit.BadUnit.{BadUnit}
 use Rattle.pb_directive.specs.declared.directive.Directive.{Directive}
-use Rattle.pb_flight.specs.declared.flight.State.{State}
-use Rattle.pb_place.specs.At.{At}
-use Rattle.pb_place.specs.World.{World, Answers}
-use Rattle.pb_place.specs.declared.child_in_flight.ChildInFlight.{ChildInFlight}
-use Rattle.pb_project.specs.declared.project.Project.{Project}
+use Rattle.pb_run_flight.specs.declared.flight.State.{State}
+use Rattle.pb_place_types.specs.At.{At}
+use Rattle.pb_place_types.specs.World.{World, Answers}
+use Rattle.pb_place_types.specs.declared.child_in_flight.ChildInFlight.{ChildInFlight}
+use Rattle.pb_command_types.specs.declared.project.Project.{Project}
 use Rattle.pb_run.specs.Running.{AnswersUnit, HasAnswered}
 use Rattle.pb_run.specs.Halves.{Basis, CanAnswer, IsBegun, begun_with}
 use Rattle.pb_run.specs.declared.begun.Begun.{Begun}

@@ -2,15 +2,15 @@
 use Rattle.std.proofs.Common.{◌≡◌, ◌≢◌, ◌∙◌, Bool, true, false, List, [], ◌∷◌, ℕ, Option, Some, None, Contains, if◌then◌else◌, is_some, map, refl, sym, ap, subst}
 use Rattle.std.proofs.lemmas.Bool.{false≢true}
 use Rattle.std.specs.FinMap as finite
-use Rattle.pb_judging.specs.Answers.{answered_of}
+use Rattle.pb_command_reply.specs.Answers.{answered_of}
 use Rattle.pb_command.specs.Judge.{file_at}
-use Rattle.pb_flight.proofs.Lists.{contains_head, contains_tail}
-use Rattle.pb_place.specs.Folders.{files_in}
-use Rattle.pb_place.specs.World.{World, ChangesOnly, from_nothing}
-use Rattle.pb_place.specs.declared.command.Command.{Command}
-use Rattle.pb_place.specs.declared.command.Ended.{Ended}
-use Rattle.pb_project.specs.Targets.{crate_name_of, dep_info_of, unit_at}
-use Rattle.pb_project.specs.declared.project.Project.{Project}
+use Rattle.pb_run_flight.proofs.Lists.{contains_head, contains_tail}
+use Rattle.pb_place_types.specs.Folders.{files_in}
+use Rattle.pb_place_types.specs.World.{World, ChangesOnly, from_nothing}
+use Rattle.pb_place_types.specs.declared.command.Command.{Command}
+use Rattle.pb_place_types.specs.declared.command.Ended.{Ended}
+use Rattle.pb_command_types.specs.Targets.{crate_name_of, dep_info_of, unit_at}
+use Rattle.pb_command_types.specs.declared.project.Project.{Project}
 use Rattle.pb_record.specs.declared.record.Input.{Input}
 use Rattle.pb_record.specs.declared.record.Input.TheVariants.{Value}
 use Rattle.pb_record.specs.declared.record.InputName.{InputName}
@@ -22,13 +22,13 @@ use Rattle.pb_run.specs.Outcome.{names_in}
 use Rattle.pb_run.specs.Standing.{IsInOrder, records_folder}
 use Rattle.pb_run.proofs.Recorded.{key_needed, record_still, sources_still}
 use Rattle.pb_run.proofs.Units.{dep_info_inside, inside_file}
-use Rattle.pb_soundness.specs.Apart.{is_of}
-use Rattle.pb_soundness.specs.Grounded.{Standing}
-use Rattle.pb_soundness.specs.Inputs.{input_in, path_input}
-use Rattle.pb_soundness.specs.Reuse.{number_if}
+use Rattle.pb_store_soundness.specs.Apart.{is_of}
+use Rattle.pb_store_soundness.specs.Grounded.{Standing}
+use Rattle.pb_store_soundness.specs.Inputs.{input_in, path_input}
+use Rattle.pb_store_soundness.specs.Reuse.{number_if}
 use Rattle.pb_store.specs.Folder.{kept_of, numbered, or_zero, migrated_by}
 use Rattle.pb_unit.specs.declared.plan.Planned.{Planned}
-use Rattle.pb_soundness.specs.Records.{reading, records}
+use Rattle.pb_store_soundness.specs.Records.{reading, records}
 
 input_still : (target : List ℕ) (v w : World) (name : InputName) → from_nothing target w ≡ from_nothing target v → input_in target w name ≡ input_in target v name
 input_still target v w (Path path) same = ap (λ (x : World). path_input path x.files (finite.get x.files path)) same

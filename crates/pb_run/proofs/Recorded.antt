@@ -2,24 +2,24 @@
 use Rattle.std.proofs.Common.{◌≡◌, ◌≢◌, ◌⊎◌, ◌∙◌, ◌++◌, ◌&&◌, ◌||◌, ℕ, Bool, true, false, List, [], ◌∷◌, Option, Some, None, Contains, refl, sym, ap, subst, inl, inr}
 use Rattle.std.proofs.lemmas.Bool.{cases_eq, false≢true}
 use Rattle.std.specs.List.{list_all, flat_map}
-use Rattle.pb_words.specs.Externs.{folder_in, read_at, reads_of}
-use Rattle.pb_flight.proofs.Lists.{contains_none, contains_head, contains_tail, contains_cases}
-use Rattle.pb_place.specs.Folders.{files_in}
-use Rattle.pb_place.specs.Paths.{is_at_or_below}
-use Rattle.pb_place.specs.World.{World, ChangesOnly, from_nothing, seen_by}
-use Rattle.pb_place.specs.declared.command.Command.{Command}
-use Rattle.pb_place.proofs.Folders.{sources_alike}
-use Rattle.pb_place.proofs.PathLemmas.{and_left, and_right}
-use Rattle.pb_place.proofs.Within.{at_itself, at_below, at_or_below_on, outside_within}
-use Rattle.pb_project.specs.Targets.{unit_at}
-use Rattle.pb_project.specs.declared.project.Project.{Project}
+use Rattle.pb_command_arguments.specs.Externs.{folder_in, read_at, reads_of}
+use Rattle.pb_run_flight.proofs.Lists.{contains_none, contains_head, contains_tail, contains_cases}
+use Rattle.pb_place_types.specs.Folders.{files_in}
+use Rattle.pb_place_types.specs.Paths.{is_at_or_below}
+use Rattle.pb_place_types.specs.World.{World, ChangesOnly, from_nothing, seen_by}
+use Rattle.pb_place_types.specs.declared.command.Command.{Command}
+use Rattle.pb_place_types.proofs.Folders.{sources_alike}
+use Rattle.pb_place_types.proofs.PathLemmas.{and_left, and_right}
+use Rattle.pb_place_types.proofs.Within.{at_itself, at_below, at_or_below_on, outside_within}
+use Rattle.pb_command_types.specs.Targets.{unit_at}
+use Rattle.pb_command_types.specs.declared.project.Project.{Project}
 use Rattle.pb_run.specs.Halves.{Basis, key_in, needed_keys, command_in}
 use Rattle.pb_run.specs.Standing.{IsInOrder, records_folder}
 use Rattle.pb_run.proofs.Views.{IsFor, is_for, HasPackage}
-use Rattle.pb_soundness.specs.Apart.{is_of, ReadsOthers}
-use Rattle.pb_soundness.specs.Records.{Reading, is_key, out_of, place_of, record_at}
-use Rattle.pb_soundness.proofs.Flying.{unit_files, unit_record, unit_seen}
-use Rattle.pb_soundness.proofs.Places.{one_key, out_in, place_in}
+use Rattle.pb_store_soundness.specs.Apart.{is_of, ReadsOthers}
+use Rattle.pb_store_soundness.specs.Records.{Reading, is_key, out_of, place_of, record_at}
+use Rattle.pb_store_soundness.proofs.Flying.{unit_files, unit_record, unit_seen}
+use Rattle.pb_store_soundness.proofs.Places.{one_key, out_in, place_in}
 use Rattle.pb_unit.specs.declared.plan.Planned.{Planned}
 
 -- Elements.

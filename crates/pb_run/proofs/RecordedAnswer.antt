@@ -5,27 +5,27 @@ use Rattle.std.proofs.lemmas.Bool.Decides.{Decides-int_eq}
 use Rattle.std.proofs.lemmas.Option.{slice_get_within}
 use Rattle.std.specs.Ordering.{int_eq}
 use Rattle.std.specs.Prelude.{slice_set}
-use Rattle.pb_judging.specs.Answers.{ended_fault, unless_fault, is_too_long}
+use Rattle.pb_command_reply.specs.Answers.{ended_fault, unless_fault, is_too_long}
 use Rattle.pb_command.specs.Judge.{judge, judge_in, inputs_if, ended_by}
 use Rattle.pb_directive.specs.declared.directive.Directive.{Directive}
-use Rattle.pb_flight.specs.declared.flight.Answer.{Answer}
-use Rattle.pb_flight.specs.declared.flight.State.{State}
-use Rattle.pb_flight.specs.declared.flight.State.TheVariants.{Untouched, Begun as begun_state, Answered}
-use Rattle.pb_flight.specs.Table.{is_good_at}
-use Rattle.pb_flight.proofs.Lists.{get_set_same, get_set_other, length_set}
-use Rattle.pb_place.specs.Folders.{files_in}
-use Rattle.pb_place.specs.Paths.{is_at_or_below}
-use Rattle.pb_place.specs.World.{World, ChangesOnly}
-use Rattle.pb_place.specs.declared.child.Reply.{Reply}
-use Rattle.pb_place.specs.declared.child_in_flight.ChildInFlight.{ChildInFlight}
-use Rattle.pb_place.specs.declared.command.Command.{Command}
-use Rattle.pb_place.specs.declared.command.Ended.{Ended}
-use Rattle.pb_project.specs.Targets.{unit_at}
-use Rattle.pb_project.specs.declared.answer.Answered.{Answered as answer_type}
+use Rattle.pb_run_flight.specs.declared.flight.Answer.{Answer}
+use Rattle.pb_run_flight.specs.declared.flight.State.{State}
+use Rattle.pb_run_flight.specs.declared.flight.State.TheVariants.{Untouched, Begun as begun_state, Answered}
+use Rattle.pb_run_flight.specs.Table.{is_good_at}
+use Rattle.pb_run_flight.proofs.Lists.{get_set_same, get_set_other, length_set}
+use Rattle.pb_place_types.specs.Folders.{files_in}
+use Rattle.pb_place_types.specs.Paths.{is_at_or_below}
+use Rattle.pb_place_types.specs.World.{World, ChangesOnly}
+use Rattle.pb_place_types.specs.declared.child.Reply.{Reply}
+use Rattle.pb_place_types.specs.declared.child_in_flight.ChildInFlight.{ChildInFlight}
+use Rattle.pb_place_types.specs.declared.command.Command.{Command}
+use Rattle.pb_place_types.specs.declared.command.Ended.{Ended}
+use Rattle.pb_command_types.specs.Targets.{unit_at}
+use Rattle.pb_command_types.specs.declared.answer.Answered.{Answered as answer_type}
 use Rattle.pb_record.specs.declared.record.InputName.{InputName}
-use Rattle.pb_project.specs.declared.fault.UnitFault.{UnitFault}
-use Rattle.pb_answer.specs.declared.bad_unit.BadUnit.{BadUnit}
-use Rattle.pb_project.specs.declared.fault.UnitFault.TheVariants as unit_fault
+use Rattle.pb_command_types.specs.declared.fault.UnitFault.{UnitFault}
+use Rattle.pb_build_result.specs.declared.bad_unit.BadUnit.{BadUnit}
+use Rattle.pb_command_types.specs.declared.fault.UnitFault.TheVariants as unit_fault
 use Rattle.pb_run.specs.Halves.{Footing, OnRecords, OnNothing, Basis, HasRecord, Keeps, IsInFlight, AwaitsBy, IsUnchanged, WaitsBy, CanAnswer, outcomes_in, records_in, command_in, view_in, child_of}
 use Rattle.pb_run.specs.Outcome.{outcome_by, outcome_from}
 use Rattle.pb_run.specs.Standing.{IsInOrder, records_folder}
@@ -39,14 +39,14 @@ use Rattle.pb_run.proofs.RecordedBegin.{never_by, own_far}
 use Rattle.pb_run.proofs.RecordedKeeps.{keeps_over}
 use Rattle.pb_run.proofs.RecordedOthers.{IfRecords, waits_child}
 use Rattle.pb_run.proofs.Views.{IsFor}
-use Rattle.pb_soundness.specs.Apart.{is_of}
-use Rattle.pb_soundness.specs.Grounded.{Standing, Grounded, grounded}
-use Rattle.pb_soundness.specs.Numbers.{IsAhead}
-use Rattle.pb_soundness.specs.Records.{is_key, place_of, reading}
-use Rattle.pb_soundness.specs.Sound.{Sound}
-use Rattle.pb_soundness.proofs.Becoming.{one, none_some}
-use Rattle.pb_soundness.proofs.Four.{in_output}
-use Rattle.pb_soundness.proofs.Places.{place_outside, no_key, record_same}
+use Rattle.pb_store_soundness.specs.Apart.{is_of}
+use Rattle.pb_store_soundness.specs.Grounded.{Standing, Grounded, grounded}
+use Rattle.pb_store_soundness.specs.Numbers.{IsAhead}
+use Rattle.pb_store_soundness.specs.Records.{is_key, place_of, reading}
+use Rattle.pb_store_soundness.specs.Sound.{Sound}
+use Rattle.pb_store_soundness.proofs.Becoming.{one, none_some}
+use Rattle.pb_store_soundness.proofs.Four.{in_output}
+use Rattle.pb_store_soundness.proofs.Places.{place_outside, no_key, record_same}
 use Rattle.pb_store.specs.Differences.{IsReplayed}
 use Rattle.pb_store.specs.declared.replaying.Replayed.{Replayed}
 use Rattle.pb_unit.specs.declared.plan.Planned.{Planned}

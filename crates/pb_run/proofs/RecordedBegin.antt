@@ -5,15 +5,15 @@ use Rattle.std.specs.FinMap as finite
 use Rattle.std.specs.Prelude.{slice_set}
 use Rattle.pb_command.specs.Judge.{judge}
 use Rattle.pb_directive.specs.declared.directive.Directive.{Directive}
-use Rattle.pb_flight.specs.declared.flight.State.{State}
-use Rattle.pb_flight.specs.declared.flight.State.TheVariants.{Untouched, Begun as begun_state}
-use Rattle.pb_flight.specs.Table.{is_good_at, are_good}
-use Rattle.pb_flight.proofs.Lists.{get_set_same, get_set_other, length_set}
-use Rattle.pb_place.specs.Children.{child_spawned, child_at, inside_out}
-use Rattle.pb_place.specs.World.{World, ChangesOnly, seen_by}
-use Rattle.pb_place.specs.declared.child_in_flight.ChildInFlight.{ChildInFlight}
-use Rattle.pb_project.specs.Targets.{unit_at}
-use Rattle.pb_answer.specs.declared.bad_unit.BadUnit.{BadUnit}
+use Rattle.pb_run_flight.specs.declared.flight.State.{State}
+use Rattle.pb_run_flight.specs.declared.flight.State.TheVariants.{Untouched, Begun as begun_state}
+use Rattle.pb_run_flight.specs.Table.{is_good_at, are_good}
+use Rattle.pb_run_flight.proofs.Lists.{get_set_same, get_set_other, length_set}
+use Rattle.pb_place_types.specs.Children.{child_spawned, child_at, inside_out}
+use Rattle.pb_place_types.specs.World.{World, ChangesOnly, seen_by}
+use Rattle.pb_place_types.specs.declared.child_in_flight.ChildInFlight.{ChildInFlight}
+use Rattle.pb_command_types.specs.Targets.{unit_at}
+use Rattle.pb_build_result.specs.declared.bad_unit.BadUnit.{BadUnit}
 use Rattle.pb_record.specs.declared.record.Record.{Record}
 use Rattle.pb_run.specs.Halves.{Footing, OnRecords, OnNothing, Basis, HasRecord, HoldsBy, Keeps, IsBegun, AwaitsBy, IsUnchanged, WaitsBy, CanBegin, records_in, command_in, view_in}
 use Rattle.pb_run.specs.Standing.{IsInOrder, records_folder}
@@ -24,16 +24,16 @@ use Rattle.pb_run.specs.declared.begun.Launched.{Launched}
 use Rattle.pb_run.proofs.Recorded.{command_for, seen_still}
 use Rattle.pb_run.proofs.RecordedKeeps.{has_needs, keeps_over}
 use Rattle.pb_run.proofs.RecordedOthers.{IfRecords, vanished, names_still, needs_still, others_at, far_of}
-use Rattle.pb_soundness.specs.Apart.{is_of}
-use Rattle.pb_soundness.specs.Numbers.{IsAhead, after, IsBefore}
-use Rattle.pb_soundness.specs.Reuse.{IsSame}
-use Rattle.pb_soundness.specs.Sound.{Sound}
-use Rattle.pb_soundness.proofs.Ahead.{given_ahead, next_is_new}
-use Rattle.pb_soundness.proofs.Becoming.{none_some}
+use Rattle.pb_store_soundness.specs.Apart.{is_of}
+use Rattle.pb_store_soundness.specs.Numbers.{IsAhead, after, IsBefore}
+use Rattle.pb_store_soundness.specs.Reuse.{IsSame}
+use Rattle.pb_store_soundness.specs.Sound.{Sound}
+use Rattle.pb_store_soundness.proofs.Ahead.{given_ahead, next_is_new}
+use Rattle.pb_store_soundness.proofs.Becoming.{none_some}
 use Rattle.pb_store.specs.Differences.{IsReplayed}
 use Rattle.pb_store.specs.declared.replaying.Replayed.{Replayed}
 use Rattle.pb_unit.specs.declared.plan.Planned.{Planned}
-use Rattle.pb_soundness.specs.Records.{reading}
+use Rattle.pb_store_soundness.specs.Records.{reading}
 
 untouched_begun : (s : State BadUnit) → s ≡ begun_state → Some s ≡ Some Untouched → ⊥
 untouched_begun s is e = cc

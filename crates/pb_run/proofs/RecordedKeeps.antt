@@ -1,15 +1,15 @@
 -- What is kept of a build, where only one unit's folder and record change.
 use Rattle.std.proofs.Common.{◌≡◌, ◌≢◌, ◌<◌, ◌∙◌, ℕ, true, false, List, length, Option, Some, Contains, refl, sym, ap, subst, inl, inr, slice_get}
 use Rattle.std.proofs.lemmas.Bool.{cases_eq, false≢true}
-use Rattle.pb_words.specs.Externs.{reads_of}
+use Rattle.pb_command_arguments.specs.Externs.{reads_of}
 use Rattle.pb_command.specs.Judge.{judge}
 use Rattle.pb_directive.specs.declared.directive.Directive.{Directive}
-use Rattle.pb_flight.specs.declared.flight.State.{State}
-use Rattle.pb_flight.specs.declared.flight.State.TheVariants.{Untouched}
-use Rattle.pb_flight.specs.Table.{is_good_at, are_good}
-use Rattle.pb_place.specs.World.{World, Map, Answers, ChangesOnly}
-use Rattle.pb_project.specs.Targets.{unit_at}
-use Rattle.pb_answer.specs.declared.bad_unit.BadUnit.{BadUnit}
+use Rattle.pb_run_flight.specs.declared.flight.State.{State}
+use Rattle.pb_run_flight.specs.declared.flight.State.TheVariants.{Untouched}
+use Rattle.pb_run_flight.specs.Table.{is_good_at, are_good}
+use Rattle.pb_place_types.specs.World.{World, Map, Answers, ChangesOnly}
+use Rattle.pb_command_types.specs.Targets.{unit_at}
+use Rattle.pb_build_result.specs.declared.bad_unit.BadUnit.{BadUnit}
 use Rattle.pb_record.specs.declared.record.Needed.{Needed}
 use Rattle.pb_record.specs.declared.record.Needed.TheVariants.{Copies, Numbers}
 use Rattle.pb_record.specs.declared.record.Record.{Record}
@@ -17,16 +17,16 @@ use Rattle.pb_run.specs.Halves.{Footing, OnRecords, OnNothing, Basis, StandsGood
 use Rattle.pb_run.specs.Standing.{IsInOrder, IsReadByNeed, records_folder}
 use Rattle.pb_run.proofs.Recorded.{all_at, all_of, command_for, read_reached, key_needed, needed_key, key_by_folder, keys_differ, sources_still, files_still, record_still}
 use Rattle.pb_run.proofs.RecordedOthers.{IfRecords, far_of, same_still}
-use Rattle.pb_soundness.specs.Apart.{is_of}
-use Rattle.pb_soundness.specs.Grounded.{Standing, Grounded, Reaches}
-use Rattle.pb_soundness.specs.Inputs.{Judge}
-use Rattle.pb_soundness.specs.Numbers.{IsAhead}
-use Rattle.pb_soundness.specs.Records.{number_in, number_of, out_of, reading}
-use Rattle.pb_soundness.specs.Reuse.{AreGrounded}
-use Rattle.pb_soundness.specs.Sound.{Sound, TrueBy, Rests}
-use Rattle.pb_soundness.proofs.Becoming.{one, none_some, grounded_number}
-use Rattle.pb_soundness.proofs.Flying.{unit_record}
-use Rattle.pb_soundness.proofs.Renewing.{spares}
+use Rattle.pb_store_soundness.specs.Apart.{is_of}
+use Rattle.pb_store_soundness.specs.Grounded.{Standing, Grounded, Reaches}
+use Rattle.pb_store_soundness.specs.Inputs.{Judge}
+use Rattle.pb_store_soundness.specs.Numbers.{IsAhead}
+use Rattle.pb_store_soundness.specs.Records.{number_in, number_of, out_of, reading}
+use Rattle.pb_store_soundness.specs.Reuse.{AreGrounded}
+use Rattle.pb_store_soundness.specs.Sound.{Sound, TrueBy, Rests}
+use Rattle.pb_store_soundness.proofs.Becoming.{one, none_some, grounded_number}
+use Rattle.pb_store_soundness.proofs.Flying.{unit_record}
+use Rattle.pb_store_soundness.proofs.Renewing.{spares}
 use Rattle.pb_store.specs.Folder.{ReadBy, itself, further, HasNeeds}
 use Rattle.pb_unit.specs.declared.plan.Planned.{Planned}
 

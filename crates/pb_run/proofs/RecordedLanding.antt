@@ -2,17 +2,17 @@
 use Rattle.std.proofs.Common.{◌≡◌, ◌≢◌, ◌∙◌, ℕ, List, Option, Some, map, refl, sym, ap, subst, inl, inr}
 use Rattle.pb_command.specs.Judge.{judge, ended_by, replied_files}
 use Rattle.pb_directive.specs.declared.directive.Directive.{Directive}
-use Rattle.pb_flight.specs.declared.flight.State.{State}
-use Rattle.pb_place.specs.Folders.{files_in}
-use Rattle.pb_place.specs.Paths.{is_at_or_below}
-use Rattle.pb_place.specs.World.{World, ChangesOnly, from_nothing, seen_by}
-use Rattle.pb_place.specs.declared.child.Reply.{Reply}
-use Rattle.pb_place.specs.declared.child_in_flight.ChildInFlight.{ChildInFlight}
-use Rattle.pb_place.specs.declared.command.Command.{Command}
-use Rattle.pb_place.specs.declared.command.Ended.{Ended}
-use Rattle.pb_project.specs.Targets.{unit_at}
+use Rattle.pb_run_flight.specs.declared.flight.State.{State}
+use Rattle.pb_place_types.specs.Folders.{files_in}
+use Rattle.pb_place_types.specs.Paths.{is_at_or_below}
+use Rattle.pb_place_types.specs.World.{World, ChangesOnly, from_nothing, seen_by}
+use Rattle.pb_place_types.specs.declared.child.Reply.{Reply}
+use Rattle.pb_place_types.specs.declared.child_in_flight.ChildInFlight.{ChildInFlight}
+use Rattle.pb_place_types.specs.declared.command.Command.{Command}
+use Rattle.pb_place_types.specs.declared.command.Ended.{Ended}
+use Rattle.pb_command_types.specs.Targets.{unit_at}
 use Rattle.pb_record.specs.declared.record.InputName.{InputName}
-use Rattle.pb_answer.specs.declared.bad_unit.BadUnit.{BadUnit}
+use Rattle.pb_build_result.specs.declared.bad_unit.BadUnit.{BadUnit}
 use Rattle.pb_record.specs.declared.record.Input.{Input}
 use Rattle.pb_record.specs.declared.record.Record.{Record}
 use Rattle.pb_run.specs.Halves.{Footing, OnRecords, OnNothing, Basis, HasRecord, HoldsRecords, HoldsBy, AwaitsRecord, AwaitsBy, CanAnswer, command_in, needed_keys, records_in, view_in}
@@ -25,14 +25,14 @@ use Rattle.pb_run.proofs.RecordedKeeps.{reads_grounded}
 use Rattle.pb_run.proofs.RecordedOthers.{IfRecords, Left, agrees_still, vanished, as_before, put_anew, needs_still, others_at}
 use Rattle.pb_run.proofs.RecordedSame.{command_back, named_now, present_agree}
 use Rattle.pb_run.proofs.Views.{IsFor}
-use Rattle.pb_soundness.specs.Grounded.{Standing, Grounded}
-use Rattle.pb_soundness.specs.Inputs.{IsHonest, input_in, reply_in}
-use Rattle.pb_soundness.specs.Numbers.{NoneNames, IsAhead, IsBefore}
-use Rattle.pb_soundness.specs.Records.{number_of, out_of, place_of, reading}
-use Rattle.pb_soundness.specs.Reuse.{AreGrounded, IsSame, NamesNeeds, own}
-use Rattle.pb_soundness.specs.Sound.{Sound}
-use Rattle.pb_soundness.proofs.Becoming.{one, none_some, grounded_number, grounded_stands}
-use Rattle.pb_soundness.proofs.Renewing.{put_grounds}
+use Rattle.pb_store_soundness.specs.Grounded.{Standing, Grounded}
+use Rattle.pb_store_soundness.specs.Inputs.{IsHonest, input_in, reply_in}
+use Rattle.pb_store_soundness.specs.Numbers.{NoneNames, IsAhead, IsBefore}
+use Rattle.pb_store_soundness.specs.Records.{number_of, out_of, place_of, reading}
+use Rattle.pb_store_soundness.specs.Reuse.{AreGrounded, IsSame, NamesNeeds, own}
+use Rattle.pb_store_soundness.specs.Sound.{Sound}
+use Rattle.pb_store_soundness.proofs.Becoming.{one, none_some, grounded_number, grounded_stands}
+use Rattle.pb_store_soundness.proofs.Renewing.{put_grounds}
 use Rattle.pb_store.specs.Folder.{Leaves, HasNeeds, IsKept, kept_of, numbered}
 use Rattle.pb_store.proofs.Earned.{names_stand}
 use Rattle.pb_unit.specs.declared.plan.Planned.{Planned}

@@ -4,22 +4,22 @@ use Rattle.std.proofs.lemmas.Bool.{cases_Bool, false≢true}
 use Rattle.std.proofs.lemmas.Bool.Decides.{nat_tests}
 use Rattle.std.specs.FinMap as finite
 use Rattle.std.specs.Prelude.{IfSome, option_map}
-use Rattle.pb_words.specs.Externs.{reads_of}
+use Rattle.pb_command_arguments.specs.Externs.{reads_of}
 use Rattle.pb_command.specs.Judge.{judge}
 use Rattle.pb_directive.specs.declared.directive.Directive.{Directive}
-use Rattle.pb_flight.specs.declared.flight.State.{State}
-use Rattle.pb_flight.specs.Table.{is_good_at, are_good}
-use Rattle.pb_place.specs.Children.{child_spawned, child_at, inside_out, StandsStill, SeesStill, StaysStillBut, KeepsStillOutside}
-use Rattle.pb_place.specs.Counts.{without}
-use Rattle.pb_place.specs.Folders.{files_in}
-use Rattle.pb_place.specs.Paths.{stem}
-use Rattle.pb_place.specs.World.{World, Map, Answers, ChangesOnly, from_nothing}
-use Rattle.pb_place.specs.declared.child_in_flight.ChildInFlight.{ChildInFlight}
-use Rattle.pb_place.specs.declared.command.Command.{Command}
-use Rattle.pb_project.specs.Targets.{unit_at}
+use Rattle.pb_run_flight.specs.declared.flight.State.{State}
+use Rattle.pb_run_flight.specs.Table.{is_good_at, are_good}
+use Rattle.pb_place_types.specs.Children.{child_spawned, child_at, inside_out, StandsStill, SeesStill, StaysStillBut, KeepsStillOutside}
+use Rattle.pb_place_types.specs.Counts.{without}
+use Rattle.pb_place_types.specs.Folders.{files_in}
+use Rattle.pb_place_types.specs.Paths.{stem}
+use Rattle.pb_place_types.specs.World.{World, Map, Answers, ChangesOnly, from_nothing}
+use Rattle.pb_place_types.specs.declared.child_in_flight.ChildInFlight.{ChildInFlight}
+use Rattle.pb_place_types.specs.declared.command.Command.{Command}
+use Rattle.pb_command_types.specs.Targets.{unit_at}
 use Rattle.pb_record.specs.declared.record.InputName.{InputName}
 use Rattle.pb_record.specs.declared.record.InputName.TheVariants.{Path, Variable}
-use Rattle.pb_answer.specs.declared.bad_unit.BadUnit.{BadUnit}
+use Rattle.pb_build_result.specs.declared.bad_unit.BadUnit.{BadUnit}
 use Rattle.pb_record.specs.declared.record.Input.{Input}
 use Rattle.pb_record.specs.declared.record.Needed.{Needed}
 use Rattle.pb_record.specs.declared.record.Needed.TheVariants.{Copies, Numbers}
@@ -32,16 +32,16 @@ use Rattle.pb_run.specs.declared.begun.Begun.{Begun}
 use Rattle.pb_run.specs.declared.begun.Launched.{Launched}
 use Rattle.pb_run.proofs.Recorded.{all_at, read_reached, key_needed, key_by_folder, keys_differ, command_for, sources_still, files_still, record_still, seen_still}
 use Rattle.pb_run.proofs.Views.{IsFor}
-use Rattle.pb_soundness.specs.Apart.{is_of}
-use Rattle.pb_soundness.specs.Grounded.{Standing}
-use Rattle.pb_soundness.specs.Inputs.{Judge, Agrees, path_input, input_in, contents, name_of}
-use Rattle.pb_soundness.specs.Numbers.{NoneNames, IsBefore, after}
-use Rattle.pb_soundness.specs.Records.{needs_of, number_of, out_of, reading}
-use Rattle.pb_soundness.specs.Reuse.{IsSame, NeededNow, number_if}
-use Rattle.pb_soundness.specs.Sound.{Sound, TrueBy}
-use Rattle.pb_soundness.proofs.Becoming.{one, none_some}
-use Rattle.pb_soundness.proofs.Flying.{unit_record}
-use Rattle.pb_soundness.proofs.Places.{is_same}
+use Rattle.pb_store_soundness.specs.Apart.{is_of}
+use Rattle.pb_store_soundness.specs.Grounded.{Standing}
+use Rattle.pb_store_soundness.specs.Inputs.{Judge, Agrees, path_input, input_in, contents, name_of}
+use Rattle.pb_store_soundness.specs.Numbers.{NoneNames, IsBefore, after}
+use Rattle.pb_store_soundness.specs.Records.{needs_of, number_of, out_of, reading}
+use Rattle.pb_store_soundness.specs.Reuse.{IsSame, NeededNow, number_if}
+use Rattle.pb_store_soundness.specs.Sound.{Sound, TrueBy}
+use Rattle.pb_store_soundness.proofs.Becoming.{one, none_some}
+use Rattle.pb_store_soundness.proofs.Flying.{unit_record}
+use Rattle.pb_store_soundness.proofs.Places.{is_same}
 use Rattle.pb_store.specs.Folder.{Leaves, ReadBy, itself, further, HasNeeds, TakesNumber}
 use Rattle.pb_store.specs.Differences.{replayed}
 use Rattle.pb_unit.specs.declared.plan.Planned.{Planned}

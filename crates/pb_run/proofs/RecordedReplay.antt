@@ -1,18 +1,18 @@
 -- A unit whose record gives its answer again, and gets a run number where it has none.
 use Rattle.std.proofs.Common.{◌≡◌, ◌≢◌, ◌<◌, ◌∙◌, ℕ, true, List, is_some, Option, Some, None, refl, sym, ap, subst, inl, inr, arith}
 use Rattle.std.proofs.lemmas.Bool.{false≢true}
-use Rattle.pb_words.specs.Externs.{reads_of}
+use Rattle.pb_command_arguments.specs.Externs.{reads_of}
 use Rattle.pb_command.specs.Judge.{judge}
 use Rattle.pb_directive.specs.declared.directive.Directive.{Directive}
-use Rattle.pb_flight.specs.declared.flight.State.{State}
-use Rattle.pb_place.specs.Folders.{files_in}
-use Rattle.pb_place.specs.Paths.{is_at_or_below}
-use Rattle.pb_place.specs.World.{World, ChangesOnly, from_nothing, seen_by}
-use Rattle.pb_place.specs.declared.child.Reply.{Reply}
-use Rattle.pb_place.specs.declared.child_in_flight.ChildInFlight.{ChildInFlight}
-use Rattle.pb_place.specs.declared.command.Command.{Command}
-use Rattle.pb_project.specs.Targets.{unit_at}
-use Rattle.pb_answer.specs.declared.bad_unit.BadUnit.{BadUnit}
+use Rattle.pb_run_flight.specs.declared.flight.State.{State}
+use Rattle.pb_place_types.specs.Folders.{files_in}
+use Rattle.pb_place_types.specs.Paths.{is_at_or_below}
+use Rattle.pb_place_types.specs.World.{World, ChangesOnly, from_nothing, seen_by}
+use Rattle.pb_place_types.specs.declared.child.Reply.{Reply}
+use Rattle.pb_place_types.specs.declared.child_in_flight.ChildInFlight.{ChildInFlight}
+use Rattle.pb_place_types.specs.declared.command.Command.{Command}
+use Rattle.pb_command_types.specs.Targets.{unit_at}
+use Rattle.pb_build_result.specs.declared.bad_unit.BadUnit.{BadUnit}
 use Rattle.pb_record.specs.declared.record.Input.{Input}
 use Rattle.pb_record.specs.declared.record.Record.{Record}
 use Rattle.pb_run.specs.Halves.{Footing, OnRecords, OnNothing, Basis, HasRecord, HoldsRecords, HoldsBy, AwaitsBy, IsUnchanged, CanAnswer, BeginsApart, command_in, needed_keys, records_in, view_in, child_of}
@@ -26,15 +26,15 @@ use Rattle.pb_run.proofs.RecordedLanding.{put_over}
 use Rattle.pb_run.proofs.RecordedOthers.{IfRecords, Left, agrees_still, vanished, as_before, put_anew, others_at, waits_child}
 use Rattle.pb_run.proofs.RecordedSame.{named_now, needed_alike}
 use Rattle.pb_run.proofs.Views.{IsFor}
-use Rattle.pb_soundness.specs.Inputs.{Agrees, IsHonest}
-use Rattle.pb_soundness.specs.Numbers.{IsAhead, IsBefore}
-use Rattle.pb_soundness.specs.Records.{number_of, out_of, place_of, reading}
-use Rattle.pb_soundness.specs.Reuse.{IsSame, AreGrounded, NamesNeeds}
-use Rattle.pb_soundness.specs.Sound.{Sound, Backs}
-use Rattle.pb_soundness.proofs.Ahead.{next_is_new}
-use Rattle.pb_soundness.proofs.Becoming.{one, none_some, grounded_number}
-use Rattle.pb_soundness.proofs.Places.{is_same}
-use Rattle.pb_soundness.proofs.Renewing.{grounds, reuse}
+use Rattle.pb_store_soundness.specs.Inputs.{Agrees, IsHonest}
+use Rattle.pb_store_soundness.specs.Numbers.{IsAhead, IsBefore}
+use Rattle.pb_store_soundness.specs.Records.{number_of, out_of, place_of, reading}
+use Rattle.pb_store_soundness.specs.Reuse.{IsSame, AreGrounded, NamesNeeds}
+use Rattle.pb_store_soundness.specs.Sound.{Sound, Backs}
+use Rattle.pb_store_soundness.proofs.Ahead.{next_is_new}
+use Rattle.pb_store_soundness.proofs.Becoming.{one, none_some, grounded_number}
+use Rattle.pb_store_soundness.proofs.Places.{is_same}
+use Rattle.pb_store_soundness.proofs.Renewing.{grounds, reuse}
 use Rattle.pb_store.specs.Folder.{Leaves, HasNeeds, numbered, IsMigrated, numbered_record, migrated, migrated_by}
 use Rattle.pb_store.proofs.Earned.{names_stand}
 use Rattle.pb_unit.specs.declared.plan.Planned.{Planned}

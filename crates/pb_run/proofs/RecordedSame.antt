@@ -1,19 +1,19 @@
 -- Nothing differs from a record once it was kept, or was given again.
 use Rattle.std.proofs.Common.{◌≡◌, ◌≢◌, ◌∙◌, ℕ, List, [], ◌∷◌, Option, Some, None, Contains, map, sym, ap, refl}
 use Rattle.std.specs.FinMap as finite
-use Rattle.pb_place.specs.World.{World, Map, from_nothing}
-use Rattle.pb_place.specs.declared.command.Command.{Command}
+use Rattle.pb_place_types.specs.World.{World, Map, from_nothing}
+use Rattle.pb_place_types.specs.declared.command.Command.{Command}
 use Rattle.pb_record.specs.declared.record.InputName.{InputName}
 use Rattle.pb_record.specs.declared.record.InputName.TheVariants.{Path, Variable}
 use Rattle.pb_record.specs.Commands.{command_of, of_parts}
 use Rattle.pb_record.specs.declared.record.Needed.{Needed}
 use Rattle.pb_record.specs.declared.record.Needed.TheVariants.{Copies, Numbers}
 use Rattle.pb_record.specs.declared.record.Record.{Record}
-use Rattle.pb_soundness.specs.Grounded.{Standing}
-use Rattle.pb_soundness.specs.Inputs.{Agrees, input_in, name_of, path_input}
-use Rattle.pb_soundness.specs.Records.{number_in, number_of}
-use Rattle.pb_soundness.specs.Reuse.{NeededNow, number_if}
-use Rattle.pb_soundness.proofs.Becoming.{none_some}
+use Rattle.pb_store_soundness.specs.Grounded.{Standing}
+use Rattle.pb_store_soundness.specs.Inputs.{Agrees, input_in, name_of, path_input}
+use Rattle.pb_store_soundness.specs.Records.{number_in, number_of}
+use Rattle.pb_store_soundness.specs.Reuse.{NeededNow, number_if}
+use Rattle.pb_store_soundness.proofs.Becoming.{none_some}
 
 -- what was asked for a command that writes into a folder is that command
 pub command_back : (c : Command) (out : List ℕ) → c.out ≡ Some out → command_of (of_parts c out) ≡ c

@@ -3,23 +3,23 @@ use Rattle.std.proofs.Common.{◌≡◌, ◌∙◌, ℕ, Bool, true, false, List
 use Rattle.std.proofs.lemmas.Bool.{false≢true}
 use Rattle.std.specs.Prelude.{not}
 use Rattle.std.specs.Option.{is_some, option_map}
-use Rattle.pb_judging.specs.Answers.{answered_of}
+use Rattle.pb_command_reply.specs.Answers.{answered_of}
 use Rattle.pb_command.specs.Judge.{ended_by, file_at, judge, replied_files}
 use Rattle.pb_directive.specs.declared.directive.Directive.{Directive}
-use Rattle.pb_flight.specs.declared.flight.State.{State}
-use Rattle.pb_flight.specs.declared.flight.State.TheVariants.{Answered}
-use Rattle.pb_place.specs.Children.{child_at, KeepsStill, KeepsStillOutside}
-use Rattle.pb_place.specs.Counts.{Starts}
-use Rattle.pb_place.specs.Folders.{files_in}
-use Rattle.pb_place.specs.Paths.{is_at_or_below}
-use Rattle.pb_place.specs.World.{World, Map, Answers, ChangesOnly, seen_by}
-use Rattle.pb_place.specs.declared.child.Reply.{Reply}
-use Rattle.pb_place.specs.declared.child_in_flight.ChildInFlight.{ChildInFlight}
-use Rattle.pb_place.specs.declared.command.Command.{Command}
-use Rattle.pb_place.specs.declared.command.Ended.{Ended}
-use Rattle.pb_place.proofs.Folders.{only_same}
-use Rattle.pb_project.specs.Targets.{dep_info_of, unit_at}
-use Rattle.pb_answer.specs.declared.bad_unit.BadUnit.{BadUnit}
+use Rattle.pb_run_flight.specs.declared.flight.State.{State}
+use Rattle.pb_run_flight.specs.declared.flight.State.TheVariants.{Answered}
+use Rattle.pb_place_types.specs.Children.{child_at, KeepsStill, KeepsStillOutside}
+use Rattle.pb_place_types.specs.Counts.{Starts}
+use Rattle.pb_place_types.specs.Folders.{files_in}
+use Rattle.pb_place_types.specs.Paths.{is_at_or_below}
+use Rattle.pb_place_types.specs.World.{World, Map, Answers, ChangesOnly, seen_by}
+use Rattle.pb_place_types.specs.declared.child.Reply.{Reply}
+use Rattle.pb_place_types.specs.declared.child_in_flight.ChildInFlight.{ChildInFlight}
+use Rattle.pb_place_types.specs.declared.command.Command.{Command}
+use Rattle.pb_place_types.specs.declared.command.Ended.{Ended}
+use Rattle.pb_place_types.proofs.Folders.{only_same}
+use Rattle.pb_command_types.specs.Targets.{dep_info_of, unit_at}
+use Rattle.pb_build_result.specs.declared.bad_unit.BadUnit.{BadUnit}
 use Rattle.pb_record.specs.declared.record.Record.{Record}
 use Rattle.pb_unit.specs.declared.plan.Planned.{Planned}
 use Rattle.pb_run.specs.Halves.{Footing, OnRecords, OnNothing, Basis, BeginsApart, CanAnswer, HasRecord, HoldsBy, IsBegun, IsUnchanged, Keeps, awaits_number, begun_with, child_in, child_of, command_in, needed_keys, outcomes_in, records_in, view_in}
@@ -40,11 +40,11 @@ use Rattle.pb_run.proofs.RecordedOthers.{IfRecords, Left, as_before, if_records,
 use Rattle.pb_run.proofs.RecordedReplay.{left_migrated, migrated_ahead, migrated_record, migrated_sound, numbers_apart, replay_backs}
 use Rattle.pb_run.proofs.Settling.{not_none, on_good}
 use Rattle.pb_run.proofs.Shown.{AllStand, sees_view}
-use Rattle.pb_soundness.specs.Apart.{is_of}
-use Rattle.pb_soundness.specs.Numbers.{IsAhead}
-use Rattle.pb_soundness.specs.Records.{number_of, place_of, reading, records}
-use Rattle.pb_soundness.specs.Sound.{Backs, Sound}
-use Rattle.pb_soundness.proofs.Becoming.{one}
+use Rattle.pb_store_soundness.specs.Apart.{is_of}
+use Rattle.pb_store_soundness.specs.Numbers.{IsAhead}
+use Rattle.pb_store_soundness.specs.Records.{number_of, place_of, reading, records}
+use Rattle.pb_store_soundness.specs.Sound.{Backs, Sound}
+use Rattle.pb_store_soundness.proofs.Becoming.{one}
 use Rattle.pb_store.specs.Folder.{Leaves, numbered, IsMigrated, TakesNext, TakesNumber, lacks_number, migrated, migrated_by, numbered_record}
 use Rattle.pb_store.specs.Differences.{IsReplayed, replayed}
 use Rattle.pb_store.specs.declared.fault.StoreFault.TheVariants as store

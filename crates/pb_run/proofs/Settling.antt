@@ -3,29 +3,29 @@ use Rattle.std.proofs.Common.{◌≡◌, ◌≢◌, ◌∙◌, ℕ, true, false,
 use Rattle.std.proofs.lemmas.Bool.{false≢true}
 use Rattle.std.specs.Prelude.{IfSome}
 use Rattle.std.specs.Option.{is_some}
-use Rattle.pb_judging.specs.Answers.{answered_of}
+use Rattle.pb_command_reply.specs.Answers.{answered_of}
 use Rattle.pb_command.specs.Judge.{ended_by, file_at, inputs_if, judge, replied_files}
 use Rattle.pb_command.proofs.Judged.{judges_as_answered}
 use Rattle.pb_directive.specs.declared.directive.Directive.{Directive}
-use Rattle.pb_flight.specs.declared.flight.State.{State}
-use Rattle.pb_flight.specs.declared.flight.State.TheVariants.{Answered}
-use Rattle.pb_place.specs.Children.{StandsStill, StaysStillBut, child_at, KeepsStill}
-use Rattle.pb_place.specs.Counts.{Counts, counted_finish, without}
-use Rattle.pb_place.specs.Folders.{files_in}
-use Rattle.pb_place.specs.Paths.{is_at_or_below}
-use Rattle.pb_place.specs.World.{World, Answers, ChangesOnly, ChangesOnlyInSome, seen_by}
-use Rattle.pb_place.specs.declared.child.Reply.{Reply}
-use Rattle.pb_place.specs.declared.child_in_flight.ChildInFlight.{ChildInFlight}
-use Rattle.pb_place.specs.declared.command.Command.{Command}
-use Rattle.pb_place.specs.declared.command.Ended.{Ended}
-use Rattle.pb_place.specs.declared.place.StartFault.{StartFault}
-use Rattle.pb_place.specs.declared.place.StartFault.TheVariants as start
-use Rattle.pb_project.specs.Targets.{crate_name_of, dep_info_of, unit_at}
-use Rattle.pb_project.specs.declared.answer.Answered as answers
+use Rattle.pb_run_flight.specs.declared.flight.State.{State}
+use Rattle.pb_run_flight.specs.declared.flight.State.TheVariants.{Answered}
+use Rattle.pb_place_types.specs.Children.{StandsStill, StaysStillBut, child_at, KeepsStill}
+use Rattle.pb_place_types.specs.Counts.{Counts, counted_finish, without}
+use Rattle.pb_place_types.specs.Folders.{files_in}
+use Rattle.pb_place_types.specs.Paths.{is_at_or_below}
+use Rattle.pb_place_types.specs.World.{World, Answers, ChangesOnly, ChangesOnlyInSome, seen_by}
+use Rattle.pb_place_types.specs.declared.child.Reply.{Reply}
+use Rattle.pb_place_types.specs.declared.child_in_flight.ChildInFlight.{ChildInFlight}
+use Rattle.pb_place_types.specs.declared.command.Command.{Command}
+use Rattle.pb_place_types.specs.declared.command.Ended.{Ended}
+use Rattle.pb_place_types.specs.declared.place.StartFault.{StartFault}
+use Rattle.pb_place_types.specs.declared.place.StartFault.TheVariants as start
+use Rattle.pb_command_types.specs.Targets.{crate_name_of, dep_info_of, unit_at}
+use Rattle.pb_command_types.specs.declared.answer.Answered as answers
 use Rattle.pb_record.specs.declared.record.InputName.{InputName}
-use Rattle.pb_project.specs.declared.fault.UnitFault.{UnitFault}
-use Rattle.pb_answer.specs.declared.bad_unit.BadUnit.{BadUnit}
-use Rattle.pb_project.specs.declared.project.Project.{Project}
+use Rattle.pb_command_types.specs.declared.fault.UnitFault.{UnitFault}
+use Rattle.pb_build_result.specs.declared.bad_unit.BadUnit.{BadUnit}
+use Rattle.pb_command_types.specs.declared.project.Project.{Project}
 use Rattle.pb_unit.specs.declared.plan.Planned.{Planned}
 use Rattle.pb_run.specs.Halves.{Footing, OnRecords, OnNothing, Basis, AwaitsBy, BeginsApart, CanAnswer, HasRecord, IsBegun, Keeps, begun_with, command_in, needed_keys, outcomes_in, records_in, view_in, child_in, child_of}
 use Rattle.pb_run.specs.Outcome.{directives_of, judgement_by, names_in, outcome_by, ran_by}
@@ -43,11 +43,11 @@ use Rattle.pb_run.proofs.RecordedLanding.{kept_ahead, kept_record, kept_sound, l
 use Rattle.pb_run.proofs.RecordedOthers.{IfRecords, Left, flies_without, if_records, stays_begun}
 use Rattle.pb_run.proofs.Shown.{AllStand, sees_view}
 use Rattle.pb_run.proofs.Units.{dep_info_inside, inside_file}
-use Rattle.pb_soundness.specs.Apart.{is_of}
-use Rattle.pb_soundness.specs.Inputs.{input_in}
-use Rattle.pb_soundness.specs.Numbers.{IsAhead, IsBefore}
-use Rattle.pb_soundness.specs.Records.{place_of, reading, records}
-use Rattle.pb_soundness.specs.Sound.{Sound}
+use Rattle.pb_store_soundness.specs.Apart.{is_of}
+use Rattle.pb_store_soundness.specs.Inputs.{input_in}
+use Rattle.pb_store_soundness.specs.Numbers.{IsAhead, IsBefore}
+use Rattle.pb_store_soundness.specs.Records.{place_of, reading, records}
+use Rattle.pb_store_soundness.specs.Sound.{Sound}
 use Rattle.pb_store.specs.Folder.{HasNeeds, IsKept, Leaves, kept_of, numbered}
 
 -- a good judgement has the names of its inputs

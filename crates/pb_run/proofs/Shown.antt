@@ -4,19 +4,19 @@ use Rattle.std.proofs.lemmas.Option.{slice_get-map}
 use Rattle.std.specs.List.{list_all, flat_map, AllByRecursion}
 use Rattle.std.specs.Option.{option_map}
 use Rattle.pb_command.specs.Command.{command_of}
-use Rattle.pb_words.specs.Externs.{folder_in, reads_of}
+use Rattle.pb_command_arguments.specs.Externs.{folder_in, reads_of}
 use Rattle.pb_directive.specs.declared.directive.Directive.{Directive}
-use Rattle.pb_place.specs.Folders.{over, folders_over}
-use Rattle.pb_place.specs.World.{World, Map, seen_by, from_nothing}
-use Rattle.pb_place.proofs.Folders.{sees_folders}
-use Rattle.pb_project.specs.Targets.{unit_at}
+use Rattle.pb_place_types.specs.Folders.{over, folders_over}
+use Rattle.pb_place_types.specs.World.{World, Map, seen_by, from_nothing}
+use Rattle.pb_place_types.proofs.Folders.{sees_folders}
+use Rattle.pb_command_types.specs.Targets.{unit_at}
 use Rattle.pb_unit.specs.declared.plan.Planned.{Planned}
 use Rattle.pb_run.specs.Halves.{Basis, StandsGood, outcomes_in, command_in, view_in}
 use Rattle.pb_run.specs.Outcome.{Outcome, files_at, is_good_at, with_made, directives_in, directives_of}
 use Rattle.pb_run.specs.Standing.{IsInOrder}
 use Rattle.pb_run.proofs.Commands.{command_same}
 use Rattle.pb_run.proofs.Views.{IsFor, is_for}
-use Rattle.pb_soundness.proofs.Flying.{contains_head, contains_tail}
+use Rattle.pb_store_soundness.proofs.Flying.{contains_head, contains_tail}
 
 pub contains_none : {X : Type 0} (v : X) → Contains [] v → ⊥
 contains_none v (k, lt, at) = omega (arith, lt)

@@ -5,30 +5,30 @@ use Rattle.std.specs.Prelude.{IfSome}
 use Rattle.std.specs.Cmp.Lexicographic.{slice_cmp, nat_list_cmp_total}
 use Rattle.std.specs.FinMap.{get, empty, same_map, get-empty}
 use Rattle.std.specs.Ordering.{nat_cmp}
-use Rattle.pb_place.specs.Children.{StaysStill, StandsStill, child_at, child_spawned, inside_out, is_flying, KeepsStillOutside}
-use Rattle.pb_place.specs.Counts.{Counts, counted_spawn}
-use Rattle.pb_place.specs.Folders.{files_in}
-use Rattle.pb_place.specs.Paths.{is_path, is_below, is_at_or_below}
-use Rattle.pb_place.specs.World.{World, Map, Answers, AgreeBut, ChangesOnly, ChangesOnlyInSome, removed}
-use Rattle.pb_place.specs.declared.child.Reply.{Reply}
-use Rattle.pb_place.specs.declared.child_in_flight.ChildInFlight.{ChildInFlight}
-use Rattle.pb_place.specs.declared.command.Command.{Command}
-use Rattle.pb_place.proofs.Folders.{get-files_in, only_removed, only_started, changes_join}
-use Rattle.pb_place.proofs.InFlight.{last_at, same_number}
-use Rattle.pb_place.proofs.MapLemmas.{exact, get-kept}
-use Rattle.pb_place.proofs.Within.{at_below}
+use Rattle.pb_place_types.specs.Children.{StaysStill, StandsStill, child_at, child_spawned, inside_out, is_flying, KeepsStillOutside}
+use Rattle.pb_place_types.specs.Counts.{Counts, counted_spawn}
+use Rattle.pb_place_types.specs.Folders.{files_in}
+use Rattle.pb_place_types.specs.Paths.{is_path, is_below, is_at_or_below}
+use Rattle.pb_place_types.specs.World.{World, Map, Answers, AgreeBut, ChangesOnly, ChangesOnlyInSome, removed}
+use Rattle.pb_place_types.specs.declared.child.Reply.{Reply}
+use Rattle.pb_place_types.specs.declared.child_in_flight.ChildInFlight.{ChildInFlight}
+use Rattle.pb_place_types.specs.declared.command.Command.{Command}
+use Rattle.pb_place_types.proofs.Folders.{get-files_in, only_removed, only_started, changes_join}
+use Rattle.pb_place_types.proofs.InFlight.{last_at, same_number}
+use Rattle.pb_place_types.proofs.MapLemmas.{exact, get-kept}
+use Rattle.pb_place_types.proofs.Within.{at_below}
 use Rattle.pb_run.specs.Steps.{IsLifted}
 use Rattle.pb_run.specs.Halves.{WritesTo}
 use Rattle.pb_run.specs.Running.{IsSpawned}
 use Rattle.pb_run.proofs.Causing.{spawn_told}
-use Rattle.pb_soundness.specs.Apart.{is_of}
-use Rattle.pb_soundness.specs.Inputs.{Judge}
-use Rattle.pb_soundness.specs.Numbers.{IsAhead}
-use Rattle.pb_soundness.specs.Records.{Reading, is_key, out_of, place_of, record_at}
-use Rattle.pb_soundness.specs.Reuse.{number_if}
-use Rattle.pb_soundness.specs.Sound.{Sound}
-use Rattle.pb_soundness.proofs.Four.{in_output}
-use Rattle.pb_soundness.proofs.Places.{place_outside, record_same, no_key}
+use Rattle.pb_store_soundness.specs.Apart.{is_of}
+use Rattle.pb_store_soundness.specs.Inputs.{Judge}
+use Rattle.pb_store_soundness.specs.Numbers.{IsAhead}
+use Rattle.pb_store_soundness.specs.Records.{Reading, is_key, out_of, place_of, record_at}
+use Rattle.pb_store_soundness.specs.Reuse.{number_if}
+use Rattle.pb_store_soundness.specs.Sound.{Sound}
+use Rattle.pb_store_soundness.proofs.Four.{in_output}
+use Rattle.pb_store_soundness.proofs.Places.{place_outside, record_same, no_key}
 use Rattle.pb_store.specs.Folder.{HasNumbers}
 
 -- What stands still.

@@ -1,19 +1,19 @@
 -- Calls of a step of a unit in turn, and the faults that end it.
 use Rattle.std.proofs.Common.{◌≡◌, ◌≢◌, ◌∙◌, ◌++◌, inl, inr, ℕ, Bool, true, false, cond, is_some, List, [], ◌∷◌, Result, Ok, Err, sym, ap, subst, append_assoc}
-use Rattle.pb_place.specs.CallsInTurn.{own_fault, MakesSome, past_calls}
-use Rattle.pb_place.specs.declared.call.Call.{Call}
-use Rattle.pb_place.specs.declared.call.Call.TheVariants as call
-use Rattle.pb_place.specs.Counts.{Counts, past_place_fault}
-use Rattle.pb_place.specs.declared.place.PlaceFault.{PlaceFault}
-use Rattle.pb_place.specs.declared.place.PlaceFault.TheVariants as place
-use Rattle.pb_place.specs.World.{World}
-use Rattle.pb_place.specs.declared.command.Command.{Command}
-use Rattle.pb_place.specs.declared.command.Ended.{Ended}
-use Rattle.pb_place.proofs.CallsInTurn.{fails_left, fails_right, made_both, some_all, some_left, some_none, some_right}
-use Rattle.pb_judging.specs.Answers.{answered_of}
+use Rattle.pb_place_types.specs.CallsInTurn.{own_fault, MakesSome, past_calls}
+use Rattle.pb_place_types.specs.declared.call.Call.{Call}
+use Rattle.pb_place_types.specs.declared.call.Call.TheVariants as call
+use Rattle.pb_place_types.specs.Counts.{Counts, past_place_fault}
+use Rattle.pb_place_types.specs.declared.place.PlaceFault.{PlaceFault}
+use Rattle.pb_place_types.specs.declared.place.PlaceFault.TheVariants as place
+use Rattle.pb_place_types.specs.World.{World}
+use Rattle.pb_place_types.specs.declared.command.Command.{Command}
+use Rattle.pb_place_types.specs.declared.command.Ended.{Ended}
+use Rattle.pb_place_types.proofs.CallsInTurn.{fails_left, fails_right, made_both, some_all, some_left, some_none, some_right}
+use Rattle.pb_command_reply.specs.Answers.{answered_of}
 use Rattle.pb_command.specs.Judge.{file_at}
-use Rattle.pb_project.specs.Targets.{dep_info_of}
-use Rattle.pb_project.specs.declared.project.Project.{Project}
+use Rattle.pb_command_types.specs.Targets.{dep_info_of}
+use Rattle.pb_command_types.specs.declared.project.Project.{Project}
 use Rattle.pb_record.specs.declared.record.InputName.{InputName}
 use Rattle.pb_run.specs.Running.{answered_called, dep_info_looked, judged_called, recorded_called}
 use Rattle.pb_run.specs.Outcome.{judgement_by}
@@ -26,7 +26,7 @@ use Rattle.pb_run.specs.declared.faults.StepFault.{StepFault}
 use Rattle.pb_run.specs.declared.faults.StepFault.TheVariants.{Store, Start}
 use Rattle.pb_run.specs.declared.ran.Judgement.{Judgement}
 use Rattle.pb_run.specs.declared.ran.Ran.{Ran}
-use Rattle.pb_soundness.specs.Records.{place_of, records}
+use Rattle.pb_store_soundness.specs.Records.{place_of, records}
 use Rattle.pb_store.specs.Folder.{lacks_number}
 use Rattle.pb_store.specs.Looking as looking
 use Rattle.pb_store.specs.Looking.{LooksOrSpent, kept_called, migrated_called}

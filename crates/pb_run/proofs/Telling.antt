@@ -1,14 +1,14 @@
 -- What the outcome of a unit says of its answer.
 use Rattle.std.proofs.Common.{◌≡◌, ◌∙◌, ◌⊎◌, ℕ, Bool, List, Option, Some, None, Result, Ok, Err, is_some, refl, sym, subst, inl, inr}
 use Rattle.std.proofs.lemmas.Bool.{false≢true}
-use Rattle.pb_answer.specs.declared.fault.BuildFault.{BuildFault}
-use Rattle.pb_answer.specs.declared.fault.BuildFault.TheVariants.{Plan, Toolchain, Child, Device, Sink, OutOfMemory}
-use Rattle.pb_answer.specs.declared.fault.DeviceFault.TheVariants.{Place, NumbersSpent}
-use Rattle.pb_place.specs.At.{At}
-use Rattle.pb_place.specs.Counts.{Starts}
-use Rattle.pb_place.specs.World.{World, Answers}
-use Rattle.pb_place.specs.declared.command.Command.{Command}
-use Rattle.pb_project.specs.declared.project.Project.{Project}
+use Rattle.pb_build_result.specs.declared.fault.BuildFault.{BuildFault}
+use Rattle.pb_build_result.specs.declared.fault.BuildFault.TheVariants.{Plan, Toolchain, Child, Device, Sink, OutOfMemory}
+use Rattle.pb_build_result.specs.declared.fault.DeviceFault.TheVariants.{Place, NumbersSpent}
+use Rattle.pb_place_types.specs.At.{At}
+use Rattle.pb_place_types.specs.Counts.{Starts}
+use Rattle.pb_place_types.specs.World.{World, Answers}
+use Rattle.pb_place_types.specs.declared.command.Command.{Command}
+use Rattle.pb_command_types.specs.declared.project.Project.{Project}
 use Rattle.pb_run.specs.Steps.{BeginsBy, LandsBy, IsOfUnit, fault_in, MayAnswer}
 use Rattle.pb_run.specs.Halves.{child_of}
 use Rattle.pb_run.specs.Running.{HasAnswered, HasTold, TellsAnswer, told_of}

@@ -1,16 +1,16 @@
 -- The dep-info of a unit, which lies in its folder.
 use Rattle.std.proofs.Common.{◌≡◌, ◌∙◌, ◌++◌, codes, Bool, true, false, List, ℕ, cond, Option, Some, None, refl, sym, ap}
 use Rattle.std.specs.FinMap.{get}
-use Rattle.pb_place.specs.Folders.{files_in}
-use Rattle.pb_place.specs.Paths.{below, is_below, is_relative}
-use Rattle.pb_place.specs.World.{Map}
-use Rattle.pb_place.proofs.Folders.{get-files_in}
-use Rattle.pb_place.proofs.PathLemmas.{below_is_below}
+use Rattle.pb_place_types.specs.Folders.{files_in}
+use Rattle.pb_place_types.specs.Paths.{below, is_below, is_relative}
+use Rattle.pb_place_types.specs.World.{Map}
+use Rattle.pb_place_types.proofs.Folders.{get-files_in}
+use Rattle.pb_place_types.proofs.PathLemmas.{below_is_below}
 use Rattle.pb_unit.specs.declared.plan.Planned.{Planned}
 use Rattle.pb_unit.specs.declared.unit.What.{What}
 use Rattle.pb_unit.specs.declared.unit.What.TheVariants.{Lib, Bin, Script, Run}
-use Rattle.pb_project.specs.declared.project.Project.{Project}
-use Rattle.pb_project.specs.Targets.{dep_info_by}
+use Rattle.pb_command_types.specs.declared.project.Project.{Project}
+use Rattle.pb_command_types.specs.Targets.{dep_info_by}
 use Rattle.pb_command.specs.Judge.{file_at}
 
 -- a file of a folder, seen in the folder or in the whole

@@ -1,15 +1,15 @@
 -- What a unit's command is for.
 use Rattle.std.proofs.Common.{◌≡◌, List, Option, Some, slice_get, refl, sym, subst}
-use Rattle.pb_place.specs.declared.command.Command.{Command}
+use Rattle.pb_place_types.specs.declared.command.Command.{Command}
 use Rattle.pb_unit.specs.declared.plan.Planned.{Planned}
 use Rattle.pb_unit.specs.declared.unit.What.{What}
 use Rattle.pb_unit.specs.declared.unit.What.TheVariants.{Lib, Bin, Script, Run}
-use Rattle.pb_package.specs.declared.package.Package.{Package}
+use Rattle.pb_workspace_types.specs.declared.package.Package.{Package}
 use Rattle.pb_directive.specs.declared.directive.Directive.{Directive}
-use Rattle.pb_project.specs.declared.project.Project.{Project}
-use Rattle.pb_project.specs.declared.project.Setup.{Setup}
+use Rattle.pb_command_types.specs.declared.project.Project.{Project}
+use Rattle.pb_command_types.specs.declared.project.Setup.{Setup}
 use Rattle.pb_command.specs.Command.{command_of, command_by, command_for}
-use Rattle.pb_words.specs.Externs.{reads_of}
+use Rattle.pb_command_arguments.specs.Externs.{reads_of}
 
 -- what a command is for: it writes into the unit's folder, and reads the folders of the units that this one reaches
 pub record IsFor (project : Project) (u : Planned) (c : Command) : Type 0 where

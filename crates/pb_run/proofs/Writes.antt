@@ -2,22 +2,22 @@
 use Rattle.std.proofs.Common.{◌≡◌, ◌≢◌, ◌∙◌, ◌||◌, ℕ, Bool, true, cond, List, [], ◌∷◌, Option, Some, Result, sym, ap, subst, inl, inr}
 use Rattle.std.proofs.lemmas.Bool.{cases_Bool, false≢true}
 use Rattle.std.specs.Prelude.{◌==◌, IfSome}
-use Rattle.pb_place.specs.Children.{child_at, is_flying}
-use Rattle.pb_place.specs.Counts.{Counts, without}
-use Rattle.pb_place.specs.Paths.{is_at_or_below}
-use Rattle.pb_place.specs.World.{World, ChangesOnly, ChangesOnlyInSome}
-use Rattle.pb_place.specs.declared.child_in_flight.ChildInFlight.{ChildInFlight}
-use Rattle.pb_place.specs.declared.command.Ended.{Ended}
-use Rattle.pb_place.specs.declared.place.StartFault.{StartFault}
-use Rattle.pb_place.proofs.Folders.{only_same, only_started}
+use Rattle.pb_place_types.specs.Children.{child_at, is_flying}
+use Rattle.pb_place_types.specs.Counts.{Counts, without}
+use Rattle.pb_place_types.specs.Paths.{is_at_or_below}
+use Rattle.pb_place_types.specs.World.{World, ChangesOnly, ChangesOnlyInSome}
+use Rattle.pb_place_types.specs.declared.child_in_flight.ChildInFlight.{ChildInFlight}
+use Rattle.pb_place_types.specs.declared.command.Ended.{Ended}
+use Rattle.pb_place_types.specs.declared.place.StartFault.{StartFault}
+use Rattle.pb_place_types.proofs.Folders.{only_same, only_started}
 use Rattle.pb_run.specs.Halves.{WritesTo}
 use Rattle.pb_run.specs.Running.{HasEnded}
 use Rattle.pb_run.specs.declared.begun.Launched.{Launched}
 use Rattle.pb_run.proofs.Answering.{kept_only}
 use Rattle.pb_run.proofs.RecordedOthers.{flies_without}
 use Rattle.pb_run.proofs.Spawning.{out_within, widen}
-use Rattle.pb_soundness.specs.Apart.{is_of}
-use Rattle.pb_soundness.specs.Records.{out_of, place_of}
+use Rattle.pb_store_soundness.specs.Apart.{is_of}
+use Rattle.pb_store_soundness.specs.Records.{out_of, place_of}
 
 -- The child has landed.
 

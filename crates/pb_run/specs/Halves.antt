@@ -2,22 +2,22 @@
 use Rattle.std.specs.Prelude.{◌≡◌, ◌≢◌, ◌∷◌, [], ℕ, Bool, true, false, not, List, Option, Some, None, IfSome, slice_get, take, length}
 use Rattle.std.specs.FinMap as finite
 use Rattle.std.specs.List.{flat_map}
-use Rattle.pb_words.specs.Externs.{reads_of}
+use Rattle.pb_command_arguments.specs.Externs.{reads_of}
 use Rattle.pb_command.specs.Judge.{judge}
 use Rattle.pb_directive.specs.declared.directive.Directive.{Directive}
-use Rattle.pb_flight.specs.declared.flight.State.{State}
-use Rattle.pb_flight.specs.declared.flight.State.TheVariants.{Untouched, Begun as begun_state}
-use Rattle.pb_flight.specs.Table.{is_good_at, are_good}
+use Rattle.pb_run_flight.specs.declared.flight.State.{State}
+use Rattle.pb_run_flight.specs.declared.flight.State.TheVariants.{Untouched, Begun as begun_state}
+use Rattle.pb_run_flight.specs.Table.{is_good_at, are_good}
 use Rattle.pb_message.specs.declared.message.Message.{Message}
-use Rattle.pb_place.specs.Children.{StandsStill, child_spawned, child_at, inside_out}
-use Rattle.pb_place.specs.Folders.{files_in}
-use Rattle.pb_place.specs.World.{World, Map, Answers, ChangesOnly, from_nothing, seen_by}
-use Rattle.pb_place.specs.declared.child_in_flight.ChildInFlight.{ChildInFlight}
-use Rattle.pb_place.specs.declared.command.Command.{Command}
-use Rattle.pb_project.specs.Targets.{unit_at}
-use Rattle.pb_answer.specs.declared.bad_unit.BadUnit.{BadUnit}
-use Rattle.pb_project.specs.declared.project.Project.{Project}
-use Rattle.pb_project.specs.declared.project.Setup.{Setup}
+use Rattle.pb_place_types.specs.Children.{StandsStill, child_spawned, child_at, inside_out}
+use Rattle.pb_place_types.specs.Folders.{files_in}
+use Rattle.pb_place_types.specs.World.{World, Map, Answers, ChangesOnly, from_nothing, seen_by}
+use Rattle.pb_place_types.specs.declared.child_in_flight.ChildInFlight.{ChildInFlight}
+use Rattle.pb_place_types.specs.declared.command.Command.{Command}
+use Rattle.pb_command_types.specs.Targets.{unit_at}
+use Rattle.pb_build_result.specs.declared.bad_unit.BadUnit.{BadUnit}
+use Rattle.pb_command_types.specs.declared.project.Project.{Project}
+use Rattle.pb_command_types.specs.declared.project.Setup.{Setup}
 use Rattle.pb_record.specs.declared.record.Record.{Record}
 use Rattle.pb_run.specs.Outcome.{Outcome, Good, outcomes, view_of, command_after}
 use Rattle.pb_run.specs.Standing.{records_folder}
@@ -25,12 +25,12 @@ use Rattle.pb_run.specs.declared.begun.Awaited.{Awaited}
 use Rattle.pb_run.specs.declared.begun.Awaited.TheVariants as awaited
 use Rattle.pb_run.specs.declared.begun.Begun.{Begun}
 use Rattle.pb_run.specs.declared.begun.Launched.{Launched}
-use Rattle.pb_soundness.specs.Grounded.{Standing, Grounded}
-use Rattle.pb_soundness.specs.Inputs.{IsHonest}
-use Rattle.pb_soundness.specs.Numbers.{IsAhead, IsBefore, NoneNames}
-use Rattle.pb_soundness.specs.Records.{number_of, reading, records}
-use Rattle.pb_soundness.specs.Reuse.{IsSame}
-use Rattle.pb_soundness.specs.Sound.{Sound}
+use Rattle.pb_store_soundness.specs.Grounded.{Standing, Grounded}
+use Rattle.pb_store_soundness.specs.Inputs.{IsHonest}
+use Rattle.pb_store_soundness.specs.Numbers.{IsAhead, IsBefore, NoneNames}
+use Rattle.pb_store_soundness.specs.Records.{number_of, reading, records}
+use Rattle.pb_store_soundness.specs.Reuse.{IsSame}
+use Rattle.pb_store_soundness.specs.Sound.{Sound}
 use Rattle.pb_store.specs.Folder.{HasNeeds}
 use Rattle.pb_store.specs.Differences.{IsReplayed}
 use Rattle.pb_unit.specs.declared.plan.Planned.{Planned}

@@ -1,29 +1,29 @@
 -- What one unit's step does: it begins, with or without a child; it answers; and both, one after the other.
 use Rattle.std.specs.Prelude.{◌≡◌, ◌⊎◌, ℕ, Bool, List, Option, Some, None, Result, Ok, MatchResult, ◌++◌, ◌∷◌, if◌then◌else◌, is_some, [], map, Err, IsOk, IfOk, IfErr, IfSome, ◌≢◌, ◌+◌, true, IsTrue, IsSome, MatchOption, OnOk, length, max, slice_set, false, slice_get}
 use Rattle.std.specs.FinMap as finite
-use Rattle.pb_answer.specs.declared.bad_unit.BadUnit.{BadUnit}
+use Rattle.pb_build_result.specs.declared.bad_unit.BadUnit.{BadUnit}
 use Rattle.pb_command.specs.Command.{command_of}
 use Rattle.pb_command.specs.Judge.{file_at}
 use Rattle.pb_directive.specs.declared.directive.Directive.{Directive}
-use Rattle.pb_flight.specs.declared.flight.State.{State}
-use Rattle.pb_flight.specs.declared.flight.State.TheVariants as state
-use Rattle.pb_judging.specs.Answers.{answered_of}
-use Rattle.pb_place.specs.At.{At}
-use Rattle.pb_place.specs.CallsInTurn.{Fails, past_calls}
-use Rattle.pb_place.specs.Children.{child_at, child_spawned, inside_out, LandsAs}
-use Rattle.pb_place.specs.Counts.{Counts, counted_spawn, one_start, past_call, past_start_fault, counted_finish, Starts}
-use Rattle.pb_place.specs.Folders.{files_in}
-use Rattle.pb_place.specs.Paths.{is_at_or_below}
-use Rattle.pb_place.specs.World.{World, Answers, ChangesOnly, Map, ChangesOnlyInSome}
-use Rattle.pb_place.specs.declared.call.Call.{Call}
-use Rattle.pb_place.specs.declared.call.Call.TheVariants as call
-use Rattle.pb_place.specs.declared.child_in_flight.ChildInFlight.{ChildInFlight}
-use Rattle.pb_place.specs.declared.command.Command.{Command}
-use Rattle.pb_place.specs.declared.command.Ended.{Ended}
-use Rattle.pb_place.specs.declared.place.StartFault.{StartFault}
-use Rattle.pb_project.specs.Targets.{dep_info_of}
-use Rattle.pb_project.specs.declared.project.Project.{Project}
-use Rattle.pb_project.specs.declared.project.Setup.{Setup}
+use Rattle.pb_run_flight.specs.declared.flight.State.{State}
+use Rattle.pb_run_flight.specs.declared.flight.State.TheVariants as state
+use Rattle.pb_command_reply.specs.Answers.{answered_of}
+use Rattle.pb_place_types.specs.At.{At}
+use Rattle.pb_place_types.specs.CallsInTurn.{Fails, past_calls}
+use Rattle.pb_place_types.specs.Children.{child_at, child_spawned, inside_out, LandsAs}
+use Rattle.pb_place_types.specs.Counts.{Counts, counted_spawn, one_start, past_call, past_start_fault, counted_finish, Starts}
+use Rattle.pb_place_types.specs.Folders.{files_in}
+use Rattle.pb_place_types.specs.Paths.{is_at_or_below}
+use Rattle.pb_place_types.specs.World.{World, Answers, ChangesOnly, Map, ChangesOnlyInSome}
+use Rattle.pb_place_types.specs.declared.call.Call.{Call}
+use Rattle.pb_place_types.specs.declared.call.Call.TheVariants as call
+use Rattle.pb_place_types.specs.declared.child_in_flight.ChildInFlight.{ChildInFlight}
+use Rattle.pb_place_types.specs.declared.command.Command.{Command}
+use Rattle.pb_place_types.specs.declared.command.Ended.{Ended}
+use Rattle.pb_place_types.specs.declared.place.StartFault.{StartFault}
+use Rattle.pb_command_types.specs.Targets.{dep_info_of}
+use Rattle.pb_command_types.specs.declared.project.Project.{Project}
+use Rattle.pb_command_types.specs.declared.project.Setup.{Setup}
 use Rattle.pb_record.specs.declared.record.InputName.{InputName}
 use Rattle.pb_record.specs.declared.record.Record.{Record}
 use Rattle.pb_run.specs.Steps.{BeginsBy, Lands, started, NumbersInTurn, StepMakes, StepStopsAt, StepTakes, starts, MayAnswer, MayBegin}
@@ -39,11 +39,11 @@ use Rattle.pb_run.specs.declared.faults.StepFault.TheVariants as step
 use Rattle.pb_run.specs.declared.halves.Outcome.{Outcome}
 use Rattle.pb_run.specs.declared.ran.Judgement.{Judgement}
 use Rattle.pb_run.specs.declared.ran.Ran.{Ran}
-use Rattle.pb_soundness.specs.Apart.{is_of}
-use Rattle.pb_soundness.specs.Inputs.{Judge, input_in}
-use Rattle.pb_soundness.specs.Numbers.{IsAhead, after}
-use Rattle.pb_soundness.specs.Records.{reading, records, place_of}
-use Rattle.pb_soundness.specs.Sound.{Sound}
+use Rattle.pb_store_soundness.specs.Apart.{is_of}
+use Rattle.pb_store_soundness.specs.Inputs.{Judge, input_in}
+use Rattle.pb_store_soundness.specs.Numbers.{IsAhead, after}
+use Rattle.pb_store_soundness.specs.Records.{reading, records, place_of}
+use Rattle.pb_store_soundness.specs.Sound.{Sound}
 use Rattle.pb_store.specs.Differences.{IsReplayed, FirstDifference}
 use Rattle.pb_store.specs.Folder.{Leaves, kept_of, numbered, migrated, HasNumbers, TakesNumber, TakesNext, lacks_number}
 use Rattle.pb_store.specs.Looking.{kept_called, migrated_called, unit_looked}
@@ -51,7 +51,7 @@ use Rattle.pb_store.specs.declared.difference.Difference.{Difference}
 use Rattle.pb_store.specs.declared.fault.StoreFault.TheVariants as store
 use Rattle.pb_store.specs.declared.store.Store.{Store}
 use Rattle.pb_unit.specs.declared.plan.Planned.{Planned}
-use Rattle.pb_unit_messages.specs.Telling.{unit_lines}
+use Rattle.pb_message_units.specs.Telling.{unit_lines}
 
 -- a child is in flight that was spawned in a world that differs from the old one at these paths only; its folder was
 -- empty then, and what it sees has not changed since (`still`)

@@ -3,17 +3,17 @@ use Rattle.std.specs.Prelude.{◌≡◌, ◌≢◌, ◌<◌, ◌⊎◌, ◌↔�
 use Rattle.std.specs.List.{AllByRecursion}
 use Rattle.pb_directive.specs.declared.directive.Directive.{Directive}
 use Rattle.pb_command.specs.Command.{command_of}
-use Rattle.pb_words.specs.Externs.{reads_of}
-use Rattle.pb_place.specs.declared.command.Command.{Command}
-use Rattle.pb_package.specs.Settled.{IsSettled}
-use Rattle.pb_package.specs.declared.options.Selection.{Selection}
-use Rattle.pb_place.specs.Paths.{is_path, is_below, is_at_or_below}
-use Rattle.pb_soundness.specs.Records.{is_key, out_of}
+use Rattle.pb_command_arguments.specs.Externs.{reads_of}
+use Rattle.pb_place_types.specs.declared.command.Command.{Command}
+use Rattle.pb_workspace_types.specs.Settled.{IsSettled}
+use Rattle.pb_workspace_types.specs.declared.options.Selection.{Selection}
+use Rattle.pb_place_types.specs.Paths.{is_path, is_below, is_at_or_below}
+use Rattle.pb_store_soundness.specs.Records.{is_key, out_of}
 use Rattle.pb_unit.specs.Plan.{IsPlan, profile_folder}
 use Rattle.pb_unit.specs.declared.plan.Planned.{Planned}
-use Rattle.pb_package.specs.declared.package.Package.{Package}
-use Rattle.pb_project.specs.declared.project.Project.{Project}
-use Rattle.pb_project.specs.declared.project.Setup.{Setup}
+use Rattle.pb_workspace_types.specs.declared.package.Package.{Package}
+use Rattle.pb_command_types.specs.declared.project.Project.{Project}
+use Rattle.pb_command_types.specs.declared.project.Setup.{Setup}
 
 -- a command is one of this unit, after some runs
 abbrev pub IsCommandOf : Project → Planned → Command → Type 0

@@ -1,24 +1,24 @@
 -- How a step of one unit ends: which call failed, with which fault, after how many starts; with and without the unit's
 -- name.
 use Rattle.std.specs.Prelude.{◌≡◌, ℕ, List, Result, Ok, Err, ◌≢◌, ◌⊎◌, ◌++◌, ◌∷◌, [], Bool, true, false, Option, Some, None, IfErr, MatchResult, IsSome}
-use Rattle.pb_answer.specs.declared.fault.BuildFault.{BuildFault}
-use Rattle.pb_answer.specs.declared.fault.BuildFault.TheVariants.{Plan, Toolchain, Child, Device, Sink}
-use Rattle.pb_answer.specs.declared.fault.BuildFault.TheVariants as build
-use Rattle.pb_answer.specs.declared.fault.DeviceFault.TheVariants as device
-use Rattle.pb_place.specs.At.{At}
-use Rattle.pb_place.specs.CallsInTurn.{FailsAt, MakesSome, past_calls}
-use Rattle.pb_place.specs.Children.{is_flying, KeepsStill, KeepsStillOutside}
-use Rattle.pb_place.specs.Counts.{Counts, Starts, up, up_starts, without, counted_finish}
-use Rattle.pb_place.specs.World.{ChangesOnly}
-use Rattle.pb_place.specs.declared.call.Call.{Call}
-use Rattle.pb_place.specs.declared.call.Call.TheVariants as call
-use Rattle.pb_place.specs.declared.child_in_flight.ChildInFlight.{ChildInFlight}
-use Rattle.pb_place.specs.declared.command.Ended.{Ended}
-use Rattle.pb_place.specs.declared.place.Failure.TheVariants.{Called, Started}
-use Rattle.pb_place.specs.declared.place.PlaceFault.{PlaceFault}
-use Rattle.pb_place.specs.declared.place.PlaceFault.TheVariants as place
-use Rattle.pb_place.specs.declared.place.StartFault.{StartFault}
-use Rattle.pb_place.specs.declared.place.StartFault.TheVariants as start
+use Rattle.pb_build_result.specs.declared.fault.BuildFault.{BuildFault}
+use Rattle.pb_build_result.specs.declared.fault.BuildFault.TheVariants.{Plan, Toolchain, Child, Device, Sink}
+use Rattle.pb_build_result.specs.declared.fault.BuildFault.TheVariants as build
+use Rattle.pb_build_result.specs.declared.fault.DeviceFault.TheVariants as device
+use Rattle.pb_place_types.specs.At.{At}
+use Rattle.pb_place_types.specs.CallsInTurn.{FailsAt, MakesSome, past_calls}
+use Rattle.pb_place_types.specs.Children.{is_flying, KeepsStill, KeepsStillOutside}
+use Rattle.pb_place_types.specs.Counts.{Counts, Starts, up, up_starts, without, counted_finish}
+use Rattle.pb_place_types.specs.World.{ChangesOnly}
+use Rattle.pb_place_types.specs.declared.call.Call.{Call}
+use Rattle.pb_place_types.specs.declared.call.Call.TheVariants as call
+use Rattle.pb_place_types.specs.declared.child_in_flight.ChildInFlight.{ChildInFlight}
+use Rattle.pb_place_types.specs.declared.command.Ended.{Ended}
+use Rattle.pb_place_types.specs.declared.place.Failure.TheVariants.{Called, Started}
+use Rattle.pb_place_types.specs.declared.place.PlaceFault.{PlaceFault}
+use Rattle.pb_place_types.specs.declared.place.PlaceFault.TheVariants as place
+use Rattle.pb_place_types.specs.declared.place.StartFault.{StartFault}
+use Rattle.pb_place_types.specs.declared.place.StartFault.TheVariants as start
 use Rattle.pb_run.specs.declared.begun.Launched.{Launched}
 use Rattle.pb_run.specs.declared.faults.StepFault.{StepFault}
 use Rattle.pb_run.specs.declared.faults.StepFault.TheVariants as step

@@ -5,7 +5,7 @@ ghost use Rattle.pb_run.specs.Halves.{child_of};
 ghost use Rattle.pb_run.specs.declared.begun.Launched.{Launched};
 
 use pb_data::Text;
-use pb_place::Command;
+use pb_place_types::Command;
 use pb_store::{Difference, Replayed};
 
 /// A child process that was spawned for a unit.

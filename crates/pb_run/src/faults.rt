@@ -5,9 +5,9 @@ ghost use Rattle.pb_run.specs.Steps.{device_fault, named, started};
 ghost use Rattle.pb_run.specs.declared.faults.StepFault.TheVariants as step_fault;
 ghost use Rattle.pb_store.specs.Calls.{stored};
 
-use pb_answer::{BuildFault, DeviceFault};
+use pb_build_result::{BuildFault, DeviceFault};
 use pb_data::Text;
-use pb_place::{PlaceFault, StartFault};
+use pb_place_types::{PlaceFault, StartFault};
 use pb_store::StoreFault;
 
 /// Why a step of a unit failed, without the unit's name.

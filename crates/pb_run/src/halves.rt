@@ -3,17 +3,17 @@
 
 ghost use Rattle.std.specs.Prelude.{◌≡◌, ◌≢◌, ◌⊎◌, ℕ, true, List, Option, IsTrue, IfErr, IfOk, IfSome, Some, None, slice_get};
 ghost use Rattle.pb_command.specs.Command.{command_of};
-ghost use Rattle.pb_place.specs.Children.{child_at, is_flying};
-ghost use Rattle.pb_place.specs.Paths.{is_at_or_below};
-ghost use Rattle.pb_place.specs.World.{World, ChangesOnly};
-ghost use Rattle.pb_place.specs.declared.child_in_flight.ChildInFlight.{ChildInFlight};
-ghost use Rattle.pb_project.specs.Targets.{unit_at};
-ghost use Rattle.pb_project.specs.declared.project.Setup.{Setup};
+ghost use Rattle.pb_place_types.specs.Children.{child_at, is_flying};
+ghost use Rattle.pb_place_types.specs.Paths.{is_at_or_below};
+ghost use Rattle.pb_place_types.specs.World.{World, ChangesOnly};
+ghost use Rattle.pb_place_types.specs.declared.child_in_flight.ChildInFlight.{ChildInFlight};
+ghost use Rattle.pb_command_types.specs.Targets.{unit_at};
+ghost use Rattle.pb_command_types.specs.declared.project.Setup.{Setup};
 ghost use Rattle.pb_run.specs.Running.{DropsBuild, IsOf, Begins, BeginsBuild, BeginsUnit, ChangesUnit, Differs, FailsToBegin, KeepsStore, HasTold, RunsUnit, told_of};
 ghost use Rattle.pb_run.specs.Steps.{Drops, IsOfUnit, bare, MayBegin};
 ghost use Rattle.pb_run.specs.Halves.{Footing, Basis, WritesTo, basis, child_of};
 ghost use Rattle.pb_run.specs.Standing.{IsInOrder, records_folder};
-ghost use Rattle.pb_soundness.specs.Records.{records};
+ghost use Rattle.pb_store_soundness.specs.Records.{records};
 ghost use Rattle.pb_store.specs.Folder.{HasNumbers};
 ghost use Rattle.pb_unit.specs.declared.plan.Planned.{Planned};
 
@@ -23,14 +23,14 @@ use crate::landing::answered;
 use crate::launching::launch;
 use crate::ordered::OrderedProject;
 use crate::ran::Ran;
-use pb_answer::{BadUnit, BuildFault};
+use pb_build_result::{BadUnit, BuildFault};
 use pb_data::{Text, TryCopy};
 use pb_directive::Directives;
-use pb_place::{Command, Place};
-use pb_project::Setup;
+use pb_place_types::{Command, Place};
+use pb_command_types::Setup;
 use pb_store::{Compared, Difference, Key, Store};
 use pb_unit::Planned;
-use pb_unit_messages::lines_of_unit;
+use pb_message_units::lines_of_unit;
 use std::alloc::{AllocError, Global};
 
 /// What came of a unit.

@@ -1,20 +1,20 @@
 //! The launch of a unit's child: the record is dropped, the folder emptied, and the child spawned.
 
 ghost use Rattle.std.specs.Prelude.{◌≡◌, ◌+◌, ℕ, true, Option, IsTrue, IfOk, MatchResult, Some, None, max, length};
-ghost use Rattle.pb_place.specs.Children.{child_at, child_spawned, StaysStill, KeepsStillOutside};
-ghost use Rattle.pb_place.specs.Paths.{is_path, is_at_or_below};
-ghost use Rattle.pb_place.specs.World.{ChangesOnly, ChangesOnlyInSome};
+ghost use Rattle.pb_place_types.specs.Children.{child_at, child_spawned, StaysStill, KeepsStillOutside};
+ghost use Rattle.pb_place_types.specs.Paths.{is_path, is_at_or_below};
+ghost use Rattle.pb_place_types.specs.World.{ChangesOnly, ChangesOnlyInSome};
 ghost use Rattle.pb_run.specs.Running.{ChangesUnit, KeepsStore, AnewEnds, Calls, DropsFor, IsSpawned, LaunchEnds, Launches, SpawnStops, Spawns, SpawnsAnew};
 ghost use Rattle.pb_run.specs.Steps.{IsLifted, MayBegin, StepTakes};
 ghost use Rattle.pb_run.specs.Halves.{WritesTo};
-ghost use Rattle.pb_soundness.specs.Apart.{is_of};
-ghost use Rattle.pb_soundness.specs.Records.{out_of, place_of, records};
+ghost use Rattle.pb_store_soundness.specs.Apart.{is_of};
+ghost use Rattle.pb_store_soundness.specs.Records.{out_of, place_of, records};
 ghost use Rattle.pb_store.specs.Folder.{IsGiven, HasNumbers};
 
 use crate::begun::Launched;
 use crate::faults::{StepFault, started};
 use crate::running::empty;
-use pb_place::{Command, PathText, Place};
+use pb_place_types::{Command, PathText, Place};
 use pb_store::{Key, Store};
 use std::alloc::Global;
 

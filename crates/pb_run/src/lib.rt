@@ -17,5 +17,5 @@ pub use faults::{StepFault, deviceless};
 pub use halves::{Outcome, answer_unit, begin_unit, drop_unit, run_unit};
 pub use laws::outcomes_unfold;
 pub use ordered::OrderedProject;
-pub use pb_flight::{First, Flight, Jobs, Last, Pick, Step, Turn};
+pub use pb_run_flight::{First, Flight, Jobs, Last, Pick, Step, Turn};
 pub use ran::{Judgement, Ran};

@@ -1,7 +1,7 @@
 //! A project that is in order.
 
 use pb_data::Text;
-use pb_project::Project;
+use pb_command_types::Project;
 use pb_unit::Planned;
 use std::marker::Model;
 
@@ -13,7 +13,7 @@ pub struct OrderedProject {
 }
 
 impl Model for OrderedProject {
-    ghost use Rattle.pb_project.specs.declared.project.Project.{Project};
+    ghost use Rattle.pb_command_types.specs.declared.project.Project.{Project};
     ghost use Rattle.pb_run.specs.Standing.{IsInOrder};
 
     ghost Value = { Project };

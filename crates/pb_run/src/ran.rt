@@ -1,22 +1,22 @@
 //! What comes of a unit from the answer of its child.
 
 ghost use Rattle.std.specs.Prelude.{◌≡◌, ◌≢◌, IfOk, IsTrue, Result, Ok, Err, true};
-ghost use Rattle.pb_judging.specs.Answers.{answered_of};
-ghost use Rattle.pb_project.specs.declared.answer.Answered.{Answered};
-ghost use Rattle.pb_project.specs.declared.fault.UnitFault.TheVariants as unit_fault;
+ghost use Rattle.pb_command_reply.specs.Answers.{answered_of};
+ghost use Rattle.pb_command_types.specs.declared.answer.Answered.{Answered};
+ghost use Rattle.pb_command_types.specs.declared.fault.UnitFault.TheVariants as unit_fault;
 ghost use Rattle.std.specs.FinMap as finite;
 ghost use Rattle.pb_run.specs.Outcome.{judgement_by, outcome_by, directives_in};
 
-use pb_answer::BadUnit;
+use pb_build_result::BadUnit;
 use pb_command::answered_at;
 use pb_data::{Bytes, Items};
 use pb_directive::Directives;
 use pb_message::Message;
-use pb_place::{Command, Ended, Place};
-use pb_project::{Answered, Project, UnitFault};
+use pb_place_types::{Command, Ended, Place};
+use pb_command_types::{Answered, Project, UnitFault};
 use pb_record::InputName;
 use pb_unit::Planned;
-use pb_unit_messages::{bad_messages, good_messages, said_by};
+use pb_message_units::{bad_messages, good_messages, said_by};
 use std::alloc::{AllocError, Global};
 
 /// What came of a unit.

@@ -2,14 +2,14 @@
 
 ghost use Rattle.std.specs.Prelude.{◌≡◌, IsTrue, IfOk, OnOk};
 ghost use Rattle.pb_command.specs.Judge.{file_at};
-ghost use Rattle.pb_place.specs.Paths.{is_at_or_below};
-ghost use Rattle.pb_place.specs.World.{removed};
+ghost use Rattle.pb_place_types.specs.Paths.{is_at_or_below};
+ghost use Rattle.pb_place_types.specs.World.{removed};
 ghost use Rattle.pb_run.specs.Running.{dep_info_looked, Calls, OneCall, RemovalEnds};
 ghost use Rattle.pb_run.specs.Steps.{MayFollow, MayRemove, StepChanges, StepLooks, StepMakes};
 
 use crate::faults::{StepFault, stored};
 use pb_data::Bytes;
-use pb_place::{PathText, Place};
+use pb_place_types::{PathText, Place};
 use std::alloc::Global;
 
 /// Empties the output folder of a unit, by one call.

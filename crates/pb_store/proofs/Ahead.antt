@@ -7,19 +7,19 @@ use Rattle.std.specs.FinMap.{get, retain_keys}
 use Rattle.std.specs.List.{fold, list_any}
 use Rattle.std.specs.Option.{is_some}
 use Rattle.std.specs.Str.{bytes_eq}
-use Rattle.pb_place.specs.Paths.{stem}
-use Rattle.pb_place.specs.World.{World, Map, is_directly_in, listed_directly, is_same_path}
-use Rattle.pb_place.proofs.MapLemmas.{among_keys, get-kept}
-use Rattle.pb_place.proofs.Worlds.{same_path}
+use Rattle.pb_place_types.specs.Paths.{stem}
+use Rattle.pb_place_types.specs.World.{World, Map, is_directly_in, listed_directly, is_same_path}
+use Rattle.pb_place_types.proofs.MapLemmas.{among_keys, get-kept}
+use Rattle.pb_place_types.proofs.Worlds.{same_path}
 use Rattle.pb_record.proofs.ReadingLemmas.{reading}
 use Rattle.pb_record.specs.declared.record.Needed.{Needed}
 use Rattle.pb_record.specs.declared.record.Needed.TheVariants.{Copies, Numbers}
 use Rattle.pb_record.specs.declared.record.Record.{Record}
-use Rattle.pb_soundness.specs.Numbers.{after, IsBefore, IsAhead}
-use Rattle.pb_soundness.specs.Records.{is_key, ends_as_record, place_of, record_at, read_text, if_of_key, number_in, numbered_in}
-use Rattle.pb_soundness.proofs.Becoming.{one, none_some}
-use Rattle.pb_soundness.proofs.Elements.{any_at}
-use Rattle.pb_soundness.proofs.Places.{key_facts, record_plain, ends_so, place_in, its_key, text_at}
+use Rattle.pb_store_soundness.specs.Numbers.{after, IsBefore, IsAhead}
+use Rattle.pb_store_soundness.specs.Records.{is_key, ends_as_record, place_of, record_at, read_text, if_of_key, number_in, numbered_in}
+use Rattle.pb_store_soundness.proofs.Becoming.{one, none_some}
+use Rattle.pb_store_soundness.proofs.Elements.{any_at}
+use Rattle.pb_store_soundness.proofs.Places.{key_facts, record_plain, ends_so, place_in, its_key, text_at}
 use Rattle.pb_store.specs.Folder.{greatest_named, greatest_if, greatest_at, greatest_of, next_in}
 use Rattle.pb_store.proofs.Earned.{contains_none, contains_cases}
 

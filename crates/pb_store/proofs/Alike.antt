@@ -4,19 +4,19 @@ use Rattle.std.specs.Prelude.{Decides}
 use Rattle.std.specs.List.{AllByRecursion, list_all}
 use Rattle.std.proofs.lemmas.Bool.Decides.{Decides-and, Decides-like, same_from_decides}
 use Rattle.std.proofs.lemmas.Slice.Eq.{bytes_eq-Decides}
-use Rattle.pb_place.specs.CallsInTurn.{past_calls}
-use Rattle.pb_place.specs.declared.call.Call.{Call}
-use Rattle.pb_place.specs.Counts.{Counts}
-use Rattle.pb_place.specs.Paths.{is_relative}
-use Rattle.pb_place.specs.World.{World, Map}
-use Rattle.pb_place.specs.declared.command.Command as commands
+use Rattle.pb_place_types.specs.CallsInTurn.{past_calls}
+use Rattle.pb_place_types.specs.declared.call.Call.{Call}
+use Rattle.pb_place_types.specs.Counts.{Counts}
+use Rattle.pb_place_types.specs.Paths.{is_relative}
+use Rattle.pb_place_types.specs.World.{World, Map}
+use Rattle.pb_place_types.specs.declared.command.Command as commands
 use Rattle.pb_record.proofs.CommandLemmas.{same_asked, texts_same}
 use Rattle.pb_record.specs.Commands.{command_of}
 use Rattle.pb_record.specs.declared.asked.Asked.{Asked}
 use Rattle.pb_record.specs.declared.record.Input.{Input}
 use Rattle.pb_record.specs.declared.record.Input.TheVariants.{File, Tree, Value}
-use Rattle.pb_soundness.specs.Inputs.{contents, input_in, name_of}
-use Rattle.pb_soundness.specs.Records.{out_of}
+use Rattle.pb_store_soundness.specs.Inputs.{contents, input_in, name_of}
+use Rattle.pb_store_soundness.specs.Records.{out_of}
 use Rattle.pb_store.specs.Differences.{HasFiles, IsPresent, same_files}
 use Rattle.pb_store.specs.Looking.{TestsDecide, has_files, is_asked, is_present, looked_up_to, same_input, same_text, same_texts}
 use Rattle.pb_store.proofs.Firsts.{files_same}

@@ -1,14 +1,14 @@
 -- Which call of the place failed.
 use Rattle.std.proofs.Common.{◌≡◌, ◌≢◌, ◌∙◌, ℕ, Bool, true, IsTrue, List, [], ◌∷◌, Contains, Some, refl, sym, ap, subst, inl, inr}
 use Rattle.std.proofs.lemmas.Bool.{false≢true}
-use Rattle.pb_place.specs.CallsInTurn.{own_fault}
-use Rattle.pb_place.specs.declared.call.Call.{Call}
-use Rattle.pb_place.specs.Counts.{Counts, past_place_fault}
-use Rattle.pb_place.specs.World.{World, listed_directly}
-use Rattle.pb_place.specs.declared.place.PlaceFault.{PlaceFault}
-use Rattle.pb_place.specs.declared.place.PlaceFault.TheVariants as place
-use Rattle.pb_soundness.specs.Records.{ends_as_record}
-use Rattle.pb_soundness.proofs.Flying.{contains_head, contains_tail}
+use Rattle.pb_place_types.specs.CallsInTurn.{own_fault}
+use Rattle.pb_place_types.specs.declared.call.Call.{Call}
+use Rattle.pb_place_types.specs.Counts.{Counts, past_place_fault}
+use Rattle.pb_place_types.specs.World.{World, listed_directly}
+use Rattle.pb_place_types.specs.declared.place.PlaceFault.{PlaceFault}
+use Rattle.pb_place_types.specs.declared.place.PlaceFault.TheVariants as place
+use Rattle.pb_store_soundness.specs.Records.{ends_as_record}
+use Rattle.pb_store_soundness.proofs.Flying.{contains_head, contains_tail}
 use Rattle.pb_store.specs.Calls.{EndsOnce, looked, is_look, ReadsOneOf, OpensBy, stored, opened, MayLook, MayRead, MayWrite}
 use Rattle.pb_store.proofs.Earned.{contains_cases, contains_none}
 use Rattle.pb_store.specs.declared.fault.OpenFault.{OpenFault}

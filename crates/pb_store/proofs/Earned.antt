@@ -1,11 +1,11 @@
 -- What is kept may be put.
 use Rattle.std.proofs.Common.{◌≡◌, ◌⊎◌, ◌<◌, ◌∙◌, zero, suc, ℕ, Bool, true, cond, List, [], ◌∷◌, map, Option, Some, None, Contains, refl, sym, ap, subst, inl, inr, arith}
 use Rattle.std.specs.FinMap.{get}
-use Rattle.pb_place.specs.Folders.{files_in}
-use Rattle.pb_place.specs.Paths.{is_path}
-use Rattle.pb_place.specs.World.{World, Map, Answers, from_nothing}
-use Rattle.pb_place.specs.declared.command.Command.{Command}
-use Rattle.pb_place.specs.declared.command.Ended.{Ended}
+use Rattle.pb_place_types.specs.Folders.{files_in}
+use Rattle.pb_place_types.specs.Paths.{is_path}
+use Rattle.pb_place_types.specs.World.{World, Map, Answers, from_nothing}
+use Rattle.pb_place_types.specs.declared.command.Command.{Command}
+use Rattle.pb_place_types.specs.declared.command.Ended.{Ended}
 use Rattle.pb_record.specs.declared.record.InputName.{InputName}
 use Rattle.pb_record.specs.declared.record.InputName.TheVariants.{Path, Variable}
 use Rattle.pb_record.specs.Commands.{asked_in, asked_with, command_of, of_parts}
@@ -13,15 +13,15 @@ use Rattle.pb_record.specs.Sorted.{are_sorted}
 use Rattle.pb_record.specs.declared.asked.Asked.{Asked}
 use Rattle.pb_record.specs.declared.record.Input.{Input}
 use Rattle.pb_record.specs.declared.record.Record.{Record}
-use Rattle.pb_soundness.specs.Grounded.{Standing}
-use Rattle.pb_soundness.specs.Inputs.{Judge, Agrees, IsHonest, input_in, name_of, path_input, reply_in}
-use Rattle.pb_soundness.specs.Laws.{Unnamed}
-use Rattle.pb_soundness.specs.Numbers.{NoneNames, IsBefore, NamesBefore}
-use Rattle.pb_soundness.specs.Records.{is_key, out_of, reading, records, needs_of, number_of}
-use Rattle.pb_soundness.specs.Reuse.{number_if, NamesNeeds, ReadByNeeds, own, beyond}
-use Rattle.pb_soundness.specs.Sound.{Backs, replied_files}
-use Rattle.pb_soundness.proofs.Becoming.{one}
-use Rattle.pb_soundness.proofs.Flying.{contains_head, contains_tail}
+use Rattle.pb_store_soundness.specs.Grounded.{Standing}
+use Rattle.pb_store_soundness.specs.Inputs.{Judge, Agrees, IsHonest, input_in, name_of, path_input, reply_in}
+use Rattle.pb_store_soundness.specs.Laws.{Unnamed}
+use Rattle.pb_store_soundness.specs.Numbers.{NoneNames, IsBefore, NamesBefore}
+use Rattle.pb_store_soundness.specs.Records.{is_key, out_of, reading, records, needs_of, number_of}
+use Rattle.pb_store_soundness.specs.Reuse.{number_if, NamesNeeds, ReadByNeeds, own, beyond}
+use Rattle.pb_store_soundness.specs.Sound.{Backs, replied_files}
+use Rattle.pb_store_soundness.proofs.Becoming.{one}
+use Rattle.pb_store_soundness.proofs.Flying.{contains_head, contains_tail}
 use Rattle.pb_store.specs.Folder.{ReadBy, itself, further, HasNeeds, IsEarned, IsKept, MayPut, kept_of, numbered, or_zero}
 
 pub contains_none : {X : Type 0} (v : X) → Contains [] v → ⊥

@@ -9,17 +9,17 @@ use Rattle.std.specs.Option.{option_and_then}
 use Rattle.std.specs.Prelude.{MatchOption}
 use Rattle.std.specs.Str.{bytes_eq}
 use Rattle.pb_data.specs.Table.{value_at, with_entry}
-use Rattle.pb_place.specs.Paths.{is_at_or_below}
-use Rattle.pb_place.specs.World.{World, Map, AgreeBut, ChangesOnly, listed_directly}
-use Rattle.pb_place.proofs.PathLemmas.{and_left, and_right}
+use Rattle.pb_place_types.specs.Paths.{is_at_or_below}
+use Rattle.pb_place_types.specs.World.{World, Map, AgreeBut, ChangesOnly, listed_directly}
+use Rattle.pb_place_types.proofs.PathLemmas.{and_left, and_right}
 use Rattle.pb_record.proofs.ReadingLemmas.{reading}
 use Rattle.pb_record.specs.declared.record.Needed.{Needed}
 use Rattle.pb_record.specs.declared.record.Needed.TheVariants.{Numbers}
 use Rattle.pb_record.specs.declared.record.Record.{Record}
-use Rattle.pb_soundness.specs.Grounded.{Standing}
-use Rattle.pb_soundness.specs.Records.{Reading, ends_as_record, if_of_key, is_key, number_of, place_of, read_text, record_at}
-use Rattle.pb_soundness.specs.Reuse.{number_if}
-use Rattle.pb_soundness.proofs.Places.{is_same, no_key, one_key, places_differ, record_same, text_at}
+use Rattle.pb_store_soundness.specs.Grounded.{Standing}
+use Rattle.pb_store_soundness.specs.Records.{Reading, ends_as_record, if_of_key, is_key, number_of, place_of, read_text, record_at}
+use Rattle.pb_store_soundness.specs.Reuse.{number_if}
+use Rattle.pb_store_soundness.proofs.Places.{is_same, no_key, one_key, places_differ, record_same, text_at}
 use Rattle.pb_store.specs.Differences.{AreNeeded, FirstNeed, FirstOrAll, HasNumber, IsFirst}
 use Rattle.pb_store.specs.Folder.{HasNumbers, number_in, numbered, or_zero}
 use Rattle.pb_store.specs.Presence.{IsHeld, noted, noted_at, numbered_by}

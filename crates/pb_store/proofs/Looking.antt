@@ -1,13 +1,13 @@
 -- Lemmas on where a comparison looks: one step after the other.
 use Rattle.std.proofs.Common.{◌≡◌, ◌≢◌, ◌∙◌, ◌++◌, ◌+◌, ◌<◌, ◌≤◌, inl, inr, ℕ, Bool, true, false, cond, List, [], ◌∷◌, drop, length, get_or, Result, Ok, Err, refl, sym, ap, subst, append_assoc}
 use Rattle.std.proofs.lemmas.List.{drop_all, drop_more}
-use Rattle.pb_place.specs.CallsInTurn.{own_fault, MakesSome, past_calls}
-use Rattle.pb_place.specs.declared.call.Call.{Call}
-use Rattle.pb_place.specs.Counts.{Counts, past_place_fault}
-use Rattle.pb_place.specs.World.{World}
-use Rattle.pb_place.specs.declared.place.PlaceFault.{PlaceFault}
-use Rattle.pb_place.specs.declared.place.PlaceFault.TheVariants as place
-use Rattle.pb_place.proofs.CallsInTurn.{append_none, fails_left, fails_right, made_both, some_all, some_left, some_right}
+use Rattle.pb_place_types.specs.CallsInTurn.{own_fault, MakesSome, past_calls}
+use Rattle.pb_place_types.specs.declared.call.Call.{Call}
+use Rattle.pb_place_types.specs.Counts.{Counts, past_place_fault}
+use Rattle.pb_place_types.specs.World.{World}
+use Rattle.pb_place_types.specs.declared.place.PlaceFault.{PlaceFault}
+use Rattle.pb_place_types.specs.declared.place.PlaceFault.TheVariants as place
+use Rattle.pb_place_types.proofs.CallsInTurn.{append_none, fails_left, fails_right, made_both, some_all, some_left, some_right}
 use Rattle.pb_store.specs.Calls.{stored}
 use Rattle.pb_store.specs.Looking.{Looks, StopsAt, looked_up_to}
 use Rattle.pb_store.specs.declared.fault.StoreFault.{StoreFault}

@@ -2,15 +2,15 @@
 use Rattle.std.proofs.Common.{◌≡◌, ◌∙◌, ◌++◌, ◌+◌, ℕ, true, cond, List, [], ◌∷◌, map, drop, length, Some, None, refl, sym, ap, subst}
 use Rattle.std.specs.FinMap.{get, keys, entries}
 use Rattle.std.specs.List.{AllByRecursion}
-use Rattle.pb_place.specs.CallsInTurn.{past_calls}
-use Rattle.pb_place.specs.declared.call.Call.{Call}
-use Rattle.pb_place.specs.declared.call.Call.TheVariants as call
-use Rattle.pb_place.specs.Counts.{Counts, past_call}
-use Rattle.pb_place.specs.Folders.{files_in}
-use Rattle.pb_place.specs.Paths.{is_below, stem}
-use Rattle.pb_place.specs.World.{World, Map, listed}
-use Rattle.pb_place.proofs.CallsInTurn.{made_both}
-use Rattle.pb_place.proofs.MapLemmas.{get-kept}
+use Rattle.pb_place_types.specs.CallsInTurn.{past_calls}
+use Rattle.pb_place_types.specs.declared.call.Call.{Call}
+use Rattle.pb_place_types.specs.declared.call.Call.TheVariants as call
+use Rattle.pb_place_types.specs.Counts.{Counts, past_call}
+use Rattle.pb_place_types.specs.Folders.{files_in}
+use Rattle.pb_place_types.specs.Paths.{is_below, stem}
+use Rattle.pb_place_types.specs.World.{World, Map, listed}
+use Rattle.pb_place_types.proofs.CallsInTurn.{made_both}
+use Rattle.pb_place_types.proofs.MapLemmas.{get-kept}
 use Rattle.pb_store.specs.Looking.{StopsAt}
 use Rattle.pb_store.specs.Presence.{file_looked, files_looked}
 use Rattle.pb_store.specs.declared.fault.StoreFault.{StoreFault}

@@ -1,15 +1,15 @@
 -- How often opening and keeping look and write.
 use Rattle.std.proofs.Common.{◌≡◌, ◌≢◌, ◌∙◌, ◌++◌, ℕ, Bool, true, false, cond, map, List, [], ◌∷◌, refl, sym, ap, subst, inl, inr}
 use Rattle.std.specs.List.{filter}
-use Rattle.pb_place.specs.CallsInTurn.{own_fault, MakesSome, past_calls}
-use Rattle.pb_place.specs.declared.call.Call.{Call}
-use Rattle.pb_place.specs.declared.call.Call.TheVariants as call
-use Rattle.pb_place.specs.Counts.{Counts, past_call, past_place_fault}
-use Rattle.pb_place.specs.World.{World, listed_directly}
-use Rattle.pb_place.specs.declared.place.PlaceFault.{PlaceFault}
-use Rattle.pb_place.specs.declared.place.PlaceFault.TheVariants as place
-use Rattle.pb_place.proofs.CallsInTurn.{fails_left, fails_right, some_all, some_left, some_right}
-use Rattle.pb_soundness.specs.Records.{ends_as_record}
+use Rattle.pb_place_types.specs.CallsInTurn.{own_fault, MakesSome, past_calls}
+use Rattle.pb_place_types.specs.declared.call.Call.{Call}
+use Rattle.pb_place_types.specs.declared.call.Call.TheVariants as call
+use Rattle.pb_place_types.specs.Counts.{Counts, past_call, past_place_fault}
+use Rattle.pb_place_types.specs.World.{World, listed_directly}
+use Rattle.pb_place_types.specs.declared.place.PlaceFault.{PlaceFault}
+use Rattle.pb_place_types.specs.declared.place.PlaceFault.TheVariants as place
+use Rattle.pb_place_types.proofs.CallsInTurn.{fails_left, fails_right, some_all, some_left, some_right}
+use Rattle.pb_store_soundness.specs.Records.{ends_as_record}
 use Rattle.pb_store.specs.Calls.{EndsOnce, MayWrite, opened}
 use Rattle.pb_store.specs.Looking.{OpeningStopsAt, StopsAt, opened_looked, records_looked}
 use Rattle.pb_store.specs.declared.fault.OpenFault.{OpenFault}

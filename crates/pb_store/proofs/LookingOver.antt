@@ -3,18 +3,18 @@ use Rattle.std.proofs.Common.{◌≡◌, ◌∙◌, ◌++◌, ℕ, Bool, true, f
 use Rattle.std.specs.Prelude.{Decides, MatchOption}
 use Rattle.std.specs.List.{list_all}
 use Rattle.std.specs.Option.{option_map_or}
-use Rattle.pb_place.specs.CallsInTurn.{past_calls}
-use Rattle.pb_place.specs.declared.call.Call.TheVariants as call
-use Rattle.pb_place.specs.Counts.{Counts}
-use Rattle.pb_place.specs.World.{World}
-use Rattle.pb_place.specs.declared.command.Command as commands
-use Rattle.pb_place.proofs.CallsInTurn.{append_none}
+use Rattle.pb_place_types.specs.CallsInTurn.{past_calls}
+use Rattle.pb_place_types.specs.declared.call.Call.TheVariants as call
+use Rattle.pb_place_types.specs.Counts.{Counts}
+use Rattle.pb_place_types.specs.World.{World}
+use Rattle.pb_place_types.specs.declared.command.Command as commands
+use Rattle.pb_place_types.proofs.CallsInTurn.{append_none}
 use Rattle.pb_record.specs.Commands.{command_of}
 use Rattle.pb_record.specs.declared.record.Input.{Input}
 use Rattle.pb_record.specs.declared.record.InputName.{InputName}
 use Rattle.pb_record.specs.declared.record.Record.{Record}
-use Rattle.pb_soundness.specs.Inputs.{Agrees, name_of}
-use Rattle.pb_soundness.specs.Records.{place_of, records}
+use Rattle.pb_store_soundness.specs.Inputs.{Agrees, name_of}
+use Rattle.pb_store_soundness.specs.Records.{place_of, records}
 use Rattle.pb_store.specs.Asking.{IsFirstName, SamePart, parts}
 use Rattle.pb_store.specs.Differences.{FirstInput, IsFirst, IsPresent}
 use Rattle.pb_store.specs.declared.difference.CommandPart.{CommandPart}

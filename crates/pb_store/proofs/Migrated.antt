@@ -5,20 +5,20 @@ use Rattle.std.proofs.lemmas.Slice.Eq.{bytes_eq-Decides}
 use Rattle.std.specs.FinMap.{get}
 use Rattle.std.specs.Prelude.{IfErr, OnOk}
 use Rattle.std.specs.Str.{bytes_eq}
-use Rattle.pb_place.specs.Folders.{files_in}
-use Rattle.pb_place.specs.Paths.{is_path}
-use Rattle.pb_place.specs.World.{World, Answers}
-use Rattle.pb_place.specs.declared.command.Command.{Command}
+use Rattle.pb_place_types.specs.Folders.{files_in}
+use Rattle.pb_place_types.specs.Paths.{is_path}
+use Rattle.pb_place_types.specs.World.{World, Answers}
+use Rattle.pb_place_types.specs.declared.command.Command.{Command}
 use Rattle.pb_record.specs.Commands.{command_of}
 use Rattle.pb_record.specs.declared.record.Record.{Record}
-use Rattle.pb_soundness.specs.Inputs.{Judge, Agrees, IsHonest, reply_in}
-use Rattle.pb_soundness.specs.Numbers.{after, IsBefore, NamesBefore, IsAhead}
-use Rattle.pb_soundness.specs.Records.{is_key, out_of, place_of, read_text, reading, records, if_of_key, number_of}
-use Rattle.pb_soundness.specs.Sound.{Sound, Backs}
-use Rattle.pb_soundness.proofs.Ahead.{given_ahead}
-use Rattle.pb_soundness.proofs.Becoming.{one, none_some}
-use Rattle.pb_soundness.proofs.Places.{its_key, text_at}
-use Rattle.pb_soundness.proofs.Renewing.{reuse}
+use Rattle.pb_store_soundness.specs.Inputs.{Judge, Agrees, IsHonest, reply_in}
+use Rattle.pb_store_soundness.specs.Numbers.{after, IsBefore, NamesBefore, IsAhead}
+use Rattle.pb_store_soundness.specs.Records.{is_key, out_of, place_of, read_text, reading, records, if_of_key, number_of}
+use Rattle.pb_store_soundness.specs.Sound.{Sound, Backs}
+use Rattle.pb_store_soundness.proofs.Ahead.{given_ahead}
+use Rattle.pb_store_soundness.proofs.Becoming.{one, none_some}
+use Rattle.pb_store_soundness.proofs.Places.{its_key, text_at}
+use Rattle.pb_store_soundness.proofs.Renewing.{reuse}
 use Rattle.pb_store.specs.Calls.{looked, MayWrite}
 use Rattle.pb_store.specs.Folder.{MigratesRecord, PutsRecord, Stands, HasNumbers, HasNeeds, MayPut, numbered, IsMigrated, lacks_number, migrated, migrated_by, numbered_record}
 use Rattle.pb_store.specs.declared.store.Store.{Store}

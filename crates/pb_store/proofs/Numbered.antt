@@ -7,7 +7,7 @@ use Rattle.pb_record.specs.Numbers.{numbered_in, numbers_of}
 use Rattle.pb_record.specs.declared.record.Needed.{Needed}
 use Rattle.pb_record.specs.declared.record.Needed.TheVariants.{Copies, Numbers}
 use Rattle.pb_record.specs.declared.record.Record.{Record}
-use Rattle.pb_soundness.specs.Records.{is_key, number_in, place_of}
+use Rattle.pb_store_soundness.specs.Records.{is_key, number_in, place_of}
 use Rattle.pb_store.specs.Folder.{greatest_if, greatest_named}
 use Rattle.pb_store.specs.Presence.{greatest_said, greatest_told, noted, noted_told, own_said}
 

@@ -1,20 +1,20 @@
 -- A unit has one first difference, and none where nothing differs.
 use Rattle.std.proofs.Common.{◌≡◌, ◌∙◌, ◌++◌, ℕ, true, List, [], ◌∷◌, Contains, Option, Some, None, refl, sym, ap, subst}
 use Rattle.std.specs.List.{AllByRecursion}
-use Rattle.pb_place.specs.Paths.{is_relative}
-use Rattle.pb_place.specs.World.{World, Map}
-use Rattle.pb_place.specs.declared.command.Command as commands
+use Rattle.pb_place_types.specs.Paths.{is_relative}
+use Rattle.pb_place_types.specs.World.{World, Map}
+use Rattle.pb_place_types.specs.declared.command.Command as commands
 use Rattle.pb_record.specs.Commands.{AsksAs, command_of}
 use Rattle.pb_record.specs.declared.asked.Asked.{Asked}
 use Rattle.pb_record.specs.declared.record.Needed.{Needed}
 use Rattle.pb_record.specs.declared.record.Needed.TheVariants.{Copies, Numbers}
 use Rattle.pb_record.specs.declared.record.Record.{Record}
 use Rattle.pb_record.proofs.ReadingLemmas.{reading}
-use Rattle.pb_soundness.specs.Grounded.{Standing}
-use Rattle.pb_soundness.specs.Inputs.{name_of}
-use Rattle.pb_soundness.specs.Records.{records}
-use Rattle.pb_soundness.specs.Reuse.{IsSame, NeededNow}
-use Rattle.pb_soundness.proofs.Flying.{contains_head, contains_tail}
+use Rattle.pb_store_soundness.specs.Grounded.{Standing}
+use Rattle.pb_store_soundness.specs.Inputs.{name_of}
+use Rattle.pb_store_soundness.specs.Records.{records}
+use Rattle.pb_store_soundness.specs.Reuse.{IsSame, NeededNow}
+use Rattle.pb_store_soundness.proofs.Flying.{contains_head, contains_tail}
 use Rattle.pb_store.specs.Asking.{IsFirstName, SamePart, parts}
 use Rattle.pb_store.specs.Differences.{AreNeeded, DifferencesAreOne, UnchangedIsSame, DiffersFrom, FirstDifference, FirstFrom, FirstNeed, FirstOf, HasFiles, HasNumber, IsAsRecorded, IsFirst, IsPresent, NamesPaths}
 use Rattle.pb_store.specs.declared.difference.CommandPart.{CommandPart}

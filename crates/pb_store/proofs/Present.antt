@@ -8,11 +8,11 @@ use Rattle.std.specs.Cmp.{tied_itself}
 use Rattle.std.specs.Cmp.Lexicographic.{slice_cmp, nat_list_cmp_total}
 use Rattle.std.specs.FinMap.{get, find, keys, entries, entries_sorted, get-entries}
 use Rattle.std.specs.FinMap.Entries.{is_sorted, below_all}
-use Rattle.pb_place.specs.Folders.{files_in}
-use Rattle.pb_place.specs.Paths.{is_below, is_at_or_below, stem}
-use Rattle.pb_place.specs.World.{World, Map, removed, listed, from_nothing}
-use Rattle.pb_place.proofs.MapLemmas.{Entries, get-kept}
-use Rattle.pb_soundness.specs.Inputs.{contents}
+use Rattle.pb_place_types.specs.Folders.{files_in}
+use Rattle.pb_place_types.specs.Paths.{is_below, is_at_or_below, stem}
+use Rattle.pb_place_types.specs.World.{World, Map, removed, listed, from_nothing}
+use Rattle.pb_place_types.proofs.MapLemmas.{Entries, get-kept}
+use Rattle.pb_store_soundness.specs.Inputs.{contents}
 use Rattle.pb_store.specs.Presence.{both_of, file_in}
 
 -- each entry is found at its key

@@ -1,6 +1,6 @@
 -- A record that is put, told by the world before a look and by the record that it is.
 use Rattle.std.proofs.Common.{◌≡◌, List, ℕ, Result, subst}
-use Rattle.pb_place.specs.World.{World, Answers}
+use Rattle.pb_place_types.specs.World.{World, Answers}
 use Rattle.pb_record.specs.declared.record.Record.{Record}
 use Rattle.pb_store.specs.Folder.{PutsRecord}
 use Rattle.pb_store.specs.declared.fault.StoreFault.{StoreFault}

@@ -6,27 +6,27 @@ use Rattle.std.proofs.lemmas.Slice.Eq.{bytes_eq-Decides}
 use Rattle.std.specs.List.{list_all}
 use Rattle.std.specs.FinMap.{get}
 use Rattle.std.specs.Str.{bytes_eq}
-use Rattle.pb_place.specs.Paths.{is_path, is_relative, is_name, is_at_or_below}
-use Rattle.pb_place.specs.World.{World, Map, Answers, AgreeBut, Torn, PartlyRemoved, written, removed}
-use Rattle.pb_place.proofs.Folders.{only_written, only_torn, only_removed}
-use Rattle.pb_place.proofs.TakenApart.{parts_lone}
-use Rattle.pb_place.proofs.Within.{at_itself}
-use Rattle.pb_place.proofs.Worlds.{written-read, removed-read}
+use Rattle.pb_place_types.specs.Paths.{is_path, is_relative, is_name, is_at_or_below}
+use Rattle.pb_place_types.specs.World.{World, Map, Answers, AgreeBut, Torn, PartlyRemoved, written, removed}
+use Rattle.pb_place_types.proofs.Folders.{only_written, only_torn, only_removed}
+use Rattle.pb_place_types.proofs.TakenApart.{parts_lone}
+use Rattle.pb_place_types.proofs.Within.{at_itself}
+use Rattle.pb_place_types.proofs.Worlds.{written-read, removed-read}
 use Rattle.pb_record.specs.declared.record.Record.{Record}
 use Rattle.pb_record.specs.Parts.{Reads, Says, IsReading}
 use Rattle.pb_record.proofs.LawLemmas.{one_reading, first_parts}
-use Rattle.pb_soundness.specs.Grounded.{Standing}
-use Rattle.pb_soundness.specs.Numbers.{IsAhead, NamesBefore, after}
-use Rattle.pb_soundness.specs.Inputs.{Judge}
-use Rattle.pb_soundness.specs.Records.{Reading, is_key, out_of, place_of, record_at, read_text, if_of_key}
-use Rattle.pb_soundness.specs.Sound.{Sound, IsTrueRecord}
-use Rattle.pb_soundness.specs.Laws.{Became, stays}
+use Rattle.pb_store_soundness.specs.Grounded.{Standing}
+use Rattle.pb_store_soundness.specs.Numbers.{IsAhead, NamesBefore, after}
+use Rattle.pb_store_soundness.specs.Inputs.{Judge}
+use Rattle.pb_store_soundness.specs.Records.{Reading, is_key, out_of, place_of, record_at, read_text, if_of_key}
+use Rattle.pb_store_soundness.specs.Sound.{Sound, IsTrueRecord}
+use Rattle.pb_store_soundness.specs.Laws.{Became, stays}
 use Rattle.pb_store.specs.Folder.{Leaves, MayPut}
-use Rattle.pb_soundness.proofs.Becoming.{stays_sound, one, none_some}
-use Rattle.pb_soundness.proofs.Four.{by_key, other_stays, without_record}
-use Rattle.pb_soundness.proofs.Places.{key_facts, record_named, record_plain, record_same, text_at, is_same, no_key, places_differ, folder_still, out_place_apart}
-use Rattle.pb_soundness.proofs.Renewing.{renew}
-use Rattle.pb_soundness.proofs.Ahead.{stays_ahead, given_ahead}
+use Rattle.pb_store_soundness.proofs.Becoming.{stays_sound, one, none_some}
+use Rattle.pb_store_soundness.proofs.Four.{by_key, other_stays, without_record}
+use Rattle.pb_store_soundness.proofs.Places.{key_facts, record_named, record_plain, record_same, text_at, is_same, no_key, places_differ, folder_still, out_place_apart}
+use Rattle.pb_store_soundness.proofs.Renewing.{renew}
+use Rattle.pb_store_soundness.proofs.Ahead.{stays_ahead, given_ahead}
 
 -- the name of a record is a path in a folder
 pub record_relative : (key : List ℕ) → is_key key ≡ true → is_relative (key ++ codes ".record") ≡ true

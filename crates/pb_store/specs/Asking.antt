@@ -5,7 +5,7 @@ use Rattle.std.specs.Ordering.{nat_cmp, is_lt}
 use Rattle.std.specs.declared.cmp.Ordering.TheVariants.{Less}
 use Rattle.std.specs.Cmp.Lexicographic.{slice_cmp}
 use Rattle.std.specs.FinMap.{find}
-use Rattle.pb_place.specs.declared.command.Command.{Command}
+use Rattle.pb_place_types.specs.declared.command.Command.{Command}
 use Rattle.pb_record.specs.Sorted.{are_sorted}
 use Rattle.pb_record.specs.declared.asked.Asked.{Asked}
 use Rattle.pb_store.specs.declared.difference.CommandPart.{CommandPart}

@@ -1,17 +1,17 @@
 -- What a call of the store does to the place, which call of the place failed, and why.
 use Rattle.std.specs.Prelude.{◌≡◌, ◌⊎◌, ℕ, List, Option, Some, None, Result, MatchResult, Bool, true, false, IsTrue, Contains, IfErr}
-use Rattle.pb_place.specs.At.{At}
-use Rattle.pb_place.specs.CallsInTurn.{Fails}
-use Rattle.pb_place.specs.Children.{KeepsStill, KeepsStillOutside}
-use Rattle.pb_place.specs.Counts.{Counts, named_in, up, past_call}
-use Rattle.pb_place.specs.World.{World, listed_directly, ChangesOnly}
-use Rattle.pb_place.specs.declared.call.Call.{Call}
-use Rattle.pb_place.specs.declared.call.Call.TheVariants as call
-use Rattle.pb_place.specs.declared.place.Failure.{Failure}
-use Rattle.pb_place.specs.declared.place.Failure.TheVariants.{Called}
-use Rattle.pb_place.specs.declared.place.PlaceFault.{PlaceFault}
-use Rattle.pb_place.specs.declared.place.PlaceFault.TheVariants as place
-use Rattle.pb_soundness.specs.Records.{ends_as_record}
+use Rattle.pb_place_types.specs.At.{At}
+use Rattle.pb_place_types.specs.CallsInTurn.{Fails}
+use Rattle.pb_place_types.specs.Children.{KeepsStill, KeepsStillOutside}
+use Rattle.pb_place_types.specs.Counts.{Counts, named_in, up, past_call}
+use Rattle.pb_place_types.specs.World.{World, listed_directly, ChangesOnly}
+use Rattle.pb_place_types.specs.declared.call.Call.{Call}
+use Rattle.pb_place_types.specs.declared.call.Call.TheVariants as call
+use Rattle.pb_place_types.specs.declared.place.Failure.{Failure}
+use Rattle.pb_place_types.specs.declared.place.Failure.TheVariants.{Called}
+use Rattle.pb_place_types.specs.declared.place.PlaceFault.{PlaceFault}
+use Rattle.pb_place_types.specs.declared.place.PlaceFault.TheVariants as place
+use Rattle.pb_store_soundness.specs.Records.{ends_as_record}
 use Rattle.pb_store.specs.declared.fault.OpenFault.{OpenFault}
 use Rattle.pb_store.specs.declared.fault.OpenFault.TheVariants as open_fault
 use Rattle.pb_store.specs.declared.fault.StoreFault.{StoreFault}

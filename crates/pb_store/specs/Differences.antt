@@ -2,20 +2,20 @@
 use Rattle.std.specs.Prelude.{◌≡◌, ◌++◌, ◌∷◌, ◌&&◌, ℕ, Bool, true, false, List, [], Option, Some, None, pos, is_some, option_map}
 use Rattle.std.specs.List.{AllByRecursion}
 use Rattle.std.specs.Str.{bytes_eq}
-use Rattle.pb_place.specs.Paths.{is_relative}
-use Rattle.pb_place.specs.World.{World, Map}
-use Rattle.pb_place.specs.declared.command.Command as commands
-use Rattle.pb_place.specs.declared.command.Ended.{Ended}
+use Rattle.pb_place_types.specs.Paths.{is_relative}
+use Rattle.pb_place_types.specs.World.{World, Map}
+use Rattle.pb_place_types.specs.declared.command.Command as commands
+use Rattle.pb_place_types.specs.declared.command.Ended.{Ended}
 use Rattle.pb_record.specs.Commands.{AsksAs, command_of}
 use Rattle.pb_record.specs.declared.record.Input as inputs
 use Rattle.pb_record.specs.declared.record.InputName.{InputName}
 use Rattle.pb_record.specs.declared.record.Needed.{Needed}
 use Rattle.pb_record.specs.declared.record.Needed.TheVariants.{Copies, Numbers}
 use Rattle.pb_record.specs.declared.record.Record.{Record}
-use Rattle.pb_soundness.specs.Grounded.{Standing}
-use Rattle.pb_soundness.specs.Inputs.{Agrees, contents, input_in, name_of}
-use Rattle.pb_soundness.specs.Records.{out_of, reading, records, number_of}
-use Rattle.pb_soundness.specs.Reuse.{IsSame, number_if}
+use Rattle.pb_store_soundness.specs.Grounded.{Standing}
+use Rattle.pb_store_soundness.specs.Inputs.{Agrees, contents, input_in, name_of}
+use Rattle.pb_store_soundness.specs.Records.{out_of, reading, records, number_of}
+use Rattle.pb_store_soundness.specs.Reuse.{IsSame, number_if}
 use Rattle.pb_store.specs.Asking.{IsFirstName, SamePart, parts}
 use Rattle.pb_store.specs.declared.difference.Difference.{Difference}
 use Rattle.pb_store.specs.declared.difference.Difference.TheVariants.{NoRecord, Command, Pair, Input, Dependency}

@@ -4,25 +4,25 @@ use Rattle.std.specs.FinMap as finite
 use Rattle.std.specs.List.{fold}
 use Rattle.std.specs.Option.{option_and_then}
 use Rattle.pb_data.specs.Table.{value_at}
-use Rattle.pb_place.specs.Folders.{files_in}
-use Rattle.pb_place.specs.Paths.{is_path}
-use Rattle.pb_place.specs.World.{World, Answers, Map, listed_directly}
-use Rattle.pb_place.specs.declared.command.Command.{Command}
-use Rattle.pb_place.specs.declared.command.Ended.{Ended}
-use Rattle.pb_place.specs.declared.place.PlaceFault.TheVariants.{Write}
+use Rattle.pb_place_types.specs.Folders.{files_in}
+use Rattle.pb_place_types.specs.Paths.{is_path}
+use Rattle.pb_place_types.specs.World.{World, Answers, Map, listed_directly}
+use Rattle.pb_place_types.specs.declared.command.Command.{Command}
+use Rattle.pb_place_types.specs.declared.command.Ended.{Ended}
+use Rattle.pb_place_types.specs.declared.place.PlaceFault.TheVariants.{Write}
 use Rattle.pb_record.specs.Commands.{command_of, of_parts}
 use Rattle.pb_record.specs.declared.record.Input.{Input}
 use Rattle.pb_record.specs.declared.record.InputName.{InputName}
 use Rattle.pb_record.specs.declared.record.Needed.{Needed}
 use Rattle.pb_record.specs.declared.record.Needed.TheVariants.{Numbers, Copies}
 use Rattle.pb_record.specs.declared.record.Record.{Record}
-use Rattle.pb_soundness.specs.Grounded.{Standing}
-use Rattle.pb_soundness.specs.Inputs.{Judge, Agrees, IsHonest, reply_in, input_in}
-use Rattle.pb_soundness.specs.Laws.{Unnamed}
-use Rattle.pb_soundness.specs.Numbers.{NoneNames, after, IsAhead, IsBefore, NamesBefore}
-use Rattle.pb_soundness.specs.Records.{Reading, is_key, out_of, record_at, records, number_of, reading, ends_as_record, read_text}
-use Rattle.pb_soundness.specs.Reuse.{number_if, NamesNeeds, IsSame, AreGrounded}
-use Rattle.pb_soundness.specs.Sound.{Backs, replied_files, Sound}
+use Rattle.pb_store_soundness.specs.Grounded.{Standing}
+use Rattle.pb_store_soundness.specs.Inputs.{Judge, Agrees, IsHonest, reply_in, input_in}
+use Rattle.pb_store_soundness.specs.Laws.{Unnamed}
+use Rattle.pb_store_soundness.specs.Numbers.{NoneNames, after, IsAhead, IsBefore, NamesBefore}
+use Rattle.pb_store_soundness.specs.Records.{Reading, is_key, out_of, record_at, records, number_of, reading, ends_as_record, read_text}
+use Rattle.pb_store_soundness.specs.Reuse.{number_if, NamesNeeds, IsSame, AreGrounded}
+use Rattle.pb_store_soundness.specs.Sound.{Backs, replied_files, Sound}
 use Rattle.pb_store.specs.Calls.{looked}
 use Rattle.pb_store.specs.Differences.{FirstDifference, CarriesReplayed, difference_in}
 use Rattle.pb_store.specs.declared.fault.StoreFault.{StoreFault}

@@ -5,13 +5,13 @@ use Rattle.std.specs.FinMap as finite
 use Rattle.std.specs.List.{filter, list_all}
 use Rattle.std.specs.Option.{option_map_or}
 use Rattle.std.specs.Str.{bytes_eq}
-use Rattle.pb_place.specs.CallsInTurn.{FailsAt, MakesSome, past_calls}
-use Rattle.pb_place.specs.declared.call.Call.{Call}
-use Rattle.pb_place.specs.declared.call.Call.TheVariants as call
-use Rattle.pb_place.specs.Counts.{Counts}
-use Rattle.pb_place.specs.Paths.{is_at_or_below, is_relative}
-use Rattle.pb_place.specs.World.{World, Map, from_nothing, listed, listed_directly, removed}
-use Rattle.pb_place.specs.declared.command.Command as commands
+use Rattle.pb_place_types.specs.CallsInTurn.{FailsAt, MakesSome, past_calls}
+use Rattle.pb_place_types.specs.declared.call.Call.{Call}
+use Rattle.pb_place_types.specs.declared.call.Call.TheVariants as call
+use Rattle.pb_place_types.specs.Counts.{Counts}
+use Rattle.pb_place_types.specs.Paths.{is_at_or_below, is_relative}
+use Rattle.pb_place_types.specs.World.{World, Map, from_nothing, listed, listed_directly, removed}
+use Rattle.pb_place_types.specs.declared.command.Command as commands
 use Rattle.pb_record.specs.Commands.{command_of}
 use Rattle.pb_record.specs.declared.asked.Asked.{Asked}
 use Rattle.pb_record.specs.declared.record.Input.{Input}
@@ -21,8 +21,8 @@ use Rattle.pb_record.specs.declared.record.InputName.TheVariants.{Path, Variable
 use Rattle.pb_record.specs.declared.record.Needed.{Needed}
 use Rattle.pb_record.specs.declared.record.Needed.TheVariants.{Copies, Numbers}
 use Rattle.pb_record.specs.declared.record.Record.{Record}
-use Rattle.pb_soundness.specs.Inputs.{contents, input_in, name_of}
-use Rattle.pb_soundness.specs.Records.{ends_as_record, out_of, place_of, records}
+use Rattle.pb_store_soundness.specs.Inputs.{contents, input_in, name_of}
+use Rattle.pb_store_soundness.specs.Records.{ends_as_record, out_of, place_of, records}
 use Rattle.pb_store.specs.Differences.{HasFiles, IsPresent, same_files}
 use Rattle.pb_store.specs.Folder.{lacks_number}
 use Rattle.pb_store.specs.declared.fault.OpenFault.{OpenFault}

@@ -5,13 +5,13 @@ use Rattle.std.specs.FinMap as finite
 use Rattle.std.specs.List.{fold}
 use Rattle.std.specs.Str.{bytes_eq}
 use Rattle.pb_data.specs.Table.{with_entry}
-use Rattle.pb_place.specs.declared.call.Call.{Call}
-use Rattle.pb_place.specs.declared.call.Call.TheVariants as call
-use Rattle.pb_place.specs.Paths.{inside}
-use Rattle.pb_place.specs.World.{Map}
+use Rattle.pb_place_types.specs.declared.call.Call.{Call}
+use Rattle.pb_place_types.specs.declared.call.Call.TheVariants as call
+use Rattle.pb_place_types.specs.Paths.{inside}
+use Rattle.pb_place_types.specs.World.{Map}
 use Rattle.pb_record.specs.declared.numbers.Numbers.{Numbers}
 use Rattle.pb_record.specs.declared.record.Record.{Record}
-use Rattle.pb_soundness.specs.Records.{ends_as_record, is_key, number_of, place_of, read_text, reading}
+use Rattle.pb_store_soundness.specs.Records.{ends_as_record, is_key, number_of, place_of, read_text, reading}
 use Rattle.pb_store.specs.Folder.{number_in, or_zero}
 use Rattle.pb_store.specs.Looking.{looked_up_to}
 

@@ -8,7 +8,7 @@ ghost use Rattle.pb_store.specs.Differences.{IsFirst};
 
 use crate::difference::CommandPart;
 use pb_data::{Text, TryCopy};
-use pb_place::{Command, PathText};
+use pb_place_types::{Command, PathText};
 use pb_record::Asked;
 use std::alloc::{AllocError, Global};
 

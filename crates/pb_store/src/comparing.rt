@@ -4,11 +4,11 @@ ghost use Rattle.std.specs.Prelude.{◌≡◌, ◌∷◌, ◌&&◌, [], map, IsT
 ghost use Rattle.std.specs.FinMap as finite;
 ghost use Rattle.std.specs.List.{filter_map};
 ghost use Rattle.std.specs.Str.{bytes_eq};
-ghost use Rattle.pb_place.specs.declared.call.Call.TheVariants as call;
-ghost use Rattle.pb_place.specs.World.{from_nothing, listed, removed};
+ghost use Rattle.pb_place_types.specs.declared.call.Call.TheVariants as call;
+ghost use Rattle.pb_place_types.specs.World.{from_nothing, listed, removed};
 ghost use Rattle.pb_record.specs.declared.record.Input.TheVariants.{File, Tree, Value};
 ghost use Rattle.pb_record.specs.declared.record.InputName.TheVariants.{Path, Variable};
-ghost use Rattle.pb_soundness.specs.Inputs.{contents, input_in, name_of, path_input};
+ghost use Rattle.pb_store_soundness.specs.Inputs.{contents, input_in, name_of, path_input};
 ghost use Rattle.pb_store.specs.Calls.{OnlyLooks, MayLook, MayRead};
 ghost use Rattle.pb_store.specs.Differences.{IsPresent, same_files};
 ghost use Rattle.pb_store.specs.Looking.{Looks, name_looked};
@@ -18,7 +18,7 @@ ghost use Rattle.pb_store.specs.Presence.{file_in, files_looked};
 use crate::fault::StoreFault;
 use crate::inputs::{file_at, paths_below, paths_outside, source_at, text_in};
 use pb_data::{Bytes, Items, Text};
-use pb_place::{PathText, Place, RelativePath};
+use pb_place_types::{PathText, Place, RelativePath};
 use pb_record::Input;
 use std::alloc::Global;
 

@@ -1,13 +1,13 @@
 //! What differs from the record of a unit since it was kept.
 
 ghost use Rattle.std.specs.Prelude.{◌≡◌, ◌∷◌, [], true, false, IsTrue, IfOk, MatchOption, Decides};
-ghost use Rattle.pb_place.specs.declared.call.Call.TheVariants as call;
+ghost use Rattle.pb_place_types.specs.declared.call.Call.TheVariants as call;
 ghost use Rattle.pb_record.specs.Commands.{command_of};
 ghost use Rattle.pb_record.specs.declared.record.Record.{Record};
-ghost use Rattle.pb_place.specs.Paths.{is_relative};
-ghost use Rattle.pb_soundness.specs.Grounded.{Standing};
-ghost use Rattle.pb_soundness.specs.Inputs.{name_of};
-ghost use Rattle.pb_soundness.specs.Records.{out_of, place_of, records};
+ghost use Rattle.pb_place_types.specs.Paths.{is_relative};
+ghost use Rattle.pb_store_soundness.specs.Grounded.{Standing};
+ghost use Rattle.pb_store_soundness.specs.Inputs.{name_of};
+ghost use Rattle.pb_store_soundness.specs.Records.{out_of, place_of, records};
 ghost use Rattle.pb_store.specs.Calls.{OnlyLooks, MayLook, MayRead};
 ghost use Rattle.pb_store.specs.Folder.{Compares, HasNumbers};
 ghost use Rattle.pb_store.specs.Differences.{FirstOrAll, FirstInput, IsPresent, HasFiles, AreNeeded, FirstDifference, FirstNeed, FirstFrom, NothingDiffers, IsAnswered};
@@ -22,7 +22,7 @@ use crate::numbers::first_number;
 use crate::replaying::{Compared, Replayed, again};
 use crate::store::{Store, record_at};
 use pb_data::{Bytes, Items, Table, Text, TryCopy};
-use pb_place::{Command, Ended, PathText, Place, PlaceFault, RelativePath};
+use pb_place_types::{Command, Ended, PathText, Place, PlaceFault, RelativePath};
 use pb_record::{Input, InputName, Needed, Record};
 use std::alloc::{AllocError, Global};
 

@@ -1,11 +1,11 @@
 //! A record is dropped, and the run number of the next one is taken.
 
 ghost use Rattle.std.specs.Prelude.{◌≡◌, IsTrue, MatchResult, OnOk, OnErr};
-ghost use Rattle.pb_place.specs.declared.call.Call.TheVariants as call;
-ghost use Rattle.pb_place.specs.Paths.{is_at_or_below};
-ghost use Rattle.pb_place.specs.World.{PartlyRemoved, removed};
-ghost use Rattle.pb_soundness.specs.Numbers.{after};
-ghost use Rattle.pb_soundness.specs.Records.{place_of, records};
+ghost use Rattle.pb_place_types.specs.declared.call.Call.TheVariants as call;
+ghost use Rattle.pb_place_types.specs.Paths.{is_at_or_below};
+ghost use Rattle.pb_place_types.specs.World.{PartlyRemoved, removed};
+ghost use Rattle.pb_store_soundness.specs.Numbers.{after};
+ghost use Rattle.pb_store_soundness.specs.Records.{place_of, records};
 ghost use Rattle.pb_store.specs.Calls.{CallsOnce, ChangesOnlyAt, MayRemove, MayDrop};
 ghost use Rattle.pb_store.specs.Folder.{DropsRecord, IsGiven, RemovesRecord, HasNumbers};
 
@@ -13,7 +13,7 @@ use crate::fault::{StoreFault, stored};
 use crate::keys::Key;
 use crate::numbers::note;
 use crate::store::{Store, place_path};
-use pb_place::{PathText, Place};
+use pb_place_types::{PathText, Place};
 use std::alloc::Global;
 
 /// Returns the number after this one, or none if no number is left.

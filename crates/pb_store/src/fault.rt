@@ -3,7 +3,7 @@
 ghost use Rattle.std.specs.Prelude.{◌≡◌};
 ghost use Rattle.pb_store.specs.Calls.{stored, opened};
 
-use pb_place::{PathText, PlaceFault};
+use pb_place_types::{PathText, PlaceFault};
 use thiserror::Error;
 
 /// Why a call of the store fails.

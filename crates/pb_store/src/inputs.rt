@@ -3,11 +3,11 @@
 ghost use Rattle.std.specs.Prelude.{◌≡◌, ◌∷◌, IsTrue, IfOk, List, [], map};
 ghost use Rattle.std.specs.FinMap as finite;
 ghost use Rattle.std.specs.List.{filter_map};
-ghost use Rattle.pb_place.specs.declared.call.Call.TheVariants as call;
-ghost use Rattle.pb_place.specs.Paths.{inside};
-ghost use Rattle.pb_place.specs.World.{from_nothing, listed, removed};
+ghost use Rattle.pb_place_types.specs.declared.call.Call.TheVariants as call;
+ghost use Rattle.pb_place_types.specs.Paths.{inside};
+ghost use Rattle.pb_place_types.specs.World.{from_nothing, listed, removed};
 ghost use Rattle.pb_record.specs.declared.record.InputName.TheVariants.{Path, Variable};
-ghost use Rattle.pb_soundness.specs.Inputs.{contents, input_in, path_input};
+ghost use Rattle.pb_store_soundness.specs.Inputs.{contents, input_in, path_input};
 ghost use Rattle.pb_store.specs.Calls.{OnlyLooks, MayRead, MayLook};
 ghost use Rattle.pb_store.specs.Looking.{Looks, name_looked, names_looked, source_looked};
 ghost use Rattle.pb_store.specs.Presence.{file_in, file_looked, files_looked};
@@ -15,7 +15,7 @@ ghost use Rattle.pb_store.specs.Presence.{file_in, file_looked, files_looked};
 use crate::fault::{StoreFault, stored};
 use crate::store::text_of;
 use pb_data::{Bytes, Items, Text, TryCopy};
-use pb_place::{PathText, Place, RelativePath};
+use pb_place_types::{PathText, Place, RelativePath};
 use pb_record::{Input, InputName};
 use std::alloc::Global;
 

@@ -1,13 +1,13 @@
 //! The record of a unit that was built is kept, with the run number that was taken for it.
 
 ghost use Rattle.std.specs.Prelude.{◌≡◌, true, IsTrue, IfOk, OnOk, OnErr, Some, map};
-ghost use Rattle.pb_place.specs.declared.call.Call.TheVariants as call;
-ghost use Rattle.pb_place.specs.At.{IsUnchanged};
-ghost use Rattle.pb_place.specs.Paths.{is_at_or_below};
-ghost use Rattle.pb_place.specs.World.{Torn, written};
-ghost use Rattle.pb_soundness.specs.Grounded.{Standing};
-ghost use Rattle.pb_soundness.specs.Inputs.{input_in};
-ghost use Rattle.pb_soundness.specs.Records.{number_of, out_of, place_of, records};
+ghost use Rattle.pb_place_types.specs.declared.call.Call.TheVariants as call;
+ghost use Rattle.pb_place_types.specs.At.{IsUnchanged};
+ghost use Rattle.pb_place_types.specs.Paths.{is_at_or_below};
+ghost use Rattle.pb_place_types.specs.World.{Torn, written};
+ghost use Rattle.pb_store_soundness.specs.Grounded.{Standing};
+ghost use Rattle.pb_store_soundness.specs.Inputs.{input_in};
+ghost use Rattle.pb_store_soundness.specs.Records.{number_of, out_of, place_of, records};
 ghost use Rattle.pb_store.specs.Calls.{CallsOnce, FailsToWrite, OnlyLooks, ChangesOnlyAt, MayLook, MayWrite, MayKeep};
 ghost use Rattle.pb_store.specs.Folder.{KeepsRecord, PutsRecord, HasNumbers, kept_of, numbered};
 ghost use Rattle.pb_store.specs.Looking.{Looks, kept_called, names_looked};
@@ -20,7 +20,7 @@ use crate::keys::Key;
 use crate::numbers::{note, numbered};
 use crate::store::{Store, place_path};
 use pb_data::{Bytes, Items, Table, Text, TryCopy, with_next};
-use pb_place::{Command, Ended, PathText, Place};
+use pb_place_types::{Command, Ended, PathText, Place};
 use pb_record::{Asked, Input, InputName, Needed, Record, write_record};
 use std::alloc::{AllocError, Global};
 

@@ -1,9 +1,9 @@
 //! A record of format 1 becomes one of format 2.
 
 ghost use Rattle.std.specs.Prelude.{◌≡◌, ◌∷◌, [], Some, false, is_some, IsTrue};
-ghost use Rattle.pb_place.specs.declared.call.Call.TheVariants as call;
-ghost use Rattle.pb_place.specs.Paths.{is_at_or_below};
-ghost use Rattle.pb_soundness.specs.Records.{number_of, place_of, records};
+ghost use Rattle.pb_place_types.specs.declared.call.Call.TheVariants as call;
+ghost use Rattle.pb_place_types.specs.Paths.{is_at_or_below};
+ghost use Rattle.pb_store_soundness.specs.Records.{number_of, place_of, records};
 ghost use Rattle.pb_store.specs.Calls.{FailsToWrite, MayMigrate, ChangesOnlyAt};
 ghost use Rattle.pb_store.specs.Folder.{MigratesRecord, HasNumbers, MigratesNext, numbered_record};
 ghost use Rattle.pb_store.specs.Looking.{LooksOrSpent, migrated_called};
@@ -15,7 +15,7 @@ use crate::keys::Key;
 use crate::numbers::{note, numbered};
 use crate::store::{Store, record_at};
 use pb_data::{Items, Text};
-use pb_place::Place;
+use pb_place_types::Place;
 use pb_record::{Needed, Record};
 use std::alloc::Global;
 

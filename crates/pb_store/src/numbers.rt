@@ -5,7 +5,7 @@ ghost use Rattle.std.specs.Str.{bytes_eq};
 ghost use Rattle.pb_data.specs.Table.{with_entry};
 ghost use Rattle.pb_store.specs.Differences.{FirstOrAll};
 ghost use Rattle.pb_store.specs.Folder.{number_in, or_zero};
-ghost use Rattle.pb_soundness.specs.Records.{is_key, place_of};
+ghost use Rattle.pb_store_soundness.specs.Records.{is_key, place_of};
 ghost use Rattle.pb_store.specs.Presence.{IsHeld, noted_told, numbered_by, own_said};
 ghost use Rattle.pb_store.specs.declared.fault.StoreFault.TheVariants as store_fault;
 
@@ -13,7 +13,7 @@ use crate::fault::StoreFault;
 use crate::keys::Key;
 use crate::store::place_path;
 use pb_data::{Items, Table, Text, TryCopy};
-use pb_place::PathText;
+use pb_place_types::PathText;
 use pb_record::Numbers;
 use std::alloc::{AllocError, Global};
 

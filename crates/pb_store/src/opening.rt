@@ -3,9 +3,9 @@
 ghost use Rattle.std.specs.Prelude.{◌≡◌, ◌∷◌, [], if◌then◌else◌, max, true, IsTrue, IfErr, IfOk, OnOk, option_map};
 ghost use Rattle.std.specs.List.{fold};
 ghost use Rattle.std.specs.FinMap as map;
-ghost use Rattle.pb_place.specs.declared.call.Call.TheVariants as call;
+ghost use Rattle.pb_place_types.specs.declared.call.Call.TheVariants as call;
 ghost use Rattle.pb_record.specs.Numbers.{numbers_of};
-ghost use Rattle.pb_soundness.specs.Records.{ends_as_record, read_text, reading};
+ghost use Rattle.pb_store_soundness.specs.Records.{ends_as_record, read_text, reading};
 ghost use Rattle.pb_store.specs.Calls.{OpensBy, ReadsOneOf, OnlyOpens};
 ghost use Rattle.pb_store.specs.Looking.{OpensLooking, opened_looked, records_looked};
 ghost use Rattle.pb_store.specs.Folder.{OpensStore, greatest_if, greatest_at, greatest_of};
@@ -17,7 +17,7 @@ use crate::keys::ends_as_record;
 use crate::numbers::note_read;
 use crate::store::Store;
 use pb_data::{Bytes, Items, Table, Text};
-use pb_place::{PathText, Place};
+use pb_place_types::{PathText, Place};
 use pb_record::{Numbers, read_numbers};
 use std::alloc::{AllocError, Global};
 

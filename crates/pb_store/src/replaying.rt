@@ -5,7 +5,7 @@ ghost use Rattle.pb_store.specs.Differences.{replayed};
 
 use crate::difference::Difference;
 use crate::keeping::number_of;
-use pb_place::Ended;
+use pb_place_types::Ended;
 use pb_record::Record;
 
 /// What a unit's record replays: how its child ended, and whether the record has a run number.

@@ -2,15 +2,15 @@
 
 ghost use Rattle.std.specs.Prelude.{◌≡◌, ◌∷◌, IsTrue, IfOk, []};
 ghost use Rattle.std.specs.FinMap as map;
-ghost use Rattle.pb_place.specs.declared.call.Call.TheVariants as call;
-ghost use Rattle.pb_soundness.specs.Records.{place_of, read_text, if_of_key, reading, records};
+ghost use Rattle.pb_place_types.specs.declared.call.Call.TheVariants as call;
+ghost use Rattle.pb_store_soundness.specs.Records.{place_of, read_text, if_of_key, reading, records};
 ghost use Rattle.pb_store.specs.Calls.{OnlyLooks, MayRead};
 ghost use Rattle.pb_store.specs.Looking.{Looks};
 
 use crate::fault::{StoreFault, stored};
 use crate::keys::Key;
 use pb_data::{Bytes, Table};
-use pb_place::{PathText, Place, RelativePath};
+use pb_place_types::{PathText, Place, RelativePath};
 use pb_record::{Record, read_record};
 use std::alloc::{AllocError, Global};
 
@@ -115,7 +115,7 @@ fn if_of_key(found: Option<Record>, key: &Key) -> Option<Record>
 }
 
 /// Returns the record that counts for a unit.
-#[tactic(auto, unfolding(pb_soundness::specs::Records::record_at))]
+#[tactic(auto, unfolding(pb_store_soundness::specs::Records::record_at))]
 pub(crate) fn record_at<P: Place>(
     alloc: Global,
     place: &mut P,

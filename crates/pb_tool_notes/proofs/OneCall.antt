@@ -1,10 +1,10 @@
 -- One call that looks.
 use Rattle.std.proofs.Common.{◌≡◌, ◌∙◌, Result, Ok, Err, ap, refl}
-use Rattle.pb_place.specs.At.{At, LooksOnce}
-use Rattle.pb_place.specs.Counts.{Counts, counted}
-use Rattle.pb_place.specs.declared.call.Call.{Call}
-use Rattle.pb_place.specs.declared.place.PlaceFault.{PlaceFault}
-use Rattle.pb_place.specs.declared.place.PlaceFault.TheVariants as place
+use Rattle.pb_place_types.specs.At.{At, LooksOnce}
+use Rattle.pb_place_types.specs.Counts.{Counts, counted}
+use Rattle.pb_place_types.specs.declared.call.Call.{Call}
+use Rattle.pb_place_types.specs.declared.place.PlaceFault.{PlaceFault}
+use Rattle.pb_place_types.specs.declared.place.PlaceFault.TheVariants as place
 use Rattle.pb_tool_notes.specs.Looks.{LooksAgain}
 
 starts_kept : {T : Type 0} (call : Call) (result : Result T PlaceFault) (c : Counts) → (counted call result c).starts ≡ c.starts

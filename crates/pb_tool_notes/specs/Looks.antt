@@ -1,6 +1,6 @@
 -- What a second look does to a place.
 use Rattle.std.specs.Prelude.{◌≡◌}
-use Rattle.pb_place.specs.At.{At}
+use Rattle.pb_place_types.specs.At.{At}
 
 -- only the counters of calls and of failures have changed: no file, no variable, and no child was started
 pub record LooksAgain (old new : At) : Type 0 where

@@ -7,7 +7,7 @@ use crate::note::Notes;
 use crate::page::Page;
 use crate::pages::page_at;
 use crate::teller::tell_key;
-use pb_place::{PathText, Place, PlaceFault};
+use pb_place_types::{PathText, Place, PlaceFault};
 use std::alloc::{AllocError, Global};
 
 /// The greatest number of folders above that are examined.

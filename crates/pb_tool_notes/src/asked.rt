@@ -8,7 +8,7 @@ use crate::near::near;
 use crate::note::Notes;
 use crate::pages::Pages;
 use crate::teller::tell_key;
-use pb_place::{PathText, Place, PlaceFault};
+use pb_place_types::{PathText, Place, PlaceFault};
 use std::alloc::{AllocError, Global};
 
 /// Adds who asks for a manifest.

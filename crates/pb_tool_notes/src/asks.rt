@@ -3,7 +3,7 @@
 use crate::page::{Page, text_at};
 use crate::rules::is_taken;
 use pb_data::{Text, TryCopy};
-use pb_place::{PathFault, PathText};
+use pb_place_types::{PathFault, PathText};
 use std::alloc::{AllocError, Global};
 use toml::{Table, Value};
 

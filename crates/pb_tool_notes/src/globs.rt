@@ -5,7 +5,7 @@ ghost use Rattle.pb_tool_notes.specs.Looks.{LooksAgain};
 use crate::looks::folders_in;
 use crate::page::Page;
 use pb_data::TryCopy;
-use pb_place::{PathText, Place, PlaceFault};
+use pb_place_types::{PathText, Place, PlaceFault};
 use std::alloc::{AllocError, Global};
 use toml::Value;
 

@@ -5,7 +5,7 @@ use crate::page::Page;
 use crate::rules::{Kind, expected, fits, rule_of};
 use crate::spots::{Spot, spots_of};
 use crate::teller::{shown, tell_key, tell_page};
-use pb_manifest::letters::is_name;
+use pb_manifest_types::letters::is_name;
 use std::alloc::{AllocError, Global};
 use toml::{Table, Value};
 

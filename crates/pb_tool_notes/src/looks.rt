@@ -4,7 +4,7 @@ ghost use Rattle.pb_tool_notes.specs.Looks.{LooksAgain};
 
 use crate::page::GREATEST_LENGTH;
 use pb_data::{Bytes, Items};
-use pb_place::{PathText, Place, PlaceFault};
+use pb_place_types::{PathText, Place, PlaceFault};
 use std::alloc::Global;
 
 /// Returns the first bytes of a file, one more than a manifest may have, or none if no file is

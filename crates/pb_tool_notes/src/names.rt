@@ -6,8 +6,8 @@ use crate::rules::Kind;
 use crate::spots::{Spot, spots_of};
 use crate::teller::{tell_key, tell_page};
 use pb_data::Text;
-use pb_manifest::letters::{is_crate_name, is_feature_name, is_name};
-use pb_manifest::{ManifestFault, Requirement, Version};
+use pb_manifest_types::letters::{is_crate_name, is_feature_name, is_name};
+use pb_manifest_types::{ManifestFault, Requirement, Version};
 use std::alloc::{AllocError, Global};
 use toml::{Table, Value};
 

@@ -1,7 +1,7 @@
 //! A manifest that was read again.
 
 use pb_data::Bytes;
-use pb_place::PathText;
+use pb_place_types::PathText;
 use std::alloc::{AllocError, Global};
 use toml::{Table, Value};
 

@@ -8,7 +8,7 @@ use crate::globs::member_folders;
 use crate::looks::read;
 use crate::page::Page;
 use pb_data::TryCopy;
-use pb_place::{PathText, Place, PlaceFault};
+use pb_place_types::{PathText, Place, PlaceFault};
 use std::alloc::{AllocError, Global};
 
 /// The greatest number of manifests that are read again.

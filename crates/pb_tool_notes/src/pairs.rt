@@ -6,7 +6,7 @@ use crate::page::{Page, text_at};
 use crate::pages::Pages;
 use crate::teller::tell_key;
 use pb_data::Text;
-use pb_manifest::{ManifestFault, Requirement, Version};
+use pb_manifest_types::{ManifestFault, Requirement, Version};
 use std::alloc::{AllocError, Global};
 use toml::{Table, Value};
 

@@ -3,17 +3,17 @@ use Rattle.std.proofs.Common.{◌≡◌, ◌≢◌, ◌⊎◌, ◌==◌, inl, in
 use Rattle.std.proofs.lemmas.Bool.{false≢true}
 use Rattle.std.proofs.lemmas.Bool.Decides.{Decides-eqb}
 use Rattle.std.specs.Io.KnownBytes.{Appends}
-use Rattle.pb_answer.specs.Explanation.{ended, said_by_bad}
-use Rattle.pb_place.specs.Counts.{up}
-use Rattle.pb_place.specs.Sinks.{Heard, TakesPart}
-use Rattle.pb_memory.specs.Memory.{Held, no_held}
-use Rattle.pb_project.specs.declared.fault.UnitFault.{UnitFault}
-use Rattle.pb_session.specs.Sessions.{session_of}
-use Rattle.pb_session.specs.declared.step.SessionStep.{SessionStep}
+use Rattle.pb_build_result.specs.Explanation.{ended, said_by_bad}
+use Rattle.pb_place_types.specs.Counts.{up}
+use Rattle.pb_place_types.specs.Sinks.{Heard, TakesPart}
+use Rattle.pb_place.specs.Memory.{Held, no_held}
+use Rattle.pb_command_types.specs.declared.fault.UnitFault.{UnitFault}
+use Rattle.pb_build_session.specs.Sessions.{session_of}
+use Rattle.pb_build_session.specs.declared.step.SessionStep.{SessionStep}
 use Rattle.pb_build.specs.Session.{Breaks, Course, Point, point}
 use Rattle.pb_build.specs.declared.sessions.Answer.{Answer}
 use Rattle.pb_tool_program.specs.Session.{SessionStopped, SessionWritten, small_compiler, lines_of}
-use Rattle.pb_place.specs.declared.moved.Moved.{Moved}
+use Rattle.pb_place_types.specs.declared.moved.Moved.{Moved}
 use Rattle.pb_tool_notes.specs.Notes.{lines_of as note_lines}
 use Rattle.pb_tool_program.specs.Building.{notes_of, moved_notes}
 use Rattle.pb_tool_program.specs.Writing.{Tells, TellsOr, Writes}

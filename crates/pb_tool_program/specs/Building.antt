@@ -1,20 +1,20 @@
 -- What `pb_tool build` does.
 use Rattle.std.specs.Prelude.{◌≡◌, ◌⊎◌, ℕ, zero, suc, Bool, true, false, IsTrue, codes, List, [], ◌∷◌, ◌++◌, Option, Some, None, Result, Ok, Err}
-use Rattle.pb_place.specs.Counts.{Counts}
-use Rattle.pb_place.specs.Paths.{last_part}
-use Rattle.pb_place.specs.World.{Answers}
-use Rattle.pb_place.specs.declared.moved.Moved.{Moved}
-use Rattle.pb_answer.specs.Explanation.{explanation, said_by_bad}
-use Rattle.pb_answer.specs.ResultLine.{result_line}
-use Rattle.pb_answer.specs.declared.fault.BuildFault.{BuildFault}
-use Rattle.pb_answer.specs.declared.fault.BuildFault.TheVariants as build
-use Rattle.pb_answer.specs.declared.summary.Summary.{Summary}
-use Rattle.pb_package.specs.declared.options.Options.{Options}
+use Rattle.pb_place_types.specs.Counts.{Counts}
+use Rattle.pb_place_types.specs.Paths.{last_part}
+use Rattle.pb_place_types.specs.World.{Answers}
+use Rattle.pb_place_types.specs.declared.moved.Moved.{Moved}
+use Rattle.pb_build_result.specs.Explanation.{explanation, said_by_bad}
+use Rattle.pb_build_result.specs.ResultLine.{result_line}
+use Rattle.pb_build_result.specs.declared.fault.BuildFault.{BuildFault}
+use Rattle.pb_build_result.specs.declared.fault.BuildFault.TheVariants as build
+use Rattle.pb_build_result.specs.declared.summary.Summary.{Summary}
+use Rattle.pb_workspace_types.specs.declared.options.Options.{Options}
 use Rattle.pb_build.specs.AnyPlan.{BuildsOnFirst}
 use Rattle.pb_build.specs.Ending.{BuildsFirst, PlansFrom}
 use Rattle.pb_build.specs.declared.builder.BuildPlan.{BuildPlan}
-use Rattle.pb_place.specs.Sinks.{Heard}
-use Rattle.pb_turns.specs.Crew.{Moment}
+use Rattle.pb_place_types.specs.Sinks.{Heard}
+use Rattle.pb_build_turns.specs.Crew.{Moment}
 use Rattle.pb_tool_notes.specs.Notes.{AreNotes, lines_of}
 use Rattle.pb_tool_program.specs.Details.{detail}
 use Rattle.pb_tool_program.specs.Writing.{Tells, TellsOr}

@@ -2,24 +2,24 @@
 -- fault (our own choice of words).
 use Rattle.std.specs.Prelude.{ℕ, codes, List, [], ◌∷◌, ◌++◌, Option, Some, None, Result, Ok, Err}
 use Rattle.std.specs.Fmt.{decimal}
-use Rattle.pb_answer.specs.declared.fault.BuildFault.{BuildFault}
-use Rattle.pb_answer.specs.declared.fault.BuildFault.TheVariants as build
-use Rattle.pb_answer.specs.declared.fault.DeviceFault.{DeviceFault}
-use Rattle.pb_answer.specs.declared.fault.DeviceFault.TheVariants as device
-use Rattle.pb_answer.specs.declared.fault.Refusal.{Refusal}
-use Rattle.pb_answer.specs.declared.fault.Refusal.TheVariants as refusal
-use Rattle.pb_answer.specs.declared.summary.Summary.{Summary}
+use Rattle.pb_build_result.specs.declared.fault.BuildFault.{BuildFault}
+use Rattle.pb_build_result.specs.declared.fault.BuildFault.TheVariants as build
+use Rattle.pb_build_result.specs.declared.fault.DeviceFault.{DeviceFault}
+use Rattle.pb_build_result.specs.declared.fault.DeviceFault.TheVariants as device
+use Rattle.pb_build_result.specs.declared.fault.Refusal.{Refusal}
+use Rattle.pb_build_result.specs.declared.fault.Refusal.TheVariants as refusal
+use Rattle.pb_build_result.specs.declared.summary.Summary.{Summary}
 use Rattle.pb_directive.specs.declared.fault.LineFault.{LineFault}
 use Rattle.pb_directive.specs.declared.fault.LineFault.TheVariants as line
-use Rattle.pb_manifest.specs.Keys.{spelled}
-use Rattle.pb_manifest.specs.declared.fault.ManifestFault.{ManifestFault}
-use Rattle.pb_manifest.specs.declared.fault.ManifestFault.TheVariants as manifest
-use Rattle.pb_package.specs.declared.fault.LoadFault.{LoadFault}
-use Rattle.pb_package.specs.declared.fault.LoadFault.TheVariants as load
-use Rattle.pb_place.specs.declared.place.PlaceFault.{PlaceFault}
-use Rattle.pb_place.specs.declared.place.PlaceFault.TheVariants as place
-use Rattle.pb_project.specs.declared.fault.UnitFault.{UnitFault}
-use Rattle.pb_project.specs.declared.fault.UnitFault.TheVariants as unit
+use Rattle.pb_manifest_types.specs.Keys.{spelled}
+use Rattle.pb_manifest_types.specs.declared.fault.ManifestFault.{ManifestFault}
+use Rattle.pb_manifest_types.specs.declared.fault.ManifestFault.TheVariants as manifest
+use Rattle.pb_workspace_types.specs.declared.fault.LoadFault.{LoadFault}
+use Rattle.pb_workspace_types.specs.declared.fault.LoadFault.TheVariants as load
+use Rattle.pb_place_types.specs.declared.place.PlaceFault.{PlaceFault}
+use Rattle.pb_place_types.specs.declared.place.PlaceFault.TheVariants as place
+use Rattle.pb_command_types.specs.declared.fault.UnitFault.{UnitFault}
+use Rattle.pb_command_types.specs.declared.fault.UnitFault.TheVariants as unit
 use Rattle.pb_unit.specs.declared.fault.PlanFault.{PlanFault}
 use Rattle.pb_unit.specs.declared.fault.PlanFault.TheVariants as plan
 

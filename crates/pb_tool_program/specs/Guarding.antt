@@ -1,7 +1,7 @@
 -- How a build waits for its target folder.
 use Rattle.std.specs.Prelude.{◌≡◌, ◌⊎◌, ℕ, Bool, true, false, codes, List, Option, Some, None}
-use Rattle.pb_place.specs.Counts.{Counts}
-use Rattle.pb_place.specs.Sinks.{Heard}
+use Rattle.pb_place_types.specs.Counts.{Counts}
+use Rattle.pb_place_types.specs.Sinks.{Heard}
 use Rattle.pb_tool_program.specs.Writing.{Tells}
 
 -- what is written if another build has the folder

@@ -1,9 +1,9 @@
 -- What the program writes about the name of an error.
 use Rattle.std.specs.Prelude.{◌≡◌, ◌⊎◌, ℕ, Bool, if◌then◌else◌, codes, List, [], ◌++◌, Option, Some, None, Err}
-use Rattle.pb_answer.specs.declared.fault.BuildFault.TheVariants as build_fault
-use Rattle.pb_explained.specs.Entries.{near_in, text_in}
-use Rattle.pb_explained.specs.declared.entry.Page.{Page}
-use Rattle.pb_place.specs.Sinks.{Heard}
+use Rattle.pb_build_result.specs.declared.fault.BuildFault.TheVariants as build_fault
+use Rattle.pb_tool_explain.specs.Entries.{near_in, text_in}
+use Rattle.pb_tool_explain.specs.declared.entry.Page.{Page}
+use Rattle.pb_place_types.specs.Sinks.{Heard}
 use Rattle.pb_tool_program.specs.Building.{error_of}
 use Rattle.pb_tool_program.specs.Writing.{Writes, Tells}
 

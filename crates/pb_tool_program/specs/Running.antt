@@ -1,24 +1,24 @@
 -- What the whole program does: what its arguments request, and nothing else.
 use Rattle.std.specs.Prelude.{◌≡◌, ◌⊎◌, ℕ, Bool, true, false, List, Option, Some, None, IsTrue, IfOk, Result, Ok, Err}
 use Rattle.std.specs.FinMap as map
-use Rattle.pb_place.specs.Counts.{Counts, counted}
-use Rattle.pb_place.specs.declared.call.Call.TheVariants as call
-use Rattle.pb_place.specs.World.{Answers}
-use Rattle.pb_place.specs.declared.moved.Moved.{Moved}
-use Rattle.pb_place.specs.declared.place.PlaceFault.{PlaceFault}
-use Rattle.pb_answer.specs.declared.fault.BuildFault.TheVariants as build_fault
-use Rattle.pb_arguments.specs.Asking.{Asks, Unasks}
-use Rattle.pb_arguments.specs.declared.asked.Asked.{Asked}
-use Rattle.pb_arguments.specs.declared.asked.Asked.TheVariants.{Build, Session, Explain}
-use Rattle.pb_arguments.specs.declared.asked.Shown.{Shown}
-use Rattle.pb_arguments.specs.declared.asked.Unasked.{Unasked}
-use Rattle.pb_arguments.specs.declared.asked.Unasked.TheVariants.{Help, Wrong, OutOfMemory}
-use Rattle.pb_arguments.specs.declared.here.Here.{Here}
-use Rattle.pb_explained.specs.declared.entry.Page.{Page}
-use Rattle.pb_session.specs.Sessions.{session_of}
-use Rattle.pb_session.specs.declared.fault.BadSession.TheVariants.{BadForm}
-use Rattle.pb_place.specs.Sinks.{Heard}
-use Rattle.pb_turns.specs.Crew.{Moment}
+use Rattle.pb_place_types.specs.Counts.{Counts, counted}
+use Rattle.pb_place_types.specs.declared.call.Call.TheVariants as call
+use Rattle.pb_place_types.specs.World.{Answers}
+use Rattle.pb_place_types.specs.declared.moved.Moved.{Moved}
+use Rattle.pb_place_types.specs.declared.place.PlaceFault.{PlaceFault}
+use Rattle.pb_build_result.specs.declared.fault.BuildFault.TheVariants as build_fault
+use Rattle.pb_tool_arguments.specs.Asking.{Asks, Unasks}
+use Rattle.pb_tool_arguments.specs.declared.asked.Asked.{Asked}
+use Rattle.pb_tool_arguments.specs.declared.asked.Asked.TheVariants.{Build, Session, Explain}
+use Rattle.pb_tool_arguments.specs.declared.asked.Shown.{Shown}
+use Rattle.pb_tool_arguments.specs.declared.asked.Unasked.{Unasked}
+use Rattle.pb_tool_arguments.specs.declared.asked.Unasked.TheVariants.{Help, Wrong, OutOfMemory}
+use Rattle.pb_tool_arguments.specs.declared.here.Here.{Here}
+use Rattle.pb_tool_explain.specs.declared.entry.Page.{Page}
+use Rattle.pb_build_session.specs.Sessions.{session_of}
+use Rattle.pb_build_session.specs.declared.fault.BadSession.TheVariants.{BadForm}
+use Rattle.pb_place_types.specs.Sinks.{Heard}
+use Rattle.pb_build_turns.specs.Crew.{Moment}
 use Rattle.pb_tool_program.specs.Building.{BuildsTold, error_of}
 use Rattle.pb_tool_program.specs.Names.{Means, Prints}
 use Rattle.pb_tool_program.specs.Session.{Refused, SessionStopped, SessionWritten}

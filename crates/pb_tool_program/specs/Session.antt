@@ -3,14 +3,14 @@ use Rattle.std.specs.Prelude.{◌≡◌, ◌⊎◌, ℕ, Bool, codes, List, [], 
 use Rattle.std.specs.Io.KnownBytes.{Appends}
 use Rattle.std.specs.FinMap as map
 use Rattle.pb_mini.specs.Answer.{answered}
-use Rattle.pb_place.specs.Counts.{up, no_calls}
-use Rattle.pb_place.specs.Sinks.{Heard, TakesPart}
-use Rattle.pb_place.specs.World.{Answers}
+use Rattle.pb_place_types.specs.Counts.{up, no_calls}
+use Rattle.pb_place_types.specs.Sinks.{Heard, TakesPart}
+use Rattle.pb_place_types.specs.World.{Answers}
 use Rattle.pb_build.specs.Session.{Point, Course, Breaks}
 use Rattle.pb_build.specs.declared.sessions.Answer.{Answer}
-use Rattle.pb_answer.specs.ResultLine.{result_line}
-use Rattle.pb_session.specs.Sessions.{session_of}
-use Rattle.pb_session.specs.declared.step.SessionStep.{SessionStep}
+use Rattle.pb_build_result.specs.ResultLine.{result_line}
+use Rattle.pb_build_session.specs.Sessions.{session_of}
+use Rattle.pb_build_session.specs.declared.step.SessionStep.{SessionStep}
 use Rattle.pb_tool_program.specs.Writing.{Writes}
 
 -- what is written about a bad session

@@ -1,8 +1,8 @@
 -- What is written to a sink, as far as it takes it.
 use Rattle.std.specs.Prelude.{◌≡◌, ◌⊎◌, ℕ, Bool, true, false, List, [], ◌∷◌}
 use Rattle.std.specs.Io.KnownBytes.{Appends}
-use Rattle.pb_place.specs.Counts.{up}
-use Rattle.pb_place.specs.Sinks.{Heard, TakesPart}
+use Rattle.pb_place_types.specs.Counts.{up}
+use Rattle.pb_place_types.specs.Sinks.{Heard, TakesPart}
 
 -- all of these bytes were written; or some first bytes, not all, and the sink failed
 abbrev pub Writes : Bool → List ℕ → Heard → Heard → Type 0

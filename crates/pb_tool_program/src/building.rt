@@ -3,12 +3,12 @@
 ghost use Rattle.std.specs.Prelude.{◌≡◌, [], ◌++◌, IfOk, OnOk, Result, Some, string_bytes, codes};
 ghost use Rattle.std.specs.Io.KnownBytes.{Appends};
 ghost use Rattle.pb_build.specs.Ending.{BuildsFirst};
-ghost use Rattle.pb_place.specs.Paths.{last_part};
-ghost use Rattle.pb_place.specs.Sinks.{Heard};
-ghost use Rattle.pb_turns.specs.Crew.{Moment, moment};
-ghost use Rattle.pb_answer.specs.ResultLine.{result_line};
-ghost use Rattle.pb_answer.specs.declared.fault.BuildFault.{BuildFault};
-ghost use Rattle.pb_answer.specs.declared.summary.Summary.{Summary};
+ghost use Rattle.pb_place_types.specs.Paths.{last_part};
+ghost use Rattle.pb_place_types.specs.Sinks.{Heard};
+ghost use Rattle.pb_build_turns.specs.Crew.{Moment, moment};
+ghost use Rattle.pb_build_result.specs.ResultLine.{result_line};
+ghost use Rattle.pb_build_result.specs.declared.fault.BuildFault.{BuildFault};
+ghost use Rattle.pb_build_result.specs.declared.summary.Summary.{Summary};
 ghost use Rattle.pb_tool_notes.specs.Looks.{LooksAgain};
 ghost use Rattle.pb_tool_notes.specs.Notes.{lines_of};
 ghost use Rattle.pb_tool_program.specs.Building.{status_of, notes_of, moved_lost, moved_note, moved_notes, look_lost, error_of, folder_of, LooksOver, NotesOf, TellsDetail, TellsReasons, TellsSaid, TellsWhy, Concludes, BuildsTold};
@@ -17,11 +17,11 @@ ghost use Rattle.pb_tool_program.specs.Writing.{Tells, TellsOr};
 
 use crate::details::detail;
 use crate::guard::Guard;
-use pb_answer::{BuildFault, Refusal, Summary, explanation, result_line, said};
+use pb_build_result::{BuildFault, Refusal, Summary, explanation, result_line, said};
 use pb_build::{BuildPlan, build_plan, plan_build};
 use pb_data::Text;
-use pb_package::Options;
-use pb_place::{Moved, Out, PathText, Place, write_all};
+use pb_workspace_types::Options;
+use pb_place_types::{Moved, Out, PathText, Place, write_all};
 use pb_tool_notes::{Notes, notes_on_build, notes_on_features, notes_on_load, notes_on_plan};
 use std::alloc::{AllocError, Global};
 

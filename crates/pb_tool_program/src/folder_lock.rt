@@ -3,8 +3,8 @@
 ghost use Rattle.std.specs.Prelude.{⊤};
 
 use crate::guard::Guard;
-use pb_host::{TAG_LINE, TAG_NAME, TAG_TEXT, has_tag_line};
-use pb_place::{Out, PathText, Place};
+use pb_place_host::{TAG_LINE, TAG_NAME, TAG_TEXT, has_tag_line};
+use pb_place_types::{Out, PathText, Place};
 use std::fs::{File, TryLockError};
 use std::io::ErrorKind;
 use std::os::unix::fs::MetadataExt;

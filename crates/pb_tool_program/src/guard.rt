@@ -1,10 +1,10 @@
 //! What keeps two builds out of one target folder.
 
 ghost use Rattle.std.specs.Prelude.{ℕ, List, Bool};
-ghost use Rattle.pb_place.specs.Counts.{Counts};
-ghost use Rattle.pb_place.specs.Sinks.{Heard};
+ghost use Rattle.pb_place_types.specs.Counts.{Counts};
+ghost use Rattle.pb_place_types.specs.Sinks.{Heard};
 
-use pb_place::{Out, PathText, Place};
+use pb_place_types::{Out, PathText, Place};
 
 /// Keeps target folders for one build at a time, if it can. Its contracts see the counters of the
 /// place and what was written beside the output at the moment of the call, so they say when the

@@ -1,12 +1,12 @@
 //! What the names of result lines mean.
 
 ghost use Rattle.std.specs.Prelude.{◌≡◌, IfOk, option_map, string_bytes};
-ghost use Rattle.pb_explained.specs.Entries.{near_in};
+ghost use Rattle.pb_tool_explain.specs.Entries.{near_in};
 ghost use Rattle.pb_tool_program.specs.Names.{Means, Unmeant, near_told, no_such_name};
 
 use crate::running::{BAD_COMMAND_LINE, FAILED};
-use pb_explained::{Page, meaning, near};
-use pb_place::{Out, write_all};
+use pb_tool_explain::{Page, meaning, near};
+use pb_place_types::{Out, write_all};
 use std::alloc::{AllocError, Global};
 
 /// Returns the text that names the most similar name.

@@ -1,7 +1,7 @@
 //! The whole program over any place.
 
 ghost use Rattle.std.specs.Prelude.{◌≡◌, [], map};
-ghost use Rattle.pb_turns.specs.Crew.{moment};
+ghost use Rattle.pb_build_turns.specs.Crew.{moment};
 ghost use Rattle.pb_tool_program.specs.Guarding.{Guarded};
 ghost use Rattle.pb_tool_program.specs.Building.{BuildsTold};
 ghost use Rattle.pb_tool_program.specs.Running.{RunsFile, Explains, IsTold, Runs};
@@ -10,11 +10,11 @@ use crate::building::build_options;
 use crate::guard::Guard;
 use crate::names::mean;
 use crate::session::{refuse, run_session};
-use pb_arguments::{Asked, Here, Shown, Unasked, read_command_line};
-use pb_explained::Page;
-use pb_package::Options;
-use pb_place::{Out, PathText, Place, write_all};
-use pb_screen::{Screen, Speaking};
+use pb_tool_arguments::{Asked, Here, Shown, Unasked, read_command_line};
+use pb_tool_explain::Page;
+use pb_workspace_types::Options;
+use pb_place_types::{Out, PathText, Place, write_all};
+use pb_tool_screen::{Screen, Speaking};
 use std::alloc::Global;
 use std::convert::AsStr;
 

@@ -1,17 +1,17 @@
 //! The session program.
 
 ghost use Rattle.std.specs.Prelude.{◌≡◌, ◌⊎◌, ◌++◌, Err, IfOk, IfErr, OnOk, OnErr, true, false, string_bytes};
-ghost use Rattle.pb_session.specs.Sessions.{session_of};
-ghost use Rattle.pb_session.specs.declared.fault.BadSession.TheVariants.{BadForm};
+ghost use Rattle.pb_build_session.specs.Sessions.{session_of};
+ghost use Rattle.pb_build_session.specs.declared.fault.BadSession.TheVariants.{BadForm};
 ghost use Rattle.pb_tool_program.specs.Session.{Refused, SessionStopped, SessionWritten, lines_of};
 ghost use Rattle.pb_tool_program.specs.Writing.{Writes};
 
-use pb_answer::result_line;
+use pb_build_result::result_line;
 use pb_build::{Answer, session};
-use pb_memory::Memory;
+use pb_place::Memory;
 use pb_mini::Mini;
-use pb_place::{Out, write_all};
-use pb_session::{BadSession, read_session};
+use pb_place_types::{Out, write_all};
+use pb_build_session::{BadSession, read_session};
 use std::alloc::{AllocError, Global};
 
 /// Writes that a session is bad, and returns the status for it.

@@ -16,19 +16,19 @@ use Rattle.std.proofs.lemmas.Map.Keys.{Less-from_sorted}
 use Rattle.std.proofs.lemmas.Map.Views.{Contains-from_any}
 use Rattle.pb_data.specs.Mentions.{is_mentioned}
 use Rattle.pb_data.proofs.MentionLemmas.{bytes_eq_same}
-use Rattle.pb_closure.proofs.Placed.{placed_from, placed_to, where_true, at_true}
-use Rattle.pb_closure.proofs.Membership.{none, single, head}
-use Rattle.pb_order.proofs.Elements.{at_from_contains, contains_from_at, all_from_at, all_at, contains_cases}
-use Rattle.pb_package.specs.Settled.{IsSettled, IsPackage}
-use Rattle.pb_package.specs.declared.package.Side.{Side}
-use Rattle.pb_package.specs.declared.package.Side.TheVariants.{Target, Host}
-use Rattle.pb_package.specs.declared.package.Package.{Package}
-use Rattle.pb_package.specs.declared.package.Binary.{Binary}
-use Rattle.pb_package.specs.declared.options.Selection.{Selection}
-use Rattle.pb_package.specs.declared.workspace.Workspace.{Workspace}
-use Rattle.pb_resolved.specs.declared.features.Features.{Features}
-use Rattle.pb_resolved.specs.Features.{features_at}
-use Rattle.pb_manifest.specs.Letters as letters
+use Rattle.pb_graph.proofs.Placed.{placed_from, placed_to, where_true, at_true}
+use Rattle.pb_graph.proofs.Membership.{none, single, head}
+use Rattle.pb_graph.proofs.Elements.{at_from_contains, contains_from_at, all_from_at, all_at, contains_cases}
+use Rattle.pb_workspace_types.specs.Settled.{IsSettled, IsPackage}
+use Rattle.pb_workspace_types.specs.declared.package.Side.{Side}
+use Rattle.pb_workspace_types.specs.declared.package.Side.TheVariants.{Target, Host}
+use Rattle.pb_workspace_types.specs.declared.package.Package.{Package}
+use Rattle.pb_workspace_types.specs.declared.package.Binary.{Binary}
+use Rattle.pb_workspace_types.specs.declared.options.Selection.{Selection}
+use Rattle.pb_workspace_types.specs.declared.workspace.Workspace.{Workspace}
+use Rattle.pb_feature_types.specs.declared.features.Features.{Features}
+use Rattle.pb_feature_types.specs.Features.{features_at}
+use Rattle.pb_manifest_types.specs.Letters as letters
 use Rattle.pb_unit.specs.declared.unit.Unit.{Unit}
 use Rattle.pb_unit.specs.declared.unit.What.{What}
 use Rattle.pb_unit.specs.declared.unit.What.TheVariants.{Lib, Bin, Script, Run}

@@ -3,19 +3,19 @@ use Rattle.std.proofs.Common.{◌≡◌, ◌↔◌, inl, inr, ℕ, zero, suc, �
 use Rattle.std.specs.Prelude.{if◌then◌else◌}
 use Rattle.std.proofs.lemmas.Option.{slice_get_within}
 use Rattle.std.proofs.lemmas.List.Elements.{Contains-append_cases}
-use Rattle.pb_closure.proofs.Placed.{placed_from, where_true}
-use Rattle.pb_closure.proofs.Membership.{none, single}
-use Rattle.pb_order.specs.declared.graph.Node.{Node}
-use Rattle.pb_order.specs.Graph as graph
-use Rattle.pb_order.proofs.Elements.{contains_map, map_contains, contains_from_at, all_from_at, all_at}
-use Rattle.pb_package.specs.Settled.{IsSettled, IsPackage}
-use Rattle.pb_package.specs.declared.package.Side.{Side}
-use Rattle.pb_package.specs.declared.package.Side.TheVariants.{Host}
-use Rattle.pb_package.specs.declared.package.Package.{Package}
-use Rattle.pb_package.specs.declared.package.Entry.{Entry}
-use Rattle.pb_package.specs.declared.options.Selection.{Selection}
-use Rattle.pb_package.specs.declared.workspace.Workspace.{Workspace}
-use Rattle.pb_resolved.specs.declared.features.Features.{Features}
+use Rattle.pb_graph.proofs.Placed.{placed_from, where_true}
+use Rattle.pb_graph.proofs.Membership.{none, single}
+use Rattle.pb_graph.specs.declared.graph.Node.{Node}
+use Rattle.pb_graph.specs.Graph as graph
+use Rattle.pb_graph.proofs.Elements.{contains_map, map_contains, contains_from_at, all_from_at, all_at}
+use Rattle.pb_workspace_types.specs.Settled.{IsSettled, IsPackage}
+use Rattle.pb_workspace_types.specs.declared.package.Side.{Side}
+use Rattle.pb_workspace_types.specs.declared.package.Side.TheVariants.{Host}
+use Rattle.pb_workspace_types.specs.declared.package.Package.{Package}
+use Rattle.pb_workspace_types.specs.declared.package.Entry.{Entry}
+use Rattle.pb_workspace_types.specs.declared.options.Selection.{Selection}
+use Rattle.pb_workspace_types.specs.declared.workspace.Workspace.{Workspace}
+use Rattle.pb_feature_types.specs.declared.features.Features.{Features}
 use Rattle.pb_unit.specs.declared.unit.Unit.{Unit}
 use Rattle.pb_unit.specs.declared.unit.What.{What}
 use Rattle.pb_unit.specs.declared.unit.What.TheVariants.{Lib, Bin, Script, Run}

@@ -5,16 +5,16 @@ use Rattle.std.proofs.lemmas.Bool.{false≢true}
 use Rattle.std.proofs.lemmas.Slice.Eq.{bytes_eq-Decides}
 use Rattle.std.specs.List.{list_any, list_all, onto_first, IsDistinct, AllByRecursion}
 use Rattle.std.specs.Str.{bytes_eq}
-use Rattle.pb_manifest.specs.Letters as letters
-use Rattle.pb_place.specs.Paths.{parts_of, stays, leads_up, is_name, is_relative}
-use Rattle.pb_place.proofs.PathLemmas.{and_left, and_right}
-use Rattle.pb_package.specs.declared.package.Side.{Side}
-use Rattle.pb_package.specs.declared.package.Side.TheVariants.{Target, Host}
-use Rattle.pb_package.specs.declared.package.Package.{Package}
-use Rattle.pb_package.specs.declared.workspace.Workspace.{Workspace}
-use Rattle.pb_package.specs.Settled.{IsSettled, IsPackage}
-use Rattle.pb_package.proofs.NamesInPaths.{either, leads_on, no_dot, no_slash, no_zero, unlike, without}
-use Rattle.pb_order.proofs.Elements.{all_at}
+use Rattle.pb_manifest_types.specs.Letters as letters
+use Rattle.pb_place_types.specs.Paths.{parts_of, stays, leads_up, is_name, is_relative}
+use Rattle.pb_place_types.proofs.PathLemmas.{and_left, and_right}
+use Rattle.pb_workspace_types.specs.declared.package.Side.{Side}
+use Rattle.pb_workspace_types.specs.declared.package.Side.TheVariants.{Target, Host}
+use Rattle.pb_workspace_types.specs.declared.package.Package.{Package}
+use Rattle.pb_workspace_types.specs.declared.workspace.Workspace.{Workspace}
+use Rattle.pb_workspace_types.specs.Settled.{IsSettled, IsPackage}
+use Rattle.pb_workspace_types.proofs.NamesInPaths.{either, leads_on, no_dot, no_slash, no_zero, unlike, without}
+use Rattle.pb_graph.proofs.Elements.{all_at}
 use Rattle.pb_unit.specs.declared.unit.Unit.{Unit}
 use Rattle.pb_unit.specs.declared.unit.What.{What}
 use Rattle.pb_unit.specs.declared.unit.What.TheVariants.{Lib, Bin, Script, Run}

@@ -2,15 +2,15 @@
 use Rattle.std.proofs.Common.{◌≡◌, ◌⊎◌, inl, inr, ℕ, Bool, true, false, not, ◌&&◌, List, [], ◌∷◌, refl, sym, subst, slice_get, Contains}
 use Rattle.std.specs.Prelude.{◌||◌}
 use Rattle.std.proofs.lemmas.Bool.{false≢true, and_parts}
-use Rattle.pb_closure.proofs.Placed.{placed_from, placed_to, where_true, at_true}
-use Rattle.pb_closure.proofs.Membership.{single, head}
-use Rattle.pb_package.specs.Workspace.{HasEntry}
-use Rattle.pb_package.specs.declared.package.Side.{Side}
-use Rattle.pb_package.specs.declared.package.Side.TheVariants.{Target, Host}
-use Rattle.pb_package.specs.declared.package.Entry.{Entry}
-use Rattle.pb_package.specs.declared.workspace.Workspace.{Workspace}
-use Rattle.pb_resolved.specs.declared.features.Features.{Features}
-use Rattle.pb_resolved.specs.Features.{is_enabled}
+use Rattle.pb_graph.proofs.Placed.{placed_from, placed_to, where_true, at_true}
+use Rattle.pb_graph.proofs.Membership.{single, head}
+use Rattle.pb_workspace_types.specs.Workspace.{HasEntry}
+use Rattle.pb_workspace_types.specs.declared.package.Side.{Side}
+use Rattle.pb_workspace_types.specs.declared.package.Side.TheVariants.{Target, Host}
+use Rattle.pb_workspace_types.specs.declared.package.Entry.{Entry}
+use Rattle.pb_workspace_types.specs.declared.workspace.Workspace.{Workspace}
+use Rattle.pb_feature_types.specs.declared.features.Features.{Features}
+use Rattle.pb_feature_types.specs.Features.{is_enabled}
 use Rattle.pb_unit.specs.Units.{name_at, has_library}
 use Rattle.pb_unit.specs.Drawing.{missing_by, missing_at, all_missing}
 

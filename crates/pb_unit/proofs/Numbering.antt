@@ -1,12 +1,12 @@
 -- What units need, as numbers.
 use Rattle.std.proofs.Common.{◌≡◌, ℕ, ◌+◌, Bool, true, false, ◌&&◌, if◌then◌else◌, List, [], ◌∷◌, ◌++◌, map, slice_get, refl, sym, ap, ◌∙◌, append_assoc}
 use Rattle.std.proofs.lemmas.List.{map-append}
-use Rattle.pb_closure.specs.Placed.{placed}
-use Rattle.pb_package.specs.declared.package.Side.{Side}
-use Rattle.pb_package.specs.declared.package.Side.TheVariants.{Host}
-use Rattle.pb_package.specs.declared.workspace.Workspace.{Workspace}
-use Rattle.pb_resolved.specs.declared.features.Features.{Features}
-use Rattle.pb_resolved.specs.Features.{is_enabled}
+use Rattle.pb_graph.specs.Placed.{placed}
+use Rattle.pb_workspace_types.specs.declared.package.Side.{Side}
+use Rattle.pb_workspace_types.specs.declared.package.Side.TheVariants.{Host}
+use Rattle.pb_workspace_types.specs.declared.workspace.Workspace.{Workspace}
+use Rattle.pb_feature_types.specs.declared.features.Features.{Features}
+use Rattle.pb_feature_types.specs.Features.{is_enabled}
 use Rattle.pb_unit.specs.declared.dependencies.Need.TheVariants as need
 use Rattle.pb_unit.specs.declared.unit.Unit.{Unit}
 use Rattle.pb_unit.specs.declared.unit.What.TheVariants.{Lib, Bin, Script, Run}

@@ -11,22 +11,22 @@ use Rattle.std.proofs.lemmas.Slice.Zip.{AllZip-long}
 use Rattle.std.proofs.lemmas.List.{length-map}
 use Rattle.std.proofs.lemmas.List.Elements.{Contains-get_or}
 use Rattle.std.proofs.lemmas.Option.{slice_get_within}
-use Rattle.pb_order.specs.declared.graph.Node.{Node}
-use Rattle.pb_order.specs.declared.graph.Step.{Step}
-use Rattle.pb_order.specs.declared.graph.OrderFault.{OrderFault}
-use Rattle.pb_order.specs.declared.graph.OrderFault.TheVariants as order_fault
-use Rattle.pb_order.specs.Graph as graph
-use Rattle.pb_order.specs.Order as order
-use Rattle.pb_order.proofs.Elements as elements
-use Rattle.pb_order.proofs.Elements.{contains_map, map_contains, at_from_contains, contains_from_at, all_from_at, all_at, pair_at, pairs_from_at, zip_left, zip_right}
-use Rattle.pb_package.specs.Settled.{IsSettled, IsAscending}
-use Rattle.pb_package.specs.declared.options.Selection.{Selection}
-use Rattle.pb_package.specs.declared.workspace.Workspace.{Workspace}
-use Rattle.pb_resolved.specs.declared.features.Features.{Features}
+use Rattle.pb_graph.specs.declared.graph.Node.{Node}
+use Rattle.pb_graph.specs.declared.graph.Step.{Step}
+use Rattle.pb_graph.specs.declared.graph.OrderFault.{OrderFault}
+use Rattle.pb_graph.specs.declared.graph.OrderFault.TheVariants as order_fault
+use Rattle.pb_graph.specs.Graph as graph
+use Rattle.pb_graph.specs.Order as order
+use Rattle.pb_graph.proofs.Elements as elements
+use Rattle.pb_graph.proofs.Elements.{contains_map, map_contains, at_from_contains, contains_from_at, all_from_at, all_at, pair_at, pairs_from_at, zip_left, zip_right}
+use Rattle.pb_workspace_types.specs.Settled.{IsSettled, IsAscending}
+use Rattle.pb_workspace_types.specs.declared.options.Selection.{Selection}
+use Rattle.pb_workspace_types.specs.declared.workspace.Workspace.{Workspace}
+use Rattle.pb_feature_types.specs.declared.features.Features.{Features}
 use Rattle.pb_profile.specs.Line.{Seen}
-use Rattle.pb_place.specs.Paths.{below, is_relative, is_path, is_name, is_at_or_below}
-use Rattle.pb_place.proofs.Folders.{named_folders_lie_apart}
-use Rattle.pb_place.proofs.Within.{share_no_path}
+use Rattle.pb_place_types.specs.Paths.{below, is_relative, is_path, is_name, is_at_or_below}
+use Rattle.pb_place_types.proofs.Folders.{named_folders_lie_apart}
+use Rattle.pb_place_types.proofs.Within.{share_no_path}
 use Rattle.pb_unit.specs.declared.unit.Unit.{Unit}
 use Rattle.pb_unit.specs.declared.plan.Planned.{Planned}
 use Rattle.pb_unit.specs.declared.fault.PlanFault.{PlanFault}

@@ -1,8 +1,8 @@
 -- Lists with the same elements, marks of what is listed.
 use Rattle.std.proofs.Common.{◌≡◌, ◌↔◌, ℕ, Bool, true, List, [], Contains, Any, sym, subst}
-use Rattle.pb_closure.specs.Closure.{Least, seed, joined, IsLeast}
-use Rattle.pb_closure.specs.Table.{joined_by}
-use Rattle.pb_closure.proofs.Membership.{none}
+use Rattle.pb_graph.specs.Closure.{Least, seed, joined, IsLeast}
+use Rattle.pb_graph.specs.Table.{joined_by}
+use Rattle.pb_graph.proofs.Membership.{none}
 
 -- without rules the least set is the seeds
 pub least_seeds : (seeds : List ℕ) (says : ℕ → Bool) → IsLeast (Least (Contains seeds) (joined_by [])) says → (p : ℕ) → (says p ≡ true) ↔ Contains seeds p

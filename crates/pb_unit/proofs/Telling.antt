@@ -2,16 +2,16 @@
 use Rattle.std.proofs.Common.{◌≡◌, inl, inr, ◌==◌, ◌||◌, ◌<◌, ℕ, Bool, true, false, cond, List, [], ◌∷◌, ◌++◌, length, refl, sym, ap, ◌∙◌, append_assoc, Option, Some, None, slice_get}
 use Rattle.std.proofs.lemmas.Option.{slice_get_within}
 use Rattle.std.specs.List.{list_any}
-use Rattle.pb_manifest.specs.Letters as letters
-use Rattle.pb_place.specs.Paths.{below, stem, is_name}
-use Rattle.pb_package.specs.Settled.{IsSettled, IsPackage}
-use Rattle.pb_package.specs.declared.options.Selection.{Selection}
-use Rattle.pb_package.specs.declared.package.Binary.{Binary}
-use Rattle.pb_package.specs.declared.package.Package.{Package}
-use Rattle.pb_package.specs.declared.workspace.Workspace.{Workspace}
-use Rattle.pb_package.proofs.NamesInPaths.{no_dot}
-use Rattle.pb_resolved.specs.declared.features.Features.{Features}
-use Rattle.pb_order.proofs.Elements.{all_at, all_from_at, at_from_contains, contains_from_at, contains_map}
+use Rattle.pb_manifest_types.specs.Letters as letters
+use Rattle.pb_place_types.specs.Paths.{below, stem, is_name}
+use Rattle.pb_workspace_types.specs.Settled.{IsSettled, IsPackage}
+use Rattle.pb_workspace_types.specs.declared.options.Selection.{Selection}
+use Rattle.pb_workspace_types.specs.declared.package.Binary.{Binary}
+use Rattle.pb_workspace_types.specs.declared.package.Package.{Package}
+use Rattle.pb_workspace_types.specs.declared.workspace.Workspace.{Workspace}
+use Rattle.pb_workspace_types.proofs.NamesInPaths.{no_dot}
+use Rattle.pb_feature_types.specs.declared.features.Features.{Features}
+use Rattle.pb_graph.proofs.Elements.{all_at, all_from_at, at_from_contains, contains_from_at, contains_map}
 use Rattle.pb_unit.specs.declared.plan.Planned.{Planned}
 use Rattle.pb_unit.specs.declared.unit.Unit.{Unit}
 use Rattle.pb_unit.specs.declared.unit.What.{What}

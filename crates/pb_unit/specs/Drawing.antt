@@ -6,26 +6,26 @@ use Rattle.std.specs.List.Sorted.{IsStrictlySortedBy}
 use Rattle.std.specs.Ordering.{nat_cmp, ordering_then}
 use Rattle.std.specs.declared.cmp.Ordering.{Ordering}
 use Rattle.std.specs.Cmp.Lexicographic.{slice_cmp}
-use Rattle.pb_closure.specs.Closure.{is_on}
-use Rattle.pb_closure.specs.Placed.{placed}
+use Rattle.pb_graph.specs.Closure.{is_on}
+use Rattle.pb_graph.specs.Placed.{placed}
 use Rattle.pb_data.specs.Mentions.{is_mentioned}
-use Rattle.pb_place.specs.Paths.{below}
-use Rattle.pb_order.specs.declared.graph.Node.{Node}
-use Rattle.pb_order.specs.declared.graph.Step.{Step}
-use Rattle.pb_order.specs.declared.graph.OrderFault.{OrderFault}
-use Rattle.pb_order.specs.declared.graph.OrderFault.TheVariants as order_fault
-use Rattle.pb_package.specs.Settled.{IsAscending}
+use Rattle.pb_place_types.specs.Paths.{below}
+use Rattle.pb_graph.specs.declared.graph.Node.{Node}
+use Rattle.pb_graph.specs.declared.graph.Step.{Step}
+use Rattle.pb_graph.specs.declared.graph.OrderFault.{OrderFault}
+use Rattle.pb_graph.specs.declared.graph.OrderFault.TheVariants as order_fault
+use Rattle.pb_workspace_types.specs.Settled.{IsAscending}
 use Rattle.pb_unit.specs.declared.fault.PlanFault.{PlanFault}
 use Rattle.pb_unit.specs.declared.fault.PlanFault.TheVariants.{Cycle, TooManyUnits, OutOfMemory}
-use Rattle.pb_package.specs.declared.package.Side.{Side}
-use Rattle.pb_package.specs.declared.package.Side.TheVariants.{Target, Host}
-use Rattle.pb_package.specs.declared.package.Package.{Package}
-use Rattle.pb_package.specs.declared.package.Binary.{Binary}
-use Rattle.pb_package.specs.declared.package.Entry.{Entry}
-use Rattle.pb_package.specs.declared.options.Selection.{Selection}
-use Rattle.pb_package.specs.declared.workspace.Workspace.{Workspace}
-use Rattle.pb_resolved.specs.declared.features.Features.{Features}
-use Rattle.pb_resolved.specs.Features.{features_at, is_enabled}
+use Rattle.pb_workspace_types.specs.declared.package.Side.{Side}
+use Rattle.pb_workspace_types.specs.declared.package.Side.TheVariants.{Target, Host}
+use Rattle.pb_workspace_types.specs.declared.package.Package.{Package}
+use Rattle.pb_workspace_types.specs.declared.package.Binary.{Binary}
+use Rattle.pb_workspace_types.specs.declared.package.Entry.{Entry}
+use Rattle.pb_workspace_types.specs.declared.options.Selection.{Selection}
+use Rattle.pb_workspace_types.specs.declared.workspace.Workspace.{Workspace}
+use Rattle.pb_feature_types.specs.declared.features.Features.{Features}
+use Rattle.pb_feature_types.specs.Features.{features_at, is_enabled}
 use Rattle.pb_profile.specs.Line.{Seen}
 use Rattle.pb_profile.specs.Settings.{settings_along}
 use Rattle.pb_unit.specs.declared.unit.Unit.{Unit}

@@ -5,16 +5,16 @@ use Rattle.std.specs.Ordering.{nat_cmp}
 use Rattle.std.specs.declared.cmp.Ordering.TheVariants.{Less}
 use Rattle.std.specs.Cmp.Lexicographic.{slice_cmp}
 use Rattle.pb_data.specs.Gives.{◌>>=◌}
-use Rattle.pb_place.specs.Paths.{below, is_relative, is_at_or_below}
-use Rattle.pb_package.specs.Settled.{IsAscending}
-use Rattle.pb_package.specs.Workspace.{HasEntry}
-use Rattle.pb_package.specs.declared.package.Side.{Side}
-use Rattle.pb_package.specs.declared.package.Package.{Package}
-use Rattle.pb_package.specs.declared.package.Entry.{Entry}
-use Rattle.pb_package.specs.declared.options.Selection.{Selection}
-use Rattle.pb_package.specs.declared.workspace.Workspace.{Workspace}
-use Rattle.pb_resolved.specs.declared.features.Features.{Features}
-use Rattle.pb_resolved.specs.Features.{is_enabled}
+use Rattle.pb_place_types.specs.Paths.{below, is_relative, is_at_or_below}
+use Rattle.pb_workspace_types.specs.Settled.{IsAscending}
+use Rattle.pb_workspace_types.specs.Workspace.{HasEntry}
+use Rattle.pb_workspace_types.specs.declared.package.Side.{Side}
+use Rattle.pb_workspace_types.specs.declared.package.Package.{Package}
+use Rattle.pb_workspace_types.specs.declared.package.Entry.{Entry}
+use Rattle.pb_workspace_types.specs.declared.options.Selection.{Selection}
+use Rattle.pb_workspace_types.specs.declared.workspace.Workspace.{Workspace}
+use Rattle.pb_feature_types.specs.declared.features.Features.{Features}
+use Rattle.pb_feature_types.specs.Features.{is_enabled}
 use Rattle.pb_profile.specs.Line.{Seen, checked_line, folder_of}
 use Rattle.pb_profile.specs.Settings.{settings_along}
 use Rattle.pb_profile.specs.declared.fault.ProfileFault.{ProfileFault}

@@ -2,18 +2,18 @@
 -- has (The Cargo Book, Build Scripts, Features, cargo build).
 use Rattle.std.specs.Prelude.{◌≡◌, ◌⊎◌, ℕ, Bool, true, false, not, ◌&&◌, ◌||◌, ◌==◌, if◌then◌else◌, is_some, codes, List, [], ◌∷◌, ◌++◌, All, Contains, length, Option, Some, None, slice_get}
 use Rattle.pb_data.specs.Mentions.{is_mentioned}
-use Rattle.pb_closure.specs.Placed.{placed}
-use Rattle.pb_package.specs.declared.package.Side.{Side}
-use Rattle.pb_package.specs.declared.package.Side.TheVariants.{Target, Host}
-use Rattle.pb_package.specs.declared.package.DependencyKind.{DependencyKind}
-use Rattle.pb_package.specs.declared.package.DependencyKind.TheVariants.{Normal, Build}
-use Rattle.pb_package.specs.declared.package.Package.{Package}
-use Rattle.pb_package.specs.declared.package.Binary.{Binary}
-use Rattle.pb_package.specs.declared.package.Entry.{Entry}
-use Rattle.pb_package.specs.declared.options.Selection.{Selection}
-use Rattle.pb_package.specs.declared.workspace.Workspace.{Workspace}
-use Rattle.pb_resolved.specs.declared.features.Features.{Features}
-use Rattle.pb_resolved.specs.Features.{features_at, is_enabled}
+use Rattle.pb_graph.specs.Placed.{placed}
+use Rattle.pb_workspace_types.specs.declared.package.Side.{Side}
+use Rattle.pb_workspace_types.specs.declared.package.Side.TheVariants.{Target, Host}
+use Rattle.pb_workspace_types.specs.declared.package.DependencyKind.{DependencyKind}
+use Rattle.pb_workspace_types.specs.declared.package.DependencyKind.TheVariants.{Normal, Build}
+use Rattle.pb_workspace_types.specs.declared.package.Package.{Package}
+use Rattle.pb_workspace_types.specs.declared.package.Binary.{Binary}
+use Rattle.pb_workspace_types.specs.declared.package.Entry.{Entry}
+use Rattle.pb_workspace_types.specs.declared.options.Selection.{Selection}
+use Rattle.pb_workspace_types.specs.declared.workspace.Workspace.{Workspace}
+use Rattle.pb_feature_types.specs.declared.features.Features.{Features}
+use Rattle.pb_feature_types.specs.Features.{features_at, is_enabled}
 use Rattle.pb_unit.specs.declared.unit.Unit.{Unit}
 use Rattle.pb_unit.specs.declared.unit.What.{What}
 use Rattle.pb_unit.specs.declared.unit.What.TheVariants.{Lib, Bin, Script, Run}

@@ -3,18 +3,18 @@
 ghost use Rattle.std.specs.Prelude.{◌≡◌, ◌++◌, ◌↔◌, [], ◌∷◌, ◌<◌, IfOk, OnOk, All, Contains, map, length, slice_get};
 ghost use Rattle.std.specs.List.{list_all};
 ghost use Rattle.std.specs.List.Sorted.{IsStrictlySortedBy};
-ghost use Rattle.pb_closure.specs.Placed.{placed};
+ghost use Rattle.pb_graph.specs.Placed.{placed};
 ghost use Rattle.pb_data.specs.Mentions.{is_mentioned};
-ghost use Rattle.pb_resolved.specs.Features.{features_at};
-ghost use Rattle.pb_package.specs.declared.package.Side.TheVariants.{Target};
+ghost use Rattle.pb_feature_types.specs.Features.{features_at};
+ghost use Rattle.pb_workspace_types.specs.declared.package.Side.TheVariants.{Target};
 ghost use Rattle.pb_unit.specs.Units.{asks_all, asks_libraries, asks_binary};
 ghost use Rattle.pb_unit.specs.Drawing.{six, fixed, binaries_of, named_by, named_at, all_named, named_cmp, unit_named, AreCandidates};
 
 use crate::unit::{Unit, What};
 use pb_data::{Text, TryCopy};
-use pb_order::sort_once;
-use pb_package::{Binary, Package, Selection, Side, Workspace};
-use pb_resolved::Features;
+use pb_graph::sort_once;
+use pb_workspace_types::{Binary, Package, Selection, Side, Workspace};
+use pb_feature_types::Features;
 use std::alloc::{AllocError, Global};
 
 /// A binary that is a root.

@@ -1,7 +1,7 @@
 //! The graph of the units that a plan may have.
 
 ghost use Rattle.std.specs.Prelude.{◌≡◌, ◌<◌, ◌≤◌, ℕ, IfOk, All, Contains, map, length};
-ghost use Rattle.pb_order.specs.Graph.{IsGraph};
+ghost use Rattle.pb_graph.specs.Graph.{IsGraph};
 ghost use Rattle.pb_unit.specs.Drawing.{node_of, IsDrawn};
 
 use crate::candidates::candidates;
@@ -9,9 +9,9 @@ use crate::needed::needed_by;
 use crate::roots::roots;
 use crate::unit::Unit;
 use pb_data::Items;
-use pb_order::Node;
-use pb_package::{SelectedWorkspace, SettledWorkspace};
-use pb_resolved::Features;
+use pb_graph::Node;
+use pb_workspace_types::{SelectedWorkspace, SettledWorkspace};
+use pb_feature_types::Features;
 use std::alloc::{AllocError, Global};
 
 /// The units that a plan may have, as the nodes of a graph, and which of them are roots.

@@ -1,8 +1,8 @@
 //! Names of packages, in byte order.
 
 ghost use Rattle.std.specs.Prelude.{◌≡◌, ◌++◌, ◌↔◌, ℕ, List, IfOk, OnOk, Contains, map, length};
-ghost use Rattle.pb_closure.specs.Placed.{placed};
-ghost use Rattle.pb_package.specs.Settled.{IsAscending};
+ghost use Rattle.pb_graph.specs.Placed.{placed};
+ghost use Rattle.pb_workspace_types.specs.Settled.{IsAscending};
 ghost use Rattle.pb_unit.specs.Units.{name_at};
 ghost use Rattle.pb_unit.specs.Plan.{AreWithoutLibrary};
 ghost use Rattle.pb_unit.specs.Drawing.{missing_by, missing_at, all_missing, name_behind};
@@ -10,9 +10,9 @@ ghost use Rattle.pb_unit.specs.Drawing.{missing_by, missing_at, all_missing, nam
 use crate::dependencies::has_library;
 use crate::unit::{Unit, name_at};
 use pb_data::{Items, Text};
-use pb_order::sort_once;
-use pb_package::{Entry, Side, Workspace};
-use pb_resolved::Features;
+use pb_graph::sort_once;
+use pb_workspace_types::{Entry, Side, Workspace};
+use pb_feature_types::Features;
 use std::alloc::{AllocError, Global};
 
 /// Returns names in byte order, each once.

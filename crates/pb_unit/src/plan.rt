@@ -2,14 +2,14 @@
 
 ghost use Rattle.std.specs.Prelude.{◌≡◌, ◌⊎◌, ◌<◌, ◌≤◌, ℕ, true, IfOk, IfErr, IfSome, OnOk, All, AllPairs, Contains, map, length, slice_get, if◌then◌else◌, Option, Some, None, Result, Ok, Err};
 ghost use Rattle.std.specs.List.{AllZip};
-ghost use Rattle.pb_place.specs.Paths.{below, is_relative, is_path};
-ghost use Rattle.pb_order.specs.Order.{IsOrder};
-ghost use Rattle.pb_package.specs.Settled.{IsSettled};
-ghost use Rattle.pb_package.specs.declared.package.Package.{Package};
+ghost use Rattle.pb_place_types.specs.Paths.{below, is_relative, is_path};
+ghost use Rattle.pb_graph.specs.Order.{IsOrder};
+ghost use Rattle.pb_workspace_types.specs.Settled.{IsSettled};
+ghost use Rattle.pb_workspace_types.specs.declared.package.Package.{Package};
 ghost use Rattle.pb_profile.specs.Line.{seen, folder_of};
 ghost use Rattle.pb_profile.specs.Settings.{settings_along};
 ghost use Rattle.pb_profile.specs.declared.fault.ProfileFault.{ProfileFault};
-ghost use Rattle.pb_order.specs.declared.graph.Step.{Step};
+ghost use Rattle.pb_graph.specs.declared.graph.Step.{Step};
 ghost use Rattle.pb_unit.specs.declared.fault.PlanFault.TheVariants.{OutOfMemory, Profile};
 ghost use Rattle.pb_unit.specs.Drawing.{IsDrawn, IsMade, IsRefusal};
 ghost use Rattle.pb_unit.specs.Units.{role_of};
@@ -20,12 +20,12 @@ use crate::fault::PlanFault;
 use crate::names::{names_behind, without_library};
 use crate::unit::Unit;
 use pb_data::{Items, Text, TryCopy};
-use pb_order::order::order;
-use pb_order::{OrderFault, Step};
-use pb_package::{SelectedWorkspace, Workspace};
-use pb_place::{PathText, RelativePath};
+use pb_graph::order::order;
+use pb_graph::{OrderFault, Step};
+use pb_workspace_types::{SelectedWorkspace, Workspace};
+use pb_place_types::{PathText, RelativePath};
 use pb_profile::{Ancestor, ProfileFault, Settings, folder_of, line_of, settings_along};
-use pb_resolved::Features;
+use pb_feature_types::Features;
 use std::alloc::{AllocError, Global};
 
 /// How many units a plan may have.

@@ -1,15 +1,15 @@
 //! Which units a build must make.
 
 ghost use Rattle.std.specs.Prelude.{◌≡◌, ◌↔◌, ℕ, ◌<◌, true, IfOk, All, Contains, length};
-ghost use Rattle.pb_closure.specs.Closure.{is_on};
-ghost use Rattle.pb_closure.specs.Placed.{placed};
+ghost use Rattle.pb_graph.specs.Closure.{is_on};
+ghost use Rattle.pb_graph.specs.Placed.{placed};
 ghost use Rattle.pb_unit.specs.Drawing.{is_target, is_root, root_at, AreRoots};
 
 use crate::candidates::asks_libraries;
 use crate::dependencies::has_library;
 use crate::unit::{Unit, What};
-use pb_closure::derived;
-use pb_package::{SelectedWorkspace, SettledWorkspace, Side};
+use pb_graph::derived;
+use pb_workspace_types::{SelectedWorkspace, SettledWorkspace, Side};
 use std::alloc::{AllocError, Global};
 
 /// Returns whether it is the target's side.

@@ -4,7 +4,7 @@ ghost use Rattle.std.specs.Prelude.{◌≡◌, ◌++◌, IfOk, OnOk, string_byte
 ghost use Rattle.pb_unit.specs.Units.{key_of, name_at, side_name, what_name, role_of};
 
 use pb_data::{Text, TryCopy};
-use pb_package::{Side, Workspace};
+use pb_workspace_types::{Side, Workspace};
 use std::alloc::{AllocError, Global};
 
 /// What a unit makes of its package.

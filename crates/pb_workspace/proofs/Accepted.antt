@@ -3,12 +3,12 @@ use Rattle.std.proofs.Common.{◌≡◌, ◌∙◌, ℕ, Bool, true, false, if�
 use Rattle.std.specs.List.{IsDistinct}
 use Rattle.std.specs.Str.{bytes_eq}
 use Rattle.pb_data.specs.Gives.{◌>>=◌}
-use Rattle.pb_manifest.specs.declared.manifest.WorkspaceTable.{WorkspaceTable}
-use Rattle.pb_manifest.specs.declared.profile.Profile.{Profile}
-use Rattle.pb_place.specs.Paths.{folder_of}
-use Rattle.pb_place.specs.World.{World, from_nothing}
+use Rattle.pb_manifest_types.specs.declared.manifest.WorkspaceTable.{WorkspaceTable}
+use Rattle.pb_manifest_types.specs.declared.profile.Profile.{Profile}
+use Rattle.pb_place_types.specs.Paths.{folder_of}
+use Rattle.pb_place_types.specs.World.{World, from_nothing}
 use Rattle.pb_workspace.proofs.Keeping.{none_again}
-use Rattle.pb_draft.proofs.Puttings.{map_twice}
+use Rattle.pb_workspace_package.proofs.Puttings.{map_twice}
 use Rattle.pb_workspace.specs.Assembled.{assembled, package_at}
 use Rattle.pb_workspace.specs.ByFolder.{values_of}
 use Rattle.pb_workspace.specs.Checks.{fault_of, has_same_names}
@@ -16,14 +16,14 @@ use Rattle.pb_workspace.specs.Frames.{frame_of}
 use Rattle.pb_workspace.specs.Laws.{NamesDiffer, HasTarget, HasRoot, LooksAtSources}
 use Rattle.pb_workspace.specs.Loaded.{packages_read, root_parts, unless, workspace_from, workspace_in, workspace_of}
 use Rattle.pb_workspace.specs.Places.{places_of}
-use Rattle.pb_draft.specs.declared.draft.Draft.{Draft}
-use Rattle.pb_package.specs.declared.fault.LoadFault.{LoadFault}
-use Rattle.pb_package.specs.declared.fault.LoadFault.TheVariants.{SameName}
+use Rattle.pb_workspace_package.specs.declared.draft.Draft.{Draft}
+use Rattle.pb_workspace_types.specs.declared.fault.LoadFault.{LoadFault}
+use Rattle.pb_workspace_types.specs.declared.fault.LoadFault.TheVariants.{SameName}
 use Rattle.pb_workspace.specs.declared.frame.Frame.{Frame}
-use Rattle.pb_package.specs.declared.package.Package.{Package}
+use Rattle.pb_workspace_types.specs.declared.package.Package.{Package}
 use Rattle.pb_workspace.specs.declared.rounds.Parts.{Parts}
 use Rattle.pb_workspace.specs.declared.rounds.Reading.{Reading}
-use Rattle.pb_package.specs.declared.workspace.Workspace.{Workspace}
+use Rattle.pb_workspace_types.specs.declared.workspace.Workspace.{Workspace}
 
 -- what came after a step that went well
 bound : {A B : Type 0} (m : Result A LoadFault) (next : A → Result B LoadFault) (y : B) → (m >>= next) ≡ Ok y → (x : A) × (next x ≡ Ok y)

@@ -2,15 +2,15 @@
 use Rattle.std.proofs.Common.{◌≡◌, ◌≤◌, ◌<◌, ℕ, ◌+◌, List, [], ◌∷◌, length, Bool, true, false, not, ◌==◌, if◌then◌else◌, Option, Some, None, IfSome, All, Ok, Err, subst, arith}
 use Rattle.std.proofs.lemmas.List.Elements.{All-from_recursion, recursion_from_All}
 use Rattle.std.specs.List.{AllByRecursion}
-use Rattle.pb_package.specs.declared.fault.LoadFault.TheVariants.{NoSuchPackage}
-use Rattle.pb_package.specs.declared.options.Options.{Options}
-use Rattle.pb_package.specs.declared.options.Selection.{Selection}
-use Rattle.pb_package.specs.declared.package.Package.{Package}
-use Rattle.pb_package.specs.declared.workspace.DefaultMembers.{DefaultMembers}
-use Rattle.pb_package.specs.declared.workspace.DefaultMembers.TheVariants.{Unwritten, Named, Unknown}
-use Rattle.pb_package.specs.declared.workspace.Workspace.{Workspace}
+use Rattle.pb_workspace_types.specs.declared.fault.LoadFault.TheVariants.{NoSuchPackage}
+use Rattle.pb_workspace_types.specs.declared.options.Options.{Options}
+use Rattle.pb_workspace_types.specs.declared.options.Selection.{Selection}
+use Rattle.pb_workspace_types.specs.declared.package.Package.{Package}
+use Rattle.pb_workspace_types.specs.declared.workspace.DefaultMembers.{DefaultMembers}
+use Rattle.pb_workspace_types.specs.declared.workspace.DefaultMembers.TheVariants.{Unwritten, Named, Unknown}
+use Rattle.pb_workspace_types.specs.declared.workspace.Workspace.{Workspace}
 use Rattle.pb_workspace.specs.Selected.{by_default, members_of, name_members, named_members, is_named_member, places_from, root_or_members, selected, selected_packages, selection_of}
-use Rattle.pb_package.specs.Settled.{IfNamed, IsSettled}
+use Rattle.pb_workspace_types.specs.Settled.{IfNamed, IsSettled}
 use Rattle.pb_workspace.proofs.FoldersPut.{opened}
 
 pub places_below : (test : Package → Bool) (n count : ℕ) (ps : List Package) → n + length ps ≤ count → AllByRecursion (λ p. p < count) (places_from test n ps)

@@ -3,9 +3,9 @@ use Rattle.std.proofs.Common.{◌≡◌, ◌∙◌, ◌<◌, ◌≤◌, ℕ, zer
 use Rattle.std.proofs.lemmas.Bool.Decides.{nat_tests}
 use Rattle.std.specs.Option.{option_map}
 use Rattle.pb_data.specs.Gives.{◌>>=◌, lifted}
-use Rattle.pb_manifest.specs.declared.fault.ManifestFault.TheVariants.{TooLarge}
-use Rattle.pb_package.specs.declared.fault.LoadFault.TheVariants.{Manifest}
-use Rattle.pb_manifest_reader.specs.Document.{document_in, document_of, greatest_length, manifest_of}
+use Rattle.pb_manifest_types.specs.declared.fault.ManifestFault.TheVariants.{TooLarge}
+use Rattle.pb_workspace_types.specs.declared.fault.LoadFault.TheVariants.{Manifest}
+use Rattle.pb_manifest.specs.Document.{document_in, document_of, greatest_length, manifest_of}
 use Rattle.pb_workspace.specs.Rounds.{read_found}
 
 less : (m n : ℕ) → nat_lt m n ≡ true → m < n

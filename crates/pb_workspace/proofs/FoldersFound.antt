@@ -2,16 +2,16 @@
 use Rattle.std.proofs.Common.{◌≡◌, ◌⊎◌, inl, inr, ◌↔◌, ℕ, zero, suc, List, [], ◌∷◌, length, Contains, Bool, true, false, if◌then◌else◌, Result, Ok, Err, refl, sym, subst}
 use Rattle.std.specs.Prelude.{nat_le}
 use Rattle.std.specs.List.{AllByRecursion}
-use Rattle.pb_closure.specs.Closure.{Reached, start, onward}
-use Rattle.pb_closure.proofs.Membership.{none, head, tail, cases}
+use Rattle.pb_graph.specs.Closure.{Reached, start, onward}
+use Rattle.pb_graph.proofs.Membership.{none, head, tail, cases}
 use Rattle.pb_data.specs.Gives.{◌>>=◌}
-use Rattle.pb_draft.specs.declared.draft.Draft.{Draft}
-use Rattle.pb_package.specs.declared.fault.LoadFault.{LoadFault}
-use Rattle.pb_package.specs.declared.fault.LoadFault.TheVariants.{TooMany}
+use Rattle.pb_workspace_package.specs.declared.draft.Draft.{Draft}
+use Rattle.pb_workspace_types.specs.declared.fault.LoadFault.{LoadFault}
+use Rattle.pb_workspace_types.specs.declared.fault.LoadFault.TheVariants.{TooMany}
 use Rattle.pb_workspace.specs.declared.rounds.Reading.{Reading}
 use Rattle.pb_workspace.specs.ByFolder.{folders_of, has}
 use Rattle.pb_workspace.specs.Rounds.{all_read, leads_to, one_read, round, rounds, with_draft}
-use Rattle.pb_draft.proofs.Puttings.{with_entry_all}
+use Rattle.pb_workspace_package.proofs.Puttings.{with_entry_all}
 use Rattle.pb_workspace.proofs.FoldersPut.{Path, opened, has_there, put_only, put_old, put_new, with_only, with_old, with_new}
 
 -- a folder whose package was read, that is still to be read in this round, or that is read in the next

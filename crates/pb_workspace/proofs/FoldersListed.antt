@@ -6,13 +6,13 @@ use Rattle.std.proofs.lemmas.Slice.Eq.{bytes_eq-Decides}
 use Rattle.std.specs.FinMap as finite
 use Rattle.std.specs.List.{AllByRecursion, list_all, list_any}
 use Rattle.std.specs.Option.{option_and_then, option_map}
-use Rattle.pb_closure.proofs.Membership.{none, single, head, tail, cases}
-use Rattle.pb_place.proofs.MapLemmas.{among_keys, get-kept, same_bytes}
-use Rattle.pb_place.proofs.PathLemmas.{and_left, and_right, parts_joined, parts_some}
-use Rattle.pb_place.proofs.TakenApart.{found_inside, joins_again, parts_lone}
-use Rattle.pb_place.proofs.Towards.{begins, plain_parts}
-use Rattle.pb_place.specs.Paths.{below, inside, is_below, is_name, is_path, is_relative, last_of, parts_of, stem}
-use Rattle.pb_place.specs.World.{FilesHavePaths, World, first_folder, folder_towards, has_file, is_last, is_same_path, listed, listed_folders, with_new}
+use Rattle.pb_graph.proofs.Membership.{none, single, head, tail, cases}
+use Rattle.pb_place_types.proofs.MapLemmas.{among_keys, get-kept, same_bytes}
+use Rattle.pb_place_types.proofs.PathLemmas.{and_left, and_right, parts_joined, parts_some}
+use Rattle.pb_place_types.proofs.TakenApart.{found_inside, joins_again, parts_lone}
+use Rattle.pb_place_types.proofs.Towards.{begins, plain_parts}
+use Rattle.pb_place_types.specs.Paths.{below, inside, is_below, is_name, is_path, is_relative, last_of, parts_of, stem}
+use Rattle.pb_place_types.specs.World.{FilesHavePaths, World, first_folder, folder_towards, has_file, is_last, is_same_path, listed, listed_folders, with_new}
 use Rattle.pb_workspace.proofs.FoldersPut.{Path}
 use Rattle.pb_workspace.proofs.NamesOfPaths.{IsWhole}
 use Rattle.pb_workspace.proofs.WholeWorkspace.{map_each, map_only}

@@ -6,12 +6,12 @@ use Rattle.std.specs.Map.{lookup}
 use Rattle.std.specs.Cmp.Lexicographic.{nat_list_cmp_total}
 use Rattle.std.specs.Ordering.{is_eq, match_ordering}
 use Rattle.std.proofs.lemmas.List.{length-append}
-use Rattle.pb_closure.proofs.Membership.{none, cases}
-use Rattle.pb_place.proofs.MapLemmas.{exact}
-use Rattle.pb_draft.specs.declared.draft.Draft.{Draft}
+use Rattle.pb_graph.proofs.Membership.{none, cases}
+use Rattle.pb_place_types.proofs.MapLemmas.{exact}
+use Rattle.pb_workspace_package.specs.declared.draft.Draft.{Draft}
 use Rattle.pb_workspace.specs.ByFolder.{folders_of, value_of}
 use Rattle.pb_workspace.specs.Places.{numbered, places_of}
-use Rattle.pb_draft.specs.Sorted.{with_entry}
+use Rattle.pb_workspace_package.specs.Sorted.{with_entry}
 use Rattle.pb_workspace.proofs.FoldersPut.{Path, cmp, put_old, put_new}
 
 -- a value that is found among entries with one more is the new one's, or was found before

@@ -4,11 +4,11 @@ use Rattle.std.specs.BTreeMap.{insert_entry, is_at}
 use Rattle.std.specs.Map.{lookup}
 use Rattle.std.specs.Cmp.Lexicographic.{slice_cmp}
 use Rattle.std.specs.Ordering.{is_eq, nat_cmp, match_ordering}
-use Rattle.pb_closure.proofs.Membership.{none, head, tail, cases}
+use Rattle.pb_graph.proofs.Membership.{none, head, tail, cases}
 use Rattle.pb_data.specs.Gives.{◌>>=◌}
-use Rattle.pb_place.proofs.MapLemmas.{exact}
+use Rattle.pb_place_types.proofs.MapLemmas.{exact}
 use Rattle.pb_workspace.specs.ByFolder.{folders_of, has, with_folders}
-use Rattle.pb_draft.specs.Sorted.{with_entry}
+use Rattle.pb_workspace_package.specs.Sorted.{with_entry}
 
 abbrev pub Path : Type 0
 Path = List ℕ

@@ -6,14 +6,14 @@ use Rattle.std.proofs.lemmas.List.{append-nil}
 use Rattle.std.proofs.lemmas.Slice.Eq.{bytes_eq-Decides}
 use Rattle.std.specs.List.{AllByRecursion, filter, flat_map, list_all}
 use Rattle.std.specs.Str.{bytes_eq}
-use Rattle.pb_closure.proofs.Membership.{none, single, head, tail, cases}
-use Rattle.pb_place.proofs.PathLemmas.{and_left, and_right, parts_joined}
-use Rattle.pb_place.proofs.TakenApart.{parts_lone}
-use Rattle.pb_place.proofs.Towards.{plain_parts as parts_whole}
-use Rattle.pb_place.proofs.Within.{goes_below}
-use Rattle.pb_place.specs.Paths.{below, is_absolute, is_name, is_path, last_of, last_part, leads_up, parts_of, path_of, slashed, stays, stem}
-use Rattle.pb_place.specs.World.{FilesHavePaths, World, has_file, listed_folders}
-use Rattle.pb_draft.specs.Between.{names_in, is_word}
+use Rattle.pb_graph.proofs.Membership.{none, single, head, tail, cases}
+use Rattle.pb_place_types.proofs.PathLemmas.{and_left, and_right, parts_joined}
+use Rattle.pb_place_types.proofs.TakenApart.{parts_lone}
+use Rattle.pb_place_types.proofs.Towards.{plain_parts as parts_whole}
+use Rattle.pb_place_types.proofs.Within.{goes_below}
+use Rattle.pb_place_types.specs.Paths.{below, is_absolute, is_name, is_path, last_of, last_part, leads_up, parts_of, path_of, slashed, stays, stem}
+use Rattle.pb_place_types.specs.World.{FilesHavePaths, World, has_file, listed_folders}
+use Rattle.pb_workspace_package.specs.Between.{names_in, is_word}
 use Rattle.pb_workspace.proofs.FoldersListed.{file_path, folders_each, folders_only}
 use Rattle.pb_workspace.proofs.FoldersPut.{Path}
 use Rattle.pb_workspace.proofs.GlobRelation.{says, shows}

@@ -3,9 +3,9 @@ use Rattle.std.proofs.Common.{◌≡◌, ◌⊎◌, inl, inr, ◌≤◌, ◌<◌
 use Rattle.std.specs.Prelude.{nat_le}
 use Rattle.std.proofs.lemmas.Bool.Decides.{nat_tests}
 use Rattle.pb_data.specs.Gives.{◌>>=◌}
-use Rattle.pb_draft.specs.declared.draft.Draft.{Draft}
-use Rattle.pb_package.specs.declared.fault.LoadFault.{LoadFault}
-use Rattle.pb_package.specs.declared.fault.LoadFault.TheVariants.{TooMany}
+use Rattle.pb_workspace_package.specs.declared.draft.Draft.{Draft}
+use Rattle.pb_workspace_types.specs.declared.fault.LoadFault.{LoadFault}
+use Rattle.pb_workspace_types.specs.declared.fault.LoadFault.TheVariants.{TooMany}
 use Rattle.pb_workspace.specs.declared.rounds.Reading.{Reading}
 use Rattle.pb_workspace.specs.ByFolder.{folders_of, has}
 use Rattle.pb_workspace.specs.Rounds.{all_read, one_read, round, rounds, with_draft}

@@ -13,32 +13,32 @@ use Rattle.std.specs.Ordering.{nat_cmp}
 use Rattle.std.specs.Str.{bytes_eq}
 use Rattle.pb_data.specs.Mentions.{is_mentioned}
 use Rattle.pb_data.proofs.MentionLemmas.{bytes_eq_comm}
-use Rattle.pb_manifest.specs.Letters.{is_name}
-use Rattle.pb_manifest.specs.declared.profile.Profile.{Profile}
-use Rattle.pb_draft.specs.declared.draft.Draft.{Draft}
-use Rattle.pb_package.specs.declared.fault.LoadFault.{LoadFault}
-use Rattle.pb_package.specs.declared.fault.LoadFault.TheVariants.{SameName}
+use Rattle.pb_manifest_types.specs.Letters.{is_name}
+use Rattle.pb_manifest_types.specs.declared.profile.Profile.{Profile}
+use Rattle.pb_workspace_package.specs.declared.draft.Draft.{Draft}
+use Rattle.pb_workspace_types.specs.declared.fault.LoadFault.{LoadFault}
+use Rattle.pb_workspace_types.specs.declared.fault.LoadFault.TheVariants.{SameName}
 use Rattle.pb_workspace.specs.declared.frame.Frame.{Frame}
-use Rattle.pb_package.specs.declared.package.Entry.{Entry}
-use Rattle.pb_package.specs.declared.package.Package.{Package}
+use Rattle.pb_workspace_types.specs.declared.package.Entry.{Entry}
+use Rattle.pb_workspace_types.specs.declared.package.Package.{Package}
 use Rattle.pb_workspace.specs.declared.rounds.Reading.{Reading}
-use Rattle.pb_draft.specs.declared.wanted.Wanted.{Wanted}
-use Rattle.pb_package.specs.declared.workspace.DefaultMembers.TheVariants.{Named, Unknown}
-use Rattle.pb_package.specs.declared.workspace.Workspace.{Workspace}
+use Rattle.pb_workspace_package.specs.declared.wanted.Wanted.{Wanted}
+use Rattle.pb_workspace_types.specs.declared.workspace.DefaultMembers.TheVariants.{Named, Unknown}
+use Rattle.pb_workspace_types.specs.declared.workspace.Workspace.{Workspace}
 use Rattle.pb_workspace.specs.Selected.{places_where}
 use Rattle.pb_workspace.specs.Assembled.{assembled, default_members_of, entry_at, is_default, is_known, package_at}
 use Rattle.pb_workspace.specs.ByFolder.{folders_of, value_of, values_of}
 use Rattle.pb_workspace.specs.Checks.{fault_of, has_same_names}
-use Rattle.pb_draft.specs.Drafted.{IsDraft}
+use Rattle.pb_workspace_package.specs.Drafted.{IsDraft}
 use Rattle.pb_workspace.specs.Readings.{IsPut, IsReading}
 use Rattle.pb_workspace.specs.Loaded.{unless, workspace_from}
 use Rattle.pb_workspace.specs.Places.{numbered, places_of}
 use Rattle.pb_workspace.specs.Rounds.{with_draft}
-use Rattle.pb_package.specs.Settled.{IfNamed, IsAscending, IsPackage, IsSettled}
-use Rattle.pb_draft.specs.Settling.{comes_again}
-use Rattle.pb_draft.specs.Sorted.{with_entry}
+use Rattle.pb_workspace_types.specs.Settled.{IfNamed, IsAscending, IsPackage, IsSettled}
+use Rattle.pb_workspace_package.specs.Settling.{comes_again}
+use Rattle.pb_workspace_package.specs.Sorted.{with_entry}
 use Rattle.pb_workspace.proofs.Chosen.{places_below}
-use Rattle.pb_draft.proofs.Puttings.{with_entry_all, with_entry_length, all_map, all_given, map_twice}
+use Rattle.pb_workspace_package.proofs.Puttings.{with_entry_all, with_entry_length, all_map, all_given, map_twice}
 
 -- packages that are read
 pub few_kept : (r made : Reading) (folder : List ℕ) (d : Draft) → length r.found < 256 → made ≡ with_draft r folder d → length made.found ≤ 256

@@ -2,8 +2,8 @@
 use Rattle.std.proofs.Common.{◌≡◌, ℕ, ◌+◌, ◌<◌, Bool, false, ◌||◌, List, ◌∷◌, Option, add-one, length, get_or, drop, sym, ap, ◌∙◌}
 use Rattle.std.proofs.Math.Seq.{drop-cons}
 use Rattle.std.specs.List.{list_any}
-use Rattle.pb_draft.specs.declared.draft.Draft.{Draft}
-use Rattle.pb_draft.specs.declared.wanted.Wanted.{Wanted}
+use Rattle.pb_workspace_package.specs.declared.draft.Draft.{Draft}
+use Rattle.pb_workspace_package.specs.declared.wanted.Wanted.{Wanted}
 use Rattle.pb_workspace.specs.Places.{draft_in}
 
 module _ (test : Wanted → Option Draft → Bool) (drafts : List Draft) where

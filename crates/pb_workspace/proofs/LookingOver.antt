@@ -1,20 +1,20 @@
 -- What the readings of folders, rounds and a whole workspace look at, step for step.
 use Rattle.std.proofs.Common.{◌≡◌, ◌∙◌, ◌++◌, ◌<◌, ◌≤◌, ◌+◌, ◌-◌, ℕ, suc, true, false, List, ◌∷◌, Result, Ok, Err, refl, sym, ap, subst, arith}
 use Rattle.pb_data.specs.Gives.{◌>>=◌}
-use Rattle.pb_place.specs.CallsInTurn.{past_calls}
-use Rattle.pb_place.specs.declared.call.Call.{Call}
-use Rattle.pb_place.specs.Counts.{Counts}
-use Rattle.pb_place.specs.World.{World, from_nothing}
-use Rattle.pb_package.specs.declared.fault.LoadFault.{LoadFault}
+use Rattle.pb_place_types.specs.CallsInTurn.{past_calls}
+use Rattle.pb_place_types.specs.declared.call.Call.{Call}
+use Rattle.pb_place_types.specs.Counts.{Counts}
+use Rattle.pb_place_types.specs.World.{World, from_nothing}
+use Rattle.pb_workspace_types.specs.declared.fault.LoadFault.{LoadFault}
 use Rattle.pb_workspace.specs.declared.frame.Frame.{Frame}
 use Rattle.pb_workspace.specs.declared.rounds.Reading.{Reading}
 use Rattle.pb_workspace.specs.ByFolder.{folders_of}
-use Rattle.pb_draft.specs.Causes.{is_failure, is_outside}
+use Rattle.pb_workspace_package.specs.Causes.{is_failure, is_outside}
 use Rattle.pb_workspace.specs.MemberFolders.{member_folders}
-use Rattle.pb_draft.specs.Looks.{after, Looks}
+use Rattle.pb_workspace_package.specs.Looks.{after, Looks}
 use Rattle.pb_workspace.specs.LookedAt.{folder_looked, one_looked, all_looked, round_looked, rounds_looked, members_looked, others_looked}
 use Rattle.pb_workspace.specs.Rounds.{all_read, draft_at, one_read, round}
-use Rattle.pb_draft.proofs.Looking.{Ends, ends_both, looks_both, looks_first, looks_no_further, looks_none, looks_then}
+use Rattle.pb_workspace_package.proofs.Looking.{Ends, ends_both, looks_both, looks_first, looks_no_further, looks_none, looks_then}
 
 -- a step that looks at the world, and one after it that looks at the same
 pub looks_step : {A B : Type 0} (result : Result B LoadFault) (next : World → A → List Call) (answer : World → Result A LoadFault) (look : World → List Call) (x : A) (w first now : World) (old mid new : Counts)

@@ -2,11 +2,11 @@
 use Rattle.std.proofs.Common.{◌≡◌, ◌∙◌, ◌∷◌, ◌&&◌, ◌||◌, ◌==◌, ◌<◌, [], ℕ, zero, suc, Bool, true, false, not, cond, length, List, get_or, map, refl, sym, ap, subst, arith}
 use Rattle.std.proofs.lemmas.Bool.Decides.{Decides-eqb, nat_tests}
 use Rattle.std.specs.List.{AllByRecursion, filter, list_all, list_any}
-use Rattle.pb_place.proofs.PathLemmas.{IsPlain, and_left, and_right, parts_plain, parts_some, path_clean, slashed_parts}
-use Rattle.pb_place.proofs.TakenApart.{parts_lone}
-use Rattle.pb_place.specs.Paths.{has_byte_0, is_name, is_path, is_relative, leads_up, parts_of, path_of, slashed, stays}
-use Rattle.pb_manifest.specs.Letters.{has_zero}
-use Rattle.pb_draft.specs.Between.{names_in, is_word}
+use Rattle.pb_place_types.proofs.PathLemmas.{IsPlain, and_left, and_right, parts_plain, parts_some, path_clean, slashed_parts}
+use Rattle.pb_place_types.proofs.TakenApart.{parts_lone}
+use Rattle.pb_place_types.specs.Paths.{has_byte_0, is_name, is_path, is_relative, leads_up, parts_of, path_of, slashed, stays}
+use Rattle.pb_manifest_types.specs.Letters.{has_zero}
+use Rattle.pb_workspace_package.specs.Between.{names_in, is_word}
 
 abbrev pub IsWhole : List ℕ → Type 0
 IsWhole name = list_any (λ b. b == 47) name ≡ false

@@ -2,20 +2,20 @@
 use Rattle.std.proofs.Common.{◌≡◌, List, [], ◌∷◌, ℕ, Ok, true, All, Option, Some, None, IfSome, map}
 use Rattle.std.specs.List.{AllByRecursion}
 use Rattle.std.proofs.lemmas.List.Elements.{All-from_recursion}
-use Rattle.pb_manifest_reader.specs.Document.{manifest_of}
-use Rattle.pb_manifest.specs.Letters.{is_name}
-use Rattle.pb_manifest_reader.specs.Promises.{IsManifest, IsBinary, IsDependency, IsFeature, IsLibrary, IsPackage, IsWorkspaceTable}
-use Rattle.pb_manifest.specs.declared.manifest.Manifest.{Manifest}
-use Rattle.pb_manifest.specs.declared.manifest.WorkspaceTable.{WorkspaceTable}
-use Rattle.pb_manifest.specs.declared.dependency.Dependency.{Dependency}
-use Rattle.pb_manifest.specs.declared.feature.Feature.{Feature}
-use Rattle.pb_manifest.specs.declared.package.Package.{Package}
-use Rattle.pb_manifest.specs.declared.target.Binary.{Binary}
-use Rattle.pb_manifest.specs.declared.target.Library.{Library}
+use Rattle.pb_manifest.specs.Document.{manifest_of}
+use Rattle.pb_manifest_types.specs.Letters.{is_name}
+use Rattle.pb_manifest.specs.Promises.{IsManifest, IsBinary, IsDependency, IsFeature, IsLibrary, IsPackage, IsWorkspaceTable}
+use Rattle.pb_manifest_types.specs.declared.manifest.Manifest.{Manifest}
+use Rattle.pb_manifest_types.specs.declared.manifest.WorkspaceTable.{WorkspaceTable}
+use Rattle.pb_manifest_types.specs.declared.dependency.Dependency.{Dependency}
+use Rattle.pb_manifest_types.specs.declared.feature.Feature.{Feature}
+use Rattle.pb_manifest_types.specs.declared.package.Package.{Package}
+use Rattle.pb_manifest_types.specs.declared.target.Binary.{Binary}
+use Rattle.pb_manifest_types.specs.declared.target.Library.{Library}
 use Rattle.pb_workspace.specs.Readings.{HasSharedInOrder}
-use Rattle.pb_draft.specs.Drafted.{IsKeyed, IsWrittenFeature, IsWrittenLibrary}
-use Rattle.pb_package.specs.Settled.{IsAscending}
-use Rattle.pb_manifest_reader.proofs.Manifests.{manifest_is}
+use Rattle.pb_workspace_package.specs.Drafted.{IsKeyed, IsWrittenFeature, IsWrittenLibrary}
+use Rattle.pb_workspace_types.specs.Settled.{IsAscending}
+use Rattle.pb_manifest.proofs.Manifests.{manifest_is}
 
 pub is_promised : (bytes : List ℕ) (m : Manifest) → manifest_of bytes ≡ Ok m → IsManifest m
 is_promised bytes m read = manifest_is bytes m read

@@ -1,16 +1,16 @@
 -- The steps of a reading: one round of those that are left, and the rounds after the members.
 use Rattle.std.proofs.Common.{◌≡◌, ◌<◌, ◌+◌, ◌-◌, ℕ, suc, List, Result, Ok, Err, sym, ap, ◌∙◌, subst, arith}
 use Rattle.pb_data.specs.Gives.{◌>>=◌}
-use Rattle.pb_place.specs.World.{World, from_nothing}
-use Rattle.pb_draft.specs.Causes.{Told}
-use Rattle.pb_package.specs.declared.fault.LoadFault.{LoadFault}
+use Rattle.pb_place_types.specs.World.{World, from_nothing}
+use Rattle.pb_workspace_package.specs.Causes.{Told}
+use Rattle.pb_workspace_types.specs.declared.fault.LoadFault.{LoadFault}
 use Rattle.pb_workspace.specs.declared.frame.Frame.{Frame}
 use Rattle.pb_workspace.specs.declared.rounds.Reading.{Reading}
 use Rattle.pb_workspace.specs.ByFolder.{folders_of}
 use Rattle.pb_workspace.specs.Loaded.{others_read}
 use Rattle.pb_workspace.specs.MemberFolders.{member_folders}
 use Rattle.pb_workspace.specs.Rounds.{all_read, draft_at, round, rounds}
-use Rattle.pb_draft.proofs.Steps.{told_step}
+use Rattle.pb_workspace_package.proofs.Steps.{told_step}
 
 module _ (target : List ℕ) (f : Frame) (meant : List (List ℕ × Unit {0})) (w now : World) (count done : ℕ) (r : Reading) (whole : Result Reading LoadFault) where
   -- one round of those that are left

@@ -3,14 +3,14 @@ use Rattle.std.proofs.Common.{◌≡◌, ◌∙◌, ◌<◌, ◌≤◌, ◌+◌,
 use Rattle.std.proofs.Math.Seq.{drop-cons}
 use Rattle.std.specs.List.{flat_map}
 use Rattle.std.specs.Prelude.{filter}
-use Rattle.pb_place.specs.CallsInTurn.{past_calls}
-use Rattle.pb_place.specs.declared.call.Call.{Call}
-use Rattle.pb_place.specs.Counts.{Counts}
-use Rattle.pb_place.specs.World.{World, from_nothing}
-use Rattle.pb_package.specs.declared.fault.LoadFault.{LoadFault}
-use Rattle.pb_draft.specs.Causes.{is_outside}
-use Rattle.pb_draft.specs.Looks.{Looks}
-use Rattle.pb_draft.proofs.Looking.{Ends, looks_both, looks_first}
+use Rattle.pb_place_types.specs.CallsInTurn.{past_calls}
+use Rattle.pb_place_types.specs.declared.call.Call.{Call}
+use Rattle.pb_place_types.specs.Counts.{Counts}
+use Rattle.pb_place_types.specs.World.{World, from_nothing}
+use Rattle.pb_workspace_types.specs.declared.fault.LoadFault.{LoadFault}
+use Rattle.pb_workspace_package.specs.Causes.{is_outside}
+use Rattle.pb_workspace_package.specs.Looks.{Looks}
+use Rattle.pb_workspace_package.proofs.Looking.{Ends, looks_both, looks_first}
 use Rattle.pb_workspace.specs.LookedAt.{step_looked, walk_looked}
 use Rattle.pb_workspace.specs.MemberFolders.{led_to, one_step}
 use Rattle.pb_workspace.specs.declared.member.Part.{Part}

@@ -4,37 +4,37 @@ use Rattle.std.specs.List.{AllByRecursion, flat_map}
 use Rattle.std.specs.Str.{bytes_eq}
 use Rattle.std.proofs.lemmas.Slice.Eq.{bytes_eq-Decides}
 use Rattle.std.proofs.lemmas.List.Elements.{Contains-append_left, Contains-append_right, Contains-append_cases}
-use Rattle.pb_closure.specs.Closure.{start, onward}
-use Rattle.pb_closure.proofs.Membership.{none, head, tail, cases}
+use Rattle.pb_graph.specs.Closure.{start, onward}
+use Rattle.pb_graph.proofs.Membership.{none, head, tail, cases}
 use Rattle.pb_data.specs.Gives.{◌>>=◌}
-use Rattle.pb_manifest.specs.declared.package.Package.{Package as WrittenPackage}
-use Rattle.pb_place.specs.Paths.{below, folder_of, is_path, last_part}
-use Rattle.pb_place.specs.World.{World, from_nothing}
-use Rattle.pb_place.proofs.TakenApart.{ends_with_last_part}
-use Rattle.pb_draft.specs.declared.draft.Draft.{Draft}
-use Rattle.pb_draft.specs.declared.draft.Tables.{Tables}
-use Rattle.pb_package.specs.declared.fault.LoadFault.{LoadFault}
-use Rattle.pb_package.specs.declared.fault.LoadFault.TheVariants.{NoManifest}
+use Rattle.pb_manifest_types.specs.declared.package.Package.{Package as WrittenPackage}
+use Rattle.pb_place_types.specs.Paths.{below, folder_of, is_path, last_part}
+use Rattle.pb_place_types.specs.World.{World, from_nothing}
+use Rattle.pb_place_types.proofs.TakenApart.{ends_with_last_part}
+use Rattle.pb_workspace_package.specs.declared.draft.Draft.{Draft}
+use Rattle.pb_workspace_package.specs.declared.draft.Tables.{Tables}
+use Rattle.pb_workspace_types.specs.declared.fault.LoadFault.{LoadFault}
+use Rattle.pb_workspace_types.specs.declared.fault.LoadFault.TheVariants.{NoManifest}
 use Rattle.pb_workspace.specs.declared.frame.Frame.{Frame}
-use Rattle.pb_package.specs.declared.package.Package.{Package}
+use Rattle.pb_workspace_types.specs.declared.package.Package.{Package}
 use Rattle.pb_workspace.specs.declared.rounds.Parts.{Parts}
 use Rattle.pb_workspace.specs.declared.rounds.Reading.{Reading}
-use Rattle.pb_draft.specs.declared.settling.Given.{Given}
-use Rattle.pb_draft.specs.declared.wanted.Standing.{Standing}
-use Rattle.pb_draft.specs.declared.wanted.Wanted.{Wanted}
-use Rattle.pb_package.specs.declared.workspace.Workspace.{Workspace}
+use Rattle.pb_workspace_package.specs.declared.settling.Given.{Given}
+use Rattle.pb_workspace_package.specs.declared.wanted.Standing.{Standing}
+use Rattle.pb_workspace_package.specs.declared.wanted.Wanted.{Wanted}
+use Rattle.pb_workspace_types.specs.declared.workspace.Workspace.{Workspace}
 use Rattle.pb_workspace.specs.Assembled.{assembled, package_at, packages_of}
 use Rattle.pb_workspace.specs.ByFolder.{folders_of, values_of}
 use Rattle.pb_workspace.specs.Checks.{fault_of}
-use Rattle.pb_draft.specs.Drafts.{draft_of, draft_with, lists_of}
-use Rattle.pb_manifest.specs.declared.manifest.WorkspaceTable.{WorkspaceTable}
+use Rattle.pb_workspace_package.specs.Drafts.{draft_of, draft_with, lists_of}
+use Rattle.pb_manifest_types.specs.declared.manifest.WorkspaceTable.{WorkspaceTable}
 use Rattle.pb_workspace.specs.Frames.{frame_of, given_to, is_member}
-use Rattle.pb_draft.specs.Keys.{keys_of}
+use Rattle.pb_workspace_package.specs.Keys.{keys_of}
 use Rattle.pb_workspace.specs.Loaded.{at_root, nothing_read, others_read, packages_read, root_parts, root_read, unless, workspace_from, workspace_in, workspace_of}
 use Rattle.pb_workspace.specs.MemberFolders.{folders_meant, is_manifest, member_folders}
 use Rattle.pb_workspace.specs.Places.{places_of}
 use Rattle.pb_workspace.specs.Rounds.{all_read, draft_at, draft_if, draft_in_file, leads_to, no_package, parts_at, rounds, standing_in, with_draft}
-use Rattle.pb_draft.proofs.Puttings.{map_twice}
+use Rattle.pb_workspace_package.proofs.Puttings.{map_twice}
 use Rattle.pb_workspace.specs.PackageFolders.{package_in, LeadsTo, IsRootOrMember, root, member, IsPackageFolder, frame_at}
 use Rattle.pb_workspace.proofs.FoldersPut.{Path, opened, with_only, with_new}
 use Rattle.pb_workspace.proofs.FoldersFound.{IsKnown, Sofar, all_more, rounds_more, at_end}

@@ -1,15 +1,15 @@
 -- A workspace assembled from the packages that were read (The Cargo Book, Workspaces).
 use Rattle.std.specs.Prelude.{ℕ, Bool, ◌&&◌, ◌||◌, if◌then◌else◌, List, map, Option, Some, None, unwrap_or}
 use Rattle.std.specs.List.{list_all, list_any}
-use Rattle.pb_manifest.specs.declared.profile.Profile.{Profile}
-use Rattle.pb_draft.specs.declared.draft.Draft.{Draft}
+use Rattle.pb_manifest_types.specs.declared.profile.Profile.{Profile}
+use Rattle.pb_workspace_package.specs.declared.draft.Draft.{Draft}
 use Rattle.pb_workspace.specs.declared.frame.Frame.{Frame}
-use Rattle.pb_package.specs.declared.package.Entry.{Entry}
-use Rattle.pb_package.specs.declared.package.Package.{Package}
-use Rattle.pb_draft.specs.declared.wanted.Wanted.{Wanted}
-use Rattle.pb_package.specs.declared.workspace.DefaultMembers.{DefaultMembers}
-use Rattle.pb_package.specs.declared.workspace.DefaultMembers.TheVariants.{Unwritten, Named, Unknown}
-use Rattle.pb_package.specs.declared.workspace.Workspace.{Workspace}
+use Rattle.pb_workspace_types.specs.declared.package.Entry.{Entry}
+use Rattle.pb_workspace_types.specs.declared.package.Package.{Package}
+use Rattle.pb_workspace_package.specs.declared.wanted.Wanted.{Wanted}
+use Rattle.pb_workspace_types.specs.declared.workspace.DefaultMembers.{DefaultMembers}
+use Rattle.pb_workspace_types.specs.declared.workspace.DefaultMembers.TheVariants.{Unwritten, Named, Unknown}
+use Rattle.pb_workspace_types.specs.declared.workspace.Workspace.{Workspace}
 use Rattle.pb_workspace.specs.ByFolder.{value_of}
 use Rattle.pb_workspace.specs.Globs.{is_glob}
 use Rattle.pb_workspace.specs.Members.{means}

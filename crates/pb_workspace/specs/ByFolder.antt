@@ -4,7 +4,7 @@ use Rattle.std.specs.BTreeMap.{is_at}
 use Rattle.std.specs.Map.{lookup}
 use Rattle.std.specs.Ordering.{nat_cmp}
 use Rattle.std.specs.Cmp.Lexicographic.{slice_cmp}
-use Rattle.pb_draft.specs.Sorted.{with_entry}
+use Rattle.pb_workspace_package.specs.Sorted.{with_entry}
 
 -- the value of a folder, if it has one
 abbrev pub value_of : {V : Type 0} → List ℕ → List (List ℕ × V) → Option V

@@ -2,13 +2,13 @@
 use Rattle.std.specs.Prelude.{ℕ, Bool, true, not, is_some, ◌&&◌, if◌then◌else◌, List, [], map, Option, Some, None}
 use Rattle.std.specs.List.{filter_map, list_any}
 use Rattle.std.specs.Str.{bytes_eq}
-use Rattle.pb_manifest.specs.Versions.{matches}
-use Rattle.pb_draft.specs.declared.draft.Draft.{Draft}
-use Rattle.pb_package.specs.declared.fault.LoadFault.{LoadFault}
-use Rattle.pb_package.specs.declared.fault.LoadFault.TheVariants.{SameName, NameMismatch, VersionMismatch, LinksTwice, LinksWithoutScript, SameBinary}
-use Rattle.pb_draft.specs.declared.wanted.Wanted.{Wanted}
+use Rattle.pb_manifest_types.specs.Versions.{matches}
+use Rattle.pb_workspace_package.specs.declared.draft.Draft.{Draft}
+use Rattle.pb_workspace_types.specs.declared.fault.LoadFault.{LoadFault}
+use Rattle.pb_workspace_types.specs.declared.fault.LoadFault.TheVariants.{SameName, NameMismatch, VersionMismatch, LinksTwice, LinksWithoutScript, SameBinary}
+use Rattle.pb_workspace_package.specs.declared.wanted.Wanted.{Wanted}
 use Rattle.pb_workspace.specs.Places.{draft_in}
-use Rattle.pb_draft.specs.Settling.{comes_again}
+use Rattle.pb_workspace_package.specs.Settling.{comes_again}
 
 -- two packages have the same name
 abbrev pub has_same_names : List Draft → Bool

@@ -1,11 +1,11 @@
 -- What a root manifest contains about its workspace, and which packages are its members (The Cargo Book, Workspaces).
 use Rattle.std.specs.Prelude.{ℕ, Bool, true, false, not, ◌&&◌, ◌||◌, if◌then◌else◌, List, [], Option, Some, None}
 use Rattle.std.specs.Str.{bytes_eq}
-use Rattle.pb_place.specs.Paths.{is_at_or_below}
-use Rattle.pb_manifest.specs.declared.manifest.WorkspacePackage.{WorkspacePackage}
-use Rattle.pb_manifest.specs.declared.manifest.WorkspaceTable.{WorkspaceTable}
+use Rattle.pb_place_types.specs.Paths.{is_at_or_below}
+use Rattle.pb_manifest_types.specs.declared.manifest.WorkspacePackage.{WorkspacePackage}
+use Rattle.pb_manifest_types.specs.declared.manifest.WorkspaceTable.{WorkspaceTable}
 use Rattle.pb_workspace.specs.declared.frame.Frame.{Frame}
-use Rattle.pb_draft.specs.declared.settling.Given.{Given}
+use Rattle.pb_workspace_package.specs.declared.settling.Given.{Given}
 use Rattle.pb_workspace.specs.ByFolder.{has}
 use Rattle.pb_workspace.specs.Members.{is_excluded}
 

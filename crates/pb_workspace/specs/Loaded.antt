@@ -1,23 +1,23 @@
 -- The workspace of a manifest (The Cargo Book, Workspaces).
 use Rattle.std.specs.Prelude.{ℕ, true, if◌then◌else◌, List, [], Option, Some, None, Result, Ok, Err}
 use Rattle.pb_data.specs.Gives.{◌>>=◌}
-use Rattle.pb_place.specs.Paths.{folder_of}
-use Rattle.pb_place.specs.World.{World, from_nothing}
-use Rattle.pb_manifest.specs.declared.package.Package.{Package}
-use Rattle.pb_manifest.specs.declared.profile.Profile.{Profile}
-use Rattle.pb_draft.specs.declared.draft.Draft.{Draft}
-use Rattle.pb_draft.specs.declared.draft.Tables.{Tables}
-use Rattle.pb_package.specs.declared.fault.LoadFault.{LoadFault}
-use Rattle.pb_package.specs.declared.fault.LoadFault.TheVariants.{NoManifest}
+use Rattle.pb_place_types.specs.Paths.{folder_of}
+use Rattle.pb_place_types.specs.World.{World, from_nothing}
+use Rattle.pb_manifest_types.specs.declared.package.Package.{Package}
+use Rattle.pb_manifest_types.specs.declared.profile.Profile.{Profile}
+use Rattle.pb_workspace_package.specs.declared.draft.Draft.{Draft}
+use Rattle.pb_workspace_package.specs.declared.draft.Tables.{Tables}
+use Rattle.pb_workspace_types.specs.declared.fault.LoadFault.{LoadFault}
+use Rattle.pb_workspace_types.specs.declared.fault.LoadFault.TheVariants.{NoManifest}
 use Rattle.pb_workspace.specs.declared.frame.Frame.{Frame}
 use Rattle.pb_workspace.specs.declared.rounds.Parts.{Parts}
 use Rattle.pb_workspace.specs.declared.rounds.Reading.{Reading}
-use Rattle.pb_draft.specs.declared.wanted.Standing.{Standing}
-use Rattle.pb_package.specs.declared.workspace.Workspace.{Workspace}
+use Rattle.pb_workspace_package.specs.declared.wanted.Standing.{Standing}
+use Rattle.pb_workspace_types.specs.declared.workspace.Workspace.{Workspace}
 use Rattle.pb_workspace.specs.Assembled.{assembled}
 use Rattle.pb_workspace.specs.ByFolder.{folders_of, values_of}
 use Rattle.pb_workspace.specs.Checks.{fault_of}
-use Rattle.pb_draft.specs.Drafts.{draft_of}
+use Rattle.pb_workspace_package.specs.Drafts.{draft_of}
 use Rattle.pb_workspace.specs.Frames.{frame_of}
 use Rattle.pb_workspace.specs.MemberFolders.{is_manifest, member_folders}
 use Rattle.pb_workspace.specs.Rounds.{all_read, draft_at, parts_at, rounds, with_draft}

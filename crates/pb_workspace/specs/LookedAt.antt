@@ -4,18 +4,18 @@
 use Rattle.std.specs.Prelude.{ℕ, zero, suc, nat_le, if◌then◌else◌, codes, List, [], ◌∷◌, ◌++◌, length, Option, Some, None, Result}
 use Rattle.std.specs.List.{flat_map}
 use Rattle.std.specs.Str.{bytes_eq}
-use Rattle.pb_place.specs.declared.call.Call.{Call}
-use Rattle.pb_place.specs.declared.call.Call.TheVariants as call
-use Rattle.pb_place.specs.Paths.{below, folder_of}
-use Rattle.pb_place.specs.World.{World, from_nothing}
-use Rattle.pb_manifest.specs.declared.package.Package.{Package}
-use Rattle.pb_package.specs.declared.fault.LoadFault.{LoadFault}
-use Rattle.pb_draft.specs.declared.draft.Draft.{Draft}
-use Rattle.pb_draft.specs.declared.draft.Tables.{Tables}
+use Rattle.pb_place_types.specs.declared.call.Call.{Call}
+use Rattle.pb_place_types.specs.declared.call.Call.TheVariants as call
+use Rattle.pb_place_types.specs.Paths.{below, folder_of}
+use Rattle.pb_place_types.specs.World.{World, from_nothing}
+use Rattle.pb_manifest_types.specs.declared.package.Package.{Package}
+use Rattle.pb_workspace_types.specs.declared.fault.LoadFault.{LoadFault}
+use Rattle.pb_workspace_package.specs.declared.draft.Draft.{Draft}
+use Rattle.pb_workspace_package.specs.declared.draft.Tables.{Tables}
 use Rattle.pb_workspace.specs.declared.frame.Frame.{Frame}
 use Rattle.pb_workspace.specs.declared.member.Part.{Part}
 use Rattle.pb_workspace.specs.declared.rounds.Reading.{Reading}
-use Rattle.pb_draft.specs.declared.wanted.Standing.{Standing}
+use Rattle.pb_workspace_package.specs.declared.wanted.Standing.{Standing}
 use Rattle.pb_workspace.specs.ByFolder.{folders_of, has}
 use Rattle.pb_workspace.specs.Frames.{frame_of}
 use Rattle.pb_workspace.specs.Globs.{is_glob}
@@ -23,7 +23,7 @@ use Rattle.pb_workspace.specs.Loaded.{root_parts, root_read}
 use Rattle.pb_workspace.specs.MemberFolders.{folders_kept, is_fixed, is_manifest, member_folders, one_step}
 use Rattle.pb_workspace.specs.Members.{parts_meant}
 use Rattle.pb_workspace.specs.Rounds.{all_read, draft_at, one_read, parts_at, round, standing_in}
-use Rattle.pb_draft.specs.Looks.{after, listings_at, looked}
+use Rattle.pb_workspace_package.specs.Looks.{after, listings_at, looked}
 
 -- the calls for a manifest's package, if it has one
 abbrev pub package_looked : List ℕ → List ℕ → Option Package → List Call

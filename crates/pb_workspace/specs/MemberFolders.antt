@@ -3,14 +3,14 @@
 use Rattle.std.specs.Prelude.{ℕ, Bool, not, ◌&&◌, if◌then◌else◌, codes, List, [], ◌∷◌, filter}
 use Rattle.std.specs.List.{flat_map}
 use Rattle.std.specs.Str.{bytes_eq}
-use Rattle.pb_place.specs.Paths.{below, last_part}
-use Rattle.pb_place.specs.World.{World, listed_folders}
+use Rattle.pb_place_types.specs.Paths.{below, last_part}
+use Rattle.pb_place_types.specs.World.{World, listed_folders}
 use Rattle.pb_workspace.specs.declared.frame.Frame.{Frame}
 use Rattle.pb_workspace.specs.declared.member.Part.{Part}
 use Rattle.pb_workspace.specs.ByFolder.{with_folders}
 use Rattle.pb_workspace.specs.Globs.{is_glob, matches}
 use Rattle.pb_workspace.specs.Members.{is_excluded, parts_meant}
-use Rattle.pb_draft.specs.Sources.{has_own_file, resolved}
+use Rattle.pb_workspace_package.specs.Sources.{has_own_file, resolved}
 
 -- the path ends with the name `Cargo.toml`
 abbrev pub is_manifest : List ℕ → Bool

@@ -2,11 +2,11 @@
 use Rattle.std.specs.Prelude.{ℕ, Bool, true, false, ◌&&◌, ◌-◌, if◌then◌else◌, List, [], ◌∷◌, ◌++◌, length, map, take}
 use Rattle.std.specs.List.{fold, list_any}
 use Rattle.std.specs.Str.{bytes_eq}
-use Rattle.pb_place.specs.Paths.{is_absolute, is_at_or_below, leads_up, parts_of, stays}
+use Rattle.pb_place_types.specs.Paths.{is_absolute, is_at_or_below, leads_up, parts_of, stays}
 use Rattle.pb_workspace.specs.declared.member.Part.{Part}
-use Rattle.pb_draft.specs.Between.{names_in}
+use Rattle.pb_workspace_package.specs.Between.{names_in}
 use Rattle.pb_workspace.specs.Globs.{matches}
-use Rattle.pb_draft.specs.Sources.{resolved}
+use Rattle.pb_workspace_package.specs.Sources.{resolved}
 
 -- the folder is at or below a folder that `exclude` lists, relative to the root
 abbrev pub is_excluded : List ℕ → List (List ℕ) → List ℕ → Bool

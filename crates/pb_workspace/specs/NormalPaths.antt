@@ -1,10 +1,10 @@
 -- All paths of a workspace are normalised absolute paths.
 use Rattle.std.specs.Prelude.{◌≡◌, true, All, IfSome}
-use Rattle.pb_place.specs.Paths.{is_path}
-use Rattle.pb_package.specs.declared.package.Binary.{Binary}
-use Rattle.pb_package.specs.declared.package.Library.{Library}
-use Rattle.pb_package.specs.declared.package.Package.{Package}
-use Rattle.pb_package.specs.declared.workspace.Workspace.{Workspace}
+use Rattle.pb_place_types.specs.Paths.{is_path}
+use Rattle.pb_workspace_types.specs.declared.package.Binary.{Binary}
+use Rattle.pb_workspace_types.specs.declared.package.Library.{Library}
+use Rattle.pb_workspace_types.specs.declared.package.Package.{Package}
+use Rattle.pb_workspace_types.specs.declared.workspace.Workspace.{Workspace}
 
 -- the source of a binary is a normalised path
 pub record HasSource (binary : Binary) : Type 0 where

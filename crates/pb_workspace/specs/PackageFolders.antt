@@ -1,19 +1,19 @@
 -- That 257 rounds are enough, and which folders contain the packages of a workspace
 -- (The Cargo Book, Workspaces and Specifying Dependencies).
--- The latter definitions serve proofs: `Folders` of `pb_package_laws` defines the same independently.
+-- The latter definitions serve proofs: `Folders` of `pb_workspace_laws` defines the same independently.
 -- `sources` is the world without the files at or below the target folder,
 -- and `f` what the root manifest contains about its workspace.
 use Rattle.std.specs.Prelude.{◌≡◌, ℕ, ◌+◌, ◌≤◌, List, length, Option, Some, Ok, Result, Contains}
-use Rattle.pb_place.specs.Paths.{folder_of}
-use Rattle.pb_place.specs.World.{World}
-use Rattle.pb_manifest.specs.declared.package.Package.{Package as WrittenPackage}
-use Rattle.pb_closure.specs.Closure.{Reached}
-use Rattle.pb_draft.specs.declared.draft.Draft.{Draft}
-use Rattle.pb_package.specs.declared.fault.LoadFault.{LoadFault}
+use Rattle.pb_place_types.specs.Paths.{folder_of}
+use Rattle.pb_place_types.specs.World.{World}
+use Rattle.pb_manifest_types.specs.declared.package.Package.{Package as WrittenPackage}
+use Rattle.pb_graph.specs.Closure.{Reached}
+use Rattle.pb_workspace_package.specs.declared.draft.Draft.{Draft}
+use Rattle.pb_workspace_types.specs.declared.fault.LoadFault.{LoadFault}
 use Rattle.pb_workspace.specs.declared.frame.Frame.{Frame}
 use Rattle.pb_workspace.specs.declared.rounds.Parts.{Parts}
 use Rattle.pb_workspace.specs.declared.rounds.Reading.{Reading}
-use Rattle.pb_draft.specs.declared.wanted.Wanted.{Wanted}
+use Rattle.pb_workspace_package.specs.declared.wanted.Wanted.{Wanted}
 use Rattle.pb_workspace.specs.Frames.{frame_of, is_member}
 use Rattle.pb_workspace.specs.MemberFolders.{folders_meant, member_folders}
 use Rattle.pb_workspace.specs.Rounds.{draft_in_file, rounds, standing_in}

@@ -1,8 +1,8 @@
 -- Packages by the indices of their folders.
 use Rattle.std.specs.Prelude.{ℕ, ◌+◌, List, [], ◌∷◌, slice_get, Option, Some, None}
-use Rattle.pb_draft.specs.declared.draft.Draft.{Draft}
+use Rattle.pb_workspace_package.specs.declared.draft.Draft.{Draft}
 use Rattle.pb_workspace.specs.ByFolder.{value_of}
-use Rattle.pb_draft.specs.Sorted.{with_entry}
+use Rattle.pb_workspace_package.specs.Sorted.{with_entry}
 
 -- each folder with its index, if the first has the given index
 abbrev pub numbered : List (List ℕ × ℕ) → ℕ → List Draft → List (List ℕ × ℕ)

@@ -3,15 +3,15 @@
 -- These definitions serve the promise that a workspace that was read is settled.
 use Rattle.std.specs.Prelude.{◌≡◌, ℕ, ◌≤◌, true, All, IfSome, List, map, length, Option}
 use Rattle.std.specs.List.{AllByRecursion}
-use Rattle.pb_manifest.specs.Letters.{is_name}
-use Rattle.pb_manifest.specs.declared.dependency.WorkspaceDependency.{WorkspaceDependency}
-use Rattle.pb_manifest.specs.declared.manifest.WorkspaceTable.{WorkspaceTable}
-use Rattle.pb_manifest.specs.declared.package.Package.{Package}
-use Rattle.pb_draft.specs.declared.draft.Draft.{Draft}
-use Rattle.pb_draft.specs.declared.draft.Tables.{Tables}
+use Rattle.pb_manifest_types.specs.Letters.{is_name}
+use Rattle.pb_manifest_types.specs.declared.dependency.WorkspaceDependency.{WorkspaceDependency}
+use Rattle.pb_manifest_types.specs.declared.manifest.WorkspaceTable.{WorkspaceTable}
+use Rattle.pb_manifest_types.specs.declared.package.Package.{Package}
+use Rattle.pb_workspace_package.specs.declared.draft.Draft.{Draft}
+use Rattle.pb_workspace_package.specs.declared.draft.Tables.{Tables}
 use Rattle.pb_workspace.specs.declared.rounds.Reading.{Reading}
-use Rattle.pb_package.specs.Settled.{IsAscending}
-use Rattle.pb_draft.specs.Drafted.{ArePromised, IsDraft}
+use Rattle.pb_workspace_types.specs.Settled.{IsAscending}
+use Rattle.pb_workspace_package.specs.Drafted.{ArePromised, IsDraft}
 
 -- the entries of `[workspace.dependencies]` are in byte order of their keys
 abbrev pub HasSharedInOrder : WorkspaceTable → Type 0

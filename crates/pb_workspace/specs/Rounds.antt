@@ -5,26 +5,26 @@ use Rattle.std.specs.Prelude.{ℕ, zero, suc, Bool, nat_le, if◌then◌else◌,
 use Rattle.std.specs.FinMap as finite
 use Rattle.std.specs.Str.{bytes_eq}
 use Rattle.pb_data.specs.Gives.{◌>>=◌, lifted}
-use Rattle.pb_place.specs.Paths.{below}
-use Rattle.pb_place.specs.World.{World}
-use Rattle.pb_manifest_reader.specs.Document.{manifest_of}
-use Rattle.pb_manifest.specs.declared.fault.ManifestFault.TheVariants.{BadKind}
-use Rattle.pb_manifest.specs.declared.key.Key.TheVariants as key
-use Rattle.pb_manifest.specs.declared.manifest.Manifest.{Manifest as ManifestRead}
-use Rattle.pb_manifest.specs.declared.package.Package.{Package}
-use Rattle.pb_draft.specs.declared.draft.Draft.{Draft}
-use Rattle.pb_draft.specs.declared.draft.Tables.{Tables}
-use Rattle.pb_package.specs.declared.fault.LoadFault.{LoadFault}
-use Rattle.pb_package.specs.declared.fault.LoadFault.TheVariants.{NoManifest, Manifest, TooMany}
+use Rattle.pb_place_types.specs.Paths.{below}
+use Rattle.pb_place_types.specs.World.{World}
+use Rattle.pb_manifest.specs.Document.{manifest_of}
+use Rattle.pb_manifest_types.specs.declared.fault.ManifestFault.TheVariants.{BadKind}
+use Rattle.pb_manifest_types.specs.declared.key.Key.TheVariants as key
+use Rattle.pb_manifest_types.specs.declared.manifest.Manifest.{Manifest as ManifestRead}
+use Rattle.pb_manifest_types.specs.declared.package.Package.{Package}
+use Rattle.pb_workspace_package.specs.declared.draft.Draft.{Draft}
+use Rattle.pb_workspace_package.specs.declared.draft.Tables.{Tables}
+use Rattle.pb_workspace_types.specs.declared.fault.LoadFault.{LoadFault}
+use Rattle.pb_workspace_types.specs.declared.fault.LoadFault.TheVariants.{NoManifest, Manifest, TooMany}
 use Rattle.pb_workspace.specs.declared.frame.Frame.{Frame}
 use Rattle.pb_workspace.specs.declared.rounds.Parts.{Parts}
 use Rattle.pb_workspace.specs.declared.rounds.Reading.{Reading}
-use Rattle.pb_draft.specs.declared.wanted.Standing.{Standing}
-use Rattle.pb_draft.specs.declared.wanted.Wanted.{Wanted}
+use Rattle.pb_workspace_package.specs.declared.wanted.Standing.{Standing}
+use Rattle.pb_workspace_package.specs.declared.wanted.Wanted.{Wanted}
 use Rattle.pb_workspace.specs.ByFolder.{folders_of, has, with_folders}
-use Rattle.pb_draft.specs.Drafts.{draft_of}
+use Rattle.pb_workspace_package.specs.Drafts.{draft_of}
 use Rattle.pb_workspace.specs.Frames.{given_to, is_member}
-use Rattle.pb_draft.specs.Sorted.{with_entry}
+use Rattle.pb_workspace_package.specs.Sorted.{with_entry}
 
 -- the manifest in the file at a path, or why it cannot be read
 abbrev pub read_found : List ℕ → Option (List ℕ) → Result ManifestRead LoadFault

@@ -4,15 +4,15 @@ use Rattle.std.specs.List.{flat_map, list_any, list_all, slice_split}
 use Rattle.std.specs.Str.{bytes_eq}
 use Rattle.pb_data.specs.Gives.{◌>>=◌}
 use Rattle.pb_data.specs.Mentions.{is_mentioned}
-use Rattle.pb_draft.specs.Between.{is_word}
-use Rattle.pb_package.specs.declared.fault.LoadFault.{LoadFault}
-use Rattle.pb_package.specs.declared.fault.LoadFault.TheVariants.{NoSuchPackage}
-use Rattle.pb_package.specs.declared.options.Options.{Options}
-use Rattle.pb_package.specs.declared.options.Selection.{Selection}
-use Rattle.pb_package.specs.declared.package.Package.{Package}
-use Rattle.pb_package.specs.declared.workspace.DefaultMembers.{DefaultMembers}
-use Rattle.pb_package.specs.declared.workspace.DefaultMembers.TheVariants.{Unwritten, Named, Unknown}
-use Rattle.pb_package.specs.declared.workspace.Workspace.{Workspace}
+use Rattle.pb_workspace_package.specs.Between.{is_word}
+use Rattle.pb_workspace_types.specs.declared.fault.LoadFault.{LoadFault}
+use Rattle.pb_workspace_types.specs.declared.fault.LoadFault.TheVariants.{NoSuchPackage}
+use Rattle.pb_workspace_types.specs.declared.options.Options.{Options}
+use Rattle.pb_workspace_types.specs.declared.options.Selection.{Selection}
+use Rattle.pb_workspace_types.specs.declared.package.Package.{Package}
+use Rattle.pb_workspace_types.specs.declared.workspace.DefaultMembers.{DefaultMembers}
+use Rattle.pb_workspace_types.specs.declared.workspace.DefaultMembers.TheVariants.{Unwritten, Named, Unknown}
+use Rattle.pb_workspace_types.specs.declared.workspace.Workspace.{Workspace}
 
 -- the indices of the packages that pass a test, if the first package has the given index
 abbrev pub places_from : (Package → Bool) → ℕ → List Package → List ℕ

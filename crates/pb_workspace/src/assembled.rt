@@ -4,7 +4,7 @@ ghost use Rattle.std.specs.Prelude.{◌≡◌, ◌++◌, Bool, IfOk, OnOk, map, 
 ghost use Rattle.std.specs.List.{list_all, list_any};
 ghost use Rattle.pb_workspace.specs.Assembled.{entry_at, package_at, packages_of, is_meant_member, is_known, is_default, default_members_of, assembled};
 ghost use Rattle.pb_workspace.specs.Members.{means, parts_match, parts_meant};
-ghost use Rattle.pb_draft.specs.Between.{names_in};
+ghost use Rattle.pb_workspace_package.specs.Between.{names_in};
 ghost use Rattle.pb_workspace.specs.ByFolder.{value_of};
 ghost use Rattle.pb_workspace.specs.Places.{places_of};
 ghost use Rattle.pb_workspace.specs.Selected.{places_where};
@@ -14,10 +14,10 @@ use crate::frame::Frame;
 use crate::glob::is_glob;
 use crate::member::{is_meant, parts_meant};
 use pb_data::{Items, TryCopy};
-use pb_draft::{Draft, Wanted, WantedByKey};
-use pb_manifest::{Profile, WrittenPath};
-use pb_package::{DefaultMembers, EntriesByKey, Entry, Package, Workspace};
-use pb_place::PathText;
+use pb_workspace_package::{Draft, Wanted, WantedByKey};
+use pb_manifest_types::{Profile, WrittenPath};
+use pb_workspace_types::{DefaultMembers, EntriesByKey, Entry, Package, Workspace};
+use pb_place_types::PathText;
 use std::alloc::{AllocError, Global};
 
 /// Returns the index of the package of a folder.

@@ -3,11 +3,11 @@
 ghost use Rattle.std.specs.Prelude.{◌≡◌, List, ℕ, [], IfOk, OnOk, length, map};
 ghost use Rattle.std.specs.Option.{option_copied};
 ghost use Rattle.pb_workspace.specs.ByFolder.{value_of, has, with_folders, folders_of, values_of};
-ghost use Rattle.pb_package.specs.Settled.{IsAscending};
-ghost use Rattle.pb_draft.specs.Sorted.{with_entry};
+ghost use Rattle.pb_workspace_types.specs.Settled.{IsAscending};
+ghost use Rattle.pb_workspace_package.specs.Sorted.{with_entry};
 
 use pb_data::{Items, TryCopy};
-use pb_place::PathText;
+use pb_place_types::PathText;
 use std::alloc::{AllocError, Global};
 use std::collections::BTreeMap;
 use std::marker::Model;

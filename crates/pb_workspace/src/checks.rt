@@ -2,19 +2,19 @@
 
 ghost use Rattle.std.specs.Prelude.{◌≡◌, IfOk, IfSome, false, map};
 ghost use Rattle.std.specs.List.{filter_map, list_any};
-ghost use Rattle.pb_draft.specs.Causes.{is_failure};
-ghost use Rattle.pb_draft.specs.declared.draft.Draft.{Draft};
+ghost use Rattle.pb_workspace_package.specs.Causes.{is_failure};
+ghost use Rattle.pb_workspace_package.specs.declared.draft.Draft.{Draft};
 ghost use Rattle.pb_workspace.specs.Checks.{has_same_names, has_other_name, matches_if, has_other_version, some_leads, links_twice, links_without_script, fault_of};
 ghost use Rattle.pb_workspace.specs.Places.{places_of, draft_in};
-ghost use Rattle.pb_draft.specs.Settling.{comes_again};
-ghost use Rattle.pb_draft.specs.declared.wanted.Wanted.{Wanted};
+ghost use Rattle.pb_workspace_package.specs.Settling.{comes_again};
+ghost use Rattle.pb_workspace_package.specs.declared.wanted.Wanted.{Wanted};
 
 use crate::by_folder::ByFolder;
 use crate::places::draft_in;
 use pb_data::Mentions;
-use pb_draft::{Draft, Wanted, was_mentioned};
-use pb_manifest::{Requirement, Version};
-use pb_package::LoadFault;
+use pb_workspace_package::{Draft, Wanted, was_mentioned};
+use pb_manifest_types::{Requirement, Version};
+use pb_workspace_types::LoadFault;
 use std::alloc::{AllocError, Global};
 
 /// Returns whether a name of these packages is repeated, or was mentioned before.

@@ -7,9 +7,9 @@ ghost use Rattle.pb_workspace.specs.Frames.{no_keys, nothing, keys_or_none, fram
 use crate::by_folder::ByFolder;
 use crate::member::is_excluded;
 use pb_data::Items;
-use pb_draft::{Given, SharedByKey};
-use pb_manifest::{WorkspacePackage, WorkspaceTable, WrittenPath};
-use pb_place::PathText;
+use pb_workspace_package::{Given, SharedByKey};
+use pb_manifest_types::{WorkspacePackage, WorkspaceTable, WrittenPath};
+use pb_place_types::PathText;
 use std::alloc::{AllocError, Global};
 
 /// What a root manifest contains about its workspace.

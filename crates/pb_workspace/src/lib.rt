@@ -21,8 +21,8 @@ pub use laws::{
 };
 pub use loading::load;
 pub use normal_paths::workspace_has_paths;
-pub use pb_draft::found_binaries_are_looked_for;
-pub use pb_package::{
+pub use pb_workspace_package::found_binaries_are_looked_for;
+pub use pb_workspace_types::{
     About, BinariesByName, Binary, DefaultMembers, DependencyKind, EntriesByKey, Entry,
     FeaturesByName, Library, LoadFault, Options, Package, SelectedWorkspace, Selection,
     SettledWorkspace, Side, Workspace,

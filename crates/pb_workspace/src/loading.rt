@@ -1,15 +1,15 @@
 //! The workspace of a manifest.
 
 ghost use Rattle.std.specs.Prelude.{◌≡◌, IfErr, IfOk, IsTrue, Some, false, IfSome};
-ghost use Rattle.pb_place.specs.Paths.{folder_of};
+ghost use Rattle.pb_place_types.specs.Paths.{folder_of};
 ghost use Rattle.pb_workspace.specs.Rounds.{with_draft};
-ghost use Rattle.pb_place.specs.World.{from_nothing};
+ghost use Rattle.pb_place_types.specs.World.{from_nothing};
 ghost use Rattle.pb_workspace.specs.ByFolder.{values_of};
 ghost use Rattle.pb_data.specs.Gives.{Gives};
-ghost use Rattle.pb_package.specs.declared.fault.LoadFault.TheVariants as load_fault;
-ghost use Rattle.pb_draft.specs.Looks.{Looks, listings_at};
+ghost use Rattle.pb_workspace_types.specs.declared.fault.LoadFault.TheVariants as load_fault;
+ghost use Rattle.pb_workspace_package.specs.Looks.{Looks, listings_at};
 ghost use Rattle.pb_workspace.specs.LookedAt.{package_looked, root_looked, others_looked, packages_looked, looked_at};
-ghost use Rattle.pb_draft.specs.Causes.{is_failure, Told, OnlyLooks};
+ghost use Rattle.pb_workspace_package.specs.Causes.{is_failure, Told, OnlyLooks};
 ghost use Rattle.pb_workspace.specs.Frames.{frame_of};
 ghost use Rattle.pb_workspace.specs.Loaded.{root_parts, at_root, nothing_read, root_read, others_read, packages_read, workspace_from, workspace_in, workspace_of};
 ghost use Rattle.pb_workspace.specs.Readings.{AreRead, HasSharedInOrder, IsReading};
@@ -26,10 +26,10 @@ use crate::rounds::{
     ENOUGH_ROUNDS, Parts, Reading, all_read, no_manifest, parts_at, rounds, with_draft,
 };
 use pb_data::{Items, TryCopy, with_next};
-use pb_draft::{Draft, Standing, Tables, draft_of};
-use pb_manifest::{Package, Profile, WorkspaceTable};
-use pb_package::{LoadFault, SettledWorkspace, Workspace};
-use pb_place::{PathText, Place};
+use pb_workspace_package::{Draft, Standing, Tables, draft_of};
+use pb_manifest_types::{Package, Profile, WorkspaceTable};
+use pb_workspace_types::{LoadFault, SettledWorkspace, Workspace};
+use pb_place_types::{PathText, Place};
 use std::alloc::{AllocError, Global};
 
 /// Returns the parts of the root manifest.

@@ -2,16 +2,16 @@
 
 ghost use Rattle.std.specs.Prelude.{◌≡◌, ◌++◌, ◌||◌, IfOk, OnOk, map, true};
 ghost use Rattle.std.specs.List.{fold, list_all, list_any};
-ghost use Rattle.pb_place.specs.Paths.{is_absolute, is_at_or_below, is_relative, leads_up, parts_of, stays};
-ghost use Rattle.pb_draft.specs.Between.{names_in};
+ghost use Rattle.pb_place_types.specs.Paths.{is_absolute, is_at_or_below, is_relative, leads_up, parts_of, stays};
+ghost use Rattle.pb_workspace_package.specs.Between.{names_in};
 ghost use Rattle.pb_workspace.specs.Members.{is_excluded, plain_parts, further, start_of, parts_meant, part_matches, parts_match, means};
-ghost use Rattle.pb_draft.specs.Sources.{resolved};
+ghost use Rattle.pb_workspace_package.specs.Sources.{resolved};
 
 use crate::glob::matches;
-use pb_draft::source::resolved;
-use pb_draft::{cut_at_slashes, names_in};
-use pb_manifest::WrittenPath;
-use pb_place::{PathText, RelativePath};
+use pb_workspace_package::source::resolved;
+use pb_workspace_package::{cut_at_slashes, names_in};
+use pb_manifest_types::WrittenPath;
+use pb_place_types::{PathText, RelativePath};
 use std::alloc::{AllocError, Global};
 
 /// A part that a folder must match for a text to mean it.

@@ -2,11 +2,11 @@
 
 ghost use Rattle.std.specs.Prelude.{◌≡◌, ◌++◌, [], ◌∷◌, codes, IfOk, IfErr, OnOk, IsTrue, true, filter};
 ghost use Rattle.std.specs.List.{flat_map};
-ghost use Rattle.pb_place.specs.Paths.{below, last_part};
-ghost use Rattle.pb_place.specs.World.{from_nothing};
-ghost use Rattle.pb_draft.specs.Causes.{is_outside, OnlyLooks};
-ghost use Rattle.pb_draft.specs.Looks.{Looks};
-ghost use Rattle.pb_draft.specs.Sources.{resolved};
+ghost use Rattle.pb_place_types.specs.Paths.{below, last_part};
+ghost use Rattle.pb_place_types.specs.World.{from_nothing};
+ghost use Rattle.pb_workspace_package.specs.Causes.{is_outside, OnlyLooks};
+ghost use Rattle.pb_workspace_package.specs.Looks.{Looks};
+ghost use Rattle.pb_workspace_package.specs.Sources.{resolved};
 ghost use Rattle.pb_workspace.specs.Globs.{matches};
 ghost use Rattle.pb_workspace.specs.LookedAt.{glob_looked, manifest_looked, members_looked, step_looked, text_looked, walk_looked};
 ghost use Rattle.pb_workspace.specs.MemberFolders.{folders_meant, folders_taken, has_manifest, is_fixed, is_kept, is_manifest, led_to, member_folders, one_step};
@@ -16,10 +16,10 @@ use crate::frame::Frame;
 use crate::glob::{is_glob, matches};
 use crate::member::{Part, is_excluded, parts_meant};
 use pb_data::Items;
-use pb_draft::source::{is_source, own_path, resolved, source_folders};
-use pb_manifest::WrittenPath;
-use pb_package::LoadFault;
-use pb_place::{PathText, Place};
+use pb_workspace_package::source::{is_source, own_path, resolved, source_folders};
+use pb_manifest_types::WrittenPath;
+use pb_workspace_types::LoadFault;
+use pb_place_types::{PathText, Place};
 use std::alloc::{AllocError, Global};
 
 /// Returns whether a path ends with the name `Cargo.toml`.

@@ -6,8 +6,8 @@ ghost use Rattle.pb_workspace.specs.Places.{places_of, draft_in};
 
 use crate::by_folder::ByFolder;
 use pb_data::TryCopy;
-use pb_draft::Draft;
-use pb_place::PathText;
+use pb_workspace_package::Draft;
+use pb_place_types::PathText;
 use std::alloc::{AllocError, Global};
 
 /// Returns each folder with the index of its package.

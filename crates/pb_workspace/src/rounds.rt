@@ -1,29 +1,29 @@
 //! The packages of a workspace, read folder by folder.
 
 ghost use Rattle.std.specs.Prelude.{◌≡◌, IfErr, IfOk, IsTrue, OnOk, false, IfSome};
-ghost use Rattle.pb_place.specs.declared.call.Call.TheVariants as call;
-ghost use Rattle.pb_place.specs.World.{from_nothing};
-ghost use Rattle.pb_place.specs.Paths.{below};
-ghost use Rattle.pb_manifest_reader.specs.Promises.{IsManifest};
+ghost use Rattle.pb_place_types.specs.declared.call.Call.TheVariants as call;
+ghost use Rattle.pb_place_types.specs.World.{from_nothing};
+ghost use Rattle.pb_place_types.specs.Paths.{below};
+ghost use Rattle.pb_manifest.specs.Promises.{IsManifest};
 ghost use Rattle.pb_workspace.specs.ByFolder.{folders_of, with_folders};
-ghost use Rattle.pb_draft.specs.Looks.{Looks, looked};
+ghost use Rattle.pb_workspace_package.specs.Looks.{Looks, looked};
 ghost use Rattle.pb_workspace.specs.LookedAt.{package_looked, file_looked, folder_looked, one_looked, all_looked, round_looked, rounds_looked};
-ghost use Rattle.pb_draft.specs.Causes.{is_failure, is_outside, Told, OnlyLooks};
+ghost use Rattle.pb_workspace_package.specs.Causes.{is_failure, is_outside, Told, OnlyLooks};
 ghost use Rattle.pb_workspace.specs.Frames.{given_to, nothing};
-ghost use Rattle.pb_package.specs.declared.fault.LoadFault.TheVariants as load_fault;
+ghost use Rattle.pb_workspace_types.specs.declared.fault.LoadFault.TheVariants as load_fault;
 ghost use Rattle.pb_workspace.specs.Rounds.{read_found, manifest_at, tables_in, parts_in, parts_at, no_package, draft_if, standing_in, draft_in_file, draft_at, leads_to, with_draft, one_read, all_read, round, rounds};
-ghost use Rattle.pb_draft.specs.Drafted.{IsDraft};
+ghost use Rattle.pb_workspace_package.specs.Drafted.{IsDraft};
 ghost use Rattle.pb_workspace.specs.Readings.{AreRead, HasSharedInOrder, IsReading};
 
 use crate::by_folder::{ByFolder, put_folders};
 use crate::frame::{Frame, is_member, nothing};
 use pb_data::{Bytes, Items, TryCopy};
-use pb_draft::source::{own_path, source};
-use pb_draft::{Draft, Given, Standing, Tables, Wanted, draft_of};
-use pb_manifest::{Key, Manifest, ManifestFault, Package, Profile, WorkspaceTable};
-use pb_manifest_reader::{GREATEST_LENGTH, read_manifest};
-use pb_package::LoadFault;
-use pb_place::{PathText, Place};
+use pb_workspace_package::source::{own_path, source};
+use pb_workspace_package::{Draft, Given, Standing, Tables, Wanted, draft_of};
+use pb_manifest_types::{Key, Manifest, ManifestFault, Package, Profile, WorkspaceTable};
+use pb_manifest::{GREATEST_LENGTH, read_manifest};
+use pb_workspace_types::LoadFault;
+use pb_place_types::{PathText, Place};
 use std::alloc::{AllocError, Global};
 
 /// The greatest number of packages.

@@ -5,11 +5,11 @@ ghost use Rattle.std.specs.List.{flat_map, list_any, slice_split};
 ghost use Rattle.pb_data.specs.Gives.{Gives};
 ghost use Rattle.pb_data.specs.Mentions.{is_mentioned};
 ghost use Rattle.pb_workspace.specs.Selected.{places_where, members_of, is_member_named, is_named_member, name_members, named_members, root_or_members, by_default, selected_packages, spaced_words, feature_words, selection_of, selected};
-ghost use Rattle.pb_draft.specs.Between.{is_word};
-ghost use Rattle.pb_package.specs.declared.fault.LoadFault.TheVariants as load_fault;
+ghost use Rattle.pb_workspace_package.specs.Between.{is_word};
+ghost use Rattle.pb_workspace_types.specs.declared.fault.LoadFault.TheVariants as load_fault;
 
 use pb_data::{Items, Text, TryCopy};
-use pb_package::{
+use pb_workspace_types::{
     DefaultMembers, LoadFault, Options, Package, SelectedWorkspace, Selection, SettledWorkspace,
     Workspace,
 };

@@ -1,5 +1,5 @@
 use Rattle.std.proofs.Common.{refl}
-use Rattle.pb_turns.specs.Crew.{moment}
+use Rattle.pb_build_turns.specs.Crew.{moment}
 use Rattle.pb_build.specs.Ending.{PicksFirstOf}
 use Rattle.pb_build.proofs.Lending.{built_by}
 use Rattle.pb_build.proofs.builder.build_plan.Goals as goal

@@ -1,4 +1,4 @@
-use Rattle.pb_turns.specs.Crew.{moment}
+use Rattle.pb_build_turns.specs.Crew.{moment}
 use Rattle.pb_build.proofs.Staying.{built_kept, built_landed}
 use Rattle.pb_build.proofs.builder.build_plan_turns.Goals as goal
 

@@ -1,5 +1,5 @@
 use Rattle.std.proofs.Common.{refl}
-use Rattle.pb_turns.specs.Crew.{moment}
+use Rattle.pb_build_turns.specs.Crew.{moment}
 use Rattle.pb_build.proofs.Headline.{headline}
 use Rattle.pb_build.proofs.Staying.{builds_stay, builds_landed}
 use Rattle.pb_build.proofs.builder.build_turns.Goals as goal

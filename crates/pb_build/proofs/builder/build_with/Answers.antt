@@ -1,6 +1,6 @@
 use Rattle.std.proofs.Common.{rules}
-use Rattle.pb_turns.specs.Crew.{moment}
-use Rattle.pb_flight.specs.Steps.{TurnsOfJobs}
+use Rattle.pb_build_turns.specs.Crew.{moment}
+use Rattle.pb_run_flight.specs.Steps.{TurnsOfJobs}
 use Rattle.pb_build.proofs.Headline.{headline}
 use Rattle.pb_build.proofs.Lending.{built_lent}
 use Rattle.pb_build.proofs.builder.build_with.Goals as goal

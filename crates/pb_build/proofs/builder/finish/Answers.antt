@@ -1,5 +1,5 @@
 use Rattle.pb_message.specs.Message.{finish_line}
-use Rattle.pb_place.specs.Sinks.{Heard}
+use Rattle.pb_place_types.specs.Sinks.{Heard}
 use Rattle.pb_build.proofs.Closing.{finishes_all}
 use Rattle.pb_build.proofs.builder.finish.Goals as goal
 

@@ -3,9 +3,9 @@ use Rattle.pb_build.proofs.Called.{plan_first}
 use Rattle.pb_build.proofs.builder.plan_build.Goals as goal
 use Rattle.pb_build.specs.Causes.{variables_asked}
 use Rattle.pb_build.specs.declared.environment.Environment.{Environment}
-use Rattle.pb_place.proofs.CallsInTurn.{made_both}
-use Rattle.pb_place.specs.CallsInTurn.{past_calls}
-use Rattle.pb_place.specs.World.{World}
+use Rattle.pb_place_types.proofs.CallsInTurn.{made_both}
+use Rattle.pb_place_types.specs.CallsInTurn.{past_calls}
+use Rattle.pb_place_types.specs.World.{World}
 use Rattle.pb_workspace.specs.LookedAt.{looked_at}
 
 pub returns-in-Err-clause-calls : goal.returns-in-Err-clause-calls

@@ -1,9 +1,9 @@
 use Rattle.std.proofs.Common.{◌≡◌, ◌⊎◌, ◌∙◌, ◌+◌, List, Result, Ok, Err, inl, max, length, refl, ap, sym, subst}
-use Rattle.pb_answer.specs.declared.fault.BuildFault.{BuildFault}
-use Rattle.pb_place.specs.Counts.{up_starts}
-use Rattle.pb_place.specs.declared.child_in_flight.ChildInFlight.{ChildInFlight}
-use Rattle.pb_turns.specs.Crew.{Moment, moment}
-use Rattle.pb_turns.proofs.Counting.{cause_from}
+use Rattle.pb_build_result.specs.declared.fault.BuildFault.{BuildFault}
+use Rattle.pb_place_types.specs.Counts.{up_starts}
+use Rattle.pb_place_types.specs.declared.child_in_flight.ChildInFlight.{ChildInFlight}
+use Rattle.pb_build_turns.specs.Crew.{Moment, moment}
+use Rattle.pb_build_turns.proofs.Counting.{cause_from}
 use Rattle.pb_build.specs.AnyPlan.{Readies}
 use Rattle.pb_build.specs.Planning.{IsProject}
 use Rattle.pb_build.specs.declared.builder.BuildPlan.{BuildPlan}

@@ -1,5 +1,5 @@
 use Rattle.std.proofs.Common.{rules}
-use Rattle.pb_turns.proofs.Counting.{cause_from}
+use Rattle.pb_build_turns.proofs.Counting.{cause_from}
 use Rattle.pb_build.proofs.Preparing.{open_ready}
 use Rattle.pb_build.proofs.builder.ready.Goals as goal
 

@@ -1,5 +1,5 @@
 use Rattle.std.proofs.Common.{◌∙◌, refl, inl, inr}
-use Rattle.pb_turns.specs.Crew.{moment}
+use Rattle.pb_build_turns.specs.Crew.{moment}
 use Rattle.pb_build.specs.AnyPlan as plan
 use Rattle.pb_build.proofs.Preparing.{most_from, unheard}
 use Rattle.pb_build.proofs.builder.work.Goals as goal

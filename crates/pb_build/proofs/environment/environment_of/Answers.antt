@@ -1,6 +1,6 @@
 use Rattle.std.proofs.Common.{◌∙◌, ap, codes, List, ℕ, Option}
 use Rattle.std.specs.FinMap as finite
-use Rattle.pb_place.specs.World.{World}
+use Rattle.pb_place_types.specs.World.{World}
 use Rattle.pb_build.specs.Environment.{set_text, environment_with}
 use Rattle.pb_build.proofs.Called.{all_asked, first_stops, second_stops, third_stops}
 use Rattle.pb_build.proofs.environment.environment_of.Goals as goal

@@ -1,6 +1,6 @@
 use Rattle.pb_build.specs.Ending.{PicksFirstOf}
 use Rattle.pb_build.proofs.Headline.{headline}
-use Rattle.pb_flight.specs.Steps.{TurnsOfJobs}
+use Rattle.pb_run_flight.specs.Steps.{TurnsOfJobs}
 use Rattle.pb_build.proofs.laws.builds_keep_the_headline.Goals as goal
 
 pub returns-clause-turns : goal.returns-clause-turns

@@ -2,7 +2,7 @@ use Rattle.std.proofs.Common.{◌≡◌, Ok, List, ℕ, subst}
 use Rattle.pb_build.proofs.Refusals.{Stops, unselected, unresolved, unplanned}
 use Rattle.pb_build.specs.Planning.{IsFeatured}
 use Rattle.pb_build.specs.Private.{IsRefusedOf}
-use Rattle.pb_package.specs.declared.workspace.Workspace.{Workspace}
+use Rattle.pb_workspace_types.specs.declared.workspace.Workspace.{Workspace}
 use Rattle.pb_unit.specs.Plan.{IsPlan}
 use Rattle.pb_workspace.specs.Selected.{selected}
 use Rattle.pb_build.proofs.planning.parts_of.Goals as goal

@@ -1,7 +1,7 @@
 use Rattle.std.proofs.Common.{subst, sym}
 use Rattle.pb_build.proofs.InOrder.{in_order}
-use Rattle.pb_package.specs.Settled.{IsSettled}
-use Rattle.pb_package.specs.declared.workspace.Workspace.{Workspace}
+use Rattle.pb_workspace_types.specs.Settled.{IsSettled}
+use Rattle.pb_workspace_types.specs.declared.workspace.Workspace.{Workspace}
 use Rattle.pb_unit.specs.Plan.{IsPlan}
 use Rattle.pb_build.proofs.planning.project_of.Goals as goal
 

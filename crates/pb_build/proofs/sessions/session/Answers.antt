@@ -1,6 +1,6 @@
 use Rattle.std.proofs.Common.{[], ap}
 use Rattle.pb_build.specs.Session.{point}
-use Rattle.pb_place.proofs.Failing.{on_err}
+use Rattle.pb_place_types.proofs.Failing.{on_err}
 use Rattle.pb_build.proofs.StepsTaken.{none_taken, none_passed, step_taken, step_passed, step_lost, steps_taken}
 use Rattle.pb_build.proofs.sessions.session.Goals as goal
 

@@ -1,5 +1,5 @@
 use Rattle.std.proofs.Common.{◌≡◌, [], drop}
-use Rattle.pb_memory.specs.Memory.{counts_in}
+use Rattle.pb_place.specs.Memory.{counts_in}
 use Rattle.pb_build.specs.Session.{point}
 use Rattle.pb_build.proofs.StepsTaken.{Reaches, BreaksOff}
 use Rattle.pb_build.proofs.sessions.session.Given as goal

@@ -1,5 +1,5 @@
 use Rattle.std.proofs.Common.{OnOk, OnErr, sym, subst}
-use Rattle.pb_session.specs.declared.step.SessionStep.{SessionStep}
+use Rattle.pb_build_session.specs.declared.step.SessionStep.{SessionStep}
 use Rattle.pb_build.specs.Session.{Carries, Loses, point}
 use Rattle.pb_build.proofs.sessions.take_step.Goals as goal
 

@@ -1,6 +1,6 @@
 use Rattle.std.proofs.Common.{◌≡◌, drop}
 use Rattle.std.specs.List.{list_any}
-use Rattle.pb_manifest.specs.declared.feature.Feature.{Feature}
+use Rattle.pb_manifest_types.specs.declared.feature.Feature.{Feature}
 use Rattle.pb_feature.specs.Rules.{is_text_of}
 use Rattle.pb_feature.specs.Answered.{is_owner_of}
 use Rattle.pb_feature.proofs.asked.is_owner_of.Given as goal

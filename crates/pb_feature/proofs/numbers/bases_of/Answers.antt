@@ -1,6 +1,6 @@
 use Rattle.std.proofs.Common.{append_assoc, append-nil}
 use Rattle.std.proofs.lemmas.List.{drop_all}
-use Rattle.pb_closure.proofs.Placing.{rest_here}
+use Rattle.pb_graph.proofs.Placing.{rest_here}
 use Rattle.pb_feature.proofs.numbers.bases_of.Goals as goal
 
 pub loop-owner-preserved : goal.loop-owner-preserved

@@ -1,5 +1,5 @@
 use Rattle.std.proofs.Common.{◌≡◌, ◌++◌, drop}
-use Rattle.pb_closure.specs.Placed.{placed}
+use Rattle.pb_graph.specs.Placed.{placed}
 use Rattle.pb_feature.specs.Marked.{marked_name}
 use Rattle.pb_feature.proofs.resolved.names_of.Given as goal
 

@@ -1,5 +1,5 @@
 use Rattle.pb_feature.specs.Rules.{package_rules}
-use Rattle.pb_closure.proofs.Placing.{rest_here, placed_more}
+use Rattle.pb_graph.proofs.Placing.{rest_here, placed_more}
 use Rattle.pb_feature.proofs.rules.rules_of.Goals as goal
 
 pub loop-place-preserved : goal.loop-place-preserved

@@ -1,5 +1,5 @@
 use Rattle.pb_feature.specs.Rules.{entry_rules}
-use Rattle.pb_closure.proofs.Placing.{rest_here, placed_more}
+use Rattle.pb_graph.proofs.Placing.{rest_here, placed_more}
 use Rattle.pb_feature.proofs.rules_of_entries.add_entries.Goals as goal
 
 pub loop-index-preserved : goal.loop-index-preserved

@@ -1,5 +1,5 @@
 use Rattle.pb_feature.specs.Rules.{one_item_rules}
-use Rattle.pb_closure.proofs.Placing.{rest_here, placed_more}
+use Rattle.pb_graph.proofs.Placing.{rest_here, placed_more}
 use Rattle.pb_feature.proofs.rules_of_items.add_feature.Goals as goal
 
 pub loop-item-preserved : goal.loop-item-preserved

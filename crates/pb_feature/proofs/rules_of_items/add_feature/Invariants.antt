@@ -1,5 +1,5 @@
 use Rattle.std.proofs.Common.{◌≡◌, ◌++◌, drop}
-use Rattle.pb_closure.specs.Placed.{placed}
+use Rattle.pb_graph.specs.Placed.{placed}
 use Rattle.pb_feature.specs.Rules.{one_item_rules}
 use Rattle.pb_feature.proofs.rules_of_items.add_feature.Given as goal
 

@@ -1,5 +1,5 @@
 use Rattle.std.proofs.Common.{◌≡◌, ◌++◌, drop}
-use Rattle.pb_closure.specs.Placed.{placed}
+use Rattle.pb_graph.specs.Placed.{placed}
 use Rattle.pb_feature.specs.Rules.{chosen_seeds}
 use Rattle.pb_feature.proofs.seeds.add_owner.Given as goal
 

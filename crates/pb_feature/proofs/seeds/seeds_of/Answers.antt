@@ -1,7 +1,7 @@
 use Rattle.std.proofs.Common.{slice_index_or}
 use Rattle.std.proofs.lemmas.List.{drop_more}
 use Rattle.pb_feature.specs.Rules.{selected_seeds}
-use Rattle.pb_closure.proofs.Placing.{placed_more, placed_all}
+use Rattle.pb_graph.proofs.Placing.{placed_more, placed_all}
 use Rattle.pb_feature.proofs.seeds.seeds_of.Goals as goal
 
 pub loop-place-preserved : goal.loop-place-preserved

@@ -1,5 +1,5 @@
 use Rattle.std.proofs.Common.{◌≡◌, ◌++◌, drop}
-use Rattle.pb_closure.specs.Placed.{placed}
+use Rattle.pb_graph.specs.Placed.{placed}
 use Rattle.pb_feature.specs.Rules.{selected_seeds, seeds_of}
 use Rattle.pb_feature.proofs.seeds.seeds_of.Given as goal
 

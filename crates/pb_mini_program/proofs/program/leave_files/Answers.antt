@@ -1,5 +1,5 @@
 use Rattle.std.proofs.Common.{◌∙◌, ap, rules, sym, inr, Some, None, refl}
-use Rattle.pb_place.specs.World.{put_reply}
+use Rattle.pb_place_types.specs.World.{put_reply}
 use Rattle.pb_mini_program.specs.Faults.{of_place}
 use Rattle.pb_mini_program.specs.OutFolder.{out_folder}
 use Rattle.pb_mini_program.specs.Writing.{kept}

@@ -1,6 +1,6 @@
 use Rattle.std.proofs.Common.{◌≡◌, Some, IsTrue, take}
-use Rattle.pb_place.specs.CallsInTurn.{past_calls}
-use Rattle.pb_place.specs.World.{put_reply}
+use Rattle.pb_place_types.specs.CallsInTurn.{past_calls}
+use Rattle.pb_place_types.specs.World.{put_reply}
 use Rattle.pb_mini_program.specs.Writing.{writes_in}
 use Rattle.pb_mini_program.proofs.program.write_files.Given as goal
 

@@ -1,5 +1,5 @@
 use Rattle.std.proofs.Common.{◌≡◌, suc, ◌+◌, List, length, refl, subst, arith}
-use Rattle.pb_manifest.specs.declared.profile.Profile.{Profile}
+use Rattle.pb_manifest_types.specs.declared.profile.Profile.{Profile}
 use Rattle.pb_profile.specs.Line.{Seen, seen_at}
 use Rattle.pb_profile.proofs.Lines.{GoesOn, is_line, is_missing, goes_on}
 use Rattle.pb_profile.proofs.Rings.{comes_back}

@@ -1,4 +1,4 @@
-use Rattle.pb_place.proofs.PathLemmas.{path_clean}
+use Rattle.pb_place_types.proofs.PathLemmas.{path_clean}
 use Rattle.pb_record.proofs.LawLemmas.{only_records}
 use Rattle.pb_record.proofs.laws.only_records_are_read.Goals as goal
 

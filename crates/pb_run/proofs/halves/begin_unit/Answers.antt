@@ -1,6 +1,6 @@
 use Rattle.std.proofs.Common.{◌∙◌, ◌+◌, Err, None, ap, inl, length, max, refl, subst, sym}
 use Rattle.std.proofs.lemmas.Bool.{false≢true}
-use Rattle.pb_place.specs.Counts.{Counts, Starts}
+use Rattle.pb_place_types.specs.Counts.{Counts, Starts}
 use Rattle.pb_run.specs.Running.{Begins, ChangesUnit, DropsFor, Launches}
 use Rattle.pb_run.specs.Steps.{IsLifted, fault_in, MayBegin}
 use Rattle.pb_run.specs.Halves.{basis}

@@ -1,5 +1,5 @@
 use Rattle.std.proofs.Common.{◌∙◌, ap, refl}
-use Rattle.pb_place.specs.Counts.{Counts}
+use Rattle.pb_place_types.specs.Counts.{Counts}
 use Rattle.pb_run.specs.Halves.{child_in, child_of}
 use Rattle.pb_run.proofs.Settling.{dropped_keeps, dropped_others, finish_flying}
 use Rattle.pb_run.proofs.Writes.{dropped_in, stays_apart}

@@ -1,5 +1,5 @@
 use Rattle.std.proofs.Common.{subst}
-use Rattle.pb_place.specs.declared.command.Command.{Command}
+use Rattle.pb_place_types.specs.declared.command.Command.{Command}
 use Rattle.pb_run.specs.Halves.{child_of}
 use Rattle.pb_run.specs.Standing.{records_folder}
 use Rattle.pb_run.proofs.InTurn.{lifted_flies}

@@ -1,11 +1,11 @@
 use Rattle.std.proofs.Common.{◌≡◌, ◌∙◌, ℕ, List, Err, Ok, Some, ap, inl, inr, refl, subst, sym}
 use Rattle.std.proofs.lemmas.Bool.{false≢true}
 use Rattle.pb_command.specs.Judge.{judge}
-use Rattle.pb_place.specs.Children.{KeepsStillOutside}
-use Rattle.pb_place.specs.Counts.{Starts, without}
-use Rattle.pb_place.specs.Paths.{is_at_or_below}
-use Rattle.pb_place.specs.World.{ChangesOnly}
-use Rattle.pb_project.specs.Targets.{dep_info_of}
+use Rattle.pb_place_types.specs.Children.{KeepsStillOutside}
+use Rattle.pb_place_types.specs.Counts.{Starts, without}
+use Rattle.pb_place_types.specs.Paths.{is_at_or_below}
+use Rattle.pb_place_types.specs.World.{ChangesOnly}
+use Rattle.pb_command_types.specs.Targets.{dep_info_of}
 use Rattle.pb_run.specs.Halves.{basis, needed_keys}
 use Rattle.pb_run.specs.Running.{dep_info_looked}
 use Rattle.pb_run.specs.Standing.{records_folder}
@@ -25,7 +25,7 @@ use Rattle.pb_run.proofs.Settling.{Keeping, keeping_moved, stands_moved}
 use Rattle.pb_run.proofs.Stepping.{bad_made, ended_well, good_made, good_stops, kept_so, memory_last, stops_first, store_stops}
 use Rattle.pb_run.proofs.Writes.{ended_anyway, ended_only, none_changed}
 use Rattle.pb_run.proofs.landing.land.Goals as goal
-use Rattle.pb_soundness.specs.Records.{out_of, place_of}
+use Rattle.pb_store_soundness.specs.Records.{out_of, place_of}
 use Rattle.pb_store.specs.declared.fault.StoreFault.TheVariants as store
 
 -- The child gave no answer.

@@ -2,10 +2,10 @@ use Rattle.std.proofs.Common.{◌≡◌, ◌∙◌, [], Err, None, Ok, ap, inl, 
 use Rattle.std.proofs.lemmas.Bool.{false≢true}
 use Rattle.std.specs.FinMap as finite
 use Rattle.pb_command.specs.Judge.{judge}
-use Rattle.pb_place.specs.Children.{KeepsStillOutside}
-use Rattle.pb_place.specs.Paths.{is_at_or_below}
-use Rattle.pb_place.specs.World.{ChangesOnly}
-use Rattle.pb_project.specs.Targets.{dep_info_of}
+use Rattle.pb_place_types.specs.Children.{KeepsStillOutside}
+use Rattle.pb_place_types.specs.Paths.{is_at_or_below}
+use Rattle.pb_place_types.specs.World.{ChangesOnly}
+use Rattle.pb_command_types.specs.Targets.{dep_info_of}
 use Rattle.pb_run.specs.Steps.{Lands, MayAnswer}
 use Rattle.pb_run.specs.Halves.{basis, needed_keys}
 use Rattle.pb_run.specs.Running.{dep_info_looked}

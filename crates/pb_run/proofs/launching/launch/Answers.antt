@@ -1,11 +1,11 @@
 use Rattle.std.proofs.Common.{◌∙◌, None, ap, inl, inr}
-use Rattle.pb_place.specs.Children.{child_at}
+use Rattle.pb_place_types.specs.Children.{child_at}
 use Rattle.pb_run.proofs.Changing.{changes_launched}
 use Rattle.pb_run.proofs.Ending.{begun_after, lifted_after}
 use Rattle.pb_run.proofs.Halving.{flies_lifted, flying_begun}
 use Rattle.pb_run.proofs.Spawning.{launched_ahead, launched_gone, launched_held, launched_sound, launched_spawned}
 use Rattle.pb_run.proofs.launching.launch.Goals as goal
-use Rattle.pb_soundness.specs.Records.{reading}
+use Rattle.pb_store_soundness.specs.Records.{reading}
 
 pub returns-in-Ok-spawn_anew-clause-spawned : goal.returns-in-Ok-spawn_anew-clause-spawned
 returns-in-Ok-spawn_anew-clause-spawned g c told =

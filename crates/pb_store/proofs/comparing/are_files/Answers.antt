@@ -1,6 +1,6 @@
 use Rattle.std.proofs.Common.{rules}
 use Rattle.pb_store.proofs.Looking.{looks_told}
-use Rattle.pb_place.specs.declared.call.Call.TheVariants as call
+use Rattle.pb_place_types.specs.declared.call.Call.TheVariants as call
 use Rattle.pb_store.proofs.LookingAt.{folder_made, folder_stops, folder_unlisted}
 use Rattle.pb_store.proofs.comparing.are_files.Goals as goal
 

@@ -1,8 +1,8 @@
 use Rattle.std.proofs.Common.{rules, arith, refl, true, List, ℕ, ◌+◌, drop}
 use Rattle.std.proofs.lemmas.Grind.{common_steps}
 use Rattle.std.specs.List.{filter_map}
-use Rattle.pb_place.specs.Paths.{inside}
-use Rattle.pb_place.specs.World.{World}
+use Rattle.pb_place_types.specs.Paths.{inside}
+use Rattle.pb_place_types.specs.World.{World}
 use Rattle.pb_store.specs.Presence.{file_in, file_looked}
 use Rattle.pb_store.proofs.Looking.{looks_told, row_on, row_stops}
 use Rattle.pb_store.proofs.comparing.are_files_at.Goals as goal

@@ -1,7 +1,7 @@
 use Rattle.std.proofs.Common.{rules}
-use Rattle.pb_place.specs.World.{removed}
+use Rattle.pb_place_types.specs.World.{removed}
 use Rattle.pb_store.proofs.Looking.{looks_told}
-use Rattle.pb_place.specs.declared.call.Call.TheVariants as call
+use Rattle.pb_place_types.specs.declared.call.Call.TheVariants as call
 use Rattle.pb_store.proofs.LookingAt.{folder_made, folder_stops, folder_unlisted}
 use Rattle.pb_store.proofs.comparing.are_sources.Goals as goal
 

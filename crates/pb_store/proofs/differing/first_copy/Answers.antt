@@ -1,5 +1,5 @@
 use Rattle.std.proofs.Common.{rules}
-use Rattle.pb_place.specs.World.{World}
+use Rattle.pb_place_types.specs.World.{World}
 use Rattle.std.specs.Prelude.{List, ℕ}
 use Rattle.pb_store.specs.Differences.{HasFiles}
 use Rattle.pb_store.proofs.Firsts.{one_fails, one_holds}

@@ -1,5 +1,5 @@
 use Rattle.std.proofs.Common.{rules}
-use Rattle.pb_place.proofs.CallsInTurn.{some_none}
+use Rattle.pb_place_types.proofs.CallsInTurn.{some_none}
 use Rattle.pb_store.proofs.LookingOver.{from_then, name_unlooked, part_unlooked}
 use Rattle.pb_store.proofs.differing.first_from.Goals as goal
 

@@ -1,6 +1,6 @@
 use Rattle.std.proofs.Common.{rules}
-use Rattle.pb_place.specs.World.{World}
-use Rattle.pb_soundness.specs.Inputs.{name_of}
+use Rattle.pb_place_types.specs.World.{World}
+use Rattle.pb_store_soundness.specs.Inputs.{name_of}
 use Rattle.pb_store.specs.Differences.{IsPresent}
 use Rattle.pb_store.proofs.Firsts.{one_fails, one_holds}
 use Rattle.pb_record.specs.declared.record.Input.{Input}

@@ -1,4 +1,4 @@
-use Rattle.pb_place.specs.declared.call.Call.TheVariants as call
+use Rattle.pb_place_types.specs.declared.call.Call.TheVariants as call
 use Rattle.pb_store.proofs.Writing.{partly_left_at, removed_sound_at, partly_sound_at, removed_gone_at, removed_ahead_at, partly_ahead_at}
 use Rattle.pb_store.proofs.Called.{ends_there}
 use Rattle.pb_store.proofs.dropping.remove_record.Goals as goal

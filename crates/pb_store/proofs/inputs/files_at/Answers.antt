@@ -1,7 +1,7 @@
 use Rattle.std.proofs.Common.{rules, arith, refl, true, List, ℕ}
 use Rattle.std.proofs.lemmas.Grind.{common_steps}
-use Rattle.pb_place.specs.Paths.{inside}
-use Rattle.pb_place.specs.World.{World}
+use Rattle.pb_place_types.specs.Paths.{inside}
+use Rattle.pb_place_types.specs.World.{World}
 use Rattle.pb_store.specs.Presence.{file_looked}
 use Rattle.pb_store.proofs.Looking.{looks_told, row_on, row_refused, row_stops}
 use Rattle.pb_store.proofs.inputs.files_at.Goals as goal

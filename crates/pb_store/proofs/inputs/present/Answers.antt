@@ -1,6 +1,6 @@
 use Rattle.std.proofs.Common.{rules, arith, refl, true}
 use Rattle.std.proofs.lemmas.Grind.{common_steps}
-use Rattle.pb_place.specs.World.{World}
+use Rattle.pb_place_types.specs.World.{World}
 use Rattle.pb_record.specs.declared.record.InputName.{InputName}
 use Rattle.pb_store.specs.Looking.{name_looked}
 use Rattle.pb_store.proofs.Looking.{looks_told, row_on, row_refused, row_stops}

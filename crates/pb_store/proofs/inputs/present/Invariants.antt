@@ -1,6 +1,6 @@
 use Rattle.std.proofs.Common.{Ok, ℕ, ◌≡◌, ◌++◌, drop, map, IsTrue}
 use Rattle.pb_store.specs.Calls.{MayLook, OnlyLooks}
-use Rattle.pb_soundness.specs.Inputs.{input_in}
+use Rattle.pb_store_soundness.specs.Inputs.{input_in}
 use Rattle.pb_store.specs.Looking.{names_looked}
 use Rattle.pb_store.proofs.Looking.{Reached}
 use Rattle.pb_store.proofs.inputs.present.Given as goal

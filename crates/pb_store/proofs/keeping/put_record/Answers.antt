@@ -1,4 +1,4 @@
-use Rattle.pb_place.specs.declared.call.Call.TheVariants as call
+use Rattle.pb_place_types.specs.declared.call.Call.TheVariants as call
 use Rattle.pb_record.proofs.ReadingLemmas.{reading_reads}
 use Rattle.pb_store.proofs.Writing.{torn_left_at, written_sound_at, torn_sound_at, written_there_at, written_ahead_at, torn_ahead_at}
 use Rattle.pb_store.proofs.Called.{ends_there}

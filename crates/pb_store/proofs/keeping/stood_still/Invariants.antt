@@ -1,4 +1,4 @@
-use Rattle.pb_place.specs.At.{IsUnchanged}
+use Rattle.pb_place_types.specs.At.{IsUnchanged}
 use Rattle.pb_store.proofs.keeping.stood_still.Given as goal
 
 abbrev pub invariant-loop-name : goal.invariant-loop-name

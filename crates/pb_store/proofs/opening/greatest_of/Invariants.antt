@@ -1,7 +1,7 @@
 use Rattle.std.proofs.Common.{◌≡◌, ℕ, max, IsTrue, Contains, List, Ok}
 use Rattle.std.specs.List.{fold}
 use Rattle.std.specs.Vec.Iter.{into_iter_items}
-use Rattle.pb_place.specs.CallsInTurn.{past_calls}
+use Rattle.pb_place_types.specs.CallsInTurn.{past_calls}
 use Rattle.pb_store.specs.Looking.{records_looked}
 use Rattle.pb_store.specs.Folder.{greatest_at, greatest_of}
 use Rattle.pb_store.specs.Presence.{noted_at}

@@ -1,4 +1,4 @@
-use Rattle.pb_turns.specs.Crew.{moment}
+use Rattle.pb_build_turns.specs.Crew.{moment}
 use Rattle.std.proofs.Common.{◌∙◌, refl, subst, sym}
 use Rattle.pb_build.specs.Ending.{PlansFrom}
 use Rattle.pb_tool_program.specs.Building.{moved_lost, moved_notes}

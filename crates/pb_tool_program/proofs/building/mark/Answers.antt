@@ -1,7 +1,7 @@
 use Rattle.std.proofs.Common.{◌∙◌, inl, inr, refl, sym}
 use Rattle.pb_tool_program.specs.Building.{moved_lost, moved_notes}
 use Rattle.pb_tool_program.proofs.Lines.{moved_some, tells_by, tells_some}
-use Rattle.pb_place.specs.Sinks.{Heard}
+use Rattle.pb_place_types.specs.Sinks.{Heard}
 use Rattle.pb_tool_program.proofs.building.mark.Goals as goal
 
 pub returns-in-Ok : goal.returns-in-Ok

@@ -1,10 +1,10 @@
 use Rattle.std.proofs.Common.{◌∙◌, inl, inr, Result, refl, sym, subst}
-use Rattle.pb_answer.specs.declared.fault.BuildFault.{BuildFault}
+use Rattle.pb_build_result.specs.declared.fault.BuildFault.{BuildFault}
 use Rattle.pb_build.specs.declared.builder.BuildPlan.{BuildPlan}
 use Rattle.pb_tool_program.specs.Building.{NotesOf, notes_lost, notes_of}
 use Rattle.pb_tool_program.specs.Writing.{TellsOr}
 use Rattle.pb_tool_program.proofs.Lines.{notes_some, tells_by, tells_some}
-use Rattle.pb_place.specs.Sinks.{Heard}
+use Rattle.pb_place_types.specs.Sinks.{Heard}
 use Rattle.pb_tool_program.proofs.building.note.Goals as goal
 
 pub returns-in-Ok-notes_of : goal.returns-in-Ok-notes_of

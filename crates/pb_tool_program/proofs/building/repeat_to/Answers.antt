@@ -1,10 +1,10 @@
 use Rattle.std.proofs.Common.{◌≡◌, ◌==◌, ◌∙◌, inr, length, not, Result, false, refl, sym, ap, subst}
-use Rattle.pb_answer.specs.Explanation.{said_by_bad}
-use Rattle.pb_answer.specs.declared.fault.BuildFault.{BuildFault}
-use Rattle.pb_answer.specs.declared.summary.Summary.{Summary}
+use Rattle.pb_build_result.specs.Explanation.{said_by_bad}
+use Rattle.pb_build_result.specs.declared.fault.BuildFault.{BuildFault}
+use Rattle.pb_build_result.specs.declared.summary.Summary.{Summary}
 use Rattle.pb_tool_program.specs.Building.{TellsSaid, said_lost}
 use Rattle.pb_tool_program.proofs.Lines.{said_some, tells_by, tells_some}
-use Rattle.pb_place.specs.Sinks.{Heard}
+use Rattle.pb_place_types.specs.Sinks.{Heard}
 use Rattle.pb_tool_program.proofs.building.repeat_to.Goals as goal
 
 pub returns-in-Err-said : goal.returns-in-Err-said

@@ -2,7 +2,7 @@ use Rattle.std.proofs.Common.{inr, refl}
 use Rattle.pb_tool_program.specs.Building.{detail_lost}
 use Rattle.pb_tool_program.specs.Details.{detail}
 use Rattle.pb_tool_program.proofs.Lines.{tells_by, tells_some}
-use Rattle.pb_place.specs.Sinks.{Heard}
+use Rattle.pb_place_types.specs.Sinks.{Heard}
 use Rattle.pb_tool_program.proofs.building.tell_detail.Goals as goal
 
 pub returns-in-Err : goal.returns-in-Err

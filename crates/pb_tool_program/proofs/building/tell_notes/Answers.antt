@@ -3,7 +3,7 @@ use Rattle.pb_tool_notes.specs.Notes.{lines_of}
 use Rattle.pb_tool_program.specs.Building.{look_lost}
 use Rattle.pb_tool_program.specs.Writing.{TellsOr}
 use Rattle.pb_tool_program.proofs.Lines.{lines_none, lines_some, tells_by, tells_some}
-use Rattle.pb_place.specs.Sinks.{Heard}
+use Rattle.pb_place_types.specs.Sinks.{Heard}
 use Rattle.pb_tool_program.proofs.building.tell_notes.Goals as goal
 
 pub returns-then-is_empty : goal.returns-then-is_empty

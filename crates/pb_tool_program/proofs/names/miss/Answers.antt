@@ -1,6 +1,6 @@
 use Rattle.std.proofs.Common.{◌∙◌, inl, refl}
-use Rattle.pb_explained.specs.Entries.{near_in}
-use Rattle.pb_place.specs.Sinks.{Heard}
+use Rattle.pb_tool_explain.specs.Entries.{near_in}
+use Rattle.pb_place_types.specs.Sinks.{Heard}
 use Rattle.pb_tool_program.specs.Names.{no_such_name}
 use Rattle.pb_tool_program.proofs.Lines.{tells_by}
 use Rattle.pb_tool_program.proofs.names.miss.Goals as goal

@@ -1,7 +1,7 @@
 use Rattle.std.proofs.Common.{◌≡◌, subst}
-use Rattle.pb_place.specs.At.{At, IsUnchanged}
-use Rattle.pb_place.specs.Sinks.{Heard}
-use Rattle.pb_turns.specs.Crew.{Moment, moment}
+use Rattle.pb_place_types.specs.At.{At, IsUnchanged}
+use Rattle.pb_place_types.specs.Sinks.{Heard}
+use Rattle.pb_build_turns.specs.Crew.{Moment, moment}
 use Rattle.pb_tool_program.specs.Building.{BuildsTold}
 use Rattle.pb_tool_program.specs.Guarding.{Guarded}
 use Rattle.pb_tool_program.proofs.running.build.Goals as goal

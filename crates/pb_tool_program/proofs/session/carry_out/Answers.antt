@@ -1,6 +1,6 @@
 use Rattle.std.proofs.Common.{ap, inl, refl}
 use Rattle.pb_build.specs.Session.{point}
-use Rattle.pb_place.proofs.Failing.{on_err}
+use Rattle.pb_place_types.proofs.Failing.{on_err}
 use Rattle.pb_tool_program.proofs.Lines.{session_broken, session_untold, session_written}
 use Rattle.pb_tool_program.proofs.session.carry_out.Goals as goal
 

@@ -1,6 +1,6 @@
 use Rattle.std.proofs.Common.{slice_index_or}
 use Rattle.std.proofs.lemmas.List.{drop_more}
-use Rattle.pb_closure.proofs.Placing.{placed_more}
+use Rattle.pb_graph.proofs.Placing.{placed_more}
 use Rattle.pb_unit.specs.Drawing.{named_at}
 use Rattle.pb_unit.proofs.candidates.all_named.Goals as goal
 

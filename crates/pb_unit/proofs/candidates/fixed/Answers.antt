@@ -1,4 +1,4 @@
-use Rattle.pb_closure.proofs.Placing.{rest_here, placed_more}
+use Rattle.pb_graph.proofs.Placing.{rest_here, placed_more}
 use Rattle.pb_unit.specs.Drawing.{six}
 use Rattle.pb_unit.proofs.candidates.fixed.Goals as goal
 

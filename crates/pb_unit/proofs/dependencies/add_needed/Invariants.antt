@@ -1,5 +1,5 @@
 use Rattle.std.proofs.Common.{◌≡◌, ◌++◌, drop}
-use Rattle.pb_closure.specs.Placed.{placed}
+use Rattle.pb_graph.specs.Placed.{placed}
 use Rattle.pb_unit.specs.Drawing.{numbers_by, all_numbers}
 use Rattle.pb_unit.proofs.dependencies.add_needed.Given as goal
 

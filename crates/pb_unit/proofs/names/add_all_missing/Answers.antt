@@ -1,4 +1,4 @@
-use Rattle.pb_closure.proofs.Placing.{rest_here, placed_more}
+use Rattle.pb_graph.proofs.Placing.{rest_here, placed_more}
 use Rattle.pb_unit.specs.Drawing.{missing_by}
 use Rattle.pb_unit.proofs.names.add_all_missing.Goals as goal
 

@@ -1,5 +1,5 @@
 use Rattle.std.proofs.Common.{◌≡◌, ◌++◌, drop}
-use Rattle.pb_closure.specs.Placed.{placed}
+use Rattle.pb_graph.specs.Placed.{placed}
 use Rattle.pb_unit.specs.Drawing.{missing_by}
 use Rattle.pb_unit.proofs.names.add_all_missing.Given as goal
 

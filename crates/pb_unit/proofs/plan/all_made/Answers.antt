@@ -2,8 +2,8 @@ use Rattle.std.proofs.Common.{◌≡◌, ◌<◌, true, length, map}
 use Rattle.std.proofs.Common.{append-nil, arith}
 use Rattle.std.specs.Vec.Iter.{into_iter_items}
 use Rattle.std.proofs.lemmas.List.{nil_from_length}
-use Rattle.pb_place.specs.Paths.{is_relative}
-use Rattle.pb_order.specs.declared.graph.Step.{Step}
+use Rattle.pb_place_types.specs.Paths.{is_relative}
+use Rattle.pb_graph.specs.declared.graph.Step.{Step}
 use Rattle.pb_profile.specs.Line.{seen}
 use Rattle.pb_unit.specs.Drawing.{IsMade}
 use Rattle.pb_unit.proofs.Making.{rest_all, first_all, one_made, all_made}

@@ -1,8 +1,8 @@
 use Rattle.std.proofs.Common.{List, ◌++◌, length, map, All, ◌≡◌, true, ◌<◌}
 use Rattle.std.specs.List.{AllZip}
 use Rattle.std.specs.Vec.Iter.{into_iter_items}
-use Rattle.pb_place.specs.Paths.{is_relative}
-use Rattle.pb_order.specs.declared.graph.Step.{Step}
+use Rattle.pb_place_types.specs.Paths.{is_relative}
+use Rattle.pb_graph.specs.declared.graph.Step.{Step}
 use Rattle.pb_profile.specs.Line.{seen}
 use Rattle.pb_unit.specs.declared.plan.Planned.{Planned}
 use Rattle.pb_unit.specs.Drawing.{IsMade}

@@ -1,6 +1,6 @@
 use Rattle.std.proofs.Common.{◌≡◌, ◌⊎◌, inr, length, subst, sym, ◌∙◌}
 use Rattle.std.proofs.lemmas.Bool.Decides.{Decides-eqb}
-use Rattle.pb_package.specs.declared.workspace.Workspace.{Workspace}
+use Rattle.pb_workspace_types.specs.declared.workspace.Workspace.{Workspace}
 use Rattle.pb_unit.specs.declared.fault.PlanFault.TheVariants.{OutOfMemory}
 use Rattle.pb_unit.specs.Drawing.{IsRefusal}
 use Rattle.pb_unit.specs.Plan.{by_nothing}

@@ -1,5 +1,5 @@
 use Rattle.std.proofs.Common.{◌↔◌, inr, refl, List, ℕ, map, Contains, subst, sym}
-use Rattle.pb_order.specs.declared.graph.OrderFault.{OrderFault}
+use Rattle.pb_graph.specs.declared.graph.OrderFault.{OrderFault}
 use Rattle.pb_unit.specs.declared.fault.PlanFault.TheVariants.{Cycle}
 use Rattle.pb_unit.specs.Drawing.{name_behind, IsRefusal}
 use Rattle.pb_unit.proofs.plan.refusal.Goals as goal

@@ -1,9 +1,9 @@
 use Rattle.std.proofs.Common.{map, sym, ◌∙◌, ap, subst}
 use Rattle.pb_workspace.specs.Assembled.{entry_at}
-use Rattle.pb_package.specs.ByKey.{table_key}
-use Rattle.pb_package.specs.Settled.{IsAscending}
-use Rattle.pb_package.specs.declared.package.Entry.{Entry}
-use Rattle.pb_draft.proofs.Puttings.{map_twice}
+use Rattle.pb_workspace_types.specs.ByKey.{table_key}
+use Rattle.pb_workspace_types.specs.Settled.{IsAscending}
+use Rattle.pb_workspace_types.specs.declared.package.Entry.{Entry}
+use Rattle.pb_workspace_package.proofs.Puttings.{map_twice}
 use Rattle.pb_workspace.proofs.assembled.entries_in_order.Goals as goal
 
 pub from_items-requires : goal.from_items-requires

@@ -1,6 +1,6 @@
 use Rattle.std.proofs.Common.{◌≡◌, IfOk, map, subst}
-use Rattle.pb_draft.specs.declared.draft.Draft.{Draft}
-use Rattle.pb_draft.specs.Settling.{comes_again}
+use Rattle.pb_workspace_package.specs.declared.draft.Draft.{Draft}
+use Rattle.pb_workspace_package.specs.Settling.{comes_again}
 use Rattle.pb_workspace.proofs.checks.has_same_names.Goals as goal
 
 pub returns : goal.returns

@@ -1,6 +1,6 @@
 use Rattle.std.proofs.Common.{◌≡◌, drop, map}
-use Rattle.pb_draft.specs.declared.draft.Draft.{Draft}
-use Rattle.pb_draft.specs.Settling.{comes_again}
+use Rattle.pb_workspace_package.specs.declared.draft.Draft.{Draft}
+use Rattle.pb_workspace_package.specs.Settling.{comes_again}
 use Rattle.pb_workspace.proofs.checks.names_come_again.Given as goal
 
 abbrev pub invariant-loop-draft : goal.invariant-loop-draft

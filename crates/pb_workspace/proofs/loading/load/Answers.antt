@@ -1,15 +1,15 @@
 use Rattle.std.proofs.Common.{ap, ◌∙◌, refl, rules, subst}
-use Rattle.pb_package.specs.declared.fault.LoadFault.TheVariants.{OutOfMemory}
-use Rattle.pb_draft.proofs.Looking.{looks_none}
-use Rattle.pb_place.specs.World.{from_nothing}
+use Rattle.pb_workspace_types.specs.declared.fault.LoadFault.TheVariants.{OutOfMemory}
+use Rattle.pb_workspace_package.proofs.Looking.{looks_none}
+use Rattle.pb_place_types.specs.World.{from_nothing}
 use Rattle.pb_workspace.proofs.LookingOver.{looks_step, looks_stop}
-use Rattle.pb_draft.proofs.Steps.{quiet_step, told_step}
-use Rattle.pb_place.specs.Paths.{folder_of}
-use Rattle.pb_draft.specs.Causes.{Told}
+use Rattle.pb_workspace_package.proofs.Steps.{quiet_step, told_step}
+use Rattle.pb_place_types.specs.Paths.{folder_of}
+use Rattle.pb_workspace_package.specs.Causes.{Told}
 use Rattle.pb_workspace.specs.Frames.{frame_of}
 use Rattle.pb_workspace.specs.Loaded.{root_parts, workspace_in, workspace_of}
 use Rattle.pb_workspace.specs.LookedAt.{looked_at, packages_looked, root_looked}
-use Rattle.pb_draft.specs.Looks.{Looks}
+use Rattle.pb_workspace_package.specs.Looks.{Looks}
 use Rattle.pb_workspace.proofs.loading.load.Goals as goal
 
 pub returns-clause-ok : goal.returns-clause-ok

@@ -1,8 +1,8 @@
 use Rattle.std.proofs.Common.{◌∙◌, refl, rules}
-use Rattle.pb_package.specs.declared.fault.LoadFault.TheVariants.{OutOfMemory}
+use Rattle.pb_workspace_types.specs.declared.fault.LoadFault.TheVariants.{OutOfMemory}
 use Rattle.pb_workspace.proofs.LookingOver.{others_first, others_looks, others_none, others_stop}
 use Rattle.pb_workspace.proofs.RoundSteps.{others_told}
-use Rattle.pb_draft.proofs.Steps.{quiet_step}
+use Rattle.pb_workspace_package.proofs.Steps.{quiet_step}
 use Rattle.pb_workspace.proofs.loading.others_read.Goals as goal
 
 pub returns-in_err-meant-clause-looks : goal.returns-in_err-meant-clause-looks

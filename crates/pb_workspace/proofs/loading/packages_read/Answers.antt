@@ -1,7 +1,7 @@
 use Rattle.std.proofs.Common.{refl, rules}
-use Rattle.pb_place.specs.World.{from_nothing}
+use Rattle.pb_place_types.specs.World.{from_nothing}
 use Rattle.pb_workspace.proofs.LookingOver.{looks_step, looks_stop}
-use Rattle.pb_draft.proofs.Steps.{quiet_step, told_step}
+use Rattle.pb_workspace_package.proofs.Steps.{quiet_step, told_step}
 use Rattle.pb_workspace.specs.Loaded.{others_read, packages_read, root_read}
 use Rattle.pb_workspace.specs.LookedAt.{others_looked, package_looked, packages_looked}
 use Rattle.pb_workspace.proofs.loading.packages_read.Goals as goal

@@ -1,6 +1,6 @@
 use Rattle.std.proofs.Common.{rules}
-use Rattle.pb_place.specs.World.{from_nothing}
-use Rattle.pb_draft.proofs.Looking.{looks_all}
+use Rattle.pb_place_types.specs.World.{from_nothing}
+use Rattle.pb_workspace_package.proofs.Looking.{looks_all}
 use Rattle.pb_workspace.specs.LookedAt.{packages_looked}
 use Rattle.pb_workspace.proofs.loading.workspace_in.Goals as goal
 

@@ -1,6 +1,6 @@
 use Rattle.std.proofs.Common.{◌∙◌, ap, map}
 use Rattle.std.specs.List.{list_all}
-use Rattle.pb_place.specs.Paths.{parts_of}
+use Rattle.pb_place_types.specs.Paths.{parts_of}
 use Rattle.pb_workspace.proofs.NamesOfPaths.{leads_on, one_of_all, parts_lead_on}
 use Rattle.pb_workspace.proofs.member.parts_meant.Goals as goal
 

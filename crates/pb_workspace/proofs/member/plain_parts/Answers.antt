@@ -1,4 +1,4 @@
-use Rattle.pb_place.specs.Paths.{is_relative}
+use Rattle.pb_place_types.specs.Paths.{is_relative}
 use Rattle.pb_workspace.proofs.NamesOfPaths.{one_of_all}
 use Rattle.pb_workspace.proofs.member.plain_parts.Goals as goal
 

@@ -1,7 +1,7 @@
 use Rattle.std.proofs.Common.{◌∙◌, ap, map}
 use Rattle.std.specs.List.{list_all}
-use Rattle.pb_place.specs.Paths.{is_relative}
-use Rattle.pb_draft.specs.Between.{names_in}
+use Rattle.pb_place_types.specs.Paths.{is_relative}
+use Rattle.pb_workspace_package.specs.Between.{names_in}
 use Rattle.pb_workspace.proofs.NamesOfPaths.{names_are_relative}
 use Rattle.pb_workspace.proofs.member.start_of.Goals as goal
 

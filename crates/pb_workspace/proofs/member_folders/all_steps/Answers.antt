@@ -1,7 +1,7 @@
 use Rattle.std.proofs.Common.{◌∙◌, [], Ok, Err, ap, refl, rules}
-use Rattle.pb_place.specs.World.{from_nothing}
-use Rattle.pb_package.specs.declared.fault.LoadFault.TheVariants.{OutOfMemory}
-use Rattle.pb_draft.proofs.InTurn.{row_end, row_looks, row_made, row_none, row_stop}
+use Rattle.pb_place_types.specs.World.{from_nothing}
+use Rattle.pb_workspace_types.specs.declared.fault.LoadFault.TheVariants.{OutOfMemory}
+use Rattle.pb_workspace_package.proofs.InTurn.{row_end, row_looks, row_made, row_none, row_stop}
 use Rattle.pb_workspace.specs.LookedAt.{step_looked}
 use Rattle.pb_workspace.specs.MemberFolders.{one_step}
 use Rattle.pb_workspace.proofs.member_folders.all_steps.Goals as goal

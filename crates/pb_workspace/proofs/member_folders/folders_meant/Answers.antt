@@ -1,7 +1,7 @@
 use Rattle.std.proofs.Common.{refl, rules}
-use Rattle.pb_place.specs.World.{from_nothing}
-use Rattle.pb_package.specs.declared.fault.LoadFault.TheVariants.{OutOfMemory}
-use Rattle.pb_draft.proofs.Looking.{looks_none}
+use Rattle.pb_place_types.specs.World.{from_nothing}
+use Rattle.pb_workspace_types.specs.declared.fault.LoadFault.TheVariants.{OutOfMemory}
+use Rattle.pb_workspace_package.proofs.Looking.{looks_none}
 use Rattle.pb_workspace.specs.LookedAt.{text_looked}
 use Rattle.pb_workspace.proofs.member_folders.folders_meant.Goals as goal
 

@@ -1,9 +1,9 @@
 use Rattle.std.proofs.Common.{◌≡◌, ◌∙◌, [], Ok, Err, ap, refl, rules, subst}
-use Rattle.pb_place.specs.CallsInTurn.{past_calls}
-use Rattle.pb_place.specs.World.{from_nothing}
-use Rattle.pb_package.specs.declared.fault.LoadFault.TheVariants.{OutOfMemory}
-use Rattle.pb_draft.proofs.InTurn.{row_end, row_looks, row_made, row_none, row_stop}
-use Rattle.pb_draft.proofs.Looking.{Ends}
+use Rattle.pb_place_types.specs.CallsInTurn.{past_calls}
+use Rattle.pb_place_types.specs.World.{from_nothing}
+use Rattle.pb_workspace_types.specs.declared.fault.LoadFault.TheVariants.{OutOfMemory}
+use Rattle.pb_workspace_package.proofs.InTurn.{row_end, row_looks, row_made, row_none, row_stop}
+use Rattle.pb_workspace_package.proofs.Looking.{Ends}
 use Rattle.pb_workspace.specs.LookedAt.{text_looked}
 use Rattle.pb_workspace.specs.MemberFolders.{folders_meant}
 use Rattle.pb_workspace.proofs.member_folders.folders_of_texts.Goals as goal

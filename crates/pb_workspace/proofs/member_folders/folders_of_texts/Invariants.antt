@@ -1,11 +1,11 @@
 use Rattle.std.proofs.Common.{◌≡◌, ◌++◌, drop, List, ℕ, Ok, Result}
 use Rattle.std.specs.Prelude.{IsTrue}
-use Rattle.pb_package.specs.declared.fault.LoadFault.{LoadFault}
-use Rattle.pb_place.specs.Counts.{Counts}
-use Rattle.pb_draft.specs.Causes.{OnlyLooks}
-use Rattle.pb_draft.specs.Looks.{Looks}
+use Rattle.pb_workspace_types.specs.declared.fault.LoadFault.{LoadFault}
+use Rattle.pb_place_types.specs.Counts.{Counts}
+use Rattle.pb_workspace_package.specs.Causes.{OnlyLooks}
+use Rattle.pb_workspace_package.specs.Looks.{Looks}
 use Rattle.pb_workspace.specs.LookedAt.{text_looked}
-use Rattle.pb_place.specs.World.{from_nothing}
+use Rattle.pb_place_types.specs.World.{from_nothing}
 use Rattle.std.specs.List.{flat_map}
 use Rattle.pb_workspace.specs.MemberFolders.{folders_meant}
 use Rattle.pb_workspace.proofs.member_folders.folders_of_texts.Given as goal

@@ -1,11 +1,11 @@
 use Rattle.std.proofs.Common.{◌≡◌, ◌∙◌, [], ◌∷◌, codes, ap, refl, rules, subst}
 use Rattle.std.specs.List.{flat_map}
 use Rattle.std.specs.Prelude.{filter}
-use Rattle.pb_place.specs.CallsInTurn.{past_calls}
-use Rattle.pb_place.specs.World.{from_nothing}
-use Rattle.pb_package.specs.declared.fault.LoadFault.TheVariants.{OutOfMemory}
-use Rattle.pb_draft.proofs.Looking.{Ends, ends_both, looks_both, looks_first, looks_none}
-use Rattle.pb_draft.specs.Looks.{Looks}
+use Rattle.pb_place_types.specs.CallsInTurn.{past_calls}
+use Rattle.pb_place_types.specs.World.{from_nothing}
+use Rattle.pb_workspace_types.specs.declared.fault.LoadFault.TheVariants.{OutOfMemory}
+use Rattle.pb_workspace_package.proofs.Looking.{Ends, ends_both, looks_both, looks_first, looks_none}
+use Rattle.pb_workspace_package.specs.Looks.{Looks}
 use Rattle.pb_workspace.specs.LookedAt.{glob_looked, manifest_looked, walk_looked}
 use Rattle.pb_workspace.specs.MemberFolders.{folders_kept, is_kept, led_to}
 use Rattle.pb_workspace.proofs.member_folders.folders_taken.Goals as goal

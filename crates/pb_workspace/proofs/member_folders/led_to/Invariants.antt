@@ -1,10 +1,10 @@
 use Rattle.std.proofs.Common.{◌≡◌, drop, List, ℕ, Ok, Result}
 use Rattle.std.specs.Prelude.{IsTrue}
-use Rattle.pb_package.specs.declared.fault.LoadFault.{LoadFault}
-use Rattle.pb_place.specs.Counts.{Counts}
-use Rattle.pb_place.specs.World.{from_nothing}
-use Rattle.pb_draft.specs.Causes.{OnlyLooks}
-use Rattle.pb_draft.specs.Looks.{Looks}
+use Rattle.pb_workspace_types.specs.declared.fault.LoadFault.{LoadFault}
+use Rattle.pb_place_types.specs.Counts.{Counts}
+use Rattle.pb_place_types.specs.World.{from_nothing}
+use Rattle.pb_workspace_package.specs.Causes.{OnlyLooks}
+use Rattle.pb_workspace_package.specs.Looks.{Looks}
 use Rattle.pb_workspace.specs.LookedAt.{walk_looked}
 use Rattle.pb_workspace.specs.MemberFolders.{led_to}
 use Rattle.pb_workspace.proofs.member_folders.led_to.Given as goal

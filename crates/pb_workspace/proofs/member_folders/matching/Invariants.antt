@@ -1,7 +1,7 @@
 use Rattle.std.proofs.Common.{◌≡◌, ◌++◌}
 use Rattle.std.specs.Prelude.{filter}
 use Rattle.std.specs.Vec.Iter.{into_iter_items}
-use Rattle.pb_place.specs.Paths.{last_part}
+use Rattle.pb_place_types.specs.Paths.{last_part}
 use Rattle.pb_workspace.specs.Globs.{matches}
 use Rattle.pb_workspace.proofs.member_folders.matching.Given as goal
 

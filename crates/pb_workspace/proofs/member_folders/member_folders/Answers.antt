@@ -1,9 +1,9 @@
 use Rattle.std.proofs.Common.{◌≡◌, refl, rules, subst}
 use Rattle.std.specs.List.{flat_map}
-use Rattle.pb_place.specs.CallsInTurn.{past_calls}
-use Rattle.pb_place.specs.World.{from_nothing}
-use Rattle.pb_package.specs.declared.fault.LoadFault.TheVariants.{OutOfMemory}
-use Rattle.pb_draft.proofs.Looking.{looks_all}
+use Rattle.pb_place_types.specs.CallsInTurn.{past_calls}
+use Rattle.pb_place_types.specs.World.{from_nothing}
+use Rattle.pb_workspace_types.specs.declared.fault.LoadFault.TheVariants.{OutOfMemory}
+use Rattle.pb_workspace_package.proofs.Looking.{looks_all}
 use Rattle.pb_workspace.specs.LookedAt.{members_looked, text_looked}
 use Rattle.pb_workspace.proofs.member_folders.member_folders.Goals as goal
 

@@ -1,10 +1,10 @@
 use Rattle.std.proofs.Common.{◌≡◌, ◌∙◌, ℕ, List, Ok, Err, ap, arith, length, refl, rules, subst, sym}
 use Rattle.std.specs.List.{flat_map}
 use Rattle.std.specs.Vec.Iter.{into_iter_items}
-use Rattle.pb_place.specs.CallsInTurn.{past_calls}
-use Rattle.pb_place.specs.World.{from_nothing}
-use Rattle.pb_package.specs.declared.fault.LoadFault.TheVariants.{OutOfMemory}
-use Rattle.pb_draft.proofs.Looking.{looks_none}
+use Rattle.pb_place_types.specs.CallsInTurn.{past_calls}
+use Rattle.pb_place_types.specs.World.{from_nothing}
+use Rattle.pb_workspace_types.specs.declared.fault.LoadFault.TheVariants.{OutOfMemory}
+use Rattle.pb_workspace_package.proofs.Looking.{looks_none}
 use Rattle.pb_workspace.specs.LookedAt.{manifest_looked}
 use Rattle.pb_workspace.specs.MemberFolders.{has_manifest}
 use Rattle.pb_workspace.proofs.Walking.{all_past, first_looks, first_passes, first_stop}

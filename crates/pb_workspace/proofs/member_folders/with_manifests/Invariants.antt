@@ -2,11 +2,11 @@ use Rattle.std.proofs.Common.{◌≡◌, ◌++◌, List, ℕ, Ok, Result}
 use Rattle.std.specs.List.{flat_map}
 use Rattle.std.specs.Prelude.{IsTrue, filter}
 use Rattle.std.specs.Vec.Iter.{into_iter_items}
-use Rattle.pb_package.specs.declared.fault.LoadFault.{LoadFault}
-use Rattle.pb_place.specs.Counts.{Counts}
-use Rattle.pb_place.specs.World.{from_nothing}
-use Rattle.pb_draft.specs.Causes.{OnlyLooks}
-use Rattle.pb_draft.specs.Looks.{Looks}
+use Rattle.pb_workspace_types.specs.declared.fault.LoadFault.{LoadFault}
+use Rattle.pb_place_types.specs.Counts.{Counts}
+use Rattle.pb_place_types.specs.World.{from_nothing}
+use Rattle.pb_workspace_package.specs.Causes.{OnlyLooks}
+use Rattle.pb_workspace_package.specs.Looks.{Looks}
 use Rattle.pb_workspace.specs.LookedAt.{manifest_looked}
 use Rattle.pb_workspace.specs.MemberFolders.{has_manifest}
 use Rattle.pb_workspace.proofs.member_folders.with_manifests.Given as goal

@@ -1,7 +1,7 @@
 use Rattle.std.proofs.Common.{◌≡◌, ℕ, List, [], ◌∷◌, length, Ok, Err, arith, refl, rules, subst, sym}
 use Rattle.std.specs.Vec.Iter.{into_iter_items}
-use Rattle.pb_place.specs.CallsInTurn.{past_calls}
-use Rattle.pb_place.specs.World.{from_nothing}
+use Rattle.pb_place_types.specs.CallsInTurn.{past_calls}
+use Rattle.pb_place_types.specs.World.{from_nothing}
 use Rattle.pb_workspace.specs.LookedAt.{all_looked, folder_looked}
 use Rattle.pb_workspace.specs.Rounds.{draft_at}
 use Rattle.pb_workspace.proofs.LookingOver.{all_gives, all_looks, all_stop}

@@ -1,14 +1,14 @@
 use Rattle.std.proofs.Common.{◌≡◌, ℕ, Ok, Result}
 use Rattle.std.specs.Prelude.{IsTrue}
 use Rattle.std.specs.Vec.Iter.{into_iter_items}
-use Rattle.pb_place.specs.World.{from_nothing}
-use Rattle.pb_place.specs.Counts.{Counts}
-use Rattle.pb_package.specs.declared.fault.LoadFault.{LoadFault}
+use Rattle.pb_place_types.specs.World.{from_nothing}
+use Rattle.pb_place_types.specs.Counts.{Counts}
+use Rattle.pb_workspace_types.specs.declared.fault.LoadFault.{LoadFault}
 use Rattle.pb_workspace.specs.declared.rounds.Reading.{Reading}
 use Rattle.pb_workspace.specs.Readings.{IsReading}
 use Rattle.pb_workspace.specs.LookedAt.{folder_looked, all_looked}
-use Rattle.pb_draft.specs.Causes.{OnlyLooks}
-use Rattle.pb_draft.specs.Looks.{Looks}
+use Rattle.pb_workspace_package.specs.Causes.{OnlyLooks}
+use Rattle.pb_workspace_package.specs.Looks.{Looks}
 use Rattle.pb_workspace.specs.Rounds.{all_read, draft_at}
 use Rattle.pb_workspace.proofs.rounds.all_read.Given as goal
 

@@ -1,10 +1,10 @@
 use Rattle.std.proofs.Common.{rules}
-use Rattle.pb_place.specs.declared.call.Call.TheVariants as call
-use Rattle.pb_place.specs.World.{from_nothing}
-use Rattle.pb_draft.proofs.Looking.{looks_no_further, looks_then}
-use Rattle.pb_draft.proofs.Steps.{quiet_step, told_step}
+use Rattle.pb_place_types.specs.declared.call.Call.TheVariants as call
+use Rattle.pb_place_types.specs.World.{from_nothing}
+use Rattle.pb_workspace_package.proofs.Looking.{looks_no_further, looks_then}
+use Rattle.pb_workspace_package.proofs.Steps.{quiet_step, told_step}
 use Rattle.pb_workspace.specs.LookedAt.{file_looked, package_looked}
-use Rattle.pb_draft.specs.Looks.{looked}
+use Rattle.pb_workspace_package.specs.Looks.{looked}
 use Rattle.pb_workspace.specs.Rounds.{draft_if, draft_in_file, parts_at}
 use Rattle.pb_workspace.proofs.rounds.draft_in_file.Goals as goal
 

@@ -1,8 +1,8 @@
 use Rattle.std.proofs.Common.{◌∙◌, ap, rules, subst, sym}
 use Rattle.std.specs.FinMap as finite
-use Rattle.pb_draft.specs.Causes.{Told}
-use Rattle.pb_manifest.specs.declared.manifest.Manifest.{Manifest}
-use Rattle.pb_place.specs.World.{from_nothing}
+use Rattle.pb_workspace_package.specs.Causes.{Told}
+use Rattle.pb_manifest_types.specs.declared.manifest.Manifest.{Manifest}
+use Rattle.pb_place_types.specs.World.{from_nothing}
 use Rattle.pb_workspace.specs.Rounds.{read_found}
 use Rattle.pb_workspace.proofs.Cut.{found_cut}
 use Rattle.pb_workspace.proofs.rounds.manifest_at.Goals as goal

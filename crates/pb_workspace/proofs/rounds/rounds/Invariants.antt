@@ -1,13 +1,13 @@
 use Rattle.std.proofs.Common.{◌≡◌, ◌-◌, ℕ, Ok, Result}
 use Rattle.std.specs.Prelude.{IsTrue}
-use Rattle.pb_place.specs.World.{from_nothing}
-use Rattle.pb_place.specs.Counts.{Counts}
-use Rattle.pb_package.specs.declared.fault.LoadFault.{LoadFault}
+use Rattle.pb_place_types.specs.World.{from_nothing}
+use Rattle.pb_place_types.specs.Counts.{Counts}
+use Rattle.pb_workspace_types.specs.declared.fault.LoadFault.{LoadFault}
 use Rattle.pb_workspace.specs.declared.rounds.Reading.{Reading}
 use Rattle.pb_workspace.specs.Readings.{IsReading}
 use Rattle.pb_workspace.specs.LookedAt.{folder_looked, rounds_looked}
-use Rattle.pb_draft.specs.Causes.{OnlyLooks}
-use Rattle.pb_draft.specs.Looks.{Looks}
+use Rattle.pb_workspace_package.specs.Causes.{OnlyLooks}
+use Rattle.pb_workspace_package.specs.Looks.{Looks}
 use Rattle.pb_workspace.specs.Rounds.{rounds, draft_at}
 use Rattle.pb_workspace.proofs.rounds.rounds.Given as goal
 

@@ -1,6 +1,6 @@
 use Rattle.std.proofs.Common.{◌≡◌, ◌++◌, drop, map}
 use Rattle.std.specs.Prelude.{filter}
-use Rattle.pb_draft.specs.Between.{is_word}
+use Rattle.pb_workspace_package.specs.Between.{is_word}
 use Rattle.pb_workspace.proofs.selecting.add_words.Given as goal
 
 abbrev pub invariant-loop-word : goal.invariant-loop-word

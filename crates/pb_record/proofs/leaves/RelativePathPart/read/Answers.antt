@@ -1,5 +1,5 @@
 use Rattle.std.proofs.Common.{◌∙◌, ap}
-use Rattle.pb_place.specs.Paths.{is_relative}
+use Rattle.pb_place_types.specs.Paths.{is_relative}
 use Rattle.pb_record.specs.Parts.{IsInside}
 use Rattle.pb_record.proofs.BlockLemmas.{block_spelling, refused}
 use Rattle.pb_record.proofs.PartLemmas.{none_but}

@@ -4,7 +4,7 @@ use Rattle.pb_store.proofs.Firsts.{none_there, some_there}
 use Rattle.pb_store.proofs.LookingOver.{at_none, at_then, at_unread}
 use Rattle.pb_store.proofs.store.Store.compare.Goals as goal
 use Rattle.pb_store.specs.Differences.{FirstOf}
-use Rattle.pb_soundness.specs.Records.{records}
+use Rattle.pb_store_soundness.specs.Records.{records}
 
 pub returns-in-Ok-None-clause-compares : goal.returns-in-Ok-None-clause-compares
 returns-in-Ok-None-clause-compares g c tells = record {

@@ -1,9 +1,9 @@
 use Rattle.std.proofs.Common.{[], ◌∷◌, ap, refl, sym, subst}
-use Rattle.pb_place.specs.declared.call.Call.TheVariants as call
-use Rattle.pb_place.proofs.CallsInTurn.{made_both}
+use Rattle.pb_place_types.specs.declared.call.Call.TheVariants as call
+use Rattle.pb_place_types.proofs.CallsInTurn.{made_both}
 use Rattle.pb_record.proofs.ReadingLemmas.{reading}
 use Rattle.pb_record.specs.declared.record.Record.{Record}
-use Rattle.pb_soundness.specs.Records.{number_of, place_of, records}
+use Rattle.pb_store_soundness.specs.Records.{number_of, place_of, records}
 use Rattle.pb_store.specs.Looking.{StopsAt, kept_called, names_looked}
 use Rattle.pb_store.specs.declared.fault.StoreFault.TheVariants.{OutOfMemory}
 use Rattle.pb_store.proofs.Called.{no_look, no_write}

@@ -1,7 +1,7 @@
 use Rattle.std.proofs.Common.{Ok, Err, Some, rules, subst}
-use Rattle.pb_place.specs.World.{World}
-use Rattle.pb_place.specs.declared.call.Call.TheVariants as call
-use Rattle.pb_soundness.specs.Records.{place_of}
+use Rattle.pb_place_types.specs.World.{World}
+use Rattle.pb_place_types.specs.declared.call.Call.TheVariants as call
+use Rattle.pb_store_soundness.specs.Records.{place_of}
 use Rattle.pb_store.proofs.Called.{read_unwritten}
 use Rattle.pb_store.specs.Folder.{MigratesRecord}
 use Rattle.pb_store.proofs.store.Store.migrate.Goals as goal

@@ -1,7 +1,7 @@
 use Rattle.std.proofs.Common.{◌∙◌, ap, refl}
 use Rattle.pb_record.proofs.ReadingLemmas.{reading}
 use Rattle.pb_record.specs.declared.record.Record.{Record}
-use Rattle.pb_soundness.specs.Records.{number_of, records}
+use Rattle.pb_store_soundness.specs.Records.{number_of, records}
 use Rattle.pb_store.specs.Folder.{numbered_record}
 use Rattle.pb_store.proofs.Called.{named_once}
 use Rattle.pb_store.proofs.Held.{held_put, noted_so, numbered_held}

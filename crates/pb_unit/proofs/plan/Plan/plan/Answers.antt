@@ -1,9 +1,9 @@
 use Rattle.std.proofs.Common.{◌≡◌, ◌∙◌, ap, inl, inr, List, ◌<◌, All, map, length, sym, subst, true, Ok, Err}
 use Rattle.std.specs.List.{AllZip}
-use Rattle.pb_package.specs.declared.workspace.Workspace.{Workspace}
-use Rattle.pb_order.specs.declared.graph.Step.{Step}
+use Rattle.pb_workspace_types.specs.declared.workspace.Workspace.{Workspace}
+use Rattle.pb_graph.specs.declared.graph.Step.{Step}
 use Rattle.pb_profile.specs.Line.{seen}
-use Rattle.pb_place.specs.Paths.{is_relative}
+use Rattle.pb_place_types.specs.Paths.{is_relative}
 use Rattle.pb_unit.specs.declared.unit.Unit.{Unit}
 use Rattle.pb_unit.specs.declared.plan.Planned.{Planned}
 use Rattle.pb_unit.specs.declared.fault.PlanFault.{PlanFault}

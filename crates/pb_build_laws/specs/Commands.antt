@@ -1,0 +1,29 @@
+-- The request of a record against the command of a unit: part for part, and by the names of their variables.
+use Rattle.std.specs.Prelude.{◌≡◌, ◌↔◌, ℕ, List, Option, Some}
+use Rattle.pb_command.specs.Command as present
+use Rattle.pb_directive.specs.declared.directive.Directive.{Directive}
+use Rattle.pb_place_types.specs.declared.command.Command.{Command}
+use Rattle.pb_command_types.specs.declared.project.Project.{Project}
+use Rattle.pb_command_types.specs.declared.project.Setup.{Setup}
+use Rattle.pb_record.specs.Commands.{AsksAs, command_of}
+use Rattle.pb_record.specs.declared.asked.Asked.{Asked}
+use Rattle.pb_record.specs.declared.record.Record.{Record}
+use Rattle.pb_store_soundness.specs.Records.{reading}
+use Rattle.pb_store.specs.Asking.{IsFirstName, IsLeastName, SamePart}
+use Rattle.pb_store.specs.declared.difference.CommandPart.{CommandPart}
+use Rattle.pb_unit.specs.declared.plan.Planned.{Planned}
+
+-- each part of a command, apart from its variables, is equal to the recorded one
+abbrev pub HasEachPart : Asked → Command → Type 0
+HasEachPart a c = (part : CommandPart) → SamePart a c part
+
+-- A command requests the same, variables apart, if and only if each part is equal to the recorded one. It is the
+-- recorded command if and only if its variables are equal too.
+abbrev pub AskedPartForPart : Type 0
+AskedPartForPart = (a : Asked) (c : Command) → (AsksAs a c ↔ HasEachPart a c) × ((command_of a ≡ c) ↔ (HasEachPart a c × (a.pairs ≡ c.pairs)))
+
+-- The first name at which the variables of a record and those of a unit's command differ is the least such name, in
+-- byte order: the texts of this name differ, or only one of them has it.
+abbrev pub FirstNameIsLeast : Type 0
+FirstNameIsLeast = (text : List ℕ) (r : Record) (setup : Setup) (project : Project) (u : Planned) (done : List (Option (List Directive))) (name : List ℕ) → reading text ≡ Some r
+    → IsFirstName r.asked.pairs (present.command_of setup project u done).pairs name ↔ IsLeastName r.asked.pairs (present.command_of setup project u done).pairs name

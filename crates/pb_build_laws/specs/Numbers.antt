@@ -1,0 +1,37 @@
+-- Which record counts, the numbers of records, and which run number is next.
+use Rattle.std.specs.Prelude.{◌≡◌, ◌↔◌, ℕ, max, if◌then◌else◌, fold, true, false, is_none, List, [], ◌∷◌, map, Option, Some, option_and_then, slice_get}
+use Rattle.std.specs.FinMap as finite
+use Rattle.std.specs.List.{flat_map}
+use Rattle.std.specs.Option.{option_map_or}
+use Rattle.pb_place_types.specs.World.{Map, World, listed_directly}
+use Rattle.pb_record.specs.declared.record.Needed.{Needed}
+use Rattle.pb_record.specs.declared.record.Needed.TheVariants.{Copies, Numbers}
+use Rattle.pb_record.specs.declared.record.Record.{Record}
+use Rattle.pb_store_soundness.specs.Numbers.{after}
+use Rattle.pb_store_soundness.specs.Records.{reading, ends_as_record, is_key, number_of, place_of, record_at}
+use Rattle.pb_store_soundness.specs.Reuse.{number_if}
+use Rattle.pb_store.specs.Folder.{lacks_number, next_in}
+
+-- the numbers that a record has and names
+abbrev pub numbers_in : Needed → List ℕ
+numbers_in (Copies copies) = []
+numbers_in (Numbers number needs) = number ∷ map (λ (need : List ℕ × ℕ). need.1) needs
+
+-- The number of a record is the first of these, if there is one; a unit lacks a number if it has a record without one.
+abbrev pub RecordsAreNumbered : Type 0
+RecordsAreNumbered = ((r : Record) → number_of r ≡ slice_get (numbers_in r.needed) 0)
+    × ((o : Option Record) → (number_if o ≡ option_and_then number_of o) × (lacks_number o ≡ option_map_or (λ r. is_none (number_of r)) o false))
+
+-- the numbers that the record at a path has and names, whatever its key is
+abbrev pub numbers_at : Map → List ℕ → List ℕ
+numbers_at files path = if ends_as_record path then option_map_or (λ (r : Record). numbers_in r.needed) (option_and_then reading (finite.get files path)) [] else []
+
+-- The next number is the one after the greatest that the records directly in a folder have or name, so 1 if there is
+-- none.
+abbrev pub NextIsAbove : Type 0
+NextIsAbove = (folder : List ℕ) (w : World) → next_in folder w ≡ after (fold max 0 (flat_map (numbers_at w.files) (listed_directly folder w)))
+
+-- A record counts for a key if and only if its file has a text that reads as the record, and the record has that key.
+abbrev pub RecordsCount : Type 0
+RecordsCount = (folder key : List ℕ) (files : Map) (r : Record)
+    → (record_at reading folder files key ≡ Some r) ↔ ((text : List ℕ) × (finite.get files (place_of folder key) ≡ Some text) × (reading text ≡ Some r) × (r.key ≡ key) × (is_key key ≡ true))

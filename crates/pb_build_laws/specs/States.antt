@@ -1,0 +1,36 @@
+-- The states of the units of a build, and the names of the units.
+use Rattle.std.specs.Prelude.{◌≡◌, ◌↔◌, ◌+◌, ℕ, Bool, true, false, if◌then◌else◌, is_some, List, map, None, Some, slice_get}
+use Rattle.std.specs.List.{prefix_len}
+use Rattle.std.specs.Option.{option_map_or, option_to_list}
+use Rattle.pb_build_result.specs.declared.bad_unit.BadUnit.{BadUnit}
+use Rattle.pb_run_flight.specs.Table.{count_due, is_bad, is_finished, is_good_at, is_untouched}
+use Rattle.pb_run_flight.specs.declared.flight.Answer.{Answer}
+use Rattle.pb_run_flight.specs.declared.flight.State.{State}
+use Rattle.pb_run_flight.specs.declared.flight.State.TheVariants.{Untouched, Answered}
+use Rattle.pb_command_types.specs.Targets.{unit_at}
+use Rattle.pb_command_types.specs.declared.project.Project.{Project}
+use Rattle.pb_run.specs.Halves.{key_at}
+use Rattle.pb_run.specs.Outcome.{Outcome}
+use Rattle.pb_build_turns.specs.Rows as rows
+use Rattle.pb_build_turns.specs.Rows.{fault_in}
+use Rattle.pb_unit.specs.declared.plan.Planned.{Planned}
+
+-- a unit has answered, and it is bad or not
+abbrev pub HasAnswered : State BadUnit → Bool → Type 0
+HasAnswered s bad = (answer : Answer BadUnit) × (s ≡ Answered answer) × (is_some answer.fault ≡ bad)
+
+-- A unit has not begun if and only if it is untouched. It is bad or good if and only if it has answered so. An index
+-- without a unit is not good.
+abbrev pub StatesAreThese : Type 0
+StatesAreThese = (is_good_at {F = BadUnit} None ≡ false)
+    × ((s : State BadUnit) → ((is_untouched s ≡ true) ↔ (s ≡ Untouched)) × ((is_bad s ≡ true) ↔ HasAnswered s true) × ((is_good_at (Some s) ≡ true) ↔ HasAnswered s false))
+
+-- The units that count are those before the first that is not good, in plan order, and that one too if it is bad.
+-- The build is finished if that unit is bad, or if each unit is good.
+abbrev pub EndsAreThese : Type 0
+EndsAreThese = (states : List (State BadUnit)) → let first = prefix_len (λ s. is_good_at (Some s)) states in
+    (count_due states ≡ first + (if option_map_or is_bad (slice_get states first) false then 1 else 0)) × (is_finished states ≡ option_map_or is_bad (slice_get states first) true)
+
+-- The key at an index is that of its unit, if there is one; and an outcome is bad if and only if it has a fault.
+abbrev pub RowsAreThese : Type 0
+RowsAreThese = ((project : Project) (place : ℕ) → key_at project place ≡ map (λ (u : Planned). u.key) (option_to_list (unit_at project place))) × ((o : Outcome) → rows.is_bad o ≡ is_some (fault_in o))

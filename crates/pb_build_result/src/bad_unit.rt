@@ -1,0 +1,13 @@
+//! A unit that is bad.
+
+use pb_data::Bytes;
+use pb_command_types::UnitFault;
+
+/// A unit that is bad.
+#[derive(Debug, Drop)]
+pub struct BadUnit {
+    /// Why it is bad.
+    pub fault: UnitFault,
+    /// What its child wrote that no message line contains.
+    pub said: Bytes,
+}

@@ -1,0 +1,273 @@
+//! The line that says how a build of a session ended.
+
+ghost use Rattle.std.specs.Prelude.{◌≡◌, ◌++◌, map, IfOk, OnOk, string_bytes};
+ghost use Rattle.std.specs.List.{concat};
+ghost use Rattle.pb_build_result.specs.ResultLine.{keys_rest, keys_text, line_fault_name, unit_fault_text, summary_line, manifest_fault_name, load_fault_name, feature_fault_name, profile_fault_name, plan_fault_name, refusal_name, start_fault_name, device_fault_name, fault_at, fault_line, result_line};
+
+use crate::fault::{BuildFault, DeviceFault, Refusal};
+use crate::summary::Summary;
+use pb_data::Text;
+use pb_directive::LineFault;
+use pb_feature::FeatureFault;
+use pb_manifest_types::ManifestFault;
+use pb_workspace_types::LoadFault;
+use pb_place_types::StartFault;
+use pb_profile::ProfileFault;
+use pb_command_types::UnitFault;
+use pb_unit::PlanFault;
+use std::alloc::{AllocError, Global};
+
+/// Returns texts one after another.
+pub(crate) fn joined(alloc: Global, parts: &[&str]) -> Result<String, AllocError>
+    ensures { IfOk result (λ text. string_bytes text ≡ concat (map (λ part. part.now) parts.now)) }
+{
+    let mut text = String::new(alloc);
+    for part in parts {
+        text.push_str(*part)?;
+    }
+    Ok(text)
+}
+
+/// Adds keys with a comma before each.
+fn push_keys(text: &mut String, keys: &[Text]) -> Result<(), AllocError>
+    ensures { OnOk result (string_bytes text.new ≡ string_bytes text.old ++ keys_rest keys.now) }
+{
+    for key in keys {
+        text.push_str(",")?;
+        text.push_str(key.as_str())?;
+    }
+    Ok(())
+}
+
+/// Returns keys with a comma between them; a dash if there are none.
+fn keys_text(alloc: Global, keys: &[Text]) -> Result<String, AllocError>
+    ensures { IfOk result (λ text. string_bytes text ≡ keys_text keys.now) }
+{
+    let (first, rest) = match keys {
+        [] => return String::from_str(alloc, "-"),
+        [first, rest @ ..] => (first, rest),
+    };
+    let mut text = String::from_str(alloc, first.as_str())?;
+    push_keys(&mut text, rest)?;
+    Ok(text)
+}
+
+/// Returns the name of what is wrong with a line.
+fn line_fault_name(fault: LineFault) -> &'static str
+    ensures { result.now ≡ line_fault_name fault }
+{
+    match fault {
+        LineFault::NotText(_) => "NotText",
+        LineFault::UnknownKey(_) => "UnknownKey",
+        LineFault::BadValue(_) => "BadValue",
+        LineFault::BadFlag(_) => "BadFlag",
+        LineFault::OutOfMemory => "OutOfMemory",
+    }
+}
+
+/// Returns a unit's fault: its name, with the number of its status or the name of its line's fault.
+fn unit_fault_text(alloc: Global, fault: &UnitFault) -> Result<String, AllocError>
+    ensures { IfOk result (λ text. string_bytes text ≡ unit_fault_text fault.now) }
+{
+    match fault {
+        UnitFault::Status(number) => format!(in alloc; "Status({number})"),
+        UnitFault::Directive(fault) => {
+            joined(alloc, &["Directive(", line_fault_name(*fault), ")"])
+        }
+        UnitFault::ScriptError => String::from_str(alloc, "ScriptError"),
+        UnitFault::NoDepInfo => String::from_str(alloc, "NoDepInfo"),
+        UnitFault::ForeignInput(_) => String::from_str(alloc, "ForeignInput"),
+        UnitFault::OutputTooLong => String::from_str(alloc, "OutputTooLong"),
+        UnitFault::OutOfMemory => String::from_str(alloc, "OutOfMemory"),
+    }
+}
+
+/// Returns the line of a build that came to its end.
+fn summary_line(alloc: Global, summary: &Summary) -> Result<String, AllocError>
+    ensures { IfOk result (λ text. string_bytes text ≡ summary_line summary.now) }
+{
+    let keys = keys_text(alloc, summary.started.as_slice())?;
+    match &summary.bad {
+        None => joined(alloc, &["ok started=", keys.as_str()]),
+        Some((unit, fault)) => {
+            let fault = unit_fault_text(alloc, fault)?;
+            joined(
+                alloc,
+                &[
+                    "bad ",
+                    unit.as_str(),
+                    " ",
+                    fault.as_str(),
+                    " started=",
+                    keys.as_str(),
+                ],
+            )
+        }
+    }
+}
+
+/// Returns the name of a manifest's fault, without its fields.
+fn manifest_fault_name(fault: ManifestFault) -> &'static str
+    ensures { result.now ≡ manifest_fault_name fault }
+{
+    match fault {
+        ManifestFault::NotToml => "NotToml",
+        ManifestFault::BadKind(_) => "BadKind",
+        ManifestFault::BadName => "BadName",
+        ManifestFault::BadVersion => "BadVersion",
+        ManifestFault::UnsupportedTable => "UnsupportedTable",
+        ManifestFault::UnsupportedSource => "UnsupportedSource",
+        ManifestFault::UnsupportedCrateType => "UnsupportedCrateType",
+        ManifestFault::BadProfile => "BadProfile",
+        ManifestFault::BadFeature => "BadFeature",
+        ManifestFault::TooLarge => "TooLarge",
+        ManifestFault::OldResolver => "OldResolver",
+        ManifestFault::OutOfMemory => "OutOfMemory",
+    }
+}
+
+/// Returns the name of why a workspace cannot be read; for a
+/// refused manifest, the name of the manifest's fault.
+fn load_fault_name(fault: &LoadFault) -> &'static str
+    ensures { result.now ≡ load_fault_name fault.now }
+{
+    match fault {
+        LoadFault::NoManifest(_) => "NoManifest",
+        LoadFault::Manifest(_, fault) => manifest_fault_name(*fault),
+        LoadFault::SameName => "SameName",
+        LoadFault::NameMismatch => "NameMismatch",
+        LoadFault::VersionMismatch => "VersionMismatch",
+        LoadFault::LinksTwice => "LinksTwice",
+        LoadFault::LinksWithoutScript => "LinksWithoutScript",
+        LoadFault::NoInherited => "NoInherited",
+        LoadFault::TooMany => "TooMany",
+        LoadFault::SameBinary => "SameBinary",
+        LoadFault::Place(_, _) => "Place",
+        LoadFault::NoSuchPackage => "NoSuchPackage",
+        LoadFault::OutOfMemory => "OutOfMemory",
+    }
+}
+
+/// Returns the name of why no features are resolved.
+fn feature_fault_name(fault: FeatureFault) -> &'static str
+    ensures { result.now ≡ feature_fault_name fault }
+{
+    match fault {
+        FeatureFault::NoSuchFeature => "NoSuchFeature",
+        FeatureFault::NoSuchDependency => "NoSuchDependency",
+        FeatureFault::NotOptional => "NotOptional",
+        FeatureFault::OutOfMemory => "OutOfMemory",
+    }
+}
+
+/// Returns the name of why a profile has no settings.
+fn profile_fault_name(fault: ProfileFault) -> &'static str
+    ensures { result.now ≡ profile_fault_name fault }
+{
+    match fault {
+        ProfileFault::NoSuchProfile => "NoSuchProfile",
+        ProfileFault::InheritsCycle => "InheritsCycle",
+        ProfileFault::NotInOverride => "NotInOverride",
+        ProfileFault::OutOfMemory => "OutOfMemory",
+    }
+}
+
+/// Returns the name of why there is no plan; for a profile
+/// without settings, the name of the profile's fault.
+fn plan_fault_name(fault: &PlanFault) -> &'static str
+    ensures { result.now ≡ plan_fault_name fault.now }
+{
+    match fault {
+        PlanFault::Cycle(_) => "Cycle",
+        PlanFault::TooManyUnits => "TooManyUnits",
+        PlanFault::NothingToBuild => "NothingToBuild",
+        PlanFault::Profile(fault) => profile_fault_name(*fault),
+        PlanFault::OutOfMemory => "OutOfMemory",
+    }
+}
+
+/// Returns the name of the innermost fault of a refusal.
+fn refusal_name(refusal: &Refusal) -> &'static str
+    ensures { result.now ≡ refusal_name refusal.now }
+{
+    match refusal {
+        Refusal::Load(fault) => load_fault_name(fault),
+        Refusal::Feature(fault) => feature_fault_name(*fault),
+        Refusal::Plan(fault) => plan_fault_name(fault),
+    }
+}
+
+/// Returns the name of why a child gave no answer.
+fn start_fault_name(fault: StartFault) -> &'static str
+    ensures { result.now ≡ start_fault_name fault }
+{
+    match fault {
+        StartFault::CannotStart => "CannotStart",
+        StartFault::Died => "Died",
+        StartFault::Capture => "Capture",
+        StartFault::OutOfMemory => "OutOfMemory",
+    }
+}
+
+/// Returns the name of a call's fault: one word for all calls on files and variables.
+fn device_fault_name(fault: DeviceFault) -> &'static str
+    ensures { result.now ≡ device_fault_name fault }
+{
+    match fault {
+        DeviceFault::Place(_) => "Device",
+        DeviceFault::NumbersSpent => "NumbersSpent",
+    }
+}
+
+/// Returns the line of a fault at a unit, or at another part of the build.
+fn fault_at(alloc: Global, place: &str, name: &str) -> Result<String, AllocError>
+    ensures { IfOk result (λ text. string_bytes text ≡ fault_at place.now name.now) }
+{
+    joined(alloc, &["fault ", place, " ", name])
+}
+
+/// Returns the line of a build that ended without a summary.
+fn fault_line(alloc: Global, fault: &BuildFault) -> Result<String, AllocError>
+    ensures { IfOk result (λ text. string_bytes text ≡ fault_line fault.now) }
+{
+    match fault {
+        BuildFault::Plan(refusal) => joined(alloc, &["refused ", refusal_name(refusal)]),
+        BuildFault::Toolchain => String::from_str(alloc, "fault -vV Toolchain"),
+        BuildFault::Child { unit, fault } => {
+            fault_at(alloc, unit.as_str(), start_fault_name(*fault))
+        }
+        BuildFault::Device { unit, fault } => {
+            fault_at(alloc, unit.as_str(), device_fault_name(*fault))
+        }
+        BuildFault::Sink => String::from_str(alloc, "fault sink Sink"),
+        BuildFault::OutOfMemory => String::from_str(alloc, "fault memory OutOfMemory"),
+    }
+}
+
+/// Returns the line that says how a build ended, without a line feed
+/// at its end, as a session prints it. The form is our own choice:
+///
+/// - `ok started=KEYS`, if all units are good;
+/// - `bad KEY FAULT started=KEYS`, with the first bad unit in plan order and its fault's
+///   name: `Status(N)`, where N is a signed decimal number; `Directive(NAME)`, with the
+///   name of the line's fault; `ScriptError`, `NoDepInfo`, `ForeignInput`, `OutputTooLong`;
+/// - `refused NAME`, with the innermost fault's name without its fields;
+/// - `fault AT NAME`, with the unit's key, or the path or the variable's name, and the name
+///   of the child's fault, `Device` for a call on files or variables, or `NumbersSpent`;
+///   `fault -vV Toolchain`, `fault sink Sink` and `fault memory OutOfMemory`.
+///
+/// KEYS are the keys of the units whose child was started, in order
+/// of starting, with `,` between them, or `-` if there are none.
+///
+/// Errors: out of memory.
+pub fn result_line(
+    alloc: Global,
+    answer: &Result<Summary, BuildFault>,
+) -> Result<String, AllocError>
+    ensures { IfOk result (λ text. string_bytes text ≡ result_line answer.now) }
+{
+    match answer {
+        Ok(summary) => summary_line(alloc, summary),
+        Err(fault) => fault_line(alloc, fault),
+    }
+}

@@ -1,0 +1,34 @@
+-- Which numerals of JSON a session accepts as numbers: those that consist of digits only.
+use Rattle.std.specs.Prelude.{◌≡◌, ◌<◌, ◌^◌, ℕ, true, List, length, slice_index, Option, option_map, Err}
+use Rattle.std.specs.Float.Numeral.{minus, scan_numeral}
+use Rattle.std.specs.Result.{OkIff}
+use Rattle.std.specs.Str.Parse.{IsNumeral, digits_value}
+use Rattle.serde_json.specs.Data.{Num, number}
+use Rattle.serde_json.specs.Read.{number_of as numeral_of}
+use Rattle.pb_data.specs.Gives.{◌>>=◌, some_or}
+use Rattle.pb_build_session.specs.Faults.{Read}
+use Rattle.pb_build_session.specs.Values.{number_of}
+use Rattle.pb_build_session.specs.declared.fault.BadSession.TheVariants.{BadForm}
+
+-- the number of a session for what `serde_json` makes of a numeral
+abbrev pub taken_as : Option Num → Read ℕ
+taken_as n = some_or BadForm (option_map number n) >>= number_of
+
+abbrev pub taken : List ℕ → Read ℕ
+taken numeral = taken_as (numeral_of numeral)
+
+-- a numeral of digits only is the number that it denotes, if that is below 2 ^ 64; else it makes a session bad
+abbrev pub DigitsAreTaken : Type 0
+DigitsAreTaken = (digits : List ℕ) → IsNumeral 10 digits → OkIff (taken digits) (digits_value 10 digits < 2 ^ 64) (digits_value 10 digits)
+
+-- a minus makes a session bad, even before 0
+abbrev pub MinusIsBad : Type 0
+MinusIsBad = (numeral : List ℕ) → slice_index numeral 0 ≡ minus → taken numeral ≡ Err BadForm
+
+-- a point makes a session bad, even before 0
+abbrev pub PointIsBad : Type 0
+PointIsBad = (numeral : List ℕ) → (scan_numeral numeral).point ≡ true → taken numeral ≡ Err BadForm
+
+-- an exponent makes a session bad
+abbrev pub ExponentIsBad : Type 0
+ExponentIsBad = (numeral : List ℕ) → 0 < length (scan_numeral numeral).exponent → taken numeral ≡ Err BadForm

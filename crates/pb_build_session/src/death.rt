@@ -1,0 +1,48 @@
+//! How a start fails if it is set to fail.
+
+ghost use Rattle.std.specs.Prelude.{◌≡◌, ◌≢◌};
+ghost use Rattle.pb_place_types.specs.declared.place.StartFault.TheVariants as start;
+ghost use Rattle.pb_build_session.specs.Deaths.{fault_of, death_named};
+ghost use Rattle.pb_build_session.specs.Faults.{Gives};
+
+use crate::fault::BadSession;
+use pb_place_types::StartFault;
+
+/// How a start fails if it is set to fail (our own choice). Out of memory is not among these ways,
+/// since it is not a failure of the outside world.
+#[derive(Clone, Copy)]
+pub enum Death {
+    /// The program could not be started. It leaves no file.
+    CannotStart,
+    /// The child ended without a status. It leaves the first half, rounded down, of its reply's
+    /// files, in byte order.
+    Died,
+    /// The child's output could not be captured. It leaves the same half.
+    Capture,
+}
+
+impl Death {
+    /// Returns the answer of such a start: the fault with the same name.
+    pub fn fault(&self) -> StartFault
+        ensures fault { result ≡ fault_of self.now }
+        ensures real { result ≢ start.OutOfMemory }
+    {
+        match self {
+            Death::CannotStart => StartFault::CannotStart,
+            Death::Died => StartFault::Died,
+            Death::Capture => StartFault::Capture,
+        }
+    }
+}
+
+/// Returns the way to fail that has this name.
+pub(crate) fn death_named(name: &str) -> Result<Death, BadSession>
+    ensures { Gives result (death_named name.now) }
+{
+    match name {
+        "CannotStart" => Ok(Death::CannotStart),
+        "Died" => Ok(Death::Died),
+        "Capture" => Ok(Death::Capture),
+        _ => Err(BadSession::BadForm),
+    }
+}

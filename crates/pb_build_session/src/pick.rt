@@ -1,0 +1,26 @@
+//! Which of the units that may begin does.
+
+ghost use Rattle.pb_build_session.specs.Faults.{Gives};
+ghost use Rattle.pb_build_session.specs.Picks.{pick_named};
+
+use crate::fault::BadSession;
+
+/// Which of the units that may begin does (our own choice).
+#[derive(Clone, Copy)]
+pub enum PickBy {
+    /// The first of them in the order of the plan.
+    First,
+    /// The last of them.
+    Last,
+}
+
+/// Returns the choice that has this name.
+pub(crate) fn pick_named(name: &str) -> Result<PickBy, BadSession>
+    ensures { Gives result (pick_named name.now) }
+{
+    match name {
+        "first" => Ok(PickBy::First),
+        "last" => Ok(PickBy::Last),
+        _ => Err(BadSession::BadForm),
+    }
+}

@@ -1,0 +1,27 @@
+//! A step of a session.
+
+use crate::death::Death;
+use crate::pick::PickBy;
+use pb_data::Text;
+use pb_workspace_types::Options;
+use pb_place_types::PathText;
+
+/// A step of a session: an edit of the outside world, an injected failure, or a build.
+#[derive(Drop)]
+pub enum SessionStep {
+    /// The file at this path has this text from now on.
+    Write(PathText, Text),
+    /// The file at this path, and all files below it, are removed.
+    Remove(PathText),
+    /// The variable of this name has this value from now on. Any name and value is accepted.
+    Set(Text, Text),
+    /// The variable of this name is not set from now on.
+    Unset(Text),
+    /// A build, and which of the units that may begin does.
+    Build(Options, PickBy),
+    /// The next start whose output folder has this name fails in this way. Any name is accepted.
+    Die(Text, Death),
+    /// The call with this number, counted from 1, that the next build makes to the outside world
+    /// fails. 0: no call does.
+    Fuse(u64),
+}

@@ -1,0 +1,216 @@
+-- How units answer, by replay or by a new child, and which calls of the place they make, event by event.
+use Rattle.std.specs.Prelude.{◌≡◌, ℕ, true, false, List, Option, Some, slice_get, ◌⊎◌, ◌∷◌, [], Bool, is_some, None, Result, Ok, Err, IsOk, IfErr, IfOk, IfSome}
+use Rattle.std.specs.FinMap as finite
+use Rattle.pb_build_result.specs.declared.bad_unit.BadUnit.{BadUnit}
+use Rattle.pb_build_result.specs.declared.fault.BuildFault.{BuildFault}
+use Rattle.pb_build_result.specs.declared.fault.BuildFault.TheVariants.{Sink, OutOfMemory}
+use Rattle.pb_command.specs.Command.{command_of}
+use Rattle.pb_command.specs.Judge.{ended_by, replied_files}
+use Rattle.pb_directive.specs.declared.directive.Directive.{Directive}
+use Rattle.pb_run_flight.specs.Events.{Event, Began, Gave}
+use Rattle.pb_run_flight.specs.declared.flight.Answer.{Answer}
+use Rattle.pb_place_types.specs.Children.{child_at}
+use Rattle.pb_place_types.specs.Counts.{Counts}
+use Rattle.pb_place_types.specs.Folders.{files_in}
+use Rattle.pb_place_types.specs.Paths.{is_at_or_below}
+use Rattle.pb_place_types.specs.World.{World, Map, Answers, seen_by, ChangesOnly}
+use Rattle.pb_place_types.specs.declared.child.Reply.{Reply}
+use Rattle.pb_place_types.specs.declared.child_in_flight.ChildInFlight.{ChildInFlight}
+use Rattle.pb_place_types.specs.declared.command.Command.{Command}
+use Rattle.pb_place_types.specs.declared.command.Ended.{Ended}
+use Rattle.pb_place_types.specs.declared.place.StartFault.{StartFault}
+use Rattle.pb_command_types.specs.Targets.{unit_at}
+use Rattle.pb_command_types.specs.declared.project.Project.{Project}
+use Rattle.pb_command_types.specs.declared.project.Setup.{Setup}
+use Rattle.pb_record.specs.Commands.{command_of as asked_command}
+use Rattle.pb_record.specs.declared.record.Record.{Record}
+use Rattle.pb_run.specs.Halves.{IsInFlight, Basis, child_in, command_in, view_in}
+use Rattle.pb_run.specs.Outcome.{ran_of, unstarted}
+use Rattle.pb_run.specs.Running.{CallsBehind, EndsBy, GivesRecord, answered_called, Launches, StopsToBegin, past_look}
+use Rattle.pb_run.specs.Standing.{records_folder}
+use Rattle.pb_run.specs.Steps.{IsOfUnit, bare, fault_in}
+use Rattle.pb_run.specs.declared.begun.Awaited.{Awaited}
+use Rattle.pb_run.specs.declared.begun.Awaited.TheVariants as awaited
+use Rattle.pb_run.specs.declared.begun.Launched.{Launched}
+use Rattle.pb_run.specs.declared.ran.Ran.{Ran}
+use Rattle.pb_store_soundness.specs.Apart.{is_of}
+use Rattle.pb_store_soundness.specs.Inputs.{Agrees, reply_in}
+use Rattle.pb_store_soundness.specs.Records.{records, place_of}
+use Rattle.pb_store.specs.Differences.{replayed}
+use Rattle.pb_store.specs.declared.replaying.Replayed.{Replayed}
+use Rattle.pb_build_turns.specs.Rows.{is_started}
+use Rattle.pb_build_turns.specs.declared.crew.Aloft.{Aloft}
+use Rattle.pb_unit.specs.declared.plan.Planned.{Planned}
+use Rattle.pb_message_units.specs.Telling.{unit_lines}
+
+-- what comes of a unit by a record, without a child: the judgement of the answer that the record replays to its own
+-- command, with these files
+abbrev pub ran_again : Project → Planned → Record → Map → Ran
+ran_again project u r files = unstarted (ran_of project u (asked_command r.asked) (replayed r).ended files)
+
+-- the unit at an index answered by the record that it had at first: its fault, its lines and its directives follow from
+-- that record, from its command, and from the files of that time
+pub record AnswersAgain (setup : Setup) (project : Project) (done : List (Option (List Directive))) (first : World) (place : ℕ) (answer : Answer BadUnit) : Type 0 where
+  pub unit : Planned
+  pub there : unit_at project place ≡ Some unit
+  pub kept : Record
+  pub here : records (records_folder project) first unit.key ≡ Some kept
+  pub asks : asked_command kept.asked ≡ command_of setup project unit done
+  pub inputs : Agrees project.workspace.target kept.inputs first
+  pub fault : answer.fault ≡ (ran_again project unit kept first.files).bad
+  pub lines : answer.lines ≡ unit_lines project unit false (ran_again project unit kept first.files).messages
+  pub noted : slice_get done place ≡ Some (ran_again project unit kept first.files).directives
+
+-- A unit in flight that waits for such an answer.
+
+-- the unit carries what its first record replays to its command; the inputs of that record had their values then; and
+-- the unit's folder and record are unchanged
+pub record WaitsAgain (setup : Setup) (project : Project) (done : List (Option (List Directive))) (first now : World) (u : Planned) (c : Command) (again : Replayed) : Type 0 where
+  pub kept : Record
+  pub here : records (records_folder project) first u.key ≡ Some kept
+  pub asked : asked_command kept.asked ≡ c
+  pub asks : c ≡ command_of setup project u done
+  pub inputs : Agrees project.workspace.target kept.inputs first
+  pub gives : again ≡ replayed kept
+  pub stays : (q : List ℕ) → is_of (records_folder project) u.key q ≡ true → finite.get now.files q ≡ finite.get first.files q
+
+-- a unit without a child waits in this way; for a unit with a child there is no condition
+abbrev pub CarriesAgain : Setup → Project → List (Option (List Directive)) → World → World → Planned → Command → Awaited → Type 0
+CarriesAgain setup project done first now u c (awaited.Child launched) = Unit {0}
+CarriesAgain setup project done first now u c (awaited.Record again) = WaitsAgain setup project done first now u c again
+
+-- the same for a unit in flight
+abbrev pub FliesAgain : Setup → Project → List (Option (List Directive)) → World → World → Aloft → Type 0
+FliesAgain setup project done first now a = (u : Planned) → unit_at project a.unit ≡ Some u → CarriesAgain setup project done first now u a.begun.command a.begun.awaited
+
+-- what comes of a unit by this reply
+abbrev pub ran_anew : Project → Planned → Command → Reply → Ran
+ran_anew project u c reply = ran_of project u c (ended_by reply) (replied_files u.out reply)
+
+-- the unit at an index answered what its child returns for what it sees of this world: its folder contains exactly the
+-- files of that reply, and its fault, its lines and its directives follow from the reply
+pub record AnswersAnew (child : Answers) (setup : Setup) (project : Project) (done : List (Option (List Directive))) (now : World) (place : ℕ) (answer : Answer BadUnit) : Type 0 where
+  pub unit : Planned
+  pub there : unit_at project place ≡ Some unit
+  pub reply : Reply
+  pub replies : reply ≡ reply_in child (command_of setup project unit done) now
+  pub files : files_in unit.out now.files ≡ replied_files unit.out reply
+  pub fault : answer.fault ≡ (ran_anew project unit (command_of setup project unit done) reply).bad
+  pub lines : answer.lines ≡ unit_lines project unit true (ran_anew project unit (command_of setup project unit done) reply).messages
+  pub noted : slice_get done place ≡ Some (ran_anew project unit (command_of setup project unit done) reply).directives
+
+-- A unit in flight that waits for such an answer.
+
+-- the unit's child is in flight, and sees what it saw when it was spawned; for a unit without a child there is no
+-- condition
+abbrev pub CarriesAnew : Answers → Setup → Project → List (Option (List Directive)) → World → List ChildInFlight → (ℕ → Type 0) → Planned → Command → Awaited → Type 0
+CarriesAnew child setup project done now flying still u c (awaited.Child launched) = (c ≡ command_of setup project u done) × IsInFlight child c (seen_by c now) launched.ticket flying still
+CarriesAnew child setup project done now flying still u c (awaited.Record again) = Unit {0}
+
+abbrev pub FliesAnew : Answers → Setup → Project → List (Option (List Directive)) → World → List ChildInFlight → (ℕ → Type 0) → Aloft → Type 0
+FliesAnew child setup project done now flying still a = (u : Planned) → unit_at project a.unit ≡ Some u → CarriesAnew child setup project done now flying still u a.begun.command a.begun.awaited
+
+-- what determines the calls of a build: the child, the project, the command of each unit, and what its child sees of a
+-- world
+pub record CallBasis : Type 0 where
+  pub child : Answers
+  pub project : Project
+  pub command : ℕ → Planned → Command
+  pub sees : ℕ → Planned → World → World
+
+-- for a basis: the command and the view of each unit in a clean build, whatever the world is
+abbrev pub call_basis : Basis → CallBasis
+call_basis b = record { child = b.child; project = b.project; command = command_in b; sees = λ place u w. view_in b place u }
+
+-- for any records, true or not: the command of a unit after the directives that are noted, and what that command sees
+-- of the world
+abbrev pub call_basis_on_any : Answers → Setup → Project → List (Option (List Directive)) → CallBasis
+call_basis_on_any child setup project done = record {
+  child = child;
+  project = project;
+  command = λ place u. command_of setup project u done;
+  sees = λ place u w. seen_by (command_of setup project u done) w;
+}
+
+-- A unit begins.
+
+-- if nothing differed, no further call was made and nothing changed; else the unit's child was launched
+abbrev pub CallsToBegin : Answers → Project → Planned → Command → Bool → World → Counts → World → Counts → Type 0
+CallsToBegin child project u c false before old after new = (after ≡ before) × (new ≡ past_look project u c before old)
+CallsToBegin child project u c true before old after new = (ticket : ℕ) × Launches child c ticket (past_look project u c before old) new
+
+-- the unit at an index began with exactly these calls
+pub record BeginsCalling (b : CallBasis) (place : ℕ) (spawned : Bool) (before : World) (old : Counts) (after : World) (new : Counts) : Type 0 where
+  pub unit : Planned
+  pub there : unit_at b.project place ≡ Some unit
+  pub only : ChangesOnly (is_of (records_folder b.project) unit.key) before after
+  pub calls : CallsToBegin b.child b.project unit (b.command place unit) spawned before old after new
+
+-- the unit at an index could not begin: it stopped at a call of its comparison; or something differed, and it stopped
+-- as its child was launched
+pub record StopsBeginning (b : CallBasis) (place : ℕ) (fault : BuildFault) (w : World) (old : Counts) (after : World) (new : Counts) : Type 0 where
+  pub unit : Planned
+  pub there : unit_at b.project place ≡ Some unit
+  pub only : ChangesOnly (is_of (records_folder b.project) unit.key) w after
+  pub named : IsOfUnit unit.key fault
+  pub stops : StopsToBegin b.project unit (b.command place unit) (fault_in fault) w old new
+
+-- A unit answers.
+
+-- the reply of the child to the command of the unit at an index, from what it sees of a world
+abbrev pub reply_by : CallBasis → ℕ → Planned → World → Reply
+reply_by b place u w = b.child (b.command place u) (b.sees place u w)
+
+-- a child ended with this reply, and the unit's folder contains exactly the files of the reply
+pub record EndsAsReplied (reply : Reply) (u : Planned) (ended : Ended) (left : World) : Type 0 where
+  pub answer : ended ≡ ended_by reply
+  pub files : files_in u.out left.files ≡ replied_files u.out reply
+
+-- the child that was launched is in flight, and was spawned for this command
+abbrev pub FliesFor : Command → List ChildInFlight → Launched → Type 0
+FliesFor c flying launched = (spawned : ChildInFlight) × (child_at launched.ticket flying ≡ Some spawned) × (spawned.command ≡ c)
+
+-- the answer of the unit at an index was taken: the end of its child was awaited, if it has one, and then exactly the
+-- calls of the answer were made. Contracts state this only for a place that tells its maps
+pub record AnswersCalling (b : CallBasis) (place : ℕ) (spawned : Bool) (result : Result (Unit {0}) BuildFault) (before : World) (old : Counts) (after : World) (new : Counts) : Type 0 where
+  pub unit : Planned
+  pub there : unit_at b.project place ≡ Some unit
+  pub by : Awaited
+  pub is_child : spawned ≡ is_some (child_in by)
+  pub its : IfSome (child_in by) (FliesFor (b.command place unit) old.starts.flying)
+  pub counts_now : GivesRecord (records (records_folder b.project) before unit.key) by
+  pub left : World
+  pub mid : Counts
+  pub answer : Result Ended StartFault
+  pub ends : EndsBy by answer (IsOk result) (λ ticket. Unit {0}) before left old mid
+  pub replied : spawned ≡ true → IfOk answer (λ ended. EndsAsReplied (reply_by b place unit left) unit ended left)
+  pub only : ChangesOnly (is_at_or_below (place_of (records_folder b.project) unit.key)) left after
+  pub named : IfErr result (IsOfUnit unit.key)
+  pub calls : CallsBehind by (answered_called b.project unit (b.command place unit) left by) answer (bare result) mid new
+
+-- All calls.
+
+-- over these events, exactly these calls were made between a first and a last moment of the place
+abbrev pub CallsOver : CallBasis → List (Event BadUnit) → World → Counts → World → Counts → Type 0
+CallsOver b [] first at last now = (last ≡ first) × (now ≡ at)
+CallsOver b (Began place spawned ∷ es) first at last now = (before : World) × (old : Counts) × CallsOver b es first at before old × BeginsCalling b place spawned before old last now
+CallsOver b (Gave place answer ∷ es) first at last now = (before : World) × (old : Counts) × CallsOver b es first at before old × AnswersCalling b place (is_started es place) (Ok tt) before old last now
+
+-- the calls of the event that ended with a fault: those of an answer, or those of a unit that could not begin; none, if
+-- the sink failed or memory ran out
+abbrev pub StopsLast : CallBasis → BuildFault → Option ℕ → List (Event BadUnit) → List (Event BadUnit) → World → Counts → World → Counts → Type 0
+StopsLast b fault (Some place) es before w old after new = AnswersCalling b place (is_started before place) (Err fault) w old after new
+StopsLast b fault None es before w old after new = (((fault ≡ Sink) ⊎ (fault ≡ OutOfMemory)) × (after ≡ w) × (new ≡ old)) ⊎ ((place : ℕ) × (spawned : Bool) × (es ≡ Began place spawned ∷ before) × StopsBeginning b place fault w old after new)
+
+-- exactly these calls were made: first over the events before a fault, and then those of the fault
+abbrev pub CallsCut : CallBasis → BuildFault → Option ℕ → List (Event BadUnit) → List (Event BadUnit) → World → Counts → World → Counts → Type 0
+CallsCut b fault asked es before first at last now = (w : World) × (old : Counts) × CallsOver b before first at w old × StopsLast b fault asked es before w old last now
+
+-- for any records, true or not: exactly these calls were made, with the command of each unit after the directives that
+-- are noted
+abbrev pub CallsOnAny : Answers → Setup → Project → List (Option (List Directive)) → List (Event BadUnit) → World → Counts → World → Counts → Type 0
+CallsOnAny child setup project done es first at last now = CallsOver (call_basis_on_any child setup project done) es first at last now
+
+-- and the same after a fault
+abbrev pub CallsCutOnAny : Answers → Setup → Project → List (Option (List Directive)) → BuildFault → Option ℕ → List (Event BadUnit) → List (Event BadUnit) → World → Counts → World → Counts → Type 0
+CallsCutOnAny child setup project done fault asked es before first at last now = CallsCut (call_basis_on_any child setup project done) fault asked es before first at last now

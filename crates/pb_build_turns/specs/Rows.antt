@@ -1,0 +1,190 @@
+-- The outcomes of the units of a build, one after another in plan order, and what is reported of them.
+use Rattle.std.specs.Prelude.{ℕ, suc, Bool, true, false, ◌==◌, ◌+◌, List, [], ◌∷◌, ◌++◌, length, take, Option, Some, None, if◌then◌else◌, slice_get, is_none}
+use Rattle.std.specs.List.{flat_map}
+use Rattle.pb_build_result.specs.declared.bad_unit.BadUnit.{BadUnit}
+use Rattle.pb_build_result.specs.declared.summary.Summary.{Summary}
+use Rattle.pb_directive.specs.declared.directive.Directive.{Directive}
+use Rattle.pb_run_flight.specs.Events.{Event, Began, Gave, started_by}
+use Rattle.pb_run_flight.specs.declared.flight.State.{State}
+use Rattle.pb_run_flight.specs.declared.flight.State.TheVariants.{Untouched, Begun, Answered}
+use Rattle.pb_message.specs.declared.message.Message.{Message}
+use Rattle.pb_place_types.specs.World.{World, Answers}
+use Rattle.pb_command_types.specs.Targets.{unit_at}
+use Rattle.pb_command_types.specs.declared.fault.UnitFault.{UnitFault}
+use Rattle.pb_command_types.specs.declared.project.Project.{Project}
+use Rattle.pb_command_types.specs.declared.project.Setup.{Setup}
+use Rattle.pb_run.specs.Halves.{key_in}
+use Rattle.pb_run.specs.Outcome.{Outcome, Waiting, Good, Bad, outcomes, directives_in}
+use Rattle.pb_store.specs.declared.difference.Difference.{Difference}
+use Rattle.pb_unit.specs.declared.plan.Planned.{Planned}
+use Rattle.pb_message_units.specs.Telling.{unit_lines}
+
+-- a unit of the build and its outcome
+pub record Row : Type 0 where
+  pub unit : Planned
+  pub outcome : Outcome
+
+abbrev pub is_bad : Outcome → Bool
+is_bad Waiting = false
+is_bad (Good files directives messages) = false
+is_bad (Bad bad messages) = true
+
+-- the units in plan order, up to and including the first bad one
+abbrev pub to_first_bad : List Planned → List Outcome → List Row
+to_first_bad [] os = []
+to_first_bad (u ∷ us) [] = []
+to_first_bad (u ∷ us) (o ∷ os) = record { unit = u; outcome = o } ∷ (if is_bad o then [] else to_first_bad us os)
+
+abbrev pub rows_of : Answers → Setup → Project → World → List Row
+rows_of child setup project sources = to_first_bad project.plan.planned (outcomes child setup project sources)
+
+-- What is reported of them.
+
+abbrev pub messages_in : Outcome → List Message
+messages_in Waiting = []
+messages_in (Good files directives messages) = messages
+messages_in (Bad bad messages) = messages
+
+abbrev pub fault_in : Outcome → Option BadUnit
+fault_in Waiting = None
+fault_in (Good files directives messages) = None
+fault_in (Bad bad messages) = Some bad
+
+-- a child was started for the unit at an index when it began
+abbrev pub is_started : List (Event BadUnit) → ℕ → Bool
+is_started [] place = false
+is_started (Began unit spawned ∷ es) place = if unit == place then spawned else is_started es place
+is_started (Gave unit answer ∷ es) place = is_started es place
+
+-- the lines of these units, from the i-th unit on; each line says whether a child was started for its unit
+abbrev pub said_from : Project → List (Event BadUnit) → ℕ → List Row → List ℕ
+said_from project es i [] = []
+said_from project es i (row ∷ rows) = unit_lines project row.unit (is_started es i) (messages_in row.outcome) ++ said_from project es (suc i) rows
+
+abbrev pub keyed : List ℕ → Option (List Directive) → List (List ℕ × List Directive)
+keyed key None = []
+keyed key (Some directives) = (key, directives) ∷ []
+
+-- the keys and the directives of the runs of build scripts among these units
+abbrev pub directives_told : List Row → List (List ℕ × List Directive)
+directives_told [] = []
+directives_told (row ∷ rows) = keyed row.unit.key (directives_in row.outcome) ++ directives_told rows
+
+abbrev pub bad_or : List ℕ → Outcome → Option (List ℕ × BadUnit) → Option (List ℕ × BadUnit)
+bad_or key Waiting rest = rest
+bad_or key (Good files directives messages) rest = rest
+bad_or key (Bad bad messages) rest = Some (key, bad)
+
+-- the first bad unit
+abbrev pub bad_of : List Row → Option (List ℕ × BadUnit)
+bad_of [] = None
+bad_of (row ∷ rows) = bad_or row.unit.key row.outcome (bad_of rows)
+
+abbrev pub is_success : Option (List ℕ × BadUnit) → Bool
+is_success None = true
+is_success (Some bad) = false
+
+-- the keys of the units whose child was started, in the order in which they started
+abbrev pub started_keys : Project → List (Event BadUnit) → List (List ℕ)
+started_keys project es = flat_map (λ place. key_in (unit_at project place)) (started_by es)
+
+-- the key and the fault of a bad unit (below, what its child printed)
+abbrev pub key_told : Option (List ℕ × BadUnit) → Option (List ℕ × UnitFault)
+key_told None = None
+key_told (Some bad) = Some (bad.0, bad.1.fault)
+
+abbrev pub said_told : Option (List ℕ × BadUnit) → List ℕ
+said_told None = []
+said_told (Some bad) = bad.1.said
+
+-- the first difference of each unit: none for a unit that has not begun; for one that has, a difference or none
+abbrev pub Reasons : Type 0
+Reasons = List (Option (Option Difference))
+
+-- the first difference of a unit for which a child was started
+abbrev pub difference_in : Option (Option (Option Difference)) → List Difference
+difference_in None = []
+difference_in (Some None) = []
+difference_in (Some (Some None)) = []
+difference_in (Some (Some (Some difference))) = difference ∷ []
+
+-- the first differences of the units that were started, in the order in which they started
+abbrev pub differences_of : List (Event BadUnit) → Reasons → List Difference
+differences_of es reasons = flat_map (λ place. difference_in (slice_get reasons place)) (started_by es)
+
+abbrev pub kept_key : List ℕ → Option (Option Difference) → List (List ℕ)
+kept_key key None = []
+kept_key key (Some None) = key ∷ []
+kept_key key (Some (Some difference)) = []
+
+-- the keys of the units that have begun and from whose records nothing differed, in plan order
+abbrev pub kept_of : List Planned → Reasons → List (List ℕ)
+kept_of [] reasons = []
+kept_of (u ∷ us) [] = []
+kept_of (u ∷ us) (reason ∷ reasons) = kept_key u.key reason ++ kept_of us reasons
+
+abbrev pub summary_of : Project → List (Event BadUnit) → Reasons → List Row → Summary
+summary_of project es reasons rows = record {
+  success = is_success (bad_of rows);
+  bad = key_told (bad_of rows);
+  said = said_told (bad_of rows);
+  started = started_keys project es;
+  differences = differences_of es reasons;
+  kept = kept_of project.plan.planned reasons;
+  directives = directives_told rows;
+}
+
+-- The same by answers, over a place that does not tell its maps.
+
+abbrev pub fault_of : State BadUnit → Option BadUnit
+fault_of Untouched = None
+fault_of Begun = None
+fault_of (Answered answer) = answer.fault
+
+abbrev pub with_key : List ℕ → Option BadUnit → Option (List ℕ × BadUnit)
+with_key key None = None
+with_key key (Some fault) = Some (key, fault)
+
+abbrev pub bad_with : Option Planned → Option (State BadUnit) → Option (List ℕ × BadUnit)
+bad_with None s = None
+bad_with (Some u) None = None
+bad_with (Some u) (Some s) = with_key u.key (fault_of s)
+
+-- the key and the fault of the unit at an index, by its answer
+abbrev pub bad_told : List Planned → List (State BadUnit) → Option ℕ → Option (List ℕ × BadUnit)
+bad_told units states None = None
+bad_told units states (Some place) = bad_with (slice_get units place) (slice_get states place)
+
+-- the keys of these units with the directives that are noted for them
+abbrev pub noted_of : List Planned → List (Option (List Directive)) → List (List ℕ × List Directive)
+noted_of [] noted = []
+noted_of (u ∷ us) [] = []
+noted_of (u ∷ us) (d ∷ noted) = keyed u.key d ++ noted_of us noted
+
+-- how many units are reported, by the index of the first bad one
+abbrev pub count_told : ℕ → Option ℕ → ℕ
+count_told units None = units
+count_told units (Some place) = place + 1
+
+-- the noted directives of the units that are reported: of all units, or of those up to and including the first bad one
+abbrev pub noted_told : List Planned → List (Option (List Directive)) → Option ℕ → List (List ℕ × List Directive)
+noted_told units noted bad = noted_of (take (count_told (length units) bad) units) (take (count_told (length units) bad) noted)
+
+-- the keys of the units at these indices
+abbrev pub keys_at : List Planned → List ℕ → List (List ℕ)
+keys_at units places = flat_map (λ place. key_in (slice_get units place)) places
+
+-- the first differences of the units at these indices
+abbrev pub differences_at : Reasons → List ℕ → List Difference
+differences_at reasons places = flat_map (λ place. difference_in (slice_get reasons place)) places
+
+abbrev pub summary_by : List Planned → List (State BadUnit) → List (Option (List Directive)) → List ℕ → Reasons → Option ℕ → Summary
+summary_by units states noted started reasons bad = record {
+  success = is_none (bad_told units states bad);
+  bad = key_told (bad_told units states bad);
+  said = said_told (bad_told units states bad);
+  started = keys_at units started;
+  differences = differences_at reasons started;
+  kept = kept_of units reasons;
+  directives = noted_told units noted bad;
+}

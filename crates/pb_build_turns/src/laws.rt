@@ -1,0 +1,31 @@
+//! Laws of a build's units. Each function does nothing; its contract is the law.
+
+ghost use Rattle.pb_build_turns.specs.Ends.{SaysFirstRows, StartsNothing, LeavesRecords, StartsNoneAgain};
+
+use pb_run_flight::Turn;
+
+/// In whatever order units begin and answer, and whoever decides: if each unit that has answered
+/// has its outcome of a clean build, the lines that are due are those of the first rows of a clean
+/// build. Once all have answered, up to and including the first bad one, they are those of all
+/// rows.
+pub fn answers_say_rows()
+    ensures { SaysFirstRows }
+{}
+
+/// If each unit has its record at first, and nothing differs from it, no child is started, in
+/// whatever order the units begin and answer.
+pub fn nothing_differs_again()
+    ensures { StartsNothing }
+{}
+
+/// If a build over true records succeeds, each unit has its record afterwards, and nothing differs
+/// from it.
+pub fn success_leaves_records<T: Turn>()
+    ensures { LeavesRecords T.turns }
+{}
+
+/// If each unit has its record at first, units that ended without a fault started no child, and
+/// none is reported as started. So it is with the same build right after one that succeeded.
+pub fn same_build_starts_none<T: Turn>()
+    ensures { StartsNoneAgain T.turns }
+{}

@@ -1,5 +1,0 @@
-use Rattle.pb_place.proofs.Worlds.{partly-all, partly-none}
-use Rattle.pb_checks_place.proofs.failing.partial_removals.Goals as goal
-
-pub returns : goal.returns
-returns c = record { all = partly-all; none = partly-none }

@@ -1,5 +1,0 @@
-use Rattle.pb_place.proofs.Worlds.{torn-old, torn-first, torn-none}
-use Rattle.pb_checks_place.proofs.failing.torn_writes.Goals as goal
-
-pub returns : goal.returns
-returns c = record { old = torn-old; first = torn-first; none = torn-none }

@@ -1,6 +1,0 @@
-use Rattle.std.proofs.Common.{◌∙◌}
-use Rattle.pb_place.proofs.Worlds.{removed-read}
-use Rattle.pb_checks_place.proofs.honest.removed_then_read.Goals as goal
-
-pub returns-clause-found : goal.returns-clause-found
-returns-clause-found g c = λ told. c.in_ok-found.ensures.ok told ∙ removed-read _ _ _ _ (c.in_ok-remove_tree.ensures.ok told)

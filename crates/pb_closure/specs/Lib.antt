@@ -1,4 +1,0 @@
-pub mod Closure
-pub mod Table
-pub mod Index
-pub mod Placed

@@ -1,0 +1,104 @@
+-- The libraries of a compile: the folders in which the compiler looks for them, and the names by which it gets them
+-- (The Cargo Book, Specifying Dependencies, Renaming dependencies in Cargo.toml).
+use Rattle.std.specs.Prelude.{ℕ, ◌&&◌, Bool, false, if◌then◌else◌, codes, List, [], ◌∷◌, ◌++◌, Option, Some, None, slice_get}
+use Rattle.std.specs.List.{flat_map}
+use Rattle.pb_graph.specs.Placed.{placed}
+use Rattle.pb_feature_types.specs.Features.{is_enabled}
+use Rattle.pb_manifest_types.specs.Letters.{underscored}
+use Rattle.pb_unit.specs.Units.{is_normal, is_build}
+use Rattle.pb_unit.specs.declared.plan.Planned.{Planned}
+use Rattle.pb_unit.specs.declared.unit.What.{What}
+use Rattle.pb_unit.specs.declared.unit.What.TheVariants.{Lib, Bin, Script, Run}
+use Rattle.pb_workspace_types.specs.declared.package.DependencyKind.{DependencyKind}
+use Rattle.pb_workspace_types.specs.declared.package.Package.{Package}
+use Rattle.pb_workspace_types.specs.declared.package.Entry.{Entry}
+use Rattle.pb_command_types.specs.declared.project.Project.{Project}
+use Rattle.pb_command_types.specs.NamedTexts.{in_order}
+use Rattle.pb_command_types.specs.Targets.{unit_at, library_in, library_name, library_file, is_library}
+use Rattle.pb_command_arguments.specs.Words.{option}
+
+-- the output folder of a unit, if there is one
+abbrev pub folder_in : Option Planned → List (List ℕ)
+folder_in None = []
+folder_in (Some unit) = unit.out ∷ []
+
+abbrev pub read_at : Project → ℕ → List (List ℕ)
+read_at project place = folder_in (unit_at project place)
+
+-- the output folders of all units that a unit reaches, in plan order
+abbrev pub reads_of : Project → Planned → List (List ℕ)
+reads_of project unit = flat_map (read_at project) unit.reaches
+
+-- `-L` and a folder of libraries
+unfoldable pub folder_words : List ℕ → List (List ℕ)
+folder_words folder = option (codes "-L") (codes "dependency=" ++ folder)
+
+abbrev pub folder_words_in : Option Planned → List (List ℕ)
+folder_words_in None = []
+folder_words_in (Some unit) = if is_library unit.unit.what then folder_words unit.out else []
+
+-- the same for the unit at an index, if it is a library
+abbrev pub folder_words_at : Project → ℕ → List (List ℕ)
+folder_words_at project place = folder_words_in (unit_at project place)
+
+-- the same for each library that a unit reaches, in plan order
+abbrev pub dependency_words : Project → Planned → List (List ℕ)
+dependency_words project unit = flat_map (folder_words_at project) unit.reaches
+
+-- an entry of this kind is for a library that such a unit needs: a normal entry for libraries and binaries, a build
+-- entry for scripts
+abbrev pub leads : What → DependencyKind → Bool
+leads Lib kind = is_normal kind
+leads (Bin name) kind = is_normal kind
+leads Script kind = is_build kind
+leads Run kind = false
+
+-- the crate name of the library of the package at an index
+abbrev pub library_name_at : Project → ℕ → List ℕ
+library_name_at project place = library_name (library_in (slice_get project.workspace.packages place))
+
+-- the name of the library in source code: the dependency's key with `_` for each `-` if `package` renames it, else its
+-- own crate name
+abbrev pub entry_name : Project → Entry → List ℕ
+entry_name project entry = if entry.renamed then underscored entry.key else library_name_at project entry.to
+
+-- the sort key of a library: its name and then its path, separated by byte 0, which is in neither and comes before all
+-- other bytes
+unfoldable pub extern_key : List ℕ → List ℕ → List ℕ
+extern_key name path = name ++ 0 ∷ path
+
+-- `NAME=PATH`
+unfoldable pub extern_text : List ℕ → List ℕ → List ℕ
+extern_text name path = name ++ 61 ∷ path
+
+-- a library by its name and its file; none if the unit needs no such library
+abbrev pub extern : List ℕ → Option (List ℕ) → List (List ℕ × List ℕ)
+extern name None = []
+extern name (Some path) = (extern_key name path, extern_text name path) ∷ []
+
+-- the library of an entry, if the entry is enabled and the unit needs its library
+abbrev pub entry_extern : Project → Planned → ℕ → Entry → List (List ℕ × List ℕ)
+entry_extern project unit n entry =
+    if is_enabled project.features unit.unit.owner unit.unit.side n && leads unit.unit.what entry.kind then extern (entry_name project entry) (library_file project unit entry.to) else []
+
+-- for a binary: its own library
+abbrev pub own_extern : Project → Planned → What → List (List ℕ × List ℕ)
+own_extern project unit Lib = []
+own_extern project unit (Bin name) = extern (library_name_at project unit.unit.owner) (library_file project unit unit.unit.owner)
+own_extern project unit Script = []
+own_extern project unit Run = []
+
+-- all libraries of a unit
+abbrev pub externs : Project → Planned → Package → List (List ℕ × List ℕ)
+externs project unit p = placed (entry_extern project unit) 0 p.entries ++ own_extern project unit unit.unit.what
+
+abbrev pub extern_word : List ℕ × List ℕ → List (List ℕ)
+extern_word e = option (codes "--extern") e.1
+
+-- `--extern` and `NAME=PATH`, each once, in byte order of the name and then of the path
+abbrev pub extern_words : Project → Planned → Package → List (List ℕ)
+extern_words project unit p = flat_map extern_word (in_order (externs project unit p))
+
+-- the arguments for the folders of libraries, and for the libraries
+abbrev pub library_words : Project → Planned → Package → List (List ℕ)
+library_words project unit p = dependency_words project unit ++ extern_words project unit p

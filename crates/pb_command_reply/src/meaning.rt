@@ -1,0 +1,62 @@
+//! The path of a text relative to a folder.
+
+ghost use Rattle.std.specs.Prelude.{Bool, IsTrue};
+ghost use Rattle.pb_data.specs.Gives.{Gives};
+ghost use Rattle.pb_place_types.specs.Paths.{joined};
+ghost use Rattle.pb_place_types.specs.declared.path.PathFault.TheVariants as path_fault;
+
+use pb_place_types::{PathFault, PathText, Place};
+use std::alloc::Global;
+
+/// Determines the path of a text relative to a folder.
+pub(crate) trait Meaning {
+    /// Whether it is the normalised path, that of `PathText::join`. On a machine with links it may
+    /// be another path, about which contracts promise nothing.
+    ghost joins: { Bool };
+
+    /// Returns the path of a text relative to a folder.
+    ///
+    /// Errors: those of `PathText::join`.
+    fn path_from(&self, alloc: Global, folder: &PathText, text: &str) -> Result<PathText, PathFault>
+        ensures { IsTrue joins →
+            Gives path_fault.OutOfMemory (λ path. path) result (joined folder.now text.now) };
+}
+
+/// The path is determined by the text alone.
+#[derive(Drop)]
+pub(crate) struct ByText {}
+
+impl Meaning for ByText {
+    ghost use Rattle.std.specs.Prelude.{true};
+
+    ghost joins = { true };
+
+    fn path_from(
+        &self,
+        alloc: Global,
+        folder: &PathText,
+        text: &str,
+    ) -> Result<PathText, PathFault> {
+        folder.join(alloc, text)
+    }
+}
+
+/// The path is determined by a place.
+#[derive(Drop)]
+pub(crate) struct ByPlace<'a, P> {
+    /// The place that determines it.
+    pub(crate) place: &'a P,
+}
+
+impl<'a, P: Place> Meaning for ByPlace<'a, P> {
+    ghost joins = { P.tells };
+
+    fn path_from(
+        &self,
+        alloc: Global,
+        folder: &PathText,
+        text: &str,
+    ) -> Result<PathText, PathFault> {
+        self.place.path_from(alloc, folder, text)
+    }
+}

@@ -1,0 +1,183 @@
+-- What a unit produces and where: crate names, sources and files, looked up by index (The Cargo Book, Cargo Targets,
+-- Build Scripts). Nothing is found at an index without a unit or package.
+use Rattle.std.specs.Prelude.{ℕ, ◌==◌, ◌&&◌, Bool, true, false, if◌then◌else◌, codes, List, [], ◌∷◌, ◌++◌, Option, Some, None, slice_get}
+use Rattle.std.specs.List.{find}
+use Rattle.std.specs.Str.{bytes_eq}
+use Rattle.pb_directive.specs.declared.directive.Directive.{Directive}
+use Rattle.pb_manifest_types.specs.Letters.{underscored}
+use Rattle.pb_manifest_types.specs.declared.target.CrateType.{CrateType}
+use Rattle.pb_manifest_types.specs.declared.target.CrateType.TheVariants as crate_type
+use Rattle.pb_place_types.specs.Paths.{below, is_relative}
+use Rattle.pb_unit.specs.declared.plan.Planned.{Planned}
+use Rattle.pb_unit.specs.declared.unit.What.{What}
+use Rattle.pb_unit.specs.declared.unit.What.TheVariants.{Lib, Bin, Script, Run}
+use Rattle.pb_workspace_types.specs.declared.package.Package.{Package}
+use Rattle.pb_workspace_types.specs.declared.package.Library.{Library}
+use Rattle.pb_workspace_types.specs.declared.package.Binary.{Binary}
+use Rattle.pb_command_types.specs.declared.project.Project.{Project}
+
+-- Packages and units.
+
+abbrev pub package_of : Project → Planned → Option Package
+package_of project unit = slice_get project.workspace.packages unit.unit.owner
+
+abbrev pub unit_at : Project → ℕ → Option Planned
+unit_at project place = slice_get project.plan.planned place
+
+abbrev pub library_in : Option Package → Option Library
+library_in None = None
+library_in (Some p) = p.library
+
+abbrev pub package_folder : List ℕ → Option Package → List ℕ
+package_folder root None = root
+package_folder root (Some p) = p.folder
+
+-- the folder of a unit's package, or the workspace's if there is no such package
+abbrev pub folder_of : Project → Planned → List ℕ
+folder_of project unit = package_folder project.workspace.root (package_of project unit)
+
+-- Crates.
+
+abbrev pub library_name : Option Library → List ℕ
+library_name None = []
+library_name (Some library) = library.name
+
+-- the name of the crate: the library's own, a binary's with `_` for each `-`, and one name for all scripts; a run
+-- compiles none
+abbrev pub crate_name : Option Library → What → List ℕ
+crate_name library Lib = library_name library
+crate_name library (Bin name) = underscored name
+crate_name library Script = codes "build_script_build"
+crate_name library Run = []
+
+abbrev pub crate_name_of : Project → Planned → List ℕ
+crate_name_of project unit = crate_name (library_in (package_of project unit)) unit.unit.what
+
+abbrev pub library_types : Option Library → List CrateType
+library_types None = []
+library_types (Some library) = library.crate_types
+
+-- the crate types: those of the library, and `bin` for binaries and scripts
+abbrev pub crate_types : Option Library → What → List CrateType
+crate_types library Lib = library_types library
+crate_types library (Bin name) = crate_type.Bin ∷ []
+crate_types library Script = crate_type.Bin ∷ []
+crate_types library Run = []
+
+abbrev pub library_source : Option Library → List ℕ
+library_source None = []
+library_source (Some library) = library.source
+
+abbrev pub binary_source : Option Binary → List ℕ
+binary_source None = []
+binary_source (Some binary) = binary.source
+
+abbrev pub script_source : Option (List ℕ) → List ℕ
+script_source None = []
+script_source (Some source) = source
+
+-- the binary of this name
+abbrev pub binary_named : List ℕ → List Binary → Option Binary
+binary_named name binaries = find (λ (binary : Binary). bytes_eq name binary.name) binaries
+
+-- the path of the source
+abbrev pub source_by : Package → What → List ℕ
+source_by p Lib = library_source p.library
+source_by p (Bin name) = binary_source (binary_named name p.binaries)
+source_by p Script = script_source p.script
+source_by p Run = []
+
+-- Files.
+
+-- the file of this name in a folder, if it is a name
+abbrev pub file_in : List ℕ → List ℕ → Option (List ℕ)
+file_in folder name = if is_relative name then Some (below folder name) else None
+
+-- the file that a crate is compiled to: `libC.rlib` for a library, `C` for a binary or a script
+abbrev pub file_by : What → List ℕ → List ℕ → Option (List ℕ)
+file_by Lib folder name = file_in folder (codes "lib" ++ name ++ codes ".rlib")
+file_by (Bin binary) folder name = file_in folder name
+file_by Script folder name = file_in folder name
+file_by Run folder name = None
+
+-- the file that a compile produces; a run produces none
+abbrev pub made_file_of : Project → Planned → Option (List ℕ)
+made_file_of project unit = file_by unit.unit.what unit.out (crate_name_of project unit)
+
+abbrev pub dep_info_by : What → List ℕ → List ℕ → Option (List ℕ)
+dep_info_by Lib folder name = file_in folder (name ++ codes ".d")
+dep_info_by (Bin binary) folder name = file_in folder (name ++ codes ".d")
+dep_info_by Script folder name = file_in folder (name ++ codes ".d")
+dep_info_by Run folder name = None
+
+-- the file in which a compile reports what it has read: `C.d`; a run has none
+abbrev pub dep_info_of : Project → Planned → Option (List ℕ)
+dep_info_of project unit = dep_info_by unit.unit.what unit.out (crate_name_of project unit)
+
+-- What a unit needs, by its package.
+
+abbrev pub is_library : What → Bool
+is_library Lib = true
+is_library (Bin name) = false
+is_library Script = false
+is_library Run = false
+
+abbrev pub is_script : What → Bool
+is_script Lib = false
+is_script (Bin name) = false
+is_script Script = true
+is_script Run = false
+
+abbrev pub is_run : What → Bool
+is_run Lib = false
+is_run (Bin name) = false
+is_run Script = false
+is_run Run = true
+
+-- there is a unit, it passes this test, and it is of the package at this index
+abbrev pub is_one_of : (What → Bool) → ℕ → Option Planned → Bool
+is_one_of test owner None = false
+is_one_of test owner (Some unit) = test unit.unit.what && (unit.unit.owner == owner)
+
+-- among the needs of a unit, the index of the one that passes this test and is of the package at this index
+abbrev pub needed : (What → Bool) → Project → Planned → ℕ → Option ℕ
+needed test project unit owner = find (λ place. is_one_of test owner (unit_at project place)) unit.needs
+
+-- the run of its own package's script, if the unit needs it
+abbrev pub own_run : Project → Planned → Option ℕ
+own_run project unit = needed is_run project unit unit.unit.owner
+
+abbrev pub file_there : Project → Option Planned → Option (List ℕ)
+file_there project None = None
+file_there project (Some unit) = made_file_of project unit
+
+abbrev pub file_at : Project → Option ℕ → Option (List ℕ)
+file_at project None = None
+file_at project (Some place) = file_there project (unit_at project place)
+
+-- the file of the library of this package that the unit needs
+abbrev pub library_file : Project → Planned → ℕ → Option (List ℕ)
+library_file project unit owner = file_at project (needed is_library project unit owner)
+
+-- the file of the script of its own package that the unit needs
+abbrev pub script_file : Project → Planned → Option (List ℕ)
+script_file project unit = file_at project (needed is_script project unit unit.unit.owner)
+
+-- Directives.
+
+abbrev pub said_in : Option (Option (List Directive)) → List Directive
+said_in None = []
+said_in (Some None) = []
+said_in (Some (Some directives)) = directives
+
+-- the directives of the run at an index of the plan
+abbrev pub said_at : List (Option (List Directive)) → ℕ → List Directive
+said_at done place = said_in (slice_get done place)
+
+abbrev pub said_there : List (Option (List Directive)) → Option ℕ → List Directive
+said_there done None = []
+said_there done (Some place) = said_at done place
+
+-- the directives of the run of the unit's own package
+abbrev pub own_said : Project → Planned → List (Option (List Directive)) → List Directive
+own_said project unit done = said_there done (own_run project unit)

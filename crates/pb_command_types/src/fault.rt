@@ -1,0 +1,68 @@
+//! Why the answer of a unit is bad.
+
+ghost use Rattle.std.specs.Prelude.{◌≡◌};
+ghost use Rattle.pb_command_types.specs.declared.fault.UnitFault.TheVariants as unit_fault;
+
+use pb_data::TryCopy;
+use pb_directive::LineFault;
+use pb_place_types::PathText;
+use std::alloc::{AllocError, AllocFailed, Global};
+use thiserror::Error;
+
+/// Why the answer of a unit's child is bad.
+#[derive(Debug, Drop, Error)]
+pub enum UnitFault {
+    /// The child ended with this status, which is not 0.
+    #[error("the child ended with status {}", .0)]
+    Status(i32),
+    /// A line of a build script's output has a fault.
+    #[error("a line of the script's output is refused: {}", .0)]
+    Directive(LineFault),
+    /// A build script ended with status 0 and printed a line `cargo::error` (The Cargo Book, Build
+    /// Scripts).
+    #[error("the script told of an error")]
+    ScriptError,
+    /// The compiler left no dep-info, one that cannot be read, or one over 4,194,304 bytes.
+    #[error("no dep-info that can be read")]
+    NoDepInfo,
+    /// A path at or below the target folder is named as an input, and it is not in the folder of a
+    /// unit that this unit reaches.
+    #[error("`{}` lies in the target folder", .0.as_str())]
+    ForeignInput(PathText),
+    /// A stream of the child is over 4,194,304 bytes (our own choice).
+    #[error("a stream is too long")]
+    OutputTooLong,
+    /// Memory ran out.
+    #[error("out of memory")]
+    OutOfMemory,
+}
+
+impl From<AllocError> for UnitFault {
+    ghost from_gives = { λ _ e. e ≡ unit_fault.OutOfMemory };
+
+    fn from(_: AllocError) -> Self {
+        UnitFault::OutOfMemory
+    }
+}
+
+impl<T: Drop> From<AllocFailed<T>> for UnitFault {
+    ghost from_gives = { λ _ e. e ≡ unit_fault.OutOfMemory };
+
+    fn from(_: AllocFailed<T>) -> Self {
+        UnitFault::OutOfMemory
+    }
+}
+
+impl TryCopy for UnitFault {
+    fn copy(&self, alloc: Global) -> Result<UnitFault, AllocError> {
+        Ok(match self {
+            UnitFault::Status(status) => UnitFault::Status(*status),
+            UnitFault::Directive(fault) => UnitFault::Directive(*fault),
+            UnitFault::ScriptError => UnitFault::ScriptError,
+            UnitFault::NoDepInfo => UnitFault::NoDepInfo,
+            UnitFault::ForeignInput(path) => UnitFault::ForeignInput(path.copy(alloc)?),
+            UnitFault::OutputTooLong => UnitFault::OutputTooLong,
+            UnitFault::OutOfMemory => UnitFault::OutOfMemory,
+        })
+    }
+}

@@ -1,0 +1,35 @@
+//! What a build knows when it makes commands.
+
+use pb_data::{Bytes, Items, Text};
+use pb_workspace_types::Workspace;
+use pb_feature_types::Features;
+use pb_unit::Plan;
+
+/// All that a build knows about its workspace once it is planned.
+#[derive(Drop)]
+pub struct Project {
+    /// The workspace.
+    pub workspace: Workspace,
+    /// Its resolved features.
+    pub features: Features,
+    /// The plan of its units.
+    pub plan: Plan,
+    /// The name of the profile under which it was planned.
+    pub profile: Text,
+}
+
+/// How things are compiled, by the variables and the options.
+#[derive(Drop)]
+pub struct Setup {
+    /// The value of the variable `CARGO` of a child.
+    pub tool: Text,
+    /// The compiler, as `RUSTC` names it.
+    pub rustc: Text,
+    /// The arguments in `RUSTFLAGS`.
+    pub flags: Items<Text>,
+    /// The arguments before the path of a build script: a program and its arguments. Empty: the
+    /// script itself is started.
+    pub runner: Items<Text>,
+    /// The compiler's output about its version: the standard output of `-vV`.
+    pub toolchain: Bytes,
+}

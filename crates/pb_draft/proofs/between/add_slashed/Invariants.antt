@@ -1,6 +1,0 @@
-use Rattle.std.proofs.Common.{◌≡◌, ◌++◌, drop, map, string_bytes}
-use Rattle.pb_place.specs.Paths.{slashed}
-use Rattle.pb_draft.proofs.between.add_slashed.Given as goal
-
-abbrev pub invariant-loop-name : goal.invariant-loop-name
-invariant-loop-name l = string_bytes l.text ++ slashed (map (λ name. name.now) (drop l.name-index l.names)) ≡ string_bytes l.fn.text ++ slashed (map (λ name. name.now) l.names)

@@ -1,6 +1,0 @@
-use Rattle.pb_manifest.specs.declared.dependency.WorkspaceDependency.{WorkspaceDependency}
-use Rattle.pb_package.proofs.Halving.{none_ascend}
-use Rattle.pb_draft.proofs.by_key.SharedByKey.new.Goals as goal
-
-pub invariant_of-result : goal.invariant_of-result
-invariant_of-result c = none_ascend (λ (x : WorkspaceDependency). x.key) c.new.result c.new.ensures

@@ -1,6 +1,0 @@
-use Rattle.std.proofs.Common.{◌≡◌, take, map}
-use Rattle.pb_flight.specs.declared.flight.State.TheVariants.{Untouched}
-use Rattle.pb_flight.proofs.flight.untouched.Given as goal
-
-abbrev pub invariant-loop : goal.invariant-loop
-invariant-loop g l = l.states.items ≡ map (λ _. Untouched) (take l.index l.needs)

@@ -1,0 +1,55 @@
+-- The order of the nodes that some roots of a graph reach, or the circle or the crowd that prevents an order.
+use Rattle.std.specs.Prelude.{◌≡◌, ◌⊎◌, ◌↔◌, ℕ, ◌<◌, List, map, All, AllPairs, Contains, length, slice_get, Option, Some, None}
+use Rattle.std.specs.List.Sorted.{IsStrictlyIncreasing}
+use Rattle.pb_graph.specs.declared.graph.Node.{Node}
+use Rattle.pb_graph.specs.declared.graph.Step.{Step}
+use Rattle.pb_graph.specs.declared.graph.OrderFault.{OrderFault}
+use Rattle.pb_graph.specs.declared.graph.OrderFault.TheVariants.{OutOfMemory, Circle, TooMany}
+use Rattle.pb_graph.specs.Graph.{needs_at, key_at, Reaches, IsReached, above, IsBelow}
+
+-- a step comes before another by level, and then by the bytes of the key
+pub record ComesBefore (a b : Step) : Type 0 where
+  pub order : (a.level < b.level) ⊎ ((a.level ≡ b.level) × IsBelow a.key b.key)
+
+abbrev pub level_of : Option Step → ℕ
+level_of None = 0
+level_of (Some p) = p.level
+
+-- the level of the step at an index
+abbrev pub level_at : List Step → ℕ → ℕ
+level_at steps place = level_of (slice_get steps place)
+
+-- the indices of the steps with wanted nodes, ascending
+pub record ArePlaces (steps : List Step) (Wanted : ℕ → Type 0) (places : List ℕ) : Type 0 where
+  pub rises : IsStrictlyIncreasing places
+  pub same : (place : ℕ) → Contains places place ↔ ((p : Step) × (slice_get steps place ≡ Some p) × Wanted p.node)
+
+-- the steps are the roots and what they reach, in order, each with what it needs and reaches
+pub record IsOrder (nodes : List Node) (roots : List ℕ) (steps : List Step) : Type 0 where
+  pub units : (u : ℕ) → Contains (map (λ (p : Step). p.node) steps) u ↔ IsReached nodes roots u
+  pub keys : All (λ p. p.key ≡ key_at nodes p.node) steps
+  pub levels : All (λ p. p.level ≡ above (map (level_at steps) p.needs)) steps
+  pub order : AllPairs ComesBefore steps
+  pub needs : All (λ p. ArePlaces steps (Contains (needs_at nodes p.node)) p.needs) steps
+  pub reaches : All (λ p. ArePlaces steps (Reaches nodes p.node) p.reaches) steps
+  pub no_circle : (u : ℕ) → IsReached nodes roots u → Reaches nodes u u → ⊥
+
+-- the circle is all reached nodes that reach themselves, at least one, by the bytes of their keys
+pub record IsCircle (nodes : List Node) (roots circle : List ℕ) : Type 0 where
+  pub some : 0 < length circle
+  pub nodes_are : (u : ℕ) → Contains circle u ↔ (IsReached nodes roots u × Reaches nodes u u)
+  pub order : AllPairs (λ u v. IsBelow (key_at nodes u) (key_at nodes v)) circle
+
+-- no reached node reaches itself, and more nodes than this number are reached, listed by the bytes of their keys
+pub record IsCrowd (nodes : List Node) (roots : List ℕ) (most : ℕ) : Type 0 where
+  pub straight : (u : ℕ) → IsReached nodes roots u → Reaches nodes u u → ⊥
+  pub found : List ℕ
+  pub reached : All (IsReached nodes roots) found
+  pub order : AllPairs (λ u v. IsBelow (key_at nodes u) (key_at nodes v)) found
+  pub many : most < length found
+
+-- why there is no order: a circle, else too many nodes, unless memory ran out
+abbrev pub IsWhy : List Node → List ℕ → ℕ → OrderFault → Type 0
+IsWhy nodes roots most OutOfMemory = Unit {0}
+IsWhy nodes roots most (Circle circle) = IsCircle nodes roots circle
+IsWhy nodes roots most TooMany = IsCrowd nodes roots most

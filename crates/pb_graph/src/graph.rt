@@ -1,0 +1,61 @@
+//! A graph of nodes that need other nodes, a step of its order, and why there is no order.
+
+use pb_data::{Items, Text};
+use std::alloc::{AllocError, AllocFailed};
+
+/// A node of the graph.
+#[derive(Drop)]
+pub struct Node {
+    /// Its key; no two nodes have the same.
+    pub key: Text,
+    /// The numbers of the nodes that it needs.
+    pub needs: Items<usize>,
+}
+
+/// A node at its position in an order.
+#[derive(Drop)]
+pub struct Step {
+    /// The number of the node.
+    pub node: usize,
+    /// Its key.
+    pub key: Text,
+    /// 0 without needs, else one more than the greatest level of the nodes that it needs.
+    pub level: usize,
+    /// The indices in the order of the nodes that it needs, ascending.
+    pub needs: Items<usize>,
+    /// The indices in the order of all nodes that it reaches, ascending.
+    pub reaches: Items<usize>,
+}
+
+/// Why there is no order.
+#[derive(Debug, Drop)]
+pub enum OrderFault {
+    /// Out of memory.
+    OutOfMemory,
+    /// These nodes reach themselves, by the bytes of their keys.
+    Circle(Items<usize>),
+    /// There are more nodes than allowed.
+    TooMany,
+}
+
+impl From<AllocError> for OrderFault {
+    ghost use Rattle.std.specs.Prelude.{◌≡◌};
+    ghost use Rattle.pb_graph.specs.declared.graph.OrderFault.TheVariants.{OutOfMemory};
+
+    ghost from_gives = { λ _ e. e ≡ OutOfMemory };
+
+    fn from(_: AllocError) -> Self {
+        OrderFault::OutOfMemory
+    }
+}
+
+impl<T: Drop> From<AllocFailed<T>> for OrderFault {
+    ghost use Rattle.std.specs.Prelude.{◌≡◌};
+    ghost use Rattle.pb_graph.specs.declared.graph.OrderFault.TheVariants.{OutOfMemory};
+
+    ghost from_gives = { λ _ e. e ≡ OutOfMemory };
+
+    fn from(_: AllocFailed<T>) -> Self {
+        OrderFault::OutOfMemory
+    }
+}

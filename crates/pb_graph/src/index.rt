@@ -1,0 +1,122 @@
+//! The index of rules: for each thing, what the rules need
+//! beside it and what they then yield. Only this crate uses it.
+
+ghost use Rattle.std.specs.Prelude.{◌≡◌, ◌<◌, IfOk, OnOk, All, length};
+ghost use Rattle.std.specs.List.{sum_by};
+ghost use Rattle.pb_graph.specs.Closure.{is_on};
+ghost use Rattle.pb_graph.specs.Table.{IsInRange};
+ghost use Rattle.pb_graph.specs.Index.{link_at, with_link, with_rule, either_way, links_of, IsLinked, IsWalked, IsIndex};
+
+use crate::table::Rule;
+use std::alloc::{AllocError, Global};
+
+/// What a thing needs beside it, and what the two yield.
+#[derive(Clone, Copy)]
+pub(crate) struct Link {
+    /// What it needs beside it.
+    pub with: usize,
+    /// What the two yield.
+    pub gives: usize,
+    /// The number of the thing's next link.
+    pub next: usize,
+}
+
+/// The links of all things. A link's number is one more than its index; 0 means none.
+#[derive(Drop)]
+pub(crate) struct Index {
+    /// For each thing, the number of its first link.
+    pub heads: Vec<usize>,
+    /// The links; those of one thing go from the last one back to the first.
+    pub links: Vec<Link>,
+}
+
+/// Returns the link of a number, if there is one.
+fn link_at(links: &[Link], number: usize) -> Option<Link>
+    ensures { result ≡ link_at links.now number }
+{
+    let place = number.checked_sub(1)?;
+    links.get(place).copied()
+}
+
+/// Replaces the contents of a buffer by what the links from a
+/// number on yield, if they have what they need.
+pub(crate) fn put_linked(
+    known: &[bool],
+    links: &[Link],
+    head: usize,
+    given: &mut Vec<usize>,
+) -> Result<(), AllocError>
+    requires { IsLinked (length known.now) links.now }
+    ensures { OnOk result (IsWalked (is_on known.now) links.now head given.new.items) }
+{
+    given.clear();
+    let mut number = head;
+    while let Some(link) = link_at(links, number) {
+        if known[link.with] {
+            given.push(link.gives)?;
+        }
+        number = link.next;
+    }
+    Ok(())
+}
+
+/// Adds a link to a thing.
+fn add_link(index: &mut Index, thing: usize, with: usize, gives: usize) -> Result<(), AllocError>
+    requires { thing < length index.old.heads.items }
+    ensures long { length index.new.heads.items ≡ length index.old.heads.items }
+    ensures added { OnOk result ((index.new.heads.items, index.new.links.items) ≡ with_link (index.old.heads.items, index.old.links.items) thing with gives) }
+{
+    let next = index.heads[thing];
+    index.links.push(Link { with, gives, next })?;
+    index.heads[thing] = index.links.len();
+    Ok(())
+}
+
+/// Adds a rule at each of its premises.
+fn add_rule(index: &mut Index, rule: Rule) -> Result<(), AllocError>
+    requires { IsInRange (length index.old.heads.items) rule }
+    ensures long { length index.new.heads.items ≡ length index.old.heads.items }
+    ensures added { OnOk result ((index.new.heads.items, index.new.links.items) ≡ with_rule (index.old.heads.items, index.old.links.items) rule) }
+{
+    add_link(index, rule.first, rule.second, rule.gives)?;
+    if rule.first == rule.second {
+        return Ok(());
+    }
+    add_link(index, rule.second, rule.first, rule.gives)
+}
+
+/// Returns the number of links that a rule makes.
+fn links_of(rule: Rule) -> usize
+    ensures { result ≡ links_of rule }
+{
+    if rule.first == rule.second { 1 } else { 2 }
+}
+
+/// Returns the number of links that the rules make. A number past `usize` counts as out of memory.
+fn count_links(rules: &[Rule]) -> Result<usize, AllocError>
+    ensures { IfOk result (λ count. count ≡ sum_by links_of rules.now) }
+{
+    let mut count: usize = 0;
+    for rule in rules {
+        let Some(more) = count.checked_add(links_of(*rule)) else {
+            return Err(AllocError);
+        };
+        count = more;
+    }
+    Ok(count)
+}
+
+/// Returns the index of rules.
+pub(crate) fn index_of(alloc: Global, count: usize, rules: &[Rule]) -> Result<Index, AllocError>
+    requires { All (IsInRange count) rules.now }
+    ensures { IfOk result (λ made. IsIndex count (either_way rules.now) made.heads.items made.links.items) }
+{
+    let mut index = Index {
+        heads: vec![in alloc; 0; count]?,
+        links: Vec::with_capacity(alloc, count_links(rules)?)?,
+    };
+    for rule in rules {
+        add_rule(&mut index, *rule)?;
+    }
+    Ok(index)
+}

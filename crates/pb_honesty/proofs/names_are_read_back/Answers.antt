@@ -1,5 +1,0 @@
-use Rattle.pb_honesty.proofs.Reading.{reads_back}
-use Rattle.pb_honesty.proofs.names_are_read_back.Goals as goal
-
-pub returns : goal.returns
-returns c = reads_back

@@ -1,3 +1,0 @@
-pub mod Honest
-pub mod Said
-pub mod ReadBack

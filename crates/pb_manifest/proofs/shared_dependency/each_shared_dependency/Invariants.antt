@@ -1,0 +1,9 @@
+use Rattle.std.proofs.Common.{◌≡◌, ◌++◌, Ok}
+use Rattle.toml.specs.View.{members_view, table_view}
+use Rattle.pb_data.specs.Gives.{◌>>=◌}
+use Rattle.pb_manifest.specs.Values.{each_entry}
+use Rattle.pb_manifest.specs.Dependencies.{shared_dependency_of}
+use Rattle.pb_manifest.proofs.shared_dependency.each_shared_dependency.Given as goal
+
+abbrev pub invariant-loop-name : goal.invariant-loop-name
+invariant-loop-name l = (each_entry shared_dependency_of (members_view l.name-iterator) >>= (λ rest. Ok (l.dependencies ++ rest))) ≡ each_entry shared_dependency_of (table_view l.table)

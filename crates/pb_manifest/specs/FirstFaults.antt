@@ -1,0 +1,153 @@
+-- If one table has several faults, the fault of the lowest key is reported.
+-- For each table with fixed keys this lists the keys in byte order, each with the fault of its own reading.
+-- For a table whose keys the user chooses it names the entry whose fault is reported.
+use Rattle.std.specs.Prelude.{◌≡◌, List, Bool, true, ◌&&◌, [], ◌∷◌, map, Option, Some, None, Ok, Err}
+use Rattle.std.specs.Option.{option_or}
+use Rattle.std.specs.Ordering.{nat_cmp, is_lt}
+use Rattle.std.specs.Cmp.Lexicographic.{slice_cmp}
+use Rattle.toml.specs.Data.{Data, Members, member}
+use Rattle.pb_data.specs.Gives.{◌>>=◌}
+use Rattle.pb_manifest_types.specs.Keys.{spelled}
+use Rattle.pb_manifest_types.specs.Values.{Text, Read}
+use Rattle.pb_manifest.specs.Values.{has, each_entry, keys_of, text_at, truth_at, path_at, paths_at, texts_at, listed_texts_at, takes_workspace, inheritable_text_at, inheritable_texts_at}
+use Rattle.pb_manifest.specs.Versions.{inherited_version_at, version_at, requirement_at}
+use Rattle.pb_manifest.specs.Library.{crate_types_at, crate_name_at, proc_macro_at}
+use Rattle.pb_manifest.specs.Package.{name_at, build_at, edition_at, inherited_edition_at, readme_at, inheritable_readme_at, resolver_at}
+use Rattle.pb_manifest.specs.Dependencies.{refused_where, own_path, workspace_at, shared_dependencies_at}
+use Rattle.pb_manifest.specs.Workspace.{listed_paths_at, workspace_package_at}
+use Rattle.pb_manifest.specs.Promises.{Ascend}
+use Rattle.pb_manifest_types.specs.declared.fault.ManifestFault.{ManifestFault}
+use Rattle.pb_manifest_types.specs.declared.key.Key.{Key}
+use Rattle.pb_manifest_types.specs.declared.key.Key.TheVariants as key
+
+-- the fault that a reading returns, if it returns one
+abbrev pub told : {A : Type 0} → Read A → Option ManifestFault
+told (Ok x) = None
+told (Err fault) = Some fault
+
+-- a key of a table, and the fault of its own reading
+abbrev pub KeyFault : Type 0
+KeyFault = Key × Option ManifestFault
+
+-- the first fault of some keys, if there is one
+abbrev pub first_fault : List KeyFault → Option ManifestFault
+first_fault [] = None
+first_fault (k ∷ ks) = option_or k.1 (first_fault ks)
+
+-- the texts are in byte order without repeats
+abbrev pub are_ascending : List Text → Bool
+are_ascending [] = true
+are_ascending (a ∷ []) = true
+are_ascending (a ∷ b ∷ rest) = is_lt (slice_cmp nat_cmp a b) && are_ascending (b ∷ rest)
+
+-- a table reports the first fault of its keys, which are in byte order
+pub record TellsLowest {A : Type 0} (keys : Members → List KeyFault) (read : Members → Read A) : Type 0 where
+  pub order : (ms : Members) → are_ascending (map (λ k. spelled k.0) (keys ms)) ≡ true
+  pub first : (ms : Members) → told (read ms) ≡ first_fault (keys ms)
+
+-- `[package]`
+abbrev pub faults_of_package : Members → List KeyFault
+faults_of_package ms =
+    (key.Authors, told (inheritable_texts_at key.Authors ms))
+    ∷ (key.Autobins, told (truth_at key.Autobins ms))
+    ∷ (key.Build, told (build_at ms))
+    ∷ (key.Description, told (inheritable_text_at key.Description ms))
+    ∷ (key.Edition, told (inherited_edition_at ms))
+    ∷ (key.Homepage, told (inheritable_text_at key.Homepage ms))
+    ∷ (key.License, told (inheritable_text_at key.License ms))
+    ∷ (key.LicenseFile, told (inheritable_text_at key.LicenseFile ms))
+    ∷ (key.Links, told (text_at key.Links ms))
+    ∷ (key.Name, told (name_at ms))
+    ∷ (key.Readme, told (inheritable_readme_at ms))
+    ∷ (key.Repository, told (inheritable_text_at key.Repository ms))
+    ∷ (key.Resolver, told (resolver_at ms))
+    ∷ (key.RustVersion, told (inheritable_text_at key.RustVersion ms))
+    ∷ (key.Version, told (inherited_version_at ms))
+    ∷ []
+
+-- `[lib]`
+abbrev pub faults_of_library : Members → List KeyFault
+faults_of_library ms =
+    (key.CrateType, told (crate_types_at ms))
+    ∷ (key.Name, told (crate_name_at ms))
+    ∷ (key.Path, told (path_at key.Path ms))
+    ∷ (key.ProcMacro, told (proc_macro_at ms))
+    ∷ []
+
+-- a `[[bin]]`
+abbrev pub faults_of_binary : Members → List KeyFault
+faults_of_binary ms =
+    (key.Name, told (name_at ms))
+    ∷ (key.Path, told (path_at key.Path ms))
+    ∷ (key.RequiredFeatures, told (listed_texts_at key.RequiredFeatures ms))
+    ∷ []
+
+-- an entry of `[dependencies]` or `[build-dependencies]`
+abbrev pub faults_of_dependency : Members → List KeyFault
+faults_of_dependency ms =
+    (key.DefaultFeatures, told (truth_at key.DefaultFeatures ms))
+    ∷ (key.Features, told (listed_texts_at key.Features ms))
+    ∷ (key.Git, told (refused_where (has key.Git ms)))
+    ∷ (key.Optional, told (truth_at key.Optional ms))
+    ∷ (key.Package, told (text_at key.Package ms))
+    ∷ (key.Path, told (path_at key.Path ms >>= own_path (takes_workspace ms)))
+    ∷ (key.Registry, told (refused_where (has key.Registry ms)))
+    ∷ (key.Version, told (requirement_at ms))
+    ∷ (key.Workspace, told (workspace_at ms))
+    ∷ []
+
+-- an entry of `[workspace.dependencies]`, in which `git` and `registry` are kept
+abbrev pub faults_of_shared_dependency : Members → List KeyFault
+faults_of_shared_dependency ms =
+    (key.DefaultFeatures, told (truth_at key.DefaultFeatures ms))
+    ∷ (key.Features, told (listed_texts_at key.Features ms))
+    ∷ (key.Optional, told (truth_at key.Optional ms))
+    ∷ (key.Package, told (text_at key.Package ms))
+    ∷ (key.Path, told (path_at key.Path ms))
+    ∷ (key.Version, told (requirement_at ms))
+    ∷ (key.Workspace, told (workspace_at ms))
+    ∷ []
+
+-- `[workspace.package]`
+abbrev pub faults_of_inherited : Members → List KeyFault
+faults_of_inherited ms =
+    (key.Authors, told (texts_at key.Authors ms))
+    ∷ (key.Description, told (text_at key.Description ms))
+    ∷ (key.Edition, told (edition_at ms))
+    ∷ (key.Homepage, told (text_at key.Homepage ms))
+    ∷ (key.License, told (text_at key.License ms))
+    ∷ (key.LicenseFile, told (text_at key.LicenseFile ms))
+    ∷ (key.Readme, told (readme_at ms))
+    ∷ (key.Repository, told (text_at key.Repository ms))
+    ∷ (key.RustVersion, told (text_at key.RustVersion ms))
+    ∷ (key.Version, told (version_at ms))
+    ∷ []
+
+-- `[workspace]`
+abbrev pub faults_of_workspace : Members → List KeyFault
+faults_of_workspace ms =
+    (key.DefaultMembers, told (paths_at key.DefaultMembers ms))
+    ∷ (key.Dependencies, told (shared_dependencies_at ms))
+    ∷ (key.Exclude, told (listed_paths_at key.Exclude ms))
+    ∷ (key.Members, told (listed_paths_at key.Members ms))
+    ∷ (key.Package, told (workspace_package_at ms))
+    ∷ (key.Resolver, told (resolver_at ms))
+    ∷ []
+
+-- a table has an entry
+pub data HasEntry (name : Text) (value : Data) : Members → Type 0 where
+  here : (ms : Members) → HasEntry name value (member name value ms)
+  further : (other : Text) (d : Data) (ms : Members) (rest : HasEntry name value ms) → HasEntry name value (member other d ms)
+
+-- the fault is that of an entry, and no entry with a lower key has a fault
+pub record IsOfLowestEntry {A : Type 0} (read : Text → Data → Read A) (ms : Members) (fault : ManifestFault) : Type 0 where
+  pub name : Text
+  pub value : Data
+  pub stands : HasEntry name value ms
+  pub tells : told (read name value) ≡ Some fault
+  pub lower : (other : Text) (d : Data) → HasEntry other d ms → is_lt (slice_cmp nat_cmp other name) ≡ true → told (read other d) ≡ None
+
+-- a table whose keys the user chooses reports the fault of its lowest bad entry, and none only if no entry has a fault
+pub record TellsLowestEntry {A : Type 0} (read : Text → Data → Read A) : Type 0 where
+  pub refused : (ms : Members) (fault : ManifestFault) → Ascend (keys_of ms) → told (each_entry read ms) ≡ Some fault → IsOfLowestEntry read ms fault
+  pub taken : (ms : Members) → told (each_entry read ms) ≡ None → (name : Text) (d : Data) → HasEntry name d ms → told (read name d) ≡ None

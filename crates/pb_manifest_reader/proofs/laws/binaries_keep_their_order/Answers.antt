@@ -1,6 +1,0 @@
-use Rattle.pb_manifest_reader.specs.Binaries.{binary_of}
-use Rattle.pb_manifest_reader.proofs.Came.{in_order}
-use Rattle.pb_manifest_reader.proofs.laws.binaries_keep_their_order.Goals as goal
-
-pub returns : goal.returns
-returns c ds binaries h = in_order binary_of ds binaries h

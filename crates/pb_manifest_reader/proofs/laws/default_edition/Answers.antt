@@ -1,5 +1,0 @@
-use Rattle.pb_manifest_reader.proofs.Came.{edition_default}
-use Rattle.pb_manifest_reader.proofs.laws.default_edition.Goals as goal
-
-pub returns : goal.returns
-returns c ms p none h = edition_default ms p none h

@@ -1,5 +1,0 @@
-use Rattle.pb_manifest_reader.proofs.Names.{package_name_passes}
-use Rattle.pb_manifest_reader.proofs.laws.packages_have_names.Goals as goal
-
-pub returns : goal.returns
-returns c bytes m p h e = package_name_passes bytes m p h e

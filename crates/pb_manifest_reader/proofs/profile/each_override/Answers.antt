@@ -1,7 +1,0 @@
-use Rattle.pb_manifest_reader.specs.Profiles.{override_of}
-use Rattle.pb_manifest_reader.proofs.Loops.{next_entry}
-use Rattle.pb_manifest_reader.proofs.profile.each_override.Goals as goal
-
-pub loop-name-preserved : goal.loop-name-preserved
-loop-name-preserved c =
-    next_entry override_of _ _ _ _ _ _ _ _ _ c.in-Some.ensures.steps c.as_str.ensures.value c.in_ok-override_of.ensures c.in_ok-push.ensures.ok c.loop-name.invariant

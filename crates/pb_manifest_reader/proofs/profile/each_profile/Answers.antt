@@ -1,7 +1,0 @@
-use Rattle.pb_manifest_reader.specs.Profiles.{profile_of}
-use Rattle.pb_manifest_reader.proofs.Loops.{next_entry}
-use Rattle.pb_manifest_reader.proofs.profile.each_profile.Goals as goal
-
-pub loop-name-preserved : goal.loop-name-preserved
-loop-name-preserved c =
-    next_entry profile_of _ _ _ _ _ _ _ _ _ c.in-Some.ensures.steps c.as_str.ensures.value c.in_ok-profile_of.ensures c.in_ok-push.ensures.ok c.loop-name.invariant

@@ -1,7 +1,0 @@
-use Rattle.pb_manifest_reader.specs.Values.{path_of}
-use Rattle.pb_manifest_reader.proofs.Loops.{next_item}
-use Rattle.pb_manifest_reader.proofs.values.each_path.Goals as goal
-
-pub loop-value-preserved : goal.loop-value-preserved
-loop-value-preserved c =
-    next_item (path_of c.args.key) _ _ _ _ _ _ _ c.loop-value-test.true c.value-item.is c.in_ok-path_of.ensures c.in_ok-push.ensures.ok c.loop-value.invariant

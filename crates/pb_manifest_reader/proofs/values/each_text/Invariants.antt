@@ -1,8 +1,0 @@
-use Rattle.std.proofs.Common.{◌≡◌, ◌++◌, drop, Ok}
-use Rattle.toml.specs.View.{items_view}
-use Rattle.pb_data.specs.Gives.{◌>>=◌}
-use Rattle.pb_manifest_reader.specs.Values.{each, text_of}
-use Rattle.pb_manifest_reader.proofs.values.each_text.Given as goal
-
-abbrev pub invariant-loop-value : goal.invariant-loop-value
-invariant-loop-value l = (each (text_of l.key) (items_view (drop l.value-index l.values)) >>= (λ rest. Ok (l.texts ++ rest))) ≡ each (text_of l.key) (items_view l.values)

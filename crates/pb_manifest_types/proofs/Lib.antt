@@ -1,0 +1,3 @@
+pub mod Dashes
+pub mod Matching
+pub mod Parting

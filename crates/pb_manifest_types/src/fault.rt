@@ -1,0 +1,74 @@
+//! Why a manifest is refused.
+
+ghost use Rattle.std.specs.Prelude.{◌≡◌};
+ghost use Rattle.pb_manifest_types.specs.declared.fault.ManifestFault.TheVariants.{OutOfMemory};
+
+use crate::key::Key;
+use std::alloc::{AllocError, AllocFailed};
+use thiserror::Error;
+
+/// Why a manifest is refused.
+///
+/// The first of these errors is reported: `TooLarge`, `NotToml`, `UnsupportedTable`, `OldResolver`.
+/// After these comes the first fault in `[package]`, `[lib]`, `[[bin]]`, `[dependencies]`,
+/// `[build-dependencies]`, `[features]`, `[profile]` and `[workspace]`, with the keys of each table
+/// in byte order. `OutOfMemory` can occur at any time.
+#[derive(Clone, Copy, Debug, PartialEq, Eq, Error)]
+pub enum ManifestFault {
+    /// The bytes are not UTF-8 or not TOML.
+    #[error("the manifest is not TOML")]
+    NotToml,
+    /// A value outside `[profile]` has the wrong type, is not an allowed value, or is a path with
+    /// byte 0. The key is the rule's; for an entry of a table of dependencies or features, it is
+    /// that table's.
+    #[error("`{}` has a value that it may not have", .0.name())]
+    BadKind(Key),
+    /// The name of a package, a binary or a dependency is missing, or such a name or a library's
+    /// has invalid letters.
+    #[error("a name is missing or has letters that it may not have")]
+    BadName,
+    /// A version or a version requirement is not one of Semantic Versioning.
+    #[error("a version or a version requirement cannot be read")]
+    BadVersion,
+    /// The manifest has a table `target`, `patch` or `replace`. Our own choice.
+    #[error("a table is not supported")]
+    UnsupportedTable,
+    /// A dependency has `git` or `registry`, or no path. Our own choice.
+    #[error("a dependency has a source that is not supported")]
+    UnsupportedSource,
+    /// A library has a crate type other than `lib`, `rlib` and `bin`. Our own choice.
+    #[error("a crate type is not supported")]
+    UnsupportedCrateType,
+    /// A value in `[profile]` is not allowed for its key. Or a custom profile has no `inherits`,
+    /// has invalid letters in its name, or is called `debug`.
+    #[error("a profile cannot be read")]
+    BadProfile,
+    /// A feature's name has invalid letters, or an item has none of the forms.
+    #[error("a feature cannot be read")]
+    BadFeature,
+    /// The manifest has more than 1,048,576 bytes. Our own choice.
+    #[error("the manifest is too large")]
+    TooLarge,
+    /// `[package]` or `[workspace]` requests resolver 1. Our own choice.
+    #[error("resolver 1 is not supported")]
+    OldResolver,
+    /// Out of memory.
+    #[error("out of memory")]
+    OutOfMemory,
+}
+
+impl From<AllocError> for ManifestFault {
+    ghost from_gives = { λ _ e. e ≡ OutOfMemory };
+
+    fn from(_: AllocError) -> Self {
+        ManifestFault::OutOfMemory
+    }
+}
+
+impl<T: Drop> From<AllocFailed<T>> for ManifestFault {
+    ghost from_gives = { λ _ e. e ≡ OutOfMemory };
+
+    fn from(_: AllocFailed<T>) -> Self {
+        ManifestFault::OutOfMemory
+    }
+}

@@ -1,0 +1,9 @@
+//! A law about the definitions. The function does nothing; its contract is the law.
+
+ghost use Rattle.pb_manifest_types.specs.Laws.{DefaultLibraryName};
+
+/// A library without a name of its own has its package's name, with `_` for each `-`.
+#[tactic(auto, unfolding(crate::specs::Letters::underscored))]
+pub fn default_library_name()
+    ensures { DefaultLibraryName }
+{}

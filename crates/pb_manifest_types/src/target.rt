@@ -1,0 +1,38 @@
+//! The tables `[lib]` and `[[bin]]`.
+
+use crate::written_path::WrittenPath;
+use pb_data::{Items, Text};
+
+/// A supported crate type.
+#[derive(Clone, Copy, Debug, PartialEq, Eq)]
+pub enum CrateType {
+    /// `"lib"`.
+    Lib,
+    /// `"rlib"`.
+    Rlib,
+    /// `"bin"`.
+    Bin,
+}
+
+/// The table `[lib]`.
+#[derive(Drop)]
+pub struct Library {
+    /// In the manifest's order. Empty if none is written, which means `lib`.
+    pub crate_types: Items<CrateType>,
+    /// The crate's name: ASCII letters, digits and `_`, not empty. None means the package's name
+    /// with `_` for each `-`.
+    pub name: Option<Text>,
+    /// Relative to the package's folder. None means `src/lib.rs`.
+    pub path: Option<WrittenPath>,
+}
+
+/// A table of `[[bin]]`.
+#[derive(Drop)]
+pub struct Binary {
+    /// ASCII letters, digits, `-` and `_`, not empty.
+    pub name: Text,
+    /// Relative to the package's folder. None means that the file is looked for.
+    pub path: Option<WrittenPath>,
+    /// The features that the binary requires.
+    pub required_features: Items<Text>,
+}

@@ -1,4 +1,0 @@
-pub mod Changing
-pub mod InFlight
-mod Quiet
-pub mod Starts

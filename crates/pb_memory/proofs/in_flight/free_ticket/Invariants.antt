@@ -1,7 +1,0 @@
-use Rattle.std.proofs.Common.{◌≡◌, ◌<◌, ℕ, true}
-use Rattle.pb_place.specs.Children.{is_flying}
-use Rattle.pb_memory.specs.InFlight.{children_in}
-use Rattle.pb_memory.proofs.in_flight.free_ticket.Given as goal
-
-abbrev pub invariant-loop-ticket : goal.invariant-loop-ticket
-invariant-loop-ticket g l = (t : ℕ) → t < l.ticket → is_flying t (children_in l.flying) ≡ true

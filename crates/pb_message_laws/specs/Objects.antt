@@ -1,0 +1,94 @@
+-- The object of each message line:
+-- one JSON object for each reason, without spaces, followed by a line feed (The Cargo Book, External Tools).
+use Rattle.std.specs.Prelude.{◌≡◌, ℕ, Bool, false, if◌then◌else◌, codes, List, [], ◌∷◌, ◌++◌, map, Option, Some, None, IfSome}
+use Rattle.std.specs.List.{flat_map, position}
+use Rattle.std.specs.Option.{option_map_or}
+use Rattle.std.specs.Str.{bytes_eq}
+use Rattle.pb_command_arguments.specs.Words.{debug_info_text}
+use Rattle.pb_manifest_types.specs.Package.{edition_text}
+use Rattle.pb_manifest_types.specs.declared.profile.DebugInfo.{DebugInfo}
+use Rattle.pb_message.specs.Message.{package_id, level_text, line_of, lines_of, finish_line}
+use Rattle.pb_message.specs.declared.message.Message.{Message}
+use Rattle.pb_message.specs.declared.message.Message.TheVariants.{CompilerMessage, CompilerArtifact, BuildScriptNote, BuildScriptExecuted}
+use Rattle.pb_message.specs.declared.subject.Subject.{Subject}
+use Rattle.pb_message.specs.declared.subject.Target.{Target}
+use Rattle.pb_profile.specs.Words.{opt_level_text}
+use Rattle.pb_profile.specs.declared.settings.Settings.{Settings}
+use Rattle.serde_json.specs.Data.{unsigned, Data, null, boolean, number, string, array, object, Members, no_members, member}
+use Rattle.serde_json.specs.View.{items_of}
+use Rattle.serde_json.specs.Written.{compact_text}
+
+-- an object with these members, in this order
+abbrev pub members : List (List ℕ × Data) → Members
+members [] = no_members
+members (m ∷ ms) = member m.0 m.1 (members ms)
+
+abbrev pub of_members : List (List ℕ × Data) → Data
+of_members ms = object (members ms)
+
+abbrev pub texts : List (List ℕ) → Data
+texts ts = array (items_of (map string ts))
+
+-- The parts of a message.
+
+abbrev pub required : List (List ℕ) → List (List ℕ × Data)
+required [] = []
+required (feature ∷ features) = (codes "required-features", texts (feature ∷ features)) ∷ []
+
+abbrev pub target_of : Target → Data
+target_of t = of_members ((codes "kind", texts t.kinds) ∷ (codes "crate_types", texts t.crate_types) ∷ (codes "name", string t.name) ∷ (codes "src_path", string t.source)
+    ∷ (codes "edition", string (edition_text t.edition)) ∷ required t.required_features)
+
+-- the debug information setting: the compiler's own word for it, as a number if it is one
+abbrev pub debug_info_of : DebugInfo → Data
+debug_info_of d = option_map_or (λ n. number (unsigned n)) (position (bytes_eq (debug_info_text d)) (codes "0" ∷ codes "1" ∷ codes "2" ∷ [])) (string (debug_info_text d))
+
+abbrev pub profile_of : Settings → Data
+profile_of s = of_members ((codes "opt_level", string (opt_level_text s.opt_level)) ∷ (codes "debuginfo", debug_info_of s.debug) ∷ (codes "debug_assertions", boolean s.debug_assertions)
+    ∷ (codes "overflow_checks", boolean s.overflow_checks) ∷ (codes "test", boolean false) ∷ [])
+
+abbrev pub pairs : List (List ℕ × List ℕ) → Data
+pairs ps = array (items_of (map (λ (p : List ℕ × List ℕ). texts (p.0 ∷ p.1 ∷ [])) ps))
+
+-- One object for each reason.
+
+-- the object of a message about a package: its reason and its package, and more
+abbrev pub of_package : List ℕ → Subject → List (List ℕ × Data) → Data
+of_package reason s more = of_members ((codes "reason", string reason) ∷ (codes "package_id", string (package_id s)) ∷ more)
+
+-- the object of a message about a target of a package
+abbrev pub of_target : List ℕ → Subject → List (List ℕ × Data) → Data
+of_target reason s more = of_package reason s ((codes "manifest_path", string s.manifest) ∷ (codes "target", target_of s.target) ∷ more)
+
+abbrev pub diagnostic : Subject → Data → Data
+diagnostic s message = of_target (codes "compiler-message") s ((codes "message", message) ∷ [])
+
+-- the object of each message other than a diagnostic
+abbrev pub object_of : Subject → Bool → Message → Option Data
+object_of s fresh (CompilerArtifact a) = Some (of_target (codes "compiler-artifact") s ((codes "profile", profile_of a.settings) ∷ (codes "features", texts a.features) ∷ (codes "filenames", texts (a.file ∷ []))
+    ∷ (codes "executable", if a.is_executable then string a.file else null) ∷ (codes "fresh", boolean fresh) ∷ []))
+object_of s fresh (BuildScriptNote level text) = Some (of_package (codes "build-script-note") s ((codes "level", string (level_text level)) ∷ (codes "text", string text) ∷ []))
+object_of s fresh (BuildScriptExecuted e) = Some (of_package (codes "build-script-executed") s ((codes "linked_libs", texts e.linked_libraries) ∷ (codes "linked_paths", texts e.linked_paths)
+    ∷ (codes "cfgs", texts e.conditions) ∷ (codes "env", pairs e.variables) ∷ (codes "out_dir", string e.out_folder) ∷ []))
+object_of s fresh (CompilerMessage text) = None
+
+abbrev pub finished : Bool → Data
+finished success = of_members ((codes "reason", string (codes "build-finished")) ∷ (codes "success", boolean success) ∷ [])
+
+-- The laws.
+
+-- a message line is the text of its object without spaces, and a line feed
+abbrev pub MessagesAreObjects : Type 0
+MessagesAreObjects = (s : Subject) (fresh : Bool) (m : Message) → IfSome (object_of s fresh m) (λ told. line_of s fresh m ≡ compact_text told ++ 10 ∷ [])
+
+abbrev pub EndsAreObjects : Type 0
+EndsAreObjects = (success : Bool) → finish_line success ≡ compact_text (finished success) ++ 10 ∷ []
+
+-- a diagnostic's line is that of its object, with the compiler's own text copied byte for byte as the message
+abbrev pub DiagnosticsAreCopied : Type 0
+DiagnosticsAreCopied = (s : Subject) (fresh : Bool) (text : List ℕ)
+    → (front : List ℕ) × (line_of s fresh (CompilerMessage text) ≡ front ++ text ++ codes "}\n") × ((message : Data) → compact_text (diagnostic s message) ≡ front ++ compact_text message ++ codes "}")
+
+-- the lines of several messages are their lines one after another
+abbrev pub LinesFollow : Type 0
+LinesFollow = (s : Subject) (fresh : Bool) (messages : List Message) → lines_of s fresh messages ≡ flat_map (line_of s fresh) messages

@@ -1,9 +1,0 @@
-use Rattle.pb_message_objects.proofs.Texts.{messages_are, ends_are, diagnostics_are}
-use Rattle.pb_message_objects.proofs.lines_are_objects.Goals as goal
-
-pub returns : goal.returns
-returns c = record {
-  messages = messages_are;
-  ends = ends_are;
-  diagnostics = diagnostics_are;
-}

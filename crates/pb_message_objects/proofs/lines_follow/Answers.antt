@@ -1,5 +1,0 @@
-use Rattle.pb_message_objects.proofs.Streams.{lines_follow}
-use Rattle.pb_message_objects.proofs.lines_follow.Goals as goal
-
-pub returns : goal.returns
-returns c = lines_follow

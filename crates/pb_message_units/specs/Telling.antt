@@ -1,0 +1,163 @@
+-- The messages of a unit (The Cargo Book, External Tools): what their
+-- lines are about, and which messages come from its child's answer.
+use Rattle.std.specs.Prelude.{ℕ, Bool, true, false, not, if◌then◌else◌, List, [], ◌∷◌, ◌++◌, Option, Some, None, Result, Ok, Err, slice_get, map, find}
+use Rattle.std.specs.List.{filter_map}
+use Rattle.std.specs.Str.{bytes_eq}
+use Rattle.pb_directive.specs.declared.directive.Directive.{Directive}
+use Rattle.pb_directive.specs.declared.directive.Directive.TheVariants as says
+use Rattle.pb_directive.specs.declared.fault.LineFault.{LineFault}
+use Rattle.pb_directive.specs.Directives.{directives_of}
+use Rattle.pb_message.specs.Diagnostics.{diagnostics_of, plain_lines_of}
+use Rattle.pb_message.specs.Message.{lines_of}
+use Rattle.pb_message.specs.Targets.{library_target, binary_target, script_target}
+use Rattle.pb_message.specs.declared.message.Level.TheVariants.{Warning, Error}
+use Rattle.pb_message.specs.declared.message.Message.{Message}
+use Rattle.pb_message.specs.declared.message.Message.TheVariants.{CompilerMessage, CompilerArtifact, BuildScriptNote, BuildScriptExecuted}
+use Rattle.pb_message.specs.declared.subject.Subject.{Subject}
+use Rattle.pb_message.specs.declared.subject.Target.{Target}
+use Rattle.pb_place_types.specs.declared.command.Ended.{Ended}
+use Rattle.pb_workspace_types.specs.declared.package.Package.{Package}
+use Rattle.pb_workspace_types.specs.declared.package.Library.{Library}
+use Rattle.pb_workspace_types.specs.declared.package.Binary.{Binary}
+use Rattle.pb_feature_types.specs.Features.{features_at}
+use Rattle.pb_unit.specs.declared.plan.Planned.{Planned}
+use Rattle.pb_unit.specs.declared.unit.What.{What}
+use Rattle.pb_unit.specs.declared.unit.What.TheVariants.{Lib, Bin, Script, Run}
+use Rattle.pb_command_types.specs.declared.project.Project.{Project}
+use Rattle.pb_command_types.specs.declared.fault.UnitFault.{UnitFault}
+use Rattle.pb_command_types.specs.declared.fault.UnitFault.TheVariants as fault
+use Rattle.pb_command_types.specs.Targets.{made_file_of}
+
+-- What the lines are about.
+
+abbrev pub library_of : Package → Option Library → Option Target
+library_of p None = None
+library_of p (Some l) = Some (library_target l.crate_types l.name l.source p.edition)
+
+abbrev pub binary_of : Package → Option Binary → Option Target
+binary_of p None = None
+binary_of p (Some b) = Some (binary_target b.name b.source p.edition b.required_features)
+
+abbrev pub script_of : Package → Option (List ℕ) → Option Target
+script_of p None = None
+script_of p (Some source) = Some (script_target source p.edition)
+
+-- the target of a package that is compiled or run, if the package has it
+abbrev pub target_of : Package → What → Option Target
+target_of p Lib = library_of p p.library
+target_of p (Bin name) = binary_of p (find (λ b. bytes_eq name b.name) p.binaries)
+target_of p Script = script_of p p.script
+target_of p Run = script_of p p.script
+
+abbrev pub subject_with : Package → Option Target → Option Subject
+subject_with p None = None
+subject_with p (Some t) = Some record { name = p.name; version = p.version; folder = p.folder; manifest = p.manifest; target = t }
+
+abbrev pub subject_in : Option Package → What → Option Subject
+subject_in None w = None
+subject_in (Some p) w = subject_with p (target_of p w)
+
+-- the package and the target of a unit
+abbrev pub subject_of : Project → Planned → Option Subject
+subject_of project u = subject_in (slice_get project.workspace.packages u.unit.owner) u.unit.what
+
+-- Messages.
+
+abbrev pub is_binary : What → Bool
+is_binary Lib = false
+is_binary (Bin name) = true
+is_binary Script = false
+is_binary Run = false
+
+abbrev pub artifact : Project → Planned → List ℕ → Message
+artifact project u file = CompilerArtifact record { settings = u.settings; features = features_at project.features u.unit.owner u.unit.side; file = file; is_executable = is_binary u.unit.what }
+
+-- the message for what a compile made, if it made something
+abbrev pub artifacts : Project → Planned → Option (List ℕ) → List Message
+artifacts project u None = []
+artifacts project u (Some file) = artifact project u file ∷ []
+
+-- the messages of a compiler: the diagnostics among the lines of its standard error
+abbrev pub compiler_messages : List ℕ → List Message
+compiler_messages stderr = map CompilerMessage (diagnostics_of stderr)
+
+abbrev pub note_in : Directive → Option Message
+note_in (says.Warning text) = Some (BuildScriptNote Warning text)
+note_in (says.Error text) = Some (BuildScriptNote Error text)
+note_in _ = None
+
+abbrev pub library_in : Directive → Option (List ℕ)
+library_in (says.LinkLib name) = Some name
+library_in _ = None
+
+abbrev pub search_in : Directive → Option (List ℕ)
+search_in (says.LinkSearch folder) = Some folder
+search_in _ = None
+
+abbrev pub condition_in : Directive → Option (List ℕ)
+condition_in (says.Cfg condition) = Some condition
+condition_in _ = None
+
+abbrev pub variable_in : Directive → Option (List ℕ × List ℕ)
+variable_in (says.Env name value) = Some (name, value)
+variable_in _ = None
+
+-- the message for what a script passes to the compiler, each list in printed order
+abbrev pub executed : Planned → List Directive → Message
+executed u directives = BuildScriptExecuted record {
+  linked_libraries = filter_map library_in directives;
+  linked_paths = filter_map search_in directives;
+  conditions = filter_map condition_in directives;
+  variables = filter_map variable_in directives;
+  out_folder = u.out;
+}
+
+-- the messages of a unit whose child's answer is good; only a run of a script has directives:
+-- - a compile: its diagnostics, then what it made
+-- - a run: its notes in printed order, then what it passes to the compiler
+abbrev pub good_messages : Project → Planned → List ℕ → Option (List Directive) → List Message
+good_messages project u stderr None = compiler_messages stderr ++ artifacts project u (made_file_of project u)
+good_messages project u stderr (Some directives) = filter_map note_in directives ++ (executed u directives ∷ [])
+
+-- a bad unit reports its diagnostics if it is a compile and no stream is too long
+abbrev pub gives_diagnostics : What → UnitFault → Bool
+gives_diagnostics Run e = false
+gives_diagnostics w fault.OutputTooLong = false
+gives_diagnostics w e = true
+
+-- the notes of a script's output; none if the output is malformed
+abbrev pub notes_in : Result (List Directive) LineFault → List Message
+notes_in (Ok directives) = filter_map note_in directives
+notes_in (Err e) = []
+
+abbrev pub is_script_error : UnitFault → Bool
+is_script_error fault.ScriptError = true
+is_script_error e = false
+
+-- the messages of a unit whose child's answer is bad:
+-- - a script that reported an error: its notes in printed order
+-- - a compile: its diagnostics, unless a stream is too long
+abbrev pub bad_messages : What → UnitFault → Ended → List Message
+bad_messages w e ended =
+    if is_script_error e then notes_in (directives_of ended.stdout)
+    else (if gives_diagnostics w e then compiler_messages ended.stderr else [])
+
+-- what a bad unit's child wrote that no message contains:
+-- - nothing if a stream is too long
+-- - standard error of a script that reported an error, both streams of any other script
+-- - the lines of a compile beside its diagnostics
+abbrev pub said_by : What → UnitFault → Ended → List ℕ
+said_by w fault.OutputTooLong ended = []
+said_by w fault.ScriptError ended = ended.stderr
+said_by Run e ended = ended.stdout ++ ended.stderr
+said_by w e ended = plain_lines_of ended.stderr
+
+-- Lines.
+
+-- the lines of messages about a subject; `started` says whether a child was started for their unit
+abbrev pub lines_by : Option Subject → Bool → List Message → List ℕ
+lines_by None started messages = []
+lines_by (Some s) started messages = lines_of s (not started) messages
+
+abbrev pub unit_lines : Project → Planned → Bool → List Message → List ℕ
+unit_lines project u started messages = lines_by (subject_of project u) started messages

@@ -1,0 +1,5 @@
+pub mod Honest
+pub mod Said
+pub mod ReadBack
+pub mod Small
+pub mod Laws

@@ -1,6 +1,0 @@
-use Rattle.pb_manifest.specs.declared.feature.Feature.{Feature}
-use Rattle.pb_package.proofs.Halving.{none_ascend}
-use Rattle.pb_package.proofs.by_name.FeaturesByName.new.Goals as goal
-
-pub invariant_of-result : goal.invariant_of-result
-invariant_of-result c = none_ascend (λ (x : Feature). x.name) c.new.result c.new.ensures

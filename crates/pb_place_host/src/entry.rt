@@ -1,0 +1,65 @@
+//! What is at an entry of a real folder.
+
+use crate::reading::{Standing, says_absent, standing_of};
+use crate::tag::leads_into_target;
+use pb_place_types::PathText;
+use std::alloc::Global;
+use std::rt::Files;
+use std::{fs, io};
+
+/// Returns what is at an entry whose links lead further than the system follows
+/// them. It is nothing if the entry's own link leads in a circle. Otherwise it
+/// is too deep: a link to a folder above it, followed again and again.
+fn standing_in_circle<R: Files + AllocGlobal>(
+    runtime: &R,
+    alloc: Global,
+    folder: &PathText,
+    name: &str,
+) -> io::Result<Standing> {
+    let whole = fs::canonicalize(runtime, folder.as_str())?;
+    let path = format!(in alloc; "{}/{name}", whole.as_str())?;
+    match fs::metadata(runtime, path.as_str()) {
+        Err(error) if error.kind() == io::ErrorKind::FilesystemLoop => Ok(Standing::Nothing),
+        Err(error) => Err(error),
+        Ok(_) => Err(io::Error::from(io::ErrorKind::FilesystemLoop)),
+    }
+}
+
+/// Returns the metadata of an entry of a folder, links
+/// followed, or `None` if it is a link into a target folder.
+fn followed<R: Files + AllocGlobal>(
+    runtime: &R,
+    alloc: Global,
+    folder: &PathText,
+    path: &PathText,
+) -> io::Result<Option<fs::Metadata>> {
+    let metadata = fs::symlink_metadata(runtime, path.as_str())?;
+    if !metadata.is_symlink() {
+        return Ok(Some(metadata));
+    }
+    match leads_into_target(runtime, alloc, folder, path) {
+        Ok(true) => Ok(None),
+        Ok(false) => Ok(Some(fs::metadata(runtime, path.as_str())?)),
+        Err(_) => Err(io::Error::from(io::ErrorKind::OutOfMemory)),
+    }
+}
+
+/// Returns what is at an entry of a folder, links followed. A link that
+/// leads nowhere, in a circle, or into a target folder is nothing.
+pub(crate) fn standing_in<R: Files + AllocGlobal>(
+    runtime: &R,
+    alloc: Global,
+    folder: &PathText,
+    path: &PathText,
+    name: &str,
+) -> io::Result<Standing> {
+    match followed(runtime, alloc, folder, path) {
+        Ok(Some(metadata)) => Ok(standing_of(&metadata)),
+        Ok(None) => Ok(Standing::Nothing),
+        Err(error) if error.kind() == io::ErrorKind::FilesystemLoop => {
+            standing_in_circle(runtime, alloc, folder, name)
+        }
+        Err(error) if says_absent(&error) => Ok(Standing::Nothing),
+        Err(error) => Err(error),
+    }
+}

@@ -1,0 +1,351 @@
+//! A place of real files, variables and children.
+
+ghost use Rattle.std.specs.Prelude.{◌≡◌, ◌≢◌, ◌⊎◌, ℕ, ◌+◌, true, false, length, Err, IfOk, IfErr, OnOk, OnErr, IfSome};
+ghost use Rattle.std.specs.FinMap as map;
+ghost use Rattle.pb_place_types.specs.Counts.{no_calls, without};
+ghost use Rattle.pb_place_types.specs.Children.{is_flying, most_after};
+ghost use Rattle.pb_place.specs.InFlight.{children_in};
+ghost use Rattle.pb_place.specs.Tallies.{flown};
+ghost use Rattle.pb_place_host.specs.Flying.{silent_child};
+
+use crate::children::{Running, Spawned, add_child, begun, child_in_flight, kept_of};
+use crate::listing::{files_below, files_directly, files_outside, folders_directly};
+use crate::meaning::path_from;
+use crate::moving::{Moment, first_moved};
+use crate::reading::{file_at, first_of, is_file, variable_of};
+use crate::starting::finish;
+use crate::writing::{remove_tree, write_file};
+use pb_data::{Bytes, Items, Text, TryCopy, with_next};
+use pb_place::Tally;
+use pb_place::in_flight::{Flying, flies, free_ticket, take_out};
+use pb_place_types::{
+    Call, Command, Ended, Moved, PathFault, PathText, Place, PlaceFault, StartFault, ViewFault,
+};
+use std::alloc::{AllocError, Global};
+use std::process::{Child, Processes};
+use std::rt::{Env, Files};
+
+/// A place of real files, variables and children, over a runtime. It does not tell its maps,
+/// since no contract can say what a disk contains. It counts its calls as every place does.
+///
+/// It follows links. The rest is our own choice, as are the limits of the other formats:
+/// - A path is absent if nothing is there, if its link leads
+///   nowhere, or if it is neither a file nor a folder.
+/// - It is a failure to read a file of more than 4,294,967,296
+///   bytes, or a variable whose value is not UTF-8.
+/// - It is a failure to list a folder that contains a name that is
+///   not UTF-8. `list_directly` and `list_folders` skip such a name.
+/// - `list_folders` also returns folders without files.
+/// - It is a failure to list a folder with folders more than 128 levels below it.
+/// - A folder below a listed one counts as absent if it has the
+///   tag that this builder writes in target folders.
+/// - A removal that is refused is tried once more, after the folders there were made writable.
+/// - A removal removes a link itself, and not what it leads to.
+///
+/// A child inherits the variables of this process, over which those of its command are set.
+/// It starts in the folder of the command, with an empty standard input. A program without
+/// a slash in its name is looked for by the `PATH` of this process. No contract says what a
+/// child changes on the disk. Children in flight run side by side; if one writes more than
+/// a pipe holds, it waits for its `finish`. They stay in the process group of this program.
+/// A child whose place is dropped before its `finish` is neither waited for nor ended.
+///
+/// What a child read has moved if it has changed since the child's output folder was made, just
+/// before the spawn: by the change times of files and folders (`ctime`), which no program can set.
+#[derive(Drop)]
+pub struct HostPlace<'a, R: Processes> {
+    runtime: &'a R,
+    tally: Tally,
+    flying: Vec<Flying<Running<Child<R::Started>>>>,
+    most: u64,
+    /// The child that ended last.
+    ended: Option<Spawned>,
+    moved: Vec<Moved>,
+}
+
+impl<'a, R: Files + Env + Processes + AllocGlobal> HostPlace<'a, R> {
+    /// Returns the place over a runtime, with no calls made yet. It uses no memory.
+    pub fn new(alloc: Global, runtime: &'a R) -> HostPlace<'a, R>
+        ensures counts { (⟦<HostPlace<'a, R> as Place>⟧.at result).counts ≡ no_calls }
+        ensures most { (⟦<HostPlace<'a, R> as Place>⟧.at result).most ≡ 0 }
+    {
+        HostPlace {
+            runtime,
+            tally: Tally::new(),
+            flying: Vec::new(alloc),
+            most: 0,
+            ended: None,
+            moved: Vec::new(alloc),
+        }
+    }
+
+    /// Returns whether a child of this ticket is in flight. It is
+    /// no call of the place and uses no memory.
+    pub fn flies(&self, ticket: u64) -> bool
+        ensures { result ≡ is_flying ticket
+            (⟦<HostPlace<'a, R> as Place>⟧.at self.now).counts.starts.flying }
+    {
+        flies(self.flying.as_slice(), ticket)
+    }
+
+    /// Begins the child of a command, and returns its ticket. It first reserves space among
+    /// the children in flight, so no child that was begun is lost if memory runs out.
+    fn begin(&mut self, alloc: Global, command: &Command) -> Result<u64, StartFault>
+        ensures fresh { IfOk result
+            (λ ticket. is_flying ticket (children_in self.old.flying.items) ≡ false) }
+        ensures fault { IfErr result
+            (λ e. e ≢ StartFault.OutOfMemory → e ≡ StartFault.CannotStart) }
+        ensures children { children_in self.new.flying.items
+            ≡ flown (silent_child command.now) result (children_in self.old.flying.items) }
+        ensures most { self.new.most
+            ≡ most_after result (length (children_in self.old.flying.items) + 1) self.old.most }
+        ensures tally { self.new.tally ≡ self.old.tally }
+    {
+        let Some(ticket) = free_ticket(self.flying.as_slice()) else {
+            return Err(StartFault::OutOfMemory);
+        };
+        // Space before the process: one that runs is always known.
+        self.flying.reserve(1)?;
+        let child = child_in_flight(alloc, command, ticket)?;
+        let (child, kept) = with_next(child, begun(self.runtime, alloc, command))?;
+        self.most = add_child(&mut self.flying, self.most, Flying { child, kept });
+        Ok(ticket)
+    }
+
+    /// Waits for the end of a child, and removes it from those in flight.
+    fn end(&mut self, alloc: Global, ticket: u64) -> Result<Ended, StartFault>
+        requires flies { is_flying ticket (children_in self.old.flying.items) ≡ true }
+        ensures fault { IfErr result (λ e. e ≢ StartFault.OutOfMemory
+            → (e ≡ StartFault.Died) ⊎ (e ≡ StartFault.Capture)) }
+        ensures children { children_in self.new.flying.items
+            ≡ without ticket (children_in self.old.flying.items) }
+        ensures most { self.new.most ≡ self.old.most }
+        ensures tally { self.new.tally ≡ self.old.tally }
+    {
+        let Some(flying) = take_out(&mut self.flying, ticket) else {
+            unreachable!();
+        };
+        let Running { process, spawned } = kept_of(flying);
+        self.ended = spawned;
+        finish(alloc, process)
+    }
+
+    /// Returns when the child of this output folder was spawned, if
+    /// it is the one that ended last and the time is known.
+    fn since(&self, out: &PathText) -> Option<Moment> {
+        match &self.ended {
+            Some(spawned) if &spawned.out == out => spawned.since,
+            _ => None,
+        }
+    }
+
+    /// Returns whether something has moved for the child of an output folder.
+    fn has_moved(&self, out: &PathText) -> bool {
+        self.moved.iter().any(|moved| &moved.out == out)
+    }
+
+    /// Remembers what has moved for the child of an output folder at or below
+    /// a path, if something has. If it cannot be found out, it has moved.
+    fn look_for(
+        &mut self,
+        alloc: Global,
+        target: &PathText,
+        out: &PathText,
+        path: &PathText,
+    ) -> Result<(), AllocError>
+        ensures flying { self.new.flying ≡ self.old.flying }
+        ensures tally { self.new.tally ≡ self.old.tally }
+        ensures most { self.new.most ≡ self.old.most }
+    {
+        if self.has_moved(out) {
+            return Ok(());
+        }
+        let found = match self.since(out) {
+            Some(since) => first_moved(self.runtime, alloc, since, target, path)?,
+            None => Some(path.copy(alloc)?),
+        };
+        if let Some(path) = found {
+            let (path, out) = with_next(path, out.copy(alloc))?;
+            self.moved.push(Moved { path, out })?;
+        }
+        Ok(())
+    }
+}
+
+/// Returns what a view answered. Its failure becomes the call's own fault; out of memory stays so.
+fn told<T>(answer: Result<T, ViewFault>, own: PlaceFault) -> Result<T, PlaceFault>
+    ensures own { IfErr result (λ e. e ≢ PlaceFault.OutOfMemory → e ≡ own) }
+    ensures memory { answer ≡ Err ViewFault.OutOfMemory → result ≡ Err PlaceFault.OutOfMemory }
+{
+    match answer {
+        Ok(found) => Ok(found),
+        Err(ViewFault::Failed) => Err(own),
+        Err(ViewFault::OutOfMemory) => Err(PlaceFault::OutOfMemory),
+    }
+}
+
+#[tactic(auto, using(pb_place::proofs::InFlight::tally_laws))]
+impl<'a, R: Files + Env + Processes + AllocGlobal> Place for HostPlace<'a, R> {
+    ghost use Rattle.std.specs.Prelude.{false};
+    ghost use Rattle.pb_place.specs.InFlight.{children_in};
+    ghost use Rattle.pb_place.specs.Tallies.{with_children};
+    ghost use Rattle.pb_place_host.specs.Flying.{no_world, silent};
+
+    ghost tells = { false };
+
+    ghost at = { λ p. record {
+      world = no_world;
+      counts = with_children (children_in p.flying.items) p.tally;
+      most = p.most;
+      still = λ _. Unit {0};
+      moved = p.moved.items;
+    } };
+
+    ghost child = { silent };
+
+    ghost fails = { λ _. Unit {0} };
+
+    fn read(&mut self, alloc: Global, path: &PathText) -> Result<Option<Bytes>, PlaceFault> {
+        let call = self.tally.kept(Call::read(alloc, path))?;
+        let answer = told(file_at(self.runtime, path.as_str()), PlaceFault::Read);
+        self.tally.count(call, answer)
+    }
+
+    fn read_first(
+        &mut self,
+        alloc: Global,
+        path: &PathText,
+        most: usize,
+    ) -> Result<Option<Bytes>, PlaceFault> {
+        let call = self.tally.kept(Call::read(alloc, path))?;
+        let answer = told(
+            first_of(self.runtime, path.as_str(), most),
+            PlaceFault::Read,
+        );
+        self.tally.count(call, answer)
+    }
+
+    fn is_file(&mut self, alloc: Global, path: &PathText) -> Result<bool, PlaceFault> {
+        let call = self.tally.kept(Call::is_file(alloc, path))?;
+        let answer = told(is_file(self.runtime, path.as_str()), PlaceFault::Read);
+        self.tally.count(call, answer)
+    }
+
+    fn list(&mut self, alloc: Global, folder: &PathText) -> Result<Items<PathText>, PlaceFault> {
+        let call = self.tally.kept(Call::list(alloc, folder))?;
+        let answer = files_below(self.runtime, alloc, folder);
+        self.tally.count(call, answer)
+    }
+
+    fn list_outside(
+        &mut self,
+        alloc: Global,
+        folder: &PathText,
+        left_out: &PathText,
+    ) -> Result<Items<PathText>, PlaceFault> {
+        let call = self
+            .tally
+            .kept(Call::list_outside(alloc, folder, left_out))?;
+        let answer = files_outside(self.runtime, alloc, folder, left_out);
+        self.tally.count(call, answer)
+    }
+
+    fn list_directly(
+        &mut self,
+        alloc: Global,
+        folder: &PathText,
+    ) -> Result<Items<PathText>, PlaceFault> {
+        let call = self.tally.kept(Call::list_directly(alloc, folder))?;
+        let answer = files_directly(self.runtime, alloc, folder);
+        self.tally.count(call, answer)
+    }
+
+    fn list_folders(
+        &mut self,
+        alloc: Global,
+        folder: &PathText,
+        left_out: &PathText,
+    ) -> Result<Items<PathText>, PlaceFault> {
+        let call = self
+            .tally
+            .kept(Call::list_folders(alloc, folder, left_out))?;
+        let answer = folders_directly(self.runtime, alloc, folder, left_out);
+        self.tally.count(call, answer)
+    }
+
+    fn write(&mut self, alloc: Global, path: &PathText, bytes: &[u8]) -> Result<(), PlaceFault> {
+        let call = self.tally.kept(Call::write(alloc, path))?;
+        let answer = write_file(self.runtime, alloc, path, bytes);
+        self.tally.count(call, answer)
+    }
+
+    fn remove_tree(&mut self, alloc: Global, path: &PathText) -> Result<(), PlaceFault> {
+        let call = self.tally.kept(Call::remove(alloc, path))?;
+        let answer = remove_tree(self.runtime, path.as_str());
+        self.tally.count(call, answer)
+    }
+
+    fn variable(&mut self, alloc: Global, name: &str) -> Result<Option<Text>, PlaceFault> {
+        let call = self.tally.kept(Call::variable(alloc, name))?;
+        let answer = told(variable_of(self.runtime, name), PlaceFault::Variable);
+        self.tally.count(call, answer)
+    }
+
+    fn spawn(&mut self, alloc: Global, command: &Command) -> Result<u64, StartFault> {
+        let answer = self.begin(alloc, command);
+        self.tally.count_start(answer)
+    }
+
+    fn finish(&mut self, alloc: Global, ticket: u64) -> Result<Ended, StartFault> {
+        let answer = self.end(alloc, ticket);
+        self.tally.count_finish(answer)
+    }
+
+    fn path_from(
+        &self,
+        alloc: Global,
+        folder: &PathText,
+        text: &str,
+    ) -> Result<PathText, PathFault> {
+        path_from(self.runtime, alloc, folder, text)
+    }
+
+    fn watch(
+        &mut self,
+        alloc: Global,
+        command: &Command,
+        path: &PathText,
+    ) -> Result<(), AllocError> {
+        match &command.out {
+            Some(out) => self.look_for(alloc, &command.target, out, path),
+            None => Ok(()),
+        }
+    }
+
+    fn stood_still(&self, command: &Command) -> bool {
+        let reads = command.reads.as_slice();
+        !self.moved.iter().any(|moved| command.out.as_ref() == Some(&moved.out)
+            || reads.contains(&moved.out))
+    }
+
+    fn moved(&self) -> &[Moved] {
+        self.moved.as_slice()
+    }
+
+    fn files_have_paths(&self) {}
+
+    fn failures(&self) -> u64 {
+        self.tally.failures()
+    }
+
+    fn starts(&self) -> u64 {
+        self.tally.starts()
+    }
+
+    fn late(&self) -> u64 {
+        self.tally.late()
+    }
+
+    fn most(&self) -> u64 {
+        self.most
+    }
+}

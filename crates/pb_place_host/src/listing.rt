@@ -1,0 +1,393 @@
+//! Listing real folders.
+
+ghost use Rattle.std.specs.Prelude.{◌≡◌, ◌≢◌, ◌+◌, ◌++◌, ◌∷◌, [], true, Some, All, map, IfOk, IfErr, OnOk};
+ghost use Rattle.pb_place_types.specs.Paths.{is_below, is_at_or_below};
+ghost use Rattle.std.specs.Option.{option_copied};
+ghost use Rattle.pb_place_host.specs.Listing.{AreBelow, AreOutside, AreOrdered, KeepsBelow, KeepsOutside, StaysBelow, is_left_out};
+
+use crate::entry::standing_in;
+use crate::reading::{Standing, says_absent};
+use crate::tag::is_tagged;
+use crate::writing::fault_of;
+use pb_data::{Items, Text, TryCopy};
+use pb_place_types::{PathText, PlaceFault, RelativePath};
+use std::alloc::{AllocError, Global};
+use std::rt::Files;
+use std::{fs, io};
+
+/// How many levels a folder may be below the one that is listed.
+const DEEPEST: u8 = 128;
+
+/// Returns whether a path is at or below the one that is left out.
+fn is_left_out(left_out: Option<&PathText>, path: &PathText) -> bool
+    ensures { result ≡ is_left_out (option_copied left_out.entry) path.now }
+{
+    match left_out {
+        Some(folder) => path.starts_with(folder),
+        None => false,
+    }
+}
+
+/// A folder that has not been listed yet.
+#[derive(Drop)]
+pub(crate) struct Waiting {
+    /// Its path.
+    pub(crate) folder: PathText,
+    /// How many levels it is below the one that is listed.
+    depth: u8,
+}
+
+/// What has been found so far.
+#[derive(Drop)]
+pub(crate) struct Found {
+    /// The files.
+    pub(crate) files: Vec<PathText>,
+    /// The folders that have not been listed yet.
+    pub(crate) waiting: Vec<Waiting>,
+}
+
+/// Returns the path of an entry of a folder.
+///
+/// Errors: `List`, if the entry's name is not a name of a path; `OutOfMemory`.
+fn path_of(alloc: Global, folder: &PathText, name: &str) -> Result<PathText, PlaceFault>
+    ensures below { IfOk result (λ path. is_below folder.now path ≡ true) }
+    ensures fault { IfErr result (λ e. e ≢ PlaceFault.OutOfMemory → e ≡ PlaceFault.List) }
+{
+    match RelativePath::of(Text::from_str(alloc, name)?) {
+        Some(relative) => Ok(folder.below(alloc, &relative)?),
+        None => Err(PlaceFault::List),
+    }
+}
+
+/// Adds a file to those found.
+fn add_file(found: &mut Found, path: PathText) -> Result<(), PlaceFault>
+    ensures files { OnOk result (found.new.files.items ≡ found.old.files.items ++ path ∷ []) }
+    ensures waiting { found.new.waiting ≡ found.old.waiting }
+    ensures fault { IfErr result (λ e. e ≡ PlaceFault.OutOfMemory) }
+{
+    found.files.push(path)?;
+    Ok(())
+}
+
+/// Adds a folder to those that wait.
+///
+/// Errors: `List`, if it is too deep.
+fn add_folder(found: &mut Found, path: PathText, above: u8) -> Result<(), PlaceFault>
+    ensures waiting { OnOk result (found.new.waiting.items ≡ found.old.waiting.items
+        ++ record { folder = path; depth = above + 1 } ∷ []) }
+    ensures files { found.new.files ≡ found.old.files }
+    ensures fault { IfErr result (λ e. e ≢ PlaceFault.OutOfMemory → e ≡ PlaceFault.List) }
+{
+    if above >= DEEPEST {
+        return Err(PlaceFault::List);
+    }
+    found.waiting.push(Waiting {
+        folder: path,
+        depth: above + 1,
+    })?;
+    Ok(())
+}
+
+/// Adds an entry of a folder: a file to those found, a folder to those that wait.
+///
+/// Errors: `List`, if its name is not a name of a path, if it cannot be found
+/// out what it is, or if it is a folder that is too deep; `OutOfMemory`.
+fn take_entry<R: Files + AllocGlobal>(
+    runtime: &R,
+    alloc: Global,
+    left_out: Option<&PathText>,
+    found: &mut Found,
+    here: &Waiting,
+    name: &str,
+) -> Result<(), PlaceFault>
+    ensures below { OnOk result (KeepsBelow here.now.folder found.old found.new) }
+    ensures outside { OnOk result
+        (KeepsOutside (option_copied left_out.entry) found.old found.new) }
+    ensures fault { IfErr result (λ e. e ≢ PlaceFault.OutOfMemory → e ≡ PlaceFault.List) }
+{
+    let path = path_of(alloc, &here.folder, name)?;
+    if is_left_out(left_out, &path) {
+        return Ok(());
+    }
+    match standing_in(runtime, alloc, &here.folder, &path, name) {
+        Ok(Standing::File(_)) => add_file(found, path)?,
+        Ok(Standing::Folder) => add_folder(found, path, here.depth)?,
+        Ok(Standing::Nothing) => {}
+        Err(error) => return Err(fault_of(error, PlaceFault::List)),
+    }
+    Ok(())
+}
+
+/// Returns whether an error says that there is no such folder,
+/// and the folder is the one that is listed: it need not exist.
+fn may_be_absent(here: &Waiting, error: &io::Error) -> bool {
+    here.depth == 0 && says_absent(error)
+}
+
+/// Returns whether a folder is skipped: a target folder, by its
+/// tag, below the folder that is listed.
+fn is_passed_over<R: Files + AllocGlobal>(
+    runtime: &R,
+    alloc: Global,
+    here: &Waiting,
+) -> Result<bool, AllocError> {
+    if here.depth == 0 {
+        return Ok(false);
+    }
+    is_tagged(runtime, alloc, &here.folder)
+}
+
+/// Returns the entries of a folder. There are none if it is
+/// skipped, or if it is the one that is listed and does not exist.
+fn entries_of<'a, R: Files + AllocGlobal>(
+    runtime: &'a R,
+    alloc: Global,
+    here: &Waiting,
+) -> Result<Option<fs::ReadDir<&'a R>>, PlaceFault>
+    ensures fault { IfErr result (λ e. e ≢ PlaceFault.OutOfMemory → e ≡ PlaceFault.List) }
+{
+    if is_passed_over(runtime, alloc, here)? {
+        return Ok(None);
+    }
+    match fs::read_dir(&runtime, here.folder.as_str()) {
+        Ok(entries) => Ok(Some(entries)),
+        Err(error) if may_be_absent(here, &error) => Ok(None),
+        Err(error) => Err(fault_of(error, PlaceFault::List)),
+    }
+}
+
+/// Adds an entry that a folder reports.
+///
+/// Errors: `List`, if the folder reports a failure.
+fn take_told<R: Files + AllocGlobal>(
+    runtime: &R,
+    alloc: Global,
+    left_out: Option<&PathText>,
+    found: &mut Found,
+    here: &Waiting,
+    entry: io::Result<fs::DirEntry<&R>>,
+) -> Result<(), PlaceFault>
+    ensures below { OnOk result (KeepsBelow here.now.folder found.old found.new) }
+    ensures outside { OnOk result
+        (KeepsOutside (option_copied left_out.entry) found.old found.new) }
+    ensures fault { IfErr result (λ e. e ≢ PlaceFault.OutOfMemory → e ≡ PlaceFault.List) }
+{
+    match entry {
+        Ok(entry) => take_entry(runtime, alloc, left_out, found, here, entry.file_name()),
+        Err(error) => Err(fault_of(error, PlaceFault::List)),
+    }
+}
+
+/// Adds the entries of a folder. If it is the one that is listed and does not exist, it has none.
+fn take_folder<R: Files + AllocGlobal>(
+    runtime: &R,
+    alloc: Global,
+    left_out: Option<&PathText>,
+    found: &mut Found,
+    here: &Waiting,
+) -> Result<(), PlaceFault>
+    ensures below { OnOk result (KeepsBelow here.now.folder found.old found.new) }
+    ensures outside { OnOk result
+        (KeepsOutside (option_copied left_out.entry) found.old found.new) }
+    ensures fault { IfErr result (λ e. e ≢ PlaceFault.OutOfMemory → e ≡ PlaceFault.List) }
+{
+    let Some(entries) = entries_of(runtime, alloc, here)? else {
+        return Ok(());
+    };
+    for entry in entries {
+        take_told(runtime, alloc, left_out, found, here, entry)?;
+    }
+    Ok(())
+}
+
+/// Returns all files below a folder that are not left out, as they
+/// come. It takes one folder after another, the one found last first.
+fn files_found<R: Files + AllocGlobal>(
+    runtime: &R,
+    alloc: Global,
+    left_out: Option<&PathText>,
+    folder: &PathText,
+) -> Result<Vec<PathText>, PlaceFault>
+    ensures below { IfOk result (λ files. AreBelow folder.now files.items) }
+    ensures outside { IfOk result (λ files. AreOutside (option_copied left_out.entry) files.items) }
+    ensures fault { IfErr result (λ e. e ≢ PlaceFault.OutOfMemory → e ≡ PlaceFault.List) }
+{
+    let mut found = Found {
+        files: Vec::new(alloc),
+        waiting: Vec::new(alloc),
+    };
+    found.waiting.push(Waiting {
+        folder: folder.copy(alloc)?,
+        depth: 0,
+    })?;
+    for _ in 0..u64::MAX {
+        match found.waiting.pop() {
+            Some(here) => take_folder(runtime, alloc, left_out, &mut found, &here)?,
+            None => return Ok(found.files),
+        }
+    }
+    Err(PlaceFault::List)
+}
+
+/// Returns whether an entry's name is not UTF-8.
+fn has_no_text<R: Files + AllocGlobal>(entry: &io::Result<fs::DirEntry<&R>>) -> bool {
+    match entry {
+        Ok(_) => false,
+        Err(error) => error.kind() == io::ErrorKind::InvalidFilename,
+    }
+}
+
+/// Adds the entries of a folder that are not left out and whose names are
+/// UTF-8. If it is the one that is listed and does not exist, it has none.
+fn take_named<R: Files + AllocGlobal>(
+    runtime: &R,
+    alloc: Global,
+    left_out: Option<&PathText>,
+    found: &mut Found,
+    here: &Waiting,
+) -> Result<(), PlaceFault>
+    ensures below { OnOk result (KeepsBelow here.now.folder found.old found.new) }
+    ensures fault { IfErr result (λ e. e ≢ PlaceFault.OutOfMemory → e ≡ PlaceFault.List) }
+{
+    let Some(entries) = entries_of(runtime, alloc, here)? else {
+        return Ok(());
+    };
+    for entry in entries {
+        if !has_no_text(&entry) {
+            take_told(runtime, alloc, left_out, found, here, entry)?;
+        }
+    }
+    Ok(())
+}
+
+/// Returns what is directly in a folder and is not left out, as
+/// it comes. It does not look into the folders there.
+pub(crate) fn found_here<R: Files + AllocGlobal>(
+    runtime: &R,
+    alloc: Global,
+    left_out: Option<&PathText>,
+    folder: &PathText,
+) -> Result<Found, PlaceFault>
+    ensures below { IfOk result (λ found. StaysBelow folder.now found) }
+    ensures fault { IfErr result (λ e. e ≢ PlaceFault.OutOfMemory → e ≡ PlaceFault.List) }
+{
+    let here = Waiting {
+        folder: folder.copy(alloc)?,
+        depth: 0,
+    };
+    let mut found = Found {
+        files: Vec::new(alloc),
+        waiting: Vec::new(alloc),
+    };
+    take_named(runtime, alloc, left_out, &mut found, &here)?;
+    Ok(found)
+}
+
+/// Returns the paths of all files below a folder that are not
+/// left out, in byte order; none if no folder is at the path.
+fn files_listed<R: Files + AllocGlobal>(
+    runtime: &R,
+    alloc: Global,
+    left_out: Option<&PathText>,
+    folder: &PathText,
+) -> Result<Items<PathText>, PlaceFault>
+    ensures below { IfOk result (λ paths. AreBelow folder.now paths) }
+    ensures outside { IfOk result (λ paths. AreOutside (option_copied left_out.entry) paths) }
+    ensures ordered { IfOk result AreOrdered }
+    ensures fault { IfErr result (λ e. e ≢ PlaceFault.OutOfMemory → e ≡ PlaceFault.List) }
+{
+    let mut files = files_found(runtime, alloc, left_out, folder)?;
+    files.sort()?;
+    Ok(Items::from_vec(files))
+}
+
+/// Returns the paths of all files below a folder, in byte order; none
+/// if no folder is at the path. Links are followed. A link that leads
+/// nowhere is skipped, and so is what is neither a file nor a folder.
+///
+/// Errors: `List`, if a folder cannot be read, if a name is not UTF-8, or if
+/// a folder is more than 128 levels below the one that is listed. A link to
+/// a folder above it is such a case, since it is followed again and again.
+pub(crate) fn files_below<R: Files + AllocGlobal>(
+    runtime: &R,
+    alloc: Global,
+    folder: &PathText,
+) -> Result<Items<PathText>, PlaceFault>
+    ensures below { IfOk result (λ paths. AreBelow folder.now paths) }
+    ensures ordered { IfOk result AreOrdered }
+    ensures fault { IfErr result (λ e. e ≢ PlaceFault.OutOfMemory → e ≡ PlaceFault.List) }
+{
+    files_listed(runtime, alloc, None, folder)
+}
+
+/// Returns the same, without what is at or below another path:
+/// it looks at nothing there, so nothing there is a failure.
+pub(crate) fn files_outside<R: Files + AllocGlobal>(
+    runtime: &R,
+    alloc: Global,
+    folder: &PathText,
+    left_out: &PathText,
+) -> Result<Items<PathText>, PlaceFault>
+    ensures below { IfOk result (λ paths. AreBelow folder.now paths) }
+    ensures outside { IfOk result (λ paths. AreOutside (Some left_out.now) paths) }
+    ensures ordered { IfOk result AreOrdered }
+    ensures fault { IfErr result (λ e. e ≢ PlaceFault.OutOfMemory → e ≡ PlaceFault.List) }
+{
+    if folder.starts_with(left_out) {
+        return Ok(Items::new(alloc));
+    }
+    files_listed(runtime, alloc, Some(left_out), folder)
+}
+
+/// Returns the paths of the files directly in a folder, in byte order; none if no
+/// folder is at the path. It does not look into the folders there, so nothing in them
+/// is a failure. It skips a name that is not UTF-8, since nothing requests such a name.
+pub(crate) fn files_directly<R: Files + AllocGlobal>(
+    runtime: &R,
+    alloc: Global,
+    folder: &PathText,
+) -> Result<Items<PathText>, PlaceFault>
+    ensures below { IfOk result (λ paths. AreBelow folder.now paths) }
+    ensures ordered { IfOk result AreOrdered }
+    ensures fault { IfErr result (λ e. e ≢ PlaceFault.OutOfMemory → e ≡ PlaceFault.List) }
+{
+    let mut found = found_here(runtime, alloc, None, folder)?;
+    found.files.sort()?;
+    Ok(Items::from_vec(found.files))
+}
+
+/// Returns the paths of some folders that wait.
+fn folders_of(alloc: Global, waiting: Vec<Waiting>) -> Result<Vec<PathText>, PlaceFault>
+    ensures folders { IfOk result
+        (λ folders. folders.items ≡ map (λ here. here.folder) waiting.items) }
+    ensures fault { IfErr result (λ e. e ≡ PlaceFault.OutOfMemory) }
+{
+    let mut folders = Vec::new(alloc);
+    for here in waiting {
+        folders.push(here.folder)?;
+    }
+    Ok(folders)
+}
+
+/// Returns the paths of the folders directly in a folder that are not left
+/// out, in byte order; none if no folder is at the path. It does not look into
+/// them, so nothing in them is a failure. It skips a name that is not UTF-8.
+pub(crate) fn folders_directly<R: Files + AllocGlobal>(
+    runtime: &R,
+    alloc: Global,
+    folder: &PathText,
+    left_out: &PathText,
+) -> Result<Items<PathText>, PlaceFault>
+    ensures below { IfOk result (All (λ path. is_at_or_below folder.now path ≡ true)) }
+    ensures ordered { IfOk result AreOrdered }
+    ensures fault { IfErr result (λ e. e ≢ PlaceFault.OutOfMemory → e ≡ PlaceFault.List) }
+{
+    if folder.starts_with(left_out) {
+        return Ok(Items::new(alloc));
+    }
+    let found = found_here(runtime, alloc, Some(left_out), folder)?;
+    drop(found.files);
+    let mut folders = folders_of(alloc, found.waiting)?;
+    folders.sort()?;
+    Ok(Items::from_vec(folders))
+}

@@ -1,0 +1,186 @@
+//! Whether a path moved while a child was at work.
+
+use crate::listing::found_here;
+use crate::reading::says_absent;
+use crate::tag::is_tagged;
+use pb_data::TryCopy;
+use pb_place_types::{PathText, PlaceFault};
+use std::alloc::{AllocError, Global};
+use std::fs;
+use std::os::unix::fs::MetadataExt;
+use std::rt::Files;
+
+/// A moment, by the clock of a file system. Moments of two file systems may be of two clocks.
+#[derive(Clone, Copy, Debug, PartialEq, Eq, PartialOrd, Ord)]
+pub(crate) struct Moment {
+    seconds: i64,
+    nanoseconds: i64,
+}
+
+/// What a look at a path shows.
+#[derive(Clone, Copy, Debug, PartialEq, Eq)]
+enum Sight {
+    /// It has changed since.
+    Moved,
+    /// A folder, which has not changed itself.
+    Folder,
+    /// Something else that has not changed.
+    Still,
+    /// Nothing is there.
+    Absent,
+}
+
+/// Returns when a file or folder was last changed: its bytes, its name or its attributes
+/// (`ctime`, which no program sets). For a folder this includes when a name in it came or went.
+fn changed_at(metadata: &fs::Metadata) -> Moment {
+    Moment {
+        seconds: metadata.ctime(),
+        nanoseconds: metadata.ctime_nsec(),
+    }
+}
+
+/// Returns when a folder was last changed, or `None` if that cannot be found out.
+pub(crate) fn moment_of<R: Files>(runtime: &R, folder: &PathText) -> Option<Moment> {
+    match fs::metadata(runtime, folder.as_str()) {
+        Ok(metadata) => Some(changed_at(&metadata)),
+        Err(_) => None,
+    }
+}
+
+/// Looks at what a link leads to, if the link has not changed
+/// itself. A link that leads nowhere has not moved.
+fn look_behind<R: Files>(runtime: &R, since: Moment, path: &str) -> Sight {
+    match fs::metadata(runtime, path) {
+        Ok(metadata) => look_of(&metadata, since),
+        Err(error) if says_absent(&error) => Sight::Still,
+        Err(_) => Sight::Moved,
+    }
+}
+
+/// Returns what metadata shows.
+fn look_of(metadata: &fs::Metadata, since: Moment) -> Sight {
+    if changed_at(metadata) > since {
+        return Sight::Moved;
+    }
+    if metadata.is_dir() {
+        return Sight::Folder;
+    }
+    Sight::Still
+}
+
+/// Looks at a path. A link has moved if it was changed itself, or if
+/// what it leads to was. If it cannot be found out, it has moved.
+fn look<R: Files>(runtime: &R, since: Moment, path: &str) -> Sight {
+    let metadata = match fs::symlink_metadata(runtime, path) {
+        Ok(metadata) => metadata,
+        Err(error) if says_absent(&error) => return Sight::Absent,
+        Err(_) => return Sight::Moved,
+    };
+    match look_of(&metadata, since) {
+        Sight::Still if metadata.is_symlink() => look_behind(runtime, since, path),
+        sight => sight,
+    }
+}
+
+/// Returns whether something may have been at a path that is absent
+/// now: whether the nearest existing folder above it has changed since.
+fn is_gone<R: Files>(
+    runtime: &R,
+    alloc: Global,
+    since: Moment,
+    path: &PathText,
+) -> Result<bool, AllocError> {
+    let mut here = path.folder(alloc)?;
+    for _ in 0..u64::MAX {
+        match look(runtime, since, here.as_str()) {
+            Sight::Absent => here = here.folder(alloc)?,
+            Sight::Moved => return Ok(true),
+            Sight::Folder | Sight::Still => return Ok(false),
+        }
+    }
+    Ok(true)
+}
+
+/// Adds the files and folders of a folder to those that wait, without
+/// what is left out. Returns whether the folder could be listed.
+fn add_entries<R: Files + AllocGlobal>(
+    runtime: &R,
+    alloc: Global,
+    left_out: &PathText,
+    folder: &PathText,
+    waiting: &mut Vec<PathText>,
+) -> Result<bool, AllocError> {
+    let found = match found_here(runtime, alloc, Some(left_out), folder) {
+        Ok(found) => found,
+        Err(PlaceFault::OutOfMemory) => return Err(AllocError),
+        Err(_) => return Ok(false),
+    };
+    for file in found.files {
+        waiting.push(file)?;
+    }
+    for here in found.waiting {
+        waiting.push(here.folder)?;
+    }
+    Ok(true)
+}
+
+/// Returns whether a path itself has moved. If it is a folder,
+/// its contents are added to what waits.
+fn has_moved<R: Files + AllocGlobal>(
+    runtime: &R,
+    alloc: Global,
+    since: Moment,
+    left_out: &PathText,
+    path: &PathText,
+    waiting: &mut Vec<PathText>,
+) -> Result<bool, AllocError> {
+    match look(runtime, since, path.as_str()) {
+        Sight::Moved => Ok(true),
+        Sight::Still => Ok(false),
+        Sight::Absent => is_gone(runtime, alloc, since, path),
+        Sight::Folder => Ok(!add_entries(runtime, alloc, left_out, path, waiting)?),
+    }
+}
+
+/// Returns whether a path below the watched one is skipped: a target folder, by its tag.
+fn is_passed_over<R: Files + AllocGlobal>(
+    runtime: &R,
+    alloc: Global,
+    watched: &PathText,
+    path: &PathText,
+) -> Result<bool, AllocError> {
+    if path == watched {
+        return Ok(false);
+    }
+    is_tagged(runtime, alloc, path)
+}
+
+/// Returns the first path found at or below a path that has changed after a moment,
+/// or `None` if nothing moved. It does not look at or below the path that is left
+/// out, nor below other target folders. If it cannot be found out, a path has moved.
+///
+/// Errors: out of memory.
+pub(crate) fn first_moved<R: Files + AllocGlobal>(
+    runtime: &R,
+    alloc: Global,
+    since: Moment,
+    left_out: &PathText,
+    path: &PathText,
+) -> Result<Option<PathText>, AllocError> {
+    if path.starts_with(left_out) {
+        return Ok(None);
+    }
+    let mut waiting = Vec::new(alloc);
+    waiting.push(path.copy(alloc)?)?;
+    for _ in 0..u64::MAX {
+        let Some(here) = waiting.pop() else {
+            return Ok(None);
+        };
+        if !is_passed_over(runtime, alloc, path, &here)?
+            && has_moved(runtime, alloc, since, left_out, &here, &mut waiting)?
+        {
+            return Ok(Some(here));
+        }
+    }
+    Ok(Some(path.copy(alloc)?))
+}

@@ -1,0 +1,96 @@
+//! Which program a name means.
+
+ghost use Rattle.std.specs.Prelude.{◌≡◌, ◌≢◌, IfErr};
+
+use pb_data::Text;
+use pb_place_types::StartFault;
+use std::alloc::{AllocError, Global};
+use std::env::VarError;
+use std::os::unix::fs::MetadataExt;
+use std::rt::{Env, Files};
+use std::{env, fs};
+
+/// Where programs are looked for if `PATH` is not set, as in the system.
+const WITHOUT_PATH: &str = "/bin:/usr/bin";
+
+/// The bits of a file's mode that let somebody run it.
+const MAY_RUN: u32 = 0o111;
+
+/// Returns whether a file that may be run is at a path, links followed.
+fn is_program<R: Files>(runtime: &R, path: &str) -> bool {
+    match fs::metadata(runtime, path) {
+        Ok(metadata) => metadata.is_file() && metadata.mode() & MAY_RUN != 0,
+        Err(_) => false,
+    }
+}
+
+/// Returns the path of a name in a folder. A folder that is not absolute starts at the current one.
+fn path_in<R: Files + Env + AllocGlobal>(
+    runtime: &R,
+    alloc: Global,
+    folder: &str,
+    name: &str,
+) -> Result<String, AllocError> {
+    if folder.starts_with('/') {
+        return format!(in alloc; "{folder}/{name}");
+    }
+    match env::current_dir(runtime) {
+        Ok(current) => format!(in alloc; "{}/{folder}/{name}", current.as_str()),
+        Err(_) => format!(in alloc; "{folder}/{name}"),
+    }
+}
+
+/// Returns the first program of a name in some folders, which are separated by colons.
+fn first_program<R: Files + Env + AllocGlobal>(
+    runtime: &R,
+    alloc: Global,
+    folders: &str,
+    name: &str,
+) -> Result<Option<String>, AllocError> {
+    for folder in folders.split(':') {
+        let path = path_in(runtime, alloc, folder, name)?;
+        if is_program(runtime, path.as_str()) {
+            return Ok(Some(path));
+        }
+    }
+    Ok(None)
+}
+
+/// Looks for a program in some folders.
+fn found_in<R: Files + Env + AllocGlobal>(
+    runtime: &R,
+    alloc: Global,
+    folders: &str,
+    name: &str,
+) -> Result<Text, StartFault>
+    ensures fault { IfErr result (λ e. e ≢ StartFault.OutOfMemory → e ≡ StartFault.CannotStart) }
+{
+    match first_program(runtime, alloc, folders, name)? {
+        Some(path) => Ok(Text::new(path)),
+        None => Err(StartFault::CannotStart),
+    }
+}
+
+/// Returns the path of a program. A name with a slash is a path. Any other name
+/// is looked for in the folders of this program's own `PATH`, so a `PATH` that
+/// a command sets for its child does not choose which program the child is.
+///
+/// Errors: `CannotStart`, if no folder has it; `OutOfMemory`.
+pub(crate) fn program_of<R: Files + Env + AllocGlobal>(
+    runtime: &R,
+    alloc: Global,
+    name: &str,
+) -> Result<Text, StartFault>
+    ensures fault { IfErr result (λ e. e ≢ StartFault.OutOfMemory → e ≡ StartFault.CannotStart) }
+{
+    if name.contains('/') {
+        return Ok(Text::from_str(alloc, name)?);
+    }
+    match env::var(runtime, "PATH") {
+        Ok(folders) => found_in(runtime, alloc, folders.as_str(), name),
+        Err(VarError::NotPresent) => found_in(runtime, alloc, WITHOUT_PATH, name),
+        Err(VarError::OutOfMemory) => Err(StartFault::OutOfMemory),
+        // It contains no path of ours.
+        Err(VarError::NotUnicode) => Err(StartFault::CannotStart),
+    }
+}

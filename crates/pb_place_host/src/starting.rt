@@ -1,0 +1,191 @@
+//! Starting real children, and waiting for their end.
+
+ghost use Rattle.std.specs.Prelude.{◌≡◌, ◌≢◌, ◌⊎◌, ◌++◌, ℕ, List, Some, None, if◌then◌else◌, OnOk, IfOk, IfErr};
+ghost use Rattle.std.specs.Str.{bytes_eq};
+ghost use Rattle.std.specs.Process.{command_program, command_args, command_var, command_dir, clears_env, exit_code, SameEnv, SameDir, SameProgramAndArgs};
+ghost use Rattle.std.specs.IoError.{error_kind};
+ghost use Rattle.pb_place_types.specs.declared.place.StartFault.TheVariants as start_fault;
+ghost use Rattle.pb_place_host.specs.Starting.{value_over, IsProcessOf};
+
+use crate::moving::{Moment, moment_of};
+use crate::program::program_of;
+use pb_data::{Bytes, Text, with_next};
+use pb_place_types::{Command, Ended, StartFault};
+use std::alloc::{AllocError, Global};
+use std::io::ErrorKind;
+use std::process::{Child, OpenProcess, Output, Processes, Stdio};
+use std::rt::{Env, Files};
+use std::{fs, io, process};
+
+/// Returns the fault of a start for an error: out of memory, or this one.
+fn fault_of(error: io::Error, own: StartFault) -> StartFault
+    ensures memory { error_kind error ≡ ErrorKind.OutOfMemory → result ≡ start_fault.OutOfMemory }
+    ensures own { error_kind error ≢ ErrorKind.OutOfMemory → result ≡ own }
+{
+    if error.kind() == ErrorKind::OutOfMemory {
+        return StartFault::OutOfMemory;
+    }
+    own
+}
+
+/// Adds arguments to those of a process.
+fn add_words(made: &mut process::Command, words: &[Text]) -> Result<(), AllocError>
+    ensures words { OnOk result (command_args made.new ≡ command_args made.old ++ words.now) }
+    ensures program { OnOk result (command_program made.new ≡ command_program made.old) }
+    ensures variables { OnOk result (SameEnv made.old made.new) }
+    ensures folder { OnOk result (SameDir made.old made.new) }
+{
+    for word in words {
+        made.arg(word.as_str())?;
+    }
+    Ok(())
+}
+
+/// Sets a variable of a process.
+#[tactic(auto, using(crate::proofs::Variables::set_law))]
+fn set_variable(made: &mut process::Command, name: &str, value: &str) -> Result<(), AllocError>
+    ensures set { OnOk result
+        ((other : List ℕ)
+        → command_var made.new other
+        ≡ (if bytes_eq name.now other then Some (Some value.now) else command_var made.old other)) }
+    ensures call { OnOk result (SameProgramAndArgs made.old made.new) }
+    ensures inherits { OnOk result (clears_env made.new ≡ clears_env made.old) }
+    ensures folder { OnOk result (SameDir made.old made.new) }
+{
+    made.env(name, value)?;
+    Ok(())
+}
+
+/// Sets the variables of a process, one after another.
+fn add_pairs(made: &mut process::Command, pairs: &[(Text, Text)]) -> Result<(), AllocError>
+    ensures pairs { OnOk result ((name : List ℕ)
+        → command_var made.new name ≡ value_over name (command_var made.old name) pairs.now) }
+    ensures call { OnOk result (SameProgramAndArgs made.old made.new) }
+    ensures inherits { OnOk result (clears_env made.new ≡ clears_env made.old) }
+    ensures folder { OnOk result (SameDir made.old made.new) }
+{
+    for (name, value) in pairs {
+        set_variable(made, name.as_str(), value.as_str())?;
+    }
+    Ok(())
+}
+
+/// Gives a process all that a command says besides its program.
+fn fill(made: &mut process::Command, command: &Command) -> Result<(), AllocError>
+    ensures program { OnOk result (command_program made.new ≡ command_program made.old) }
+    ensures words { OnOk result
+        (command_args made.new ≡ command_args made.old ++ command.now.words) }
+    ensures folder { OnOk result (command_dir made.new ≡ Some command.now.folder) }
+    ensures inherits { OnOk result (clears_env made.new ≡ clears_env made.old) }
+    ensures pairs { OnOk result ((name : List ℕ) → command_var made.new name
+        ≡ value_over name (command_var made.old name) command.now.pairs) }
+{
+    add_words(made, command.words.as_slice())?;
+    add_pairs(made, command.pairs.as_slice())?;
+    made.current_dir(command.folder.as_str())?;
+    Ok(())
+}
+
+/// Returns the process of a command: this program with the command's
+/// arguments, in its folder, with its environment over the inherited one.
+fn process_of(
+    alloc: Global,
+    program: &str,
+    command: &Command,
+) -> Result<process::Command, AllocError>
+    ensures { IfOk result (IsProcessOf program.now command.now) }
+{
+    let mut made = process::Command::new(alloc, program)?;
+    let filled = fill(&mut made, command);
+    let (made, ()) = with_next(made, filled)?;
+    Ok(made)
+}
+
+/// Starts a process with an empty standard input, whose output is read later.
+fn begin<R: Processes>(
+    runtime: &R,
+    mut made: process::Command,
+) -> Result<Child<R::Started>, StartFault>
+    ensures fault { IfErr result (λ e. e ≢ StartFault.OutOfMemory → e ≡ StartFault.CannotStart) }
+{
+    made.stdin(Stdio::null());
+    made.stdout(Stdio::piped());
+    made.stderr(Stdio::piped());
+    let spawned = made.spawn(runtime);
+    drop(made);
+    match spawned {
+        Ok(child) => Ok(child),
+        Err(error) => Err(fault_of(error, StartFault::CannotStart)),
+    }
+}
+
+/// Makes the output folder of a command, and returns when that was, by the clock of its file
+/// system; `None` if the command has no output folder, or the time cannot be found out.
+///
+/// Errors: `CannotStart`, if the folder cannot be made; `OutOfMemory`.
+fn make_out<R: Files>(runtime: &R, command: &Command) -> Result<Option<Moment>, StartFault>
+    ensures fault { IfErr result (λ e. e ≢ StartFault.OutOfMemory → e ≡ StartFault.CannotStart) }
+{
+    let Some(out) = &command.out else {
+        return Ok(None);
+    };
+    match fs::create_dir_all(runtime, out.as_str()) {
+        Ok(()) => Ok(moment_of(runtime, out)),
+        Err(error) => Err(fault_of(error, StartFault::CannotStart)),
+    }
+}
+
+/// Starts the child of a command, after making its output folder. Returns the child with the
+/// moment at which the folder was made: what changes later changes while the child is at work.
+///
+/// Errors: `CannotStart`, if the output folder cannot be made, or
+/// the program is not found or cannot be started; `OutOfMemory`.
+pub(crate) fn spawn<R: Files + Env + Processes + AllocGlobal>(
+    runtime: &R,
+    alloc: Global,
+    command: &Command,
+) -> Result<(Child<R::Started>, Option<Moment>), StartFault>
+    ensures fault { IfErr result (λ e. e ≢ StartFault.OutOfMemory → e ≡ StartFault.CannotStart) }
+{
+    // The folder before the child: a compiler does not make it.
+    let since = make_out(runtime, command)?;
+    let program = program_of(runtime, alloc, command.program.as_str())?;
+    let made = process_of(alloc, program.as_str(), command)?;
+    let child = begin(runtime, made)?;
+    Ok((child, since))
+}
+
+/// Waits for the end of a child, and reads what it writes until then.
+///
+/// Errors: `Capture`, if what the child writes cannot be read;
+/// `Died`, if it ends without a status code.
+pub(crate) fn finish<S: OpenProcess + Drop>(
+    alloc: Global,
+    child: Child<S>,
+) -> Result<Ended, StartFault>
+    ensures fault { IfErr result (λ e. e ≢ StartFault.OutOfMemory → (e ≡ StartFault.Died)
+        ⊎ (e ≡ StartFault.Capture)) }
+{
+    match child.wait_with_output(alloc) {
+        Ok(output) => ended(output),
+        Err(error) => Err(fault_of(error, StartFault::Capture)),
+    }
+}
+
+/// Returns how a child ended: its status code and both its streams, as they were written.
+///
+/// Errors: `Died`, if it has no status code.
+fn ended(output: Output) -> Result<Ended, StartFault>
+    ensures ended { IfOk result (λ e. (exit_code output.status ≡ Some e.status)
+        × (e.stdout ≡ output.stdout.items) × (e.stderr ≡ output.stderr.items)) }
+    ensures fault { IfErr result (λ e. (exit_code output.status ≡ None) × (e ≡ StartFault.Died)) }
+{
+    match output.status.code() {
+        Some(status) => Ok(Ended {
+            status,
+            stdout: Bytes::new(output.stdout),
+            stderr: Bytes::new(output.stderr),
+        }),
+        None => Err(StartFault::Died),
+    }
+}

@@ -1,0 +1,14 @@
+pub mod CallsInTurn
+pub mod Changes
+pub mod Copies
+pub mod Failing
+pub mod InFlight
+pub mod Folders
+pub mod MapLemmas
+pub mod PathLemmas
+pub mod Starts
+pub mod TakenApart
+pub mod Towards
+pub mod Within
+pub mod Worlds
+pub mod Wholes

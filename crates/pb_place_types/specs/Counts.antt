@@ -1,0 +1,119 @@
+-- How the calls of a place are counted, which fault came last, and which call on files or variables failed last.
+-- Each counter stops at the greatest number of 64 bits. A `finish` is counted only if it fails.
+use Rattle.std.specs.Prelude.{ℕ, ◌+◌, ◌++◌, ◌∷◌, ◌==◌, min, if◌then◌else◌, List, [], Option, Some, None, Result, Ok, Err}
+use Rattle.pb_place_types.specs.declared.call.Call.{Call}
+use Rattle.pb_place_types.specs.declared.call.Call.TheVariants as call
+use Rattle.pb_place_types.specs.declared.child_in_flight.ChildInFlight.{ChildInFlight}
+use Rattle.pb_place_types.specs.declared.place.PlaceFault.{PlaceFault}
+use Rattle.pb_place_types.specs.declared.place.PlaceFault.TheVariants.{OutOfMemory}
+use Rattle.pb_place_types.specs.declared.place.Failure.{Failure}
+use Rattle.pb_place_types.specs.declared.place.Failure.TheVariants.{Called, Started}
+use Rattle.pb_place_types.specs.declared.place.StartFault.{StartFault}
+use Rattle.pb_place_types.specs.declared.place.StartFault.TheVariants as start
+
+-- How often `spawn` and `start` were called, the children in flight in the order of their spawns,
+-- and the number of `settings`.
+-- `settings` counts how often a place for tests was set to let calls fail; no call of a place changes it.
+pub record Starts : Type 0 where
+  pub count : ℕ
+  pub flying : List ChildInFlight
+  pub settings : ℕ
+
+-- The counters. No method returns the number of all calls, so no body can depend on it.
+-- A fault and its counters determine which call failed and at which position, since each call may fail.
+pub record Counts : Type 0 where
+  -- all calls but `finish`
+  pub calls : ℕ
+  -- the calls that failed, including `finish`
+  pub failures : ℕ
+  -- the calls of `spawn` and `start`
+  pub starts : Starts
+  -- the calls other than `finish` since the last failure
+  pub late : ℕ
+  -- the fault of the last failure
+  pub last : Option Failure
+  -- the last failing call on files or variables
+  pub failing : Option Call
+
+-- the path or the variable's name to which a call applies
+abbrev pub name_given : Call → List ℕ
+name_given (call.Read path) = path
+name_given (call.IsFile path) = path
+name_given (call.List folder) = folder
+name_given (call.ListOutside folder left_out) = folder
+name_given (call.ListDirectly folder) = folder
+name_given (call.ListFolders folder left_out) = folder
+name_given (call.Write path) = path
+name_given (call.Remove path) = path
+name_given (call.Variable name) = name
+
+-- the path or the variable's name of the last failing call on files or variables
+abbrev pub named_in : Counts → List ℕ
+named_in c = names_of c.failing
+  where
+    names_of : Option Call → List ℕ
+    names_of None = []
+    names_of (Some call) = name_given call
+
+-- the counters before any call
+abbrev pub no_calls : Counts
+no_calls = record { calls = 0; failures = 0; starts = record { count = 0; flying = []; settings = 0 }; late = 0; last = None; failing = None }
+
+-- one more, but at most the greatest number of 64 bits
+abbrev pub up : ℕ → ℕ
+up n = min (n + 1) 0xffff_ffff_ffff_ffff
+
+-- one more child was started, and none is in flight for it
+abbrev pub up_starts : Starts → Starts
+up_starts s = record s { count = up s.count }
+
+-- the counters after a call that did not fail: one more call since the last failure, if there was one
+abbrev pub past_call : Counts → Counts
+past_call c = record c { calls = up c.calls; late = if c.failures == 0 then 0 else up c.late }
+
+-- the counters after a fault of the outside, whatever call it came from
+abbrev pub past_fault : Failure → Counts → Counts
+past_fault f c = record c { failures = up c.failures; late = 0; last = Some f }
+
+-- the counters after this call failed; running out of memory is no failure of the outside
+abbrev pub past_place_fault : Call → PlaceFault → Counts → Counts
+past_place_fault call OutOfMemory c = past_call c
+past_place_fault call e c = record (past_fault (Called e) c) { calls = up c.calls; failing = Some call }
+
+abbrev pub counted : {T : Type 0} → Call → Result T PlaceFault → Counts → Counts
+counted call (Ok x) c = past_call c
+counted call (Err e) c = past_place_fault call e c
+
+-- the counters after a call of `start`
+abbrev pub one_start : Counts → Counts
+one_start c = record c { starts = up_starts c.starts }
+
+abbrev pub past_start_fault : StartFault → Counts → Counts
+past_start_fault start.OutOfMemory c = past_call c
+past_start_fault e c = record (past_fault (Started e) c) { calls = up c.calls }
+
+abbrev pub counted_start : {T : Type 0} → Result T StartFault → Counts → Counts
+counted_start (Ok x) c = past_call (one_start c)
+counted_start (Err e) c = past_start_fault e (one_start c)
+
+abbrev pub without : ℕ → List ChildInFlight → List ChildInFlight
+without ticket [] = []
+without ticket (f ∷ fs) = if f.ticket == ticket then fs else f ∷ without ticket fs
+
+-- the counters after a call of `spawn`
+abbrev pub counted_spawn : (ℕ → ChildInFlight) → Result ℕ StartFault → Counts → Counts
+counted_spawn spawned (Ok ticket) c = past_call record c { starts = record c.starts { count = up c.starts.count; flying = c.starts.flying ++ spawned ticket ∷ [] } }
+counted_spawn spawned (Err e) c = past_start_fault e (one_start c)
+
+-- the counters once the child of this ticket is no longer in flight
+abbrev pub landed : ℕ → Counts → Counts
+landed ticket c = record c { starts = record c.starts { flying = without ticket c.starts.flying } }
+
+-- the counters after a `finish` that failed; running out of memory is not counted
+abbrev pub past_finish_fault : StartFault → Counts → Counts
+past_finish_fault start.OutOfMemory c = c
+past_finish_fault e c = past_fault (Started e) c
+
+abbrev pub counted_finish : {T : Type 0} → ℕ → Result T StartFault → Counts → Counts
+counted_finish ticket (Ok x) c = landed ticket c
+counted_finish ticket (Err e) c = past_finish_fault e (landed ticket c)

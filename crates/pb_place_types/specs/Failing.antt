@@ -1,0 +1,56 @@
+-- What a failing call leaves as it was, and that its fault is recorded as the last.
+use Rattle.std.specs.Prelude.{◌≡◌, ◌≢◌, ◌⊎◌, ◌++◌, ℕ, Bool, false, List, Option, Some, None}
+use Rattle.std.specs.FinMap as map
+use Rattle.pb_place_types.specs.Paths.{is_below, is_at_or_below}
+use Rattle.pb_place_types.specs.World.{World, Torn, PartlyRemoved, ChangesOnlyInSome}
+use Rattle.pb_place_types.specs.Counts.{Counts, past_fault, past_place_fault, past_start_fault, up}
+use Rattle.pb_place_types.specs.declared.call.Call.{Call}
+use Rattle.pb_place_types.specs.declared.place.Failure.TheVariants.{Called, Started}
+use Rattle.pb_place_types.specs.declared.place.PlaceFault.{PlaceFault}
+use Rattle.pb_place_types.specs.declared.place.PlaceFault.TheVariants as place
+use Rattle.pb_place_types.specs.declared.place.StartFault.{StartFault}
+use Rattle.pb_place_types.specs.declared.place.StartFault.TheVariants as start
+
+-- after a failed write, every other path has its old content
+abbrev pub TornSparesOthers : Type 0
+TornSparesOthers = (path bytes q : List ℕ) (old new : World) → Torn path bytes old new → q ≢ path → map.get new.files q ≡ map.get old.files q
+
+-- after a failed write, the path has its old bytes, none, or a first part of the new bytes
+abbrev pub TornLeaves : Type 0
+TornLeaves = (path bytes : List ℕ) (old new : World) → Torn path bytes old new
+    → (map.get new.files path ≡ map.get old.files path) ⊎ ((map.get new.files path ≡ None) ⊎ ((first : List ℕ) × (rest : List ℕ) × (bytes ≡ first ++ rest) × (map.get new.files path ≡ Some first)))
+
+-- after a failed removal, every path outside the tree has its old content
+abbrev pub PartlySparesOthers : Type 0
+PartlySparesOthers = (path q : List ℕ) (old new : World) → PartlyRemoved path old new → is_at_or_below path q ≡ false → map.get new.files q ≡ map.get old.files q
+
+-- after a failed removal, no path has new bytes
+abbrev pub PartlyMakesNothing : Type 0
+PartlyMakesNothing = (path q b : List ℕ) (old new : World) → PartlyRemoved path old new → map.get new.files q ≡ Some b → map.get old.files q ≡ Some b
+
+-- whether a path is in the folder in which a child may write
+abbrev pub is_in_out : Option (List ℕ) → List ℕ → Bool
+is_in_out None q = false
+is_in_out (Some folder) q = is_below folder q
+
+-- after a start, even a failed one, every path outside the child's folder has its old content
+abbrev pub StartSparesOthers : Type 0
+StartSparesOthers = (out : Option (List ℕ)) (q : List ℕ) (old new : World) → ChangesOnlyInSome out old new → is_in_out out q ≡ false → map.get new.files q ≡ map.get old.files q
+
+-- none of these calls changes a variable
+abbrev pub TornSparesVariables : Type 0
+TornSparesVariables = (path bytes : List ℕ) (old new : World) → Torn path bytes old new → new.variables ≡ old.variables
+
+abbrev pub PartlySparesVariables : Type 0
+PartlySparesVariables = (path : List ℕ) (old new : World) → PartlyRemoved path old new → new.variables ≡ old.variables
+
+abbrev pub StartSparesVariables : Type 0
+StartSparesVariables = (out : Option (List ℕ)) (old new : World) → ChangesOnlyInSome out old new → new.variables ≡ old.variables
+
+-- a call that failed, other than by running out of memory, is counted; it and its fault are recorded as the last
+abbrev pub CallTellsFault : Type 0
+CallTellsFault = (call : Call) (e : PlaceFault) (c : Counts) → e ≢ place.OutOfMemory → past_place_fault call e c ≡ record (past_fault (Called e) c) { calls = up c.calls; failing = Some call }
+
+-- a start that failed, other than by running out of memory, is counted, and its fault is recorded as the last
+abbrev pub StartTellsFault : Type 0
+StartTellsFault = (e : StartFault) (c : Counts) → e ≢ start.OutOfMemory → past_start_fault e c ≡ record (past_fault (Started e) c) { calls = up c.calls }

@@ -1,0 +1,15 @@
+pub use Rattle.pb_data.specs.Gives
+pub mod At
+pub mod CallsInTurn
+pub mod Changes
+pub mod Copies
+pub mod Counts
+pub mod Failing
+pub mod Children
+pub mod Folders
+pub mod Maps
+pub mod Paths
+pub mod Private
+pub mod Sinks
+pub mod Within
+pub mod World

@@ -1,0 +1,106 @@
+-- Normalised absolute paths, and what is below a folder. Paths are UTF-8 bytes, split at `/`; links play no part.
+use Rattle.std.specs.Prelude.{ℕ, ◌==◌, Bool, false, not, ◌&&◌, ◌||◌, if◌then◌else◌, codes, List, [], ◌∷◌, ◌++◌, ◌+◌, ◌-◌, length, take, drop, Option, Some, None, Result, Ok, Err}
+use Rattle.std.specs.List.{fold, list_any, list_all, slice_split}
+use Rattle.std.specs.Str.{bytes_eq}
+use Rattle.pb_place_types.specs.declared.path.PathFault.{PathFault}
+use Rattle.pb_place_types.specs.declared.path.PathFault.TheVariants.{NotAbsolute, BadByte}
+
+-- the parts of a text between its slashes
+abbrev pub parts_of : List ℕ → List (List ℕ)
+parts_of text = slice_split (λ b. b == 47) text
+
+-- a part stays in the same folder if it is empty or `.`
+abbrev pub stays : List ℕ → Bool
+stays part = bytes_eq part [] || bytes_eq part (codes ".")
+
+-- a part leads to the folder above if it is `..`
+abbrev pub leads_up : List ℕ → Bool
+leads_up part = bytes_eq part (codes "..")
+
+-- the names after one more part: one fewer for `..` (at the root none), one more for a name
+abbrev pub walked : List (List ℕ) → List ℕ → List (List ℕ)
+walked names part = if stays part then names else (if leads_up part then take (length names - 1) names else names ++ part ∷ [])
+
+-- the names to which a text leads from the root
+abbrev pub names_of : List ℕ → List (List ℕ)
+names_of text = fold walked [] (parts_of text)
+
+-- the names, each after a slash
+abbrev pub slashed : List (List ℕ) → List ℕ
+slashed [] = []
+slashed (name ∷ names) = 47 ∷ name ++ slashed names
+
+-- the path with these names; the root is a single slash
+abbrev pub path_of : List (List ℕ) → List ℕ
+path_of [] = 47 ∷ []
+path_of (name ∷ names) = slashed (name ∷ names)
+
+abbrev pub is_absolute : List ℕ → Bool
+is_absolute [] = false
+is_absolute (b ∷ rest) = b == 47
+
+abbrev pub has_byte_0 : List ℕ → Bool
+has_byte_0 text = list_any (λ b. b == 0) text
+
+-- the path that an absolute text spells
+abbrev pub parsed : List ℕ → Result (List ℕ) PathFault
+parsed text = if is_absolute text then (if has_byte_0 text then Err BadByte else Ok (path_of (names_of text))) else Err NotAbsolute
+
+-- the path that a text spells inside a folder; an absolute text spells its own path
+abbrev pub joined : List ℕ → List ℕ → Result (List ℕ) PathFault
+joined folder text = parsed (if is_absolute text then text else folder ++ 47 ∷ text)
+
+-- the folder that contains a path: one part up
+abbrev pub folder_of : List ℕ → List ℕ
+folder_of path = path_of (walked (names_of path) (codes ".."))
+
+-- the last of some texts, or the given one if there are none
+abbrev pub last_of : List ℕ → List (List ℕ) → List ℕ
+last_of text [] = text
+last_of text (next ∷ texts) = last_of next texts
+
+-- the last part of a path, which is its name; the root's is empty
+abbrev pub last_part : List ℕ → List ℕ
+last_part path = last_of [] (parts_of path)
+
+-- a part names a file or folder if it is no `.`, `..` or empty text and has no byte 0; callers check for slashes
+abbrev pub is_name : List ℕ → Bool
+is_name part = not (stays part || leads_up part || has_byte_0 part)
+
+-- a text is relative if it is names with a slash between them: a path inside some folder
+abbrev pub is_relative : List ℕ → Bool
+is_relative text = list_all is_name (parts_of text)
+
+-- a text is a path if it is a slash, followed by nothing or by names with a slash between them
+abbrev pub is_path : List ℕ → Bool
+is_path [] = false
+is_path (b ∷ []) = b == 47
+is_path (b ∷ c ∷ rest) = (b == 47) && is_relative (c ∷ rest)
+
+-- the text before the slash in each path below a folder: the folder, or nothing for the root
+abbrev pub stem : List ℕ → List ℕ
+stem folder = if bytes_eq folder (codes "/") then [] else folder
+
+-- the path of a relative path in a folder
+abbrev pub below : List ℕ → List ℕ → List ℕ
+below folder relative = stem folder ++ 47 ∷ relative
+
+-- whether a path is the stem, a slash and something more
+unfoldable pub leads_below : List ℕ → List ℕ → Bool
+leads_below [] [] = false
+leads_below [] (b ∷ []) = false
+leads_below [] (b ∷ c ∷ rest) = b == 47
+leads_below (a ∷ stem) [] = false
+leads_below (a ∷ stem) (b ∷ path) = (a == b) && leads_below stem path
+
+-- a path is strictly below a folder, by whole parts: `/a/b` is below `/a`, and `/ab` is not
+unfoldable pub is_below : List ℕ → List ℕ → Bool
+is_below folder path = leads_below (stem folder) path
+
+-- a path is at or below a folder if it is the folder itself or strictly below it
+unfoldable pub is_at_or_below : List ℕ → List ℕ → Bool
+is_at_or_below folder path = bytes_eq folder path || is_below folder path
+
+-- the path inside a folder of a path strictly below it: all that follows the folder's stem and a slash
+abbrev pub inside : List ℕ → List ℕ → Option (List ℕ)
+inside folder path = if is_below folder path then Some (drop (length (stem folder) + 1) path) else None

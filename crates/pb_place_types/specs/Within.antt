@@ -1,0 +1,68 @@
+-- The laws of paths at or below a folder, or strictly below it.
+use Rattle.std.specs.Prelude.{◌≡◌, ◌≢◌, ◌↔◌, ◌⊎◌, ℕ, ◌==◌, ◌∷◌, List, [], Some, true, false, codes}
+use Rattle.std.specs.List.{list_any}
+use Rattle.pb_place_types.specs.Paths.{is_path, is_name, is_relative, below, is_below, is_at_or_below, inside, folder_of, last_part}
+
+-- a path is below a folder if and only if it is the folder's stem, a slash and something more
+abbrev pub BelowGoesOn : Type 0
+BelowGoesOn = (folder path : List ℕ) → (is_below folder path ≡ true) ↔ ((c : ℕ) × (rest : List ℕ) × (path ≡ below folder (c ∷ rest)))
+
+-- a path is at or below a folder if and only if it is the folder itself or is below it
+abbrev pub AtOrBelow : Type 0
+AtOrBelow = (folder path : List ℕ) → (is_at_or_below folder path ≡ true) ↔ ((folder ≡ path) ⊎ (is_below folder path ≡ true))
+
+-- a path at or below a folder is at or below each folder above that one
+abbrev pub AtOrBelowGoesOn : Type 0
+AtOrBelowGoesOn = (above folder path : List ℕ) → is_at_or_below above folder ≡ true → is_at_or_below folder path ≡ true → is_at_or_below above path ≡ true
+
+-- the path is strictly below the upper folder if one of the two steps is strict
+abbrev pub BelowThenAt : Type 0
+BelowThenAt = (above folder path : List ℕ) → is_below above folder ≡ true → is_at_or_below folder path ≡ true → is_below above path ≡ true
+
+abbrev pub AtThenBelow : Type 0
+AtThenBelow = (above folder path : List ℕ) → is_at_or_below above folder ≡ true → is_below folder path ≡ true → is_below above path ≡ true
+
+-- two folders that are at or below each other are the same folder
+abbrev pub OneFolder : Type 0
+OneFolder = (f g : List ℕ) → is_at_or_below f g ≡ true → is_at_or_below g f ≡ true → f ≡ g
+
+-- nothing is strictly below itself
+abbrev pub NotBelowItself : Type 0
+NotBelowItself = (f : List ℕ) → is_below f f ≡ false
+
+-- Two folders share no path if neither is at or below the other.
+-- Both must be normalised: as plain bytes, `/x` and `/x/` share `/x/a`.
+abbrev pub ShareNoPath : Type 0
+ShareNoPath = (f g q : List ℕ) → is_path f ≡ true → is_path g ≡ true → is_at_or_below f g ≡ false → is_at_or_below g f ≡ false → is_at_or_below f q ≡ true → is_at_or_below g q ≡ false
+
+-- each path is at or below the root
+abbrev pub RootIsAbove : Type 0
+RootIsAbove = (path : List ℕ) → is_path path ≡ true → is_at_or_below (codes "/") path ≡ true
+
+-- two different names without a slash, put below one folder, lead to two paths,
+-- neither of which is at or below the other
+abbrev pub NamesLieApart : Type 0
+NamesLieApart = (folder name other : List ℕ) → name ≢ [] → list_any (λ b. b == 47) other ≡ false → name ≢ other → is_at_or_below (below folder name) (below folder other) ≡ false
+
+-- the path inside a folder, joined to the folder again, is the path
+abbrev pub JoinsAgain : Type 0
+JoinsAgain = (folder path rest : List ℕ) → inside folder path ≡ Some rest → below folder rest ≡ path
+
+-- the path inside a folder of what was joined to it is what was joined
+abbrev pub FoundInside : Type 0
+FoundInside = (folder rest : List ℕ) → rest ≢ [] → inside folder (below folder rest) ≡ Some rest
+
+-- the path of a normalised path inside a normalised folder is a relative path
+abbrev pub InsideIsRelative : Type 0
+InsideIsRelative = (folder path rest : List ℕ) → is_path folder ≡ true → is_path path ≡ true → inside folder path ≡ Some rest → is_relative rest ≡ true
+
+-- each path except the root is its last part in its folder, and that part is a name without a slash
+abbrev pub EndsWithLastPart : Type 0
+EndsWithLastPart = (path : List ℕ) → is_path path ≡ true → path ≢ codes "/" → below (folder_of path) (last_part path) ≡ path
+
+abbrev pub LastPartIsName : Type 0
+LastPartIsName = (path : List ℕ) → is_path path ≡ true → path ≢ codes "/" → (is_name (last_part path) ≡ true) × (list_any (λ b. b == 47) (last_part path) ≡ false)
+
+-- each path except the root is strictly below its folder
+abbrev pub LiesInFolder : Type 0
+LiesInFolder = (path : List ℕ) → is_path path ≡ true → path ≢ codes "/" → is_below (folder_of path) path ≡ true

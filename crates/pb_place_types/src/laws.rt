@@ -1,0 +1,109 @@
+//! Laws of paths and of the world, for the layers above. Each function does nothing; its contract
+//! is the law.
+
+ghost use Rattle.std.specs.Prelude.{◌≡◌, ℕ, List, true, Ok};
+ghost use Rattle.pb_place_types.specs.Paths.{is_path, parsed};
+ghost use Rattle.pb_place_types.specs.Within.{BelowGoesOn, AtOrBelow, AtOrBelowGoesOn, BelowThenAt, AtThenBelow, OneFolder, NotBelowItself, ShareNoPath, RootIsAbove, NamesLieApart, JoinsAgain, FoundInside, InsideIsRelative, EndsWithLastPart, LastPartIsName, LiesInFolder};
+ghost use Rattle.pb_place_types.specs.CallsInTurn.{FaultTellsTurn};
+ghost use Rattle.pb_place_types.specs.Changes.{LastWordStands, VariablesStand};
+ghost use Rattle.pb_place_types.specs.Failing.{TornSparesOthers, TornLeaves, TornSparesVariables, PartlySparesOthers, PartlyMakesNothing, PartlySparesVariables, StartSparesOthers, StartSparesVariables, CallTellsFault, StartTellsFault};
+ghost use Rattle.pb_place_types.specs.Folders.{NamedFoldersLieApart, FolderStays, SourcesStayed, ChangesJoin, ChangesWiden, LooksOver, LooksIn, LooksAtSources, LooksThrough, SeesSources, SeesFolders, SeesAlike, StandAlone};
+
+/// Parsing leaves a normalised path as it is. Therefore a path spells itself, and parsing a parsed
+/// path again changes nothing.
+pub fn parsing_keeps_paths()
+    ensures { (path : List ℕ) → is_path path ≡ true → parsed path ≡ Ok path }
+{}
+
+/// The paths below a folder are those that continue it, and the folder itself is also at it. What
+/// is below a folder is below each folder above. Two folders share no path if neither is at or
+/// below the other. Two names in one folder lead to paths that lie apart.
+pub fn folders_nest()
+    ensures goes_on { BelowGoesOn }
+    ensures at { AtOrBelow }
+    ensures further { AtOrBelowGoesOn }
+    ensures strict { BelowThenAt }
+    ensures then_strict { AtThenBelow }
+    ensures one { OneFolder }
+    ensures apart { NotBelowItself }
+    ensures disjoint { ShareNoPath }
+    ensures root { RootIsAbove }
+    ensures names { NamesLieApart }
+{}
+
+/// A path inside a folder, joined to the folder, is the path again. Each path except the root is
+/// its last part in its folder.
+pub fn paths_join_again()
+    ensures again { JoinsAgain }
+    ensures found { FoundInside }
+    ensures relative { InsideIsRelative }
+    ensures last { EndsWithLastPart }
+    ensures name { LastPartIsName }
+    ensures folder { LiesInFolder }
+{}
+
+/// Two folders with different names in one folder lie apart. Changes at or below one folder leave
+/// each folder that lies apart from it as it was. If the folder is in the target folder, they leave
+/// the sources as they were. Two such changes are together one, and a change in a folder is one in
+/// each folder above it.
+pub fn changes_stay_in_folders()
+    ensures named { NamedFoldersLieApart }
+    ensures folders { FolderStays }
+    ensures sources { SourcesStayed }
+    ensures join { ChangesJoin }
+    ensures widen { ChangesWiden }
+    ensures alone { StandAlone }
+{}
+
+/// The content of a path in one map over another, in a folder's files, in the sources, and in what
+/// a child sees.
+pub fn maps_look_up()
+    ensures over { LooksOver }
+    ensures folder { LooksIn }
+    ensures sources { LooksAtSources }
+    ensures seen { LooksThrough }
+{}
+
+/// A child sees the files of the folders that it reads, over the sources. A child that reads no
+/// folder, such as the query of a compiler's version, sees only the sources. A child sees the same
+/// in two worlds if these folders and the sources have the same files.
+pub fn children_see_sources_and_folders()
+    ensures sources { SeesSources }
+    ensures folders { SeesFolders }
+    ensures alike { SeesAlike }
+{}
+
+/// What a failing call leaves as it was.
+///
+/// - After a failed write, every other path has its old content. The path has its old bytes, none,
+/// or a first part of the new bytes.
+/// - After a failed removal, every path outside the tree has its old content, and no path has new
+/// bytes.
+/// - After a start, even a failed one, every path outside the child's folder has its old content.
+/// - No variable changes.
+pub fn failing_calls_spare()
+    ensures torn { TornSparesOthers }
+    ensures leaves { TornLeaves }
+    ensures torn_variables { TornSparesVariables }
+    ensures partly { PartlySparesOthers }
+    ensures nothing_new { PartlyMakesNothing }
+    ensures partly_variables { PartlySparesVariables }
+    ensures started { StartSparesOthers }
+    ensures started_variables { StartSparesVariables }
+{}
+
+/// After writes and removals in turn, a path has what the last of them that touches it leaves: the
+/// written bytes, or nothing if it was removed. None of them changes a variable.
+pub fn last_word_stands()
+    ensures files { LastWordStands }
+    ensures variables { VariablesStand }
+{}
+
+/// A call that failed, other than by running out of memory, is counted, and its fault is recorded
+/// as the last one. If it was a call on files or variables, the call itself is recorded too. For a
+/// sequence of calls, the counters therefore determine which one failed and at which position.
+pub fn failing_calls_are_told()
+    ensures calls { CallTellsFault }
+    ensures starts { StartTellsFault }
+    ensures turns { FaultTellsTurn }
+{}

@@ -1,0 +1,376 @@
+//! The outside world: files, variables and children, each call counted.
+
+ghost use Rattle.std.specs.Prelude.{◌≡◌, ◌≢◌, [], Bool, true, IfOk, IfErr, OnOk, OnErr, IsTrue, IfSome, take};
+ghost use Rattle.std.specs.FinMap as map;
+ghost use Rattle.std.specs.Option.{option_map};
+ghost use Rattle.pb_data.specs.Gives.{Gives};
+ghost use Rattle.pb_place_types.specs.At.{At, IsUnchanged, LooksOnce, ChangesOnce, Spawns, Finishes, Starts};
+ghost use Rattle.pb_place_types.specs.Children.{child_at, is_flying, LandsAs};
+ghost use Rattle.pb_place_types.specs.Paths.{is_at_or_below, joined};
+ghost use Rattle.pb_place_types.specs.World.{Answers, FilesHavePaths, has_file, written, removed, listed, listed_directly, listed_folders, Torn, PartlyRemoved, Ends};
+ghost use Rattle.pb_place_types.specs.declared.call.Call.TheVariants as call;
+ghost use Rattle.pb_place_types.specs.declared.path.PathFault.TheVariants as path_fault;
+ghost use Rattle.pb_place_types.specs.declared.place.PlaceFault.TheVariants as place_fault;
+ghost use Rattle.pb_place_types.specs.declared.place.StartFault.TheVariants as start_fault;
+
+use crate::command::{Command, Ended};
+use crate::moved::Moved;
+use crate::path::{PathFault, PathText};
+use pb_data::{Bytes, Items, Text};
+use std::alloc::{AllocError, AllocFailed, Global};
+use thiserror::Error;
+
+/// Why a call on files or variables failed.
+#[derive(Clone, Copy, Debug, PartialEq, Eq, Error)]
+pub enum PlaceFault {
+    /// A file could not be read.
+    #[error("a file could not be read")]
+    Read,
+    /// A folder could not be listed.
+    #[error("a folder could not be listed")]
+    List,
+    /// A file could not be written.
+    #[error("a file could not be written")]
+    Write,
+    /// A file or folder could not be removed.
+    #[error("a file or folder could not be removed")]
+    Remove,
+    /// A variable could not be read.
+    #[error("a variable could not be read")]
+    Variable,
+    /// Out of memory. The outside did not fail.
+    #[error("out of memory")]
+    OutOfMemory,
+}
+
+/// Why a child gave no reply.
+#[derive(Clone, Copy, Debug, PartialEq, Eq, Error)]
+pub enum StartFault {
+    /// The program could not be started.
+    #[error("the program cannot be started")]
+    CannotStart,
+    /// The child ended without a status.
+    #[error("the child died")]
+    Died,
+    /// The child's output could not be captured.
+    #[error("the child's output could not be taken in")]
+    Capture,
+    /// Out of memory. The outside did not fail.
+    #[error("out of memory")]
+    OutOfMemory,
+}
+
+/// How the outside world failed a call. Running out of memory is no failure of the outside.
+#[derive(Clone, Copy, Debug, PartialEq, Eq)]
+pub enum Failure {
+    /// A call on files or variables failed.
+    Called(PlaceFault),
+    /// A child could not be started, or gave no reply.
+    Started(StartFault),
+}
+
+impl From<AllocError> for PlaceFault {
+    ghost from_gives = { λ _ e. e ≡ place_fault.OutOfMemory };
+
+    fn from(_: AllocError) -> Self {
+        PlaceFault::OutOfMemory
+    }
+}
+
+impl<T: Drop> From<AllocFailed<T>> for PlaceFault {
+    ghost from_gives = { λ _ e. e ≡ place_fault.OutOfMemory };
+
+    fn from(_: AllocFailed<T>) -> Self {
+        PlaceFault::OutOfMemory
+    }
+}
+
+impl From<AllocError> for StartFault {
+    ghost from_gives = { λ _ e. e ≡ start_fault.OutOfMemory };
+
+    fn from(_: AllocError) -> Self {
+        StartFault::OutOfMemory
+    }
+}
+
+impl<T: Drop> From<AllocFailed<T>> for StartFault {
+    ghost from_gives = { λ _ e. e ≡ start_fault.OutOfMemory };
+
+    fn from(_: AllocFailed<T>) -> Self {
+        StartFault::OutOfMemory
+    }
+}
+
+/// Returns the first n of these bytes, where n is at most `most`.
+fn cut(bytes: Bytes, most: usize) -> Bytes
+    ensures { result ≡ take most bytes }
+{
+    let mut inside = bytes.into_vec();
+    inside.truncate(most);
+    Bytes::new(inside)
+}
+
+/// The files, the variables and the child processes of the outside world.
+///
+/// Clauses about answers and about file contents apply to places that tell their maps. All other
+/// clauses apply to every place. Unless memory runs out, the maps and the child determine each
+/// answer.
+///
+/// Which calls there are is our own choice.
+pub trait Place {
+    /// Whether the place tells its maps: whether `at` has the files and variables as they are. A
+    /// real machine does not, so clauses with this premise do not apply to it.
+    ghost tells: { Bool };
+
+    /// All that clauses can see of the place at one moment. If it does not tell its maps, they are
+    /// constant.
+    ghost at: { Self → At };
+
+    /// The child: a member of the type, so no call can change it.
+    ghost child: { Answers };
+
+    /// Whether a call may fail for another reason than out of memory.
+    ghost fails: { Self → Type 0 };
+
+    /// Returns the bytes of a file, or none if no file is there.
+    ///
+    /// Errors: `Read`; `OutOfMemory`.
+    fn read(&mut self, alloc: Global, path: &PathText) -> Result<Option<Bytes>, PlaceFault>
+        ensures ok { IsTrue tells → IfOk result
+            (λ found. found ≡ map.get (at self.old).world.files path.now) }
+        ensures looks { LooksOnce (call.Read path.now) result (at self.old) (at self.new) }
+        ensures fails { IfErr result (λ e. e ≢ PlaceFault.OutOfMemory → fails self.old) };
+
+    /// Returns the first bytes of a file, at most `most`, or none if no file is there. It is
+    /// counted as `read` is.
+    ///
+    /// Errors: `Read`; `OutOfMemory`.
+    fn read_first(
+        &mut self,
+        alloc: Global,
+        path: &PathText,
+        most: usize,
+    ) -> Result<Option<Bytes>, PlaceFault>
+        ensures ok { IsTrue tells → IfOk result (λ found. found
+            ≡ option_map (take most) (map.get (at self.old).world.files path.now)) }
+        ensures looks { LooksOnce (call.Read path.now) result (at self.old) (at self.new) }
+        ensures fails { IfErr result (λ e. e ≢ PlaceFault.OutOfMemory → fails self.old) }
+    {
+        match self.read(alloc, path) {
+            Ok(Some(bytes)) => Ok(Some(cut(bytes, most))),
+            Ok(None) => Ok(None),
+            Err(fault) => Err(fault),
+        }
+    }
+
+    /// Returns whether a file is at a path.
+    ///
+    /// Errors: `Read`; `OutOfMemory`.
+    fn is_file(&mut self, alloc: Global, path: &PathText) -> Result<bool, PlaceFault>
+        ensures ok { IsTrue tells → IfOk result
+            (λ answer. answer ≡ has_file path.now (at self.old).world) }
+        ensures looks { LooksOnce (call.IsFile path.now) result (at self.old) (at self.new) }
+        ensures fails { IfErr result (λ e. e ≢ PlaceFault.OutOfMemory → fails self.old) };
+
+    /// Returns the paths of all files below a folder, in byte order. The folder's own path is not
+    /// among them.
+    ///
+    /// Errors: `List`; `OutOfMemory`.
+    fn list(&mut self, alloc: Global, folder: &PathText) -> Result<Items<PathText>, PlaceFault>
+        ensures ok { IsTrue tells → IfOk result
+            (λ paths. paths ≡ listed folder.now (at self.old).world) }
+        ensures looks { LooksOnce (call.List folder.now) result (at self.old) (at self.new) }
+        ensures fails { IfErr result (λ e. e ≢ PlaceFault.OutOfMemory → fails self.old) };
+
+    /// Returns the paths of all files below a folder, except those at or below another path, in
+    /// byte order. It does not look at or below that path.
+    ///
+    /// Errors: `List`; `OutOfMemory`.
+    fn list_outside(
+        &mut self,
+        alloc: Global,
+        folder: &PathText,
+        left_out: &PathText,
+    ) -> Result<Items<PathText>, PlaceFault>
+        ensures ok { IsTrue tells → IfOk result
+            (λ paths. paths ≡ listed folder.now (removed left_out.now (at self.old).world)) }
+        ensures looks { LooksOnce (call.ListOutside folder.now left_out.now) result
+            (at self.old) (at self.new) }
+        ensures fails { IfErr result (λ e. e ≢ PlaceFault.OutOfMemory → fails self.old) };
+
+    /// Returns the paths of the files directly in a folder, in byte order. It does not look into
+    /// the folders there.
+    ///
+    /// Errors: `List`; `OutOfMemory`.
+    fn list_directly(
+        &mut self,
+        alloc: Global,
+        folder: &PathText,
+    ) -> Result<Items<PathText>, PlaceFault>
+        ensures ok { IsTrue tells → IfOk result
+            (λ paths. paths ≡ listed_directly folder.now (at self.old).world) }
+        ensures looks { LooksOnce (call.ListDirectly folder.now) result
+            (at self.old) (at self.new) }
+        ensures fails { IfErr result (λ e. e ≢ PlaceFault.OutOfMemory → fails self.old) };
+
+    /// Returns the paths of the folders directly in a folder, without repeats. It does not look
+    /// into them.
+    ///
+    /// In the maps these are the folders with a file below them, not counting files at or below
+    /// another path. A machine also has folders without files: it may return them too, but not that
+    /// other path.
+    ///
+    /// Errors: `List`; `OutOfMemory`.
+    fn list_folders(
+        &mut self,
+        alloc: Global,
+        folder: &PathText,
+        left_out: &PathText,
+    ) -> Result<Items<PathText>, PlaceFault>
+        ensures ok { IsTrue tells → IfOk result
+            (λ folders. folders
+            ≡ listed_folders folder.now (removed left_out.now (at self.old).world)) }
+        ensures looks { LooksOnce (call.ListFolders folder.now left_out.now) result
+            (at self.old) (at self.new) }
+        ensures fails { IfErr result (λ e. e ≢ PlaceFault.OutOfMemory → fails self.old) };
+
+    /// Writes a file, and creates the folders above it. After an error the path has the old file,
+    /// no file, or the first n of the new bytes.
+    ///
+    /// Errors: `Write`; `OutOfMemory`.
+    fn write(&mut self, alloc: Global, path: &PathText, bytes: &[u8]) -> Result<(), PlaceFault>
+        ensures ok { IsTrue tells → OnOk result
+            ((at self.new).world ≡ written path.now bytes.now (at self.old).world) }
+        ensures err { IsTrue tells → OnErr result
+            (Torn path.now bytes.now (at self.old).world (at self.new).world) }
+        ensures changes { ChangesOnce (is_at_or_below path.now) (call.Write path.now) result
+            (at self.old) (at self.new) }
+        ensures fails { IfErr result (λ e. e ≢ PlaceFault.OutOfMemory → fails self.old) };
+
+    /// Removes the file at a path and all files below it. If there are none, nothing changes. After
+    /// an error each of them may still exist.
+    ///
+    /// Errors: `Remove`; `OutOfMemory`.
+    fn remove_tree(&mut self, alloc: Global, path: &PathText) -> Result<(), PlaceFault>
+        ensures ok { IsTrue tells → OnOk result
+            ((at self.new).world ≡ removed path.now (at self.old).world) }
+        ensures err { IsTrue tells → OnErr result
+            (PartlyRemoved path.now (at self.old).world (at self.new).world) }
+        ensures changes { ChangesOnce (is_at_or_below path.now) (call.Remove path.now) result
+            (at self.old) (at self.new) }
+        ensures fails { IfErr result (λ e. e ≢ PlaceFault.OutOfMemory → fails self.old) };
+
+    /// Returns the value of a variable, or none if it is not set.
+    ///
+    /// Errors: `Variable`; `OutOfMemory`.
+    fn variable(&mut self, alloc: Global, name: &str) -> Result<Option<Text>, PlaceFault>
+        ensures ok { IsTrue tells → IfOk result
+            (λ found. found ≡ map.get (at self.old).world.variables name.now) }
+        ensures looks { LooksOnce (call.Variable name.now) result (at self.old) (at self.new) }
+        ensures fails { IfErr result (λ e. e ≢ PlaceFault.OutOfMemory → fails self.old) };
+
+    /// Spawns a child process, and returns its ticket, by which `finish` waits for it. No other
+    /// child in flight has this ticket. It creates `command.out`; until the child has ended, that
+    /// folder may contain anything.
+    ///
+    /// Errors: `CannotStart`, and then no child is in flight; `OutOfMemory`.
+    fn spawn(&mut self, alloc: Global, command: &Command) -> Result<u64, StartFault>
+        ensures spawns { Spawns child command.now result (at self.old) (at self.new) }
+        ensures fails { IfErr result (λ e. e ≢ StartFault.OutOfMemory → fails self.old) }
+        ensures later { fails self.new → fails self.old };
+
+    /// Waits for the end of a child in flight, and ends its ticket, whatever the result. Suppose
+    /// that the child replies, and that what it sees and its folder have not changed since the
+    /// spawn. Then its reply and its folder are determined by the world at the spawn.
+    ///
+    /// Errors: `Died`; `Capture`; `OutOfMemory`.
+    fn finish(&mut self, alloc: Global, ticket: u64) -> Result<Ended, StartFault>
+        requires flies { is_flying ticket (at self.old).counts.starts.flying ≡ true }
+        ensures ok { IsTrue tells → (at self.old).still ticket → IfOk result
+            (λ ended. IfSome (child_at ticket (at self.old).counts.starts.flying)
+            (λ spawned. LandsAs spawned (at self.old).world ended (at self.new).world)) }
+        ensures finishes { Finishes ticket result (at self.old) (at self.new) }
+        ensures fails { IfErr result (λ e. e ≢ StartFault.OutOfMemory → fails self.old) };
+
+    /// Starts a child process and waits for its end: `spawn`, then `finish`. It first creates the
+    /// folder `command.out`, which no clause shows, since the maps contain only files. It changes
+    /// only files inside `out`; after an error `out` may contain anything.
+    ///
+    /// Errors: those of `spawn` and of `finish`.
+    fn start(&mut self, alloc: Global, command: &Command) -> Result<Ended, StartFault>
+        ensures ok { IsTrue tells → IfOk result (λ ended.
+            Ends (child command.now) command.now (at self.old).world ended (at self.new).world) }
+        ensures starts { Starts command.now result (at self.old) (at self.new) }
+        ensures fails { IfErr result (λ e. e ≢ StartFault.OutOfMemory → fails self.old) }
+    {
+        let ticket = self.spawn(alloc, command)?;
+        self.finish(alloc, ticket)
+    }
+
+    /// Returns the path that a text spells relative to a folder: that of `PathText::join`. On a
+    /// machine, a `..` after a link leads to the folder that contains the link's target. The call
+    /// is not counted.
+    ///
+    /// Errors: those of `PathText::join`.
+    fn path_from(&self, alloc: Global, folder: &PathText, text: &str) -> Result<PathText, PathFault>
+        ensures { IsTrue tells →
+            Gives path_fault.OutOfMemory (λ path. path) result (joined folder.now text.now) }
+    {
+        folder.join(alloc, text)
+    }
+
+    /// Checks whether anything at or below a path, outside the target folder, has changed since the
+    /// child of this command was spawned; this must be the last child that has ended. If so,
+    /// `moved` contains it from then on. A machine that cannot decide reports a change. Nothing
+    /// else writes in the maps, so nothing moves there. The call is not counted.
+    ///
+    /// Errors: out of memory only.
+    fn watch(
+        &mut self,
+        _alloc: Global,
+        _command: &Command,
+        _path: &PathText,
+    ) -> Result<(), AllocError>
+        ensures { IsUnchanged (at self.old) (at self.new) }
+    {
+        Ok(())
+    }
+
+    /// Returns whether nothing that the child of this command read has moved, as far as `watch` has
+    /// looked. This covers children in whose output folders the child reads. It takes no memory,
+    /// and is not counted.
+    fn stood_still(&self, _command: &Command) -> bool
+        ensures { IsTrue tells → result ≡ true }
+    {
+        true
+    }
+
+    /// Returns what has moved, at most one path per child, in the order in which it was found. It
+    /// takes no memory.
+    fn moved(&self) -> &[Moved]
+        ensures all { result.now ≡ (at self.now).moved }
+        ensures none { IsTrue tells → result.now ≡ [] };
+
+    /// Does nothing; its contract states that each file in the maps has a normalised absolute path.
+    /// It takes no memory, and is not counted.
+    fn files_have_paths(&self)
+        ensures { IsTrue tells → FilesHavePaths (at self.now).world };
+
+    /// Returns how many calls failed, at most `u64::MAX`. It takes no memory.
+    fn failures(&self) -> u64
+        ensures { result ≡ (at self.now).counts.failures };
+
+    /// Returns how many times `spawn` was called, at most `u64::MAX`. It takes no memory.
+    fn starts(&self) -> u64
+        ensures { result ≡ (at self.now).counts.starts.count };
+
+    /// Returns the number of counted calls other than `finish` since the last failure, at most
+    /// `u64::MAX`; 0 if none failed. Calls on `&self`, and `watch`, are not counted. It takes no
+    /// memory.
+    fn late(&self) -> u64
+        ensures { result ≡ (at self.now).counts.late };
+
+    /// Returns the most children that were ever in flight at one moment. It takes no memory.
+    fn most(&self) -> u64
+        ensures { result ≡ (at self.now).most };
+}

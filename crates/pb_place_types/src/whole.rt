@@ -1,0 +1,51 @@
+//! Writing bytes into a sink, completely or as far as the sink takes them.
+
+ghost use Rattle.std.specs.Prelude.{◌≡◌, ◌<◌, ◌≤◌, IsTrue, MatchOption, true, false, [], take, length};
+ghost use Rattle.std.specs.Io.KnownBytes.{Appends};
+ghost use Rattle.pb_place_types.specs.Counts.{up};
+ghost use Rattle.pb_place_types.specs.Sinks.{TakesPart};
+
+use crate::sink::Out;
+
+/// Writes the first n of some bytes, and returns n, or none if the sink failed. A failing sink
+/// takes nothing.
+#[tactic(auto, using(crate::proofs::Wholes::took_laws))]
+fn write_some<O: Out>(out: &mut O, bytes: &[u8]) -> Option<usize>
+    requires { 0 < length bytes.now }
+    ensures took { MatchOption result (Appends (O.heard out.old).taken (O.heard out.new).taken [])
+        (λ n.
+        (0 < n) × (n ≤ length bytes.now)
+        × Appends (O.heard out.old).taken (O.heard out.new).taken (take n bytes.now)) }
+    ensures faults { MatchOption result ((O.heard out.new).faults ≡ up (O.heard out.old).faults)
+        (λ _. (O.heard out.new).faults ≡ (O.heard out.old).faults) }
+{
+    match out.write(bytes) {
+        Some(count) => {
+            if count == 0 {
+                return None;
+            }
+            Some(count)
+        }
+        None => None,
+    }
+}
+
+/// Writes all bytes, and returns whether the sink took them. If not, its failures rose, and it took
+/// the first n of the bytes but not all. An empty text is written without a call.
+pub fn write_all<O: Out>(out: &mut O, bytes: &[u8]) -> bool
+    ensures all { IsTrue result
+        → Appends (O.heard out.old).taken (O.heard out.new).taken bytes.now }
+    ensures whole { IsTrue result → (O.heard out.new).faults ≡ (O.heard out.old).faults }
+    ensures part { result ≡ false
+        → TakesPart bytes.now (O.heard out.old).taken (O.heard out.new).taken }
+    ensures fault { result ≡ false → (O.heard out.new).faults ≡ up (O.heard out.old).faults }
+{
+    let mut rest = bytes;
+    while !rest.is_empty() {
+        match write_some(out, rest) {
+            Some(count) => rest = &rest[count..],
+            None => return false,
+        }
+    }
+    true
+}

@@ -1,5 +1,0 @@
-use Rattle.pb_plan_laws.proofs.Needing.{needs_are}
-use Rattle.pb_plan_laws.proofs.needs_are_these.Goals as goal
-
-pub returns : goal.returns
-returns c = needs_are

@@ -1,5 +1,0 @@
-use Rattle.pb_plan_laws.proofs.Faulting.{packages_are_at_fault}
-use Rattle.pb_plan_laws.proofs.packages_are_at_fault.Goals as goal
-
-pub returns : goal.returns
-returns c = packages_are_at_fault

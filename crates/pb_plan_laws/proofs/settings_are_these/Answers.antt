@@ -1,5 +1,0 @@
-use Rattle.pb_plan_laws.proofs.Setting.{settings_are}
-use Rattle.pb_plan_laws.proofs.settings_are_these.Goals as goal
-
-pub returns : goal.returns
-returns c = settings_are

@@ -1,0 +1,9 @@
+use Rattle.std.proofs.lemmas.List.{take_all}
+use Rattle.pb_run_flight.proofs.Looking.{same_more}
+use Rattle.pb_run_flight.proofs.needs.none_met.Goals as goal
+
+pub loop-preserved : goal.loop-preserved
+loop-preserved c = same_more 0 c.args.needs.now c.loop.index c.loop-item.result c.loop.met.items c.push.new.self.items c.loop-test.true c.loop.invariant c.in_ok-push.ensures.items
+
+pub returns : goal.returns
+returns c = rw (← take_all c.loop.index c.args.needs.now c.loop-test.false) c.loop.invariant

@@ -1,0 +1,127 @@
+-- The flight table, as contracts see it: what each unit needs, the state of each, and how many have been handed out.
+use Rattle.std.specs.Prelude.{ℕ, zero, suc, Bool, true, false, ◌&&◌, if◌then◌else◌, List, [], ◌∷◌, ◌++◌, map, Option, Some, None, is_some, is_none, slice_get, slice_set}
+use Rattle.std.specs.List.{list_all}
+use Rattle.pb_run_flight.specs.declared.flight.State.{State}
+use Rattle.pb_run_flight.specs.declared.flight.State.TheVariants.{Untouched, Begun, Answered}
+use Rattle.pb_run_flight.specs.declared.flight.Answer.{Answer}
+
+-- A unit is known by its index in plan order.
+
+-- what each unit needs, the state of each, and of how many units
+-- the lines have been handed out, from the start of plan order
+pub record Table (F : Type 0) : Type 0 where
+  pub needs : List (List ℕ)
+  pub states : List (State F)
+  pub given : ℕ
+
+-- The state of a unit.
+
+abbrev pub is_untouched : {F : Type 0} → State F → Bool
+is_untouched Untouched = true
+is_untouched Begun = false
+is_untouched (Answered answer) = false
+
+-- the unit has answered and is bad
+abbrev pub is_bad : {F : Type 0} → State F → Bool
+is_bad Untouched = false
+is_bad Begun = false
+is_bad (Answered answer) = is_some answer.fault
+
+-- the unit has answered and is good
+abbrev pub is_good : {F : Type 0} → State F → Bool
+is_good Untouched = false
+is_good Begun = false
+is_good (Answered answer) = is_none answer.fault
+
+abbrev pub is_good_at : {F : Type 0} → Option (State F) → Bool
+is_good_at None = false
+is_good_at (Some s) = is_good s
+
+-- Which units may begin.
+
+-- all these units have answered and are good
+abbrev pub are_good : {F : Type 0} → List (State F) → List ℕ → Bool
+are_good states units = list_all (λ u. is_good_at (slice_get states u)) units
+
+-- the unit has not begun, and all that it needs has answered and is good
+abbrev pub is_open : {F : Type 0} → List (State F) → State F → List ℕ → Bool
+is_open states s needs = is_untouched s && are_good states needs
+
+-- this unit, if the condition is true
+abbrev pub if_so : Bool → ℕ → List ℕ
+if_so so u = if so then u ∷ [] else []
+
+-- the units from the i-th on that may begin: the open ones, up to the first bad one
+abbrev pub ready_from : {F : Type 0} → List (State F) → ℕ → List (List ℕ) → List (State F) → List ℕ
+ready_from states i needs [] = []
+ready_from states i [] (s ∷ ss) = []
+ready_from states i (n ∷ ns) (s ∷ ss) = if is_bad s then [] else (if_so (is_open states s n) i ++ ready_from states (suc i) ns ss)
+
+-- the units that may begin, in plan order
+abbrev pub ready_of : {F : Type 0} → List (List ℕ) → List (State F) → List ℕ
+ready_of needs states = ready_from states 0 needs states
+
+-- Which lines are due.
+
+-- the lines of the units that have answered, from the start of plan order, up to and including the first bad one
+abbrev pub due : {F : Type 0} → List (State F) → List ℕ
+due [] = []
+due (Untouched ∷ ss) = []
+due (Begun ∷ ss) = []
+due (Answered answer ∷ ss) = answer.lines ++ (if is_none answer.fault then due ss else [])
+
+-- the number of these units
+abbrev pub count_due : {F : Type 0} → List (State F) → ℕ
+count_due [] = 0
+count_due (Untouched ∷ ss) = 0
+count_due (Begun ∷ ss) = 0
+count_due (Answered answer ∷ ss) = suc (if is_none answer.fault then count_due ss else 0)
+
+-- the lines of these units after the first n
+abbrev pub due_after : {F : Type 0} → ℕ → List (State F) → List ℕ
+due_after n [] = []
+due_after n (Untouched ∷ ss) = []
+due_after n (Begun ∷ ss) = []
+due_after zero (Answered answer ∷ ss) = answer.lines ++ (if is_none answer.fault then due_after zero ss else [])
+due_after (suc n) (Answered answer ∷ ss) = if is_none answer.fault then due_after n ss else []
+
+-- the lines of the first n of these units
+abbrev pub due_first : {F : Type 0} → ℕ → List (State F) → List ℕ
+due_first zero ss = []
+due_first (suc n) [] = []
+due_first (suc n) (Untouched ∷ ss) = []
+due_first (suc n) (Begun ∷ ss) = []
+due_first (suc n) (Answered answer ∷ ss) = answer.lines ++ (if is_none answer.fault then due_first n ss else [])
+
+-- the first bad one of these units
+abbrev pub first_bad_from : {F : Type 0} → ℕ → List (State F) → Option ℕ
+first_bad_from i [] = None
+first_bad_from i (Untouched ∷ ss) = None
+first_bad_from i (Begun ∷ ss) = None
+first_bad_from i (Answered answer ∷ ss) = if is_none answer.fault then first_bad_from (suc i) ss else Some i
+
+abbrev pub first_bad : {F : Type 0} → List (State F) → Option ℕ
+first_bad states = first_bad_from 0 states
+
+-- all units have answered, or all up to and including the first bad one
+abbrev pub is_finished : {F : Type 0} → List (State F) → Bool
+is_finished [] = true
+is_finished (Untouched ∷ ss) = false
+is_finished (Begun ∷ ss) = false
+is_finished (Answered answer ∷ ss) = if is_none answer.fault then is_finished ss else true
+
+-- The table after each call.
+
+-- the table before any unit begins
+abbrev pub fresh : {F : Type 0} → List (List ℕ) → Table F
+fresh needs = record { needs = needs; states = map (λ _. Untouched) needs; given = 0 }
+
+abbrev pub begun : {F : Type 0} → ℕ → Table F → Table F
+begun u t = record t { states = slice_set t.states u Begun }
+
+abbrev pub answered : {F : Type 0} → ℕ → Answer F → Table F → Table F
+answered u answer t = record t { states = slice_set t.states u (Answered answer) }
+
+-- the table after all that is due has been handed out
+abbrev pub emitted : {F : Type 0} → Table F → Table F
+emitted t = record t { given = count_due t.states }

@@ -1,0 +1,65 @@
+//! Laws of flights. Each function does nothing; its contract is the law.
+
+ghost use Rattle.pb_run_flight.specs.Laws.{ReadyIsExact, ReachedIsGood, HandsOutAllDue, DueIsStart, FinishedIsAll, FlyingIsBegun, SomethingIsLeft, StepsAreLawful, StartedDiffers, JobsBoundFlying, OneJobIsOneByOne};
+
+use crate::turn::{Pick, Turn};
+
+/// The units that are ready are exactly those that may begin, in plan order, each once.
+pub fn ready_is_exact<F>()
+    ensures { ReadyIsExact F }
+{}
+
+/// After lawful events, a unit that may begin or has begun reaches only units
+/// that have answered and are good; so it reads nothing of a unit in flight.
+pub fn reached_is_good<F>()
+    ensures { ReachedIsGood F }
+{}
+
+/// After each call that hands out, the lines handed out in all are those of the units that
+/// have answered, from the start of plan order, up to and including the first bad one.
+pub fn hands_out_all_due<F>()
+    ensures { HandsOutAllDue F }
+{}
+
+/// What is due is the beginning of what is due at the end.
+pub fn due_is_start<F>()
+    ensures { DueIsStart F }
+{}
+
+/// Once every unit up to the first bad one has answered, all is due
+/// that is due at the end, and the first bad unit is that of the end.
+pub fn finished_is_all<F>()
+    ensures { FinishedIsAll F }
+{}
+
+/// After lawful events, the units in flight are exactly those
+/// that have begun and not answered, each once.
+pub fn flying_is_begun<F>()
+    ensures { FlyingIsBegun F }
+{}
+
+/// If units are missing after lawful events, one may begin or one is in flight.
+pub fn something_is_left<F>()
+    ensures { SomethingIsLeft F }
+{}
+
+/// The events of steps are lawful, whoever decides the steps.
+pub fn steps_are_lawful<F, T: Turn>()
+    ensures { StepsAreLawful F T.turns }
+{}
+
+/// If a child is spawned for what differs, the units that were
+/// started are exactly those that have begun and differ.
+pub fn started_differs<F, T: Turn>()
+    ensures { StartedDiffers F T.turns }
+{}
+
+/// With a number of jobs, at no point are more units in flight.
+pub fn jobs_bound_flying<F, P: Pick>()
+    ensures { JobsBoundFlying F P.picks }
+{}
+
+/// With one job, each unit answers right after it has begun.
+pub fn one_job_is_one_by_one<F, P: Pick>()
+    ensures { OneJobIsOneByOne F P.picks }
+{}

@@ -1,5 +1,0 @@
-use Rattle.pb_small_builds.proofs.Honest.{small_builds_are_honest}
-use Rattle.pb_small_builds.proofs.small_builds_are_honest.Goals as goal
-
-pub returns : goal.returns
-returns c = small_builds_are_honest

@@ -1,8 +1,0 @@
-use Rattle.pb_soundness.proofs.Flying.{others, number_waits}
-use Rattle.pb_soundness.proofs.laws.others_stay_apart.Goals as goal
-
-pub returns : goal.returns
-returns c = record {
-  others = others;
-  waits = number_waits;
-}

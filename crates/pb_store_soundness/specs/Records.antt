@@ -1,0 +1,62 @@
+-- Records as files beside the output folders of units.
+use Rattle.std.specs.Prelude.{ℕ, Bool, not, ◌==◌, ◌&&◌, ◌-◌, if◌then◌else◌, codes, List, [], ◌++◌, length, drop, Option, Some, None}
+use Rattle.std.specs.FinMap as finite
+use Rattle.std.specs.List.{list_any}
+use Rattle.std.specs.Str.{bytes_eq}
+use Rattle.pb_place_types.specs.Paths.{below, is_name}
+use Rattle.pb_place_types.specs.World.{World, Map}
+pub use Rattle.pb_record.proofs.ReadingLemmas.{reading}
+use Rattle.pb_record.specs.declared.record.Needed.{Needed}
+use Rattle.pb_record.specs.declared.record.Needed.TheVariants.{Copies, Numbers}
+use Rattle.pb_record.specs.declared.record.Record.{Record}
+
+-- the name of a record ends in `.record`
+abbrev pub ends_as_record : List ℕ → Bool
+ends_as_record name = bytes_eq (drop (length name - 7) name) (codes ".record")
+
+-- a key: the name of a file or folder, of one part, that does not end as the name of a record
+unfoldable pub is_key : List ℕ → Bool
+is_key key = is_name key && (not (list_any (λ b. b == 47) key) && not (ends_as_record key))
+
+-- the output folder of the unit of a key (below, the path of its record)
+abbrev pub out_of : List ℕ → List ℕ → List ℕ
+out_of folder key = below folder key
+
+abbrev pub place_of : List ℕ → List ℕ → List ℕ
+place_of folder key = below folder (key ++ codes ".record")
+
+-- a function from texts to records: none if a text is not that of a record
+abbrev pub Reading : Type 0
+Reading = List ℕ → Option Record
+
+abbrev pub read_text : Reading → Option (List ℕ) → Option Record
+read_text read None = None
+read_text read (Some text) = read text
+
+-- a record counts only for its own key: the key by which its file is named
+abbrev pub if_of_key : List ℕ → Option Record → Option Record
+if_of_key key None = None
+if_of_key key (Some r) = if bytes_eq r.key key then Some r else None
+
+-- the record that counts for a key
+unfoldable pub record_at : Reading → List ℕ → Map → List ℕ → Option Record
+record_at read folder files key = if is_key key then if_of_key key (read_text read (finite.get files (place_of folder key))) else None
+
+-- the record that counts for each key, in a folder of a world
+abbrev pub records : List ℕ → World → List ℕ → Option Record
+records folder w = record_at reading folder w.files
+
+-- a record's own number (below, the units that it names with their numbers); format 1 has neither
+abbrev pub number_in : Needed → Option ℕ
+number_in (Copies copies) = None
+number_in (Numbers number needs) = Some number
+
+abbrev pub number_of : Record → Option ℕ
+number_of r = number_in r.needed
+
+abbrev pub numbered_in : Needed → List (List ℕ × ℕ)
+numbered_in (Copies copies) = []
+numbered_in (Numbers number needs) = needs
+
+abbrev pub needs_of : Record → List (List ℕ × ℕ)
+needs_of r = numbered_in r.needed

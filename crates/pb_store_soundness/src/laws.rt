@@ -1,0 +1,52 @@
+//! Laws of soundness. Each function does nothing; its contract is the law.
+
+ghost use Rattle.pb_record.specs.Parts.{IsReading};
+ghost use Rattle.pb_store_soundness.specs.Apart.{OthersLaw};
+ghost use Rattle.pb_store_soundness.specs.Records.{reading};
+ghost use Rattle.pb_store_soundness.specs.Laws.{StaysSound, OutsideLaw, InOutputLaw, WithoutRecordLaw, PutLaw};
+ghost use Rattle.pb_store_soundness.specs.Numbers.{NumberWaitsLaw, StaysAheadLaw, GivenAheadLaw, NextIsNewLaw};
+ghost use Rattle.pb_store_soundness.specs.Reuse.{GroundsLaw, ReuseLaw, RenewLaw, SparesLaw, PutGroundsLaw};
+
+/// A profile folder stays sound if each record is gone, is unchanged, or is a true one with a
+/// number of its own. So it does after a change outside it; after a change in the output folder of
+/// a unit without a record that counts; if a record is removed or no longer counts; and if a true
+/// record is written.
+pub fn soundness_stays()
+    ensures stays { StaysSound }
+    ensures outside { OutsideLaw }
+    ensures in_output { InOutputLaw }
+    ensures without_record { WithoutRecordLaw }
+    ensures put { PutLaw }
+{}
+
+/// If nothing differs, and all that the command reads is grounded, the unit is grounded, and its
+/// record and its folder are what its child would answer. A record of an honest child's reply may
+/// replace whatever was there. Grounded units stay grounded if a unit that they do not reach is
+/// built again.
+pub fn records_are_reused()
+    ensures grounds { GroundsLaw }
+    ensures reuse { ReuseLaw }
+    ensures renew { RenewLaw }
+    ensures spares { SparesLaw }
+    ensures put_grounds { PutGroundsLaw }
+{}
+
+/// What other units do while a unit's child is in flight changes neither what the child sees, nor
+/// the unit's record and files.
+pub fn others_stay_apart()
+    ensures others { OthersLaw }
+    ensures waits { NumberWaitsLaw }
+{}
+
+/// The next run number is above all numbers that records have or name, and stays so.
+pub fn numbers_stay_ahead()
+    ensures stays { StaysAheadLaw }
+    ensures given { GivenAheadLaw }
+    ensures new { NextIsNewLaw }
+{}
+
+/// `reading`, with which records are read from their files, returns the record of each text, or
+/// none. By `texts_have_one_reading` of `pb_record` it is the only function that does.
+pub fn records_have_a_reading()
+    ensures { IsReading reading }
+{}

@@ -1,0 +1,141 @@
+//! Runs of units in which one call of the place fails, each call in turn.
+
+ghost use Rattle.std.specs.Prelude.{◌≡◌};
+ghost use Rattle.pb_run.specs.Standing.{records_folder};
+
+use crate::units::ready::{Bench, bench_of, project_in};
+use crate::units::steps::{call, make_steps, parts_of, reopen, words_of};
+use crate::units::trials::FILES;
+use pb_tests_files::{Shown, Untold, put_files};
+use pb_place::Memory;
+use pb_mini::Mini;
+use pb_place_types::Place;
+use pb_run::OrderedProject;
+use std::alloc::Global;
+use std::test::Fail;
+
+/// What is told of calls that came after the one that failed.
+fn late_told(place: &Untold<Mini>) -> &'static str {
+    if place.late() > 0 {
+        return " (wrong: a call came after it)";
+    }
+    ""
+}
+
+/// Makes a call, in words, with the call of the place of this number failing, and tells its fault, and what the same
+/// call tells then, with a store that is opened again; nothing if no call failed.
+fn fail_at(
+    alloc: Global,
+    place: &mut Untold<Mini>,
+    project: &OrderedProject,
+    bench: &mut Bench,
+    line: &str,
+    number: u64,
+) -> Result<String, Fail>
+    requires folder { bench.old.store.folder ≡ records_folder project.now }
+{
+    let (verb, first, _) = words_of(line);
+    place.inside.fuse(number);
+    let told = call(alloc, place, project, bench, verb, first)?;
+    place.inside.fuse(0);
+    if place.failures() == 0 {
+        return Ok(String::new(alloc));
+    }
+    let late = late_told(place);
+    reopen(alloc, place, project, bench)?;
+    let again = call(alloc, place, project, bench, verb, first)?;
+    let mut said = Shown::new(alloc);
+    said.put(&[told.as_str(), late, ": ", again.as_str(), ", "]);
+    Ok(said.whole()?)
+}
+
+/// The same of the last of these steps, after those before it.
+fn fail_after(
+    alloc: Global,
+    place: &mut Untold<Mini>,
+    project: &OrderedProject,
+    steps: &str,
+    number: u64,
+) -> Result<String, Fail> {
+    let (before, last) = steps.rsplit_once('\n').unwrap_or(("", steps));
+    let mut bench = bench_of(alloc, place, project)?;
+    make_steps(alloc, place, project, &mut bench, before)?;
+    fail_at(alloc, place, project, &mut bench, last, number)
+}
+
+/// The same where the project was refused or not.
+fn fail_if(
+    alloc: Global,
+    place: &mut Untold<Mini>,
+    project: &Option<OrderedProject>,
+    steps: &str,
+    number: u64,
+) -> Result<String, Fail> {
+    match project {
+        Some(project) => fail_after(alloc, place, project, steps, number),
+        None => Ok(String::from_str(alloc, "no project")?),
+    }
+}
+
+/// The same on the project of the files, in a place without files.
+fn fail_in(
+    alloc: Global,
+    place: &mut Untold<Mini>,
+    steps: &str,
+    number: u64,
+) -> Result<String, Fail> {
+    put_files(alloc, &mut place.inside, FILES)?;
+    let project = project_in(alloc, &mut place.inside)?;
+    fail_if(alloc, place, &project, steps, number)
+}
+
+/// The same in a fresh place.
+fn try_at(alloc: Global, steps: &str, number: u64) -> Result<String, Fail> {
+    let inside = Memory::new(alloc, Mini);
+    fail_in(alloc, &mut Untold { inside }, steps, number)
+}
+
+/// Lets each call of the place fail in turn, until none does.
+fn each_fails(alloc: Global, steps: &str) -> Result<String, Fail> {
+    let mut told = Shown::new(alloc);
+    for number in 1..100u64 {
+        let said = try_at(alloc, steps, number)?;
+        if said.is_empty() {
+            return Ok(told.whole()?);
+        }
+        told.put(&[said.as_str()]);
+    }
+    told.put(&["wrong: it does not end"]);
+    Ok(told.whole()?)
+}
+
+/// Trials, each behind `=== `: steps, one a line, the last of which is the call that fails, and behind `= ` its faults, and
+/// what the same call tells after each.
+const TRIALS: &str =
+    "=== run 0\n= fault a.target.lib Device: nothing is kept of it, fault a.target.lib Device: nothing is kept of it, fault a.target.lib Device: nothing is kept of it, fault a.target.lib CannotStart: nothing is kept of it, fault a.target.lib Died: nothing is kept of it, fault a.target.lib Device: nothing is kept of it, fault a.target.lib Device: nothing is kept of it, fault a.target.lib Device: nothing is kept of it, fault a.target.lib Device: nothing is kept of it, fault a.target.lib Device: nothing is kept of it, \n\
+     === run 0\nrun 0\n= fault a.target.lib Device: same, fault a.target.lib Device: same, fault a.target.lib Device: same, fault a.target.lib Device: same, fault a.target.lib Device: same, \n\
+     === run 0\nfile /w/a/src/n two\nrun 0\n= fault a.target.lib Device: `/w/a/src/n` has changed, fault a.target.lib Device: `/w/a/src/n` has changed, fault a.target.lib Device: `/w/a/src/n` has changed, fault a.target.lib Device: `/w/a/src/n` has changed, fault a.target.lib Device: nothing is kept of it, fault a.target.lib CannotStart: nothing is kept of it, fault a.target.lib Died: nothing is kept of it, fault a.target.lib Device: nothing is kept of it, fault a.target.lib Device: nothing is kept of it, fault a.target.lib Device: nothing is kept of it, fault a.target.lib Device: nothing is kept of it, fault a.target.lib Device: nothing is kept of it, \n\
+     === run 1\nrun 2\n= fault b.target.run Device: nothing is kept of it, fault b.target.run Device: nothing is kept of it, fault b.target.run Device: nothing is kept of it, fault b.target.run CannotStart: nothing is kept of it, fault b.target.run Died: nothing is kept of it, fault b.target.run Device: nothing is kept of it, fault b.target.run Device: nothing is kept of it, fault b.target.run Device: nothing is kept of it, fault b.target.run Device: nothing is kept of it, fault b.target.run Device: nothing is kept of it, fault b.target.run Device: nothing is kept of it, \n";
+
+/// Adds a case of which something else is told to `wrong`, and what is told; and one that has no steps.
+fn try_case(alloc: Global, case: &str, wrong: &mut Shown) -> Result<(), Fail> {
+    let Some((steps, told)) = parts_of(case) else {
+        wrong.put(&[case]);
+        return Ok(());
+    };
+    let said = each_fails(alloc, steps)?;
+    if said.as_str() != told {
+        wrong.put(&[steps, " = ", said.as_str(), "\n"]);
+    }
+    Ok(())
+}
+
+#[test]
+fn calls_of_units_fail(rt: HostRuntime) -> Result<(), Fail> {
+    let mut wrong = Shown::new(rt.alloc());
+    for case in TRIALS.split("=== ") {
+        try_case(rt.alloc(), case, &mut wrong)?;
+    }
+    assert!(rt; wrong.says(""), "{}", wrong.as_str());
+    Ok(())
+}

@@ -1,0 +1,197 @@
+//! Steps in words: what changes, which units run, and what they tell.
+
+ghost use Rattle.std.specs.Prelude.{◌≡◌, ◌≢◌};
+ghost use Rattle.pb_place_types.specs.declared.place.StartFault.TheVariants as StartFault;
+ghost use Rattle.pb_run.specs.Standing.{records_folder};
+
+use crate::units::ready::{Bench, put_file, store_of};
+use crate::units::running::{begin_and_drop, run};
+use pb_tests_files::Untold;
+use pb_data::{Bytes, Text};
+use pb_place::Memory;
+use pb_mini::Mini;
+use pb_place_types::{PathText, Place, StartFault};
+use pb_command_types::Setup;
+use pb_run::OrderedProject;
+use std::alloc::Global;
+use std::test::Fail;
+
+/// The steps of a case, and what they tell.
+pub fn parts_of(case: &str) -> Option<(&str, &str)> {
+    let (steps, told) = case.split_once("\n= ")?;
+    Some((steps, told.strip_suffix("\n")?))
+}
+
+/// The words of a step: its verb, the next, and all behind that.
+pub fn words_of(line: &str) -> (&str, &str, &str) {
+    let (verb, words) = line.split_once(' ').unwrap_or((line, ""));
+    let (first, rest) = words.split_once(' ').unwrap_or((words, ""));
+    (verb, first, rest)
+}
+
+/// The kind of a death.
+fn kind_of(word: &str) -> StartFault
+    ensures { result ≢ StartFault.OutOfMemory }
+{
+    match word {
+        "CannotStart" => StartFault::CannotStart,
+        "Died" => StartFault::Died,
+        _ => StartFault::Capture,
+    }
+}
+
+/// Takes the files at and below a path away.
+fn take_away(alloc: Global, place: &mut Memory<Mini>, path: &str) -> Result<(), Fail> {
+    let path = PathText::parse(alloc, path)?;
+    Ok(place.remove(alloc, &path)?)
+}
+
+/// Changes the files, the variables, or what will fail, in words; an unknown word changes nothing.
+fn change(
+    alloc: Global,
+    place: &mut Memory<Mini>,
+    verb: &str,
+    first: &str,
+    rest: &str,
+) -> Result<(), Fail> {
+    match verb {
+        "file" => put_file(alloc, place, first, rest),
+        "gone" => take_away(alloc, place, first),
+        "set" => Ok(place.set(alloc, first, rest)?),
+        "unset" => Ok(place.unset(alloc, first)?),
+        "die" => Ok(place.die(alloc, first, kind_of(rest))?),
+        "fuse" => {
+            place.fuse(first.parse::<u64>().unwrap_or(0));
+            Ok(())
+        }
+        _ => Ok(()),
+    }
+}
+
+/// Changes how things are compiled, in words; an unknown word changes nothing.
+fn set_up(alloc: Global, setup: &mut Setup, verb: &str, first: &str) -> Result<(), Fail> {
+    match verb {
+        "tool" => setup.tool = Text::from_str(alloc, first)?,
+        "compiler" => setup.rustc = Text::from_str(alloc, first)?,
+        "version" => setup.toolchain = Bytes::from_slice(alloc, first.as_bytes())?,
+        "flag" => setup.flags.push(Text::from_str(alloc, first)?)?,
+        _ => {}
+    }
+    Ok(())
+}
+
+/// The number of a word, 0 where it is none.
+fn number_of(word: &str) -> usize {
+    word.parse::<usize>().unwrap_or(0)
+}
+
+/// Runs units, in words; nothing where the word is none of a run.
+pub fn call(
+    alloc: Global,
+    place: &mut Untold<Mini>,
+    project: &OrderedProject,
+    bench: &mut Bench,
+    verb: &str,
+    first: &str,
+) -> Result<String, Fail>
+    requires folder { bench.old.store.folder ≡ records_folder project.now }
+    ensures folder { bench.new.store.folder ≡ records_folder project.now }
+{
+    let index = number_of(first);
+    match verb {
+        "run" => Ok(run(alloc, place, project, bench, index)?),
+        "drop" => Ok(begin_and_drop(alloc, place, project, bench, index)?),
+        _ => Ok(String::new(alloc)),
+    }
+}
+
+/// Whether a file is there, in words.
+fn tell_file(alloc: Global, place: &Memory<Mini>, path: &str) -> Result<String, Fail> {
+    let path = PathText::parse(alloc, path)?;
+    let file = place.file(alloc, &path)?;
+    let said = if file.is_some() { "there" } else { "gone" };
+    Ok(String::from_str(alloc, said)?)
+}
+
+/// What is seen of the place and of what units told, in words; nothing where the word is none of a look.
+fn look(
+    alloc: Global,
+    place: &Memory<Mini>,
+    bench: &Bench,
+    verb: &str,
+    first: &str,
+) -> Result<String, Fail> {
+    match verb {
+        "there" => tell_file(alloc, place, first),
+        "starts" => Ok(format!(in alloc; "{} starts", place.starts())?),
+        "late" => Ok(format!(in alloc; "{} late", place.late())?),
+        "lines" => Ok(String::from_str(alloc, bench.told.lines.as_str())?),
+        _ => Ok(String::new(alloc)),
+    }
+}
+
+/// Opens the store again: it contains the run numbers of the records, and they are not those of a world that was edited, or
+/// behind a call that failed.
+pub fn reopen(
+    alloc: Global,
+    place: &mut Untold<Mini>,
+    project: &OrderedProject,
+    bench: &mut Bench,
+) -> Result<(), Fail>
+    requires folder { bench.old.store.folder ≡ records_folder project.now }
+    ensures folder { bench.new.store.folder ≡ records_folder project.now }
+{
+    bench.store = store_of(alloc, place, project)?;
+    Ok(())
+}
+
+/// Adds what was told, with `, ` behind it, where something was.
+fn add(told: &mut String, said: &str) -> Result<(), Fail> {
+    if !said.is_empty() {
+        told.push_str(said)?;
+        told.push_str(", ")?;
+    }
+    Ok(())
+}
+
+/// One step.
+fn step(
+    alloc: Global,
+    place: &mut Untold<Mini>,
+    project: &OrderedProject,
+    bench: &mut Bench,
+    line: &str,
+    told: &mut String,
+) -> Result<(), Fail>
+    requires folder { bench.old.store.folder ≡ records_folder project.now }
+    ensures folder { bench.new.store.folder ≡ records_folder project.now }
+{
+    let (verb, first, rest) = words_of(line);
+    if verb == "open" {
+        return reopen(alloc, place, project, bench);
+    }
+    change(alloc, &mut place.inside, verb, first, rest)?;
+    set_up(alloc, &mut bench.setup, verb, first)?;
+    let said = call(alloc, place, project, bench, verb, first)?;
+    add(told, said.as_str())?;
+    let seen = look(alloc, &place.inside, bench, verb, first)?;
+    add(told, seen.as_str())
+}
+
+/// Makes steps, one a line, with `, ` behind what each tells.
+pub fn make_steps(
+    alloc: Global,
+    place: &mut Untold<Mini>,
+    project: &OrderedProject,
+    bench: &mut Bench,
+    steps: &str,
+) -> Result<String, Fail>
+    requires folder { bench.old.store.folder ≡ records_folder project.now }
+    ensures folder { bench.new.store.folder ≡ records_folder project.now }
+{
+    let mut told = String::new(alloc);
+    for line in steps.lines() {
+        step(alloc, place, project, bench, line, &mut told)?;
+    }
+    Ok(told)
+}

@@ -1,0 +1,29 @@
+//! The options of a build.
+
+use pb_data::{Items, Text};
+use pb_workspace_types::Options;
+use pb_place_types::{PathFault, PathText};
+use std::alloc::Global;
+
+/// The options of a build of the workspace in `/w` for which nothing is asked.
+pub fn no_options(alloc: Global) -> Result<Options, PathFault> {
+    let manifest = PathText::parse(alloc, "/w/Cargo.toml")?;
+    let profile = Text::from_str(alloc, "dev")?;
+    let tool = Text::from_str(alloc, "tool")?;
+    Ok(Options {
+        manifest,
+        packages: Items::new(alloc),
+        workspace: false,
+        features: Items::new(alloc),
+        all_features: false,
+        no_default_features: false,
+        profile,
+        lib: false,
+        bins: false,
+        bin: Items::new(alloc),
+        target_dir: None,
+        runner: Items::new(alloc),
+        tool,
+        jobs: 1,
+    })
+}

@@ -1,0 +1,29 @@
+//! What a failing call of a place may leave: its definition lets through no less than this.
+
+ghost use Rattle.std.specs.Prelude.{ℕ, List, take};
+ghost use Rattle.std.specs.FinMap as map;
+ghost use Rattle.pb_place_types.specs.World.{World, Torn, PartlyRemoved, written, removed};
+
+use std::test::Fail;
+
+/// A write that failed may leave the old file, the first of the new bytes, or no file.
+fn torn_writes()
+    ensures old { (path bytes : List ℕ) (w : World) → Torn path bytes w w }
+    ensures first { (path bytes : List ℕ) (n : ℕ) (w : World)
+        → Torn path bytes w (written path (take n bytes) w) }
+    ensures none { (path bytes : List ℕ) (w : World)
+        → Torn path bytes w record w { files = map.remove w.files path } }
+{}
+
+/// A removal that failed may leave every file, or none.
+fn partial_removals()
+    ensures all { (path : List ℕ) (w : World) → PartlyRemoved path w w }
+    ensures none { (path : List ℕ) (w : World) → PartlyRemoved path w (removed path w) }
+{}
+
+#[test]
+fn failing_calls(_rt: HostRuntime) -> Result<(), Fail> {
+    torn_writes();
+    partial_removals();
+    Ok(())
+}

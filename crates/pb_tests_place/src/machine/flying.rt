@@ -1,0 +1,141 @@
+//! Children in flight on the machine: waited for in another order, killed, with much to say.
+
+use crate::machine::commands::{Asked, command, shell};
+use crate::told::try_said;
+use pb_place_host::HostPlace;
+use pb_place_types::{Ended, PathText, Place, StartFault};
+use std::alloc::{AllocError, Global};
+use std::test::Fail;
+
+/// What a child said: its status, and how many bytes it wrote to each of its two streams; or the fault.
+fn told(alloc: Global, ended: Result<Ended, StartFault>) -> Result<String, AllocError> {
+    let text = match &ended {
+        Ok(ended) => {
+            let status = ended.status;
+            let stdout = ended.stdout.as_slice().len();
+            let stderr = ended.stderr.as_slice().len();
+            format!(in alloc; "{status} {stdout} {stderr}")
+        }
+        Err(fault) => format!(in alloc; "{fault:?}"),
+    };
+    drop(ended);
+    text
+}
+
+/// Spawns a child: its ticket.
+fn spawn<P: Place>(
+    alloc: Global,
+    place: &mut P,
+    root: &PathText,
+    asked: &Asked,
+) -> Result<Result<u64, StartFault>, Fail> {
+    let command = command(alloc, root, asked)?;
+    let ticket = place.spawn(alloc, &command);
+    drop(command);
+    Ok(ticket)
+}
+
+/// Whether a program that is not there does not start.
+fn misses<P: Place>(alloc: Global, place: &mut P, root: &PathText) -> Result<bool, Fail> {
+    let answer = spawn(alloc, place, root, &("/no/such/program", "", "", "", &[]))?;
+    Ok(matches!(answer, Err(StartFault::CannotStart)))
+}
+
+/// Spawns two children: their tickets, and whether a program that is not there does not start.
+fn spawn_two<P: Place>(
+    alloc: Global,
+    place: &mut P,
+    root: &PathText,
+    first: &str,
+    second: &str,
+) -> Result<(u64, u64, bool), Fail> {
+    let one = spawn(alloc, place, root, &shell(first))??;
+    let two = spawn(alloc, place, root, &shell(second))??;
+    let misses = misses(alloc, place, root)?;
+    Ok((one, two, misses))
+}
+
+/// What a child in flight said.
+fn finish(
+    alloc: Global,
+    place: &mut HostPlace<HostRuntime>,
+    ticket: u64,
+) -> Result<String, AllocError> {
+    if !place.flies(ticket) {
+        return String::from_str(alloc, "no child");
+    }
+    told(alloc, place.finish(alloc, ticket))
+}
+
+/// What two children said, of which the second is waited for first; whether a program was missed; how many flew at most,
+/// were started, and failed.
+fn end(
+    alloc: Global,
+    place: &mut HostPlace<HostRuntime>,
+    one: u64,
+    two: u64,
+    misses: bool,
+) -> Result<String, Fail> {
+    let later = finish(alloc, place, two)?;
+    let earlier = finish(alloc, place, one)?;
+    let (most, starts, failures) = (place.most(), place.starts(), place.failures());
+    Ok(format!(in alloc;
+        "{}, {}, {misses}, {most} {starts} {failures}",
+        earlier.as_str(),
+        later.as_str()
+    )?)
+}
+
+/// The same of two that are in flight at one time.
+fn fly(
+    alloc: Global,
+    place: &mut HostPlace<HostRuntime>,
+    root: &PathText,
+    first: &str,
+    second: &str,
+) -> Result<String, Fail> {
+    let (one, two, misses) = spawn_two(alloc, place, root, first, second)?;
+    end(alloc, place, one, two, misses)
+}
+
+/// What the shell is told of two children, and what they said.
+static FLIGHTS: &[(&str, &str, &str)] = &[
+    (
+        "head -c 200000 /dev/zero; head -c 200000 /dev/zero >&2; exit 3",
+        "echo small; exit 4",
+        "3 200000 200000, 4 6 0, true, 2 3 1",
+    ),
+    (
+        "kill -9 $$",
+        "{ sleep 1; echo late; } & echo soon",
+        "Died, 0 10 0, true, 2 3 2",
+    ),
+    (
+        "head -c 300000 /dev/zero; head -c 300000 /dev/zero >&2",
+        "exit 0",
+        "0 300000 300000, 0 0 0, true, 2 3 1",
+    ),
+];
+
+/// What two children say at a place of their own.
+fn flown(rt: &HostRuntime, root: &PathText, first: &str, second: &str) -> Result<String, Fail> {
+    let mut place = HostPlace::new(rt.alloc(), rt);
+    let said = fly(rt.alloc(), &mut place, root, first, second);
+    drop(place);
+    said
+}
+
+/// Tries that two children say this.
+fn try_flight(rt: &HostRuntime, first: &str, second: &str, wanted: &str) -> Result<(), Fail> {
+    let root = PathText::parse(rt.alloc(), "/")?;
+    try_said(flown(rt, &root, first, second), wanted)
+}
+
+#[test]
+fn flights(rt: HostRuntime) -> Result<(), Fail> {
+    for case in FLIGHTS {
+        let (first, second, wanted) = *case;
+        try_flight(&rt, first, second, wanted)?;
+    }
+    Ok(())
+}

@@ -1,0 +1,62 @@
+//! Sinks over writers of std.
+
+use pb_place_types::{Out, Over};
+use std::io::{self, Write};
+
+/// A writer that takes at most three bytes of each write, then none of one, and then fails.
+#[derive(Drop)]
+struct Tiring {
+    writes: u8,
+}
+
+impl Write for Tiring {
+    fn write(&mut self, buf: &[u8]) -> io::Result<usize> {
+        self.writes = self.writes.saturating_add(1);
+        match self.writes {
+            1 => Ok(buf.len().min(3)),
+            2 => Ok(0),
+            _ => Err(io::Error::from(io::ErrorKind::TimedOut)),
+        }
+    }
+
+    fn flush(&mut self) -> io::Result<()> {
+        Ok(())
+    }
+}
+
+/// Whether a write takes so many bytes, if it takes some, and so many writes have failed then.
+fn takes<O: Out>(sink: &mut O, bytes: &str, taken: Option<usize>, failures: u64) -> bool {
+    sink.write(bytes.as_bytes()) == taken && sink.failures() == failures
+}
+
+/// What is written to bytes, how many are taken, and the failures after it.
+static OVER_BYTES: &[(&str, Option<usize>, u64)] = &[
+    ("ab", Some(2), 0),
+    ("", Some(0), 0),
+    ("c", Some(1), 0),
+];
+
+/// The same of a tiring writer.
+static OVER_A_TIRING_WRITER: &[(&str, Option<usize>, u64)] = &[
+    ("abcd", Some(3), 0),
+    ("d", Some(0), 1),
+    ("d", None, 2),
+    ("", None, 3),
+];
+
+/// Whether each write takes what it is to take.
+fn takes_all<O: Out>(sink: &mut O, cases: &[(&str, Option<usize>, u64)]) -> bool {
+    for case in cases {
+        let (bytes, taken, failures) = *case;
+        if !takes(sink, bytes, taken, failures) {
+            return false;
+        }
+    }
+    true
+}
+
+#[test]
+fn sinks(rt: HostRuntime) {
+    assert!(rt; takes_all(&mut Over::new(Vec::new(rt.alloc())), OVER_BYTES));
+    assert!(rt; takes_all(&mut Over::new(Tiring { writes: 0 }), OVER_A_TIRING_WRITER));
+}

@@ -1,0 +1,198 @@
+//! What the calls of a place answer, in words. The words are the same for each place.
+
+use pb_data::{Bytes, Items, Text};
+use pb_place_types::{Command, Ended, PathText, Place, PlaceFault, StartFault};
+use std::alloc::{AllocError, Global};
+use std::test::Fail;
+
+/// A call, the name of a path or of a variable, a text that is written or names a second path, and the wanted answer.
+#[derive(Clone, Copy)]
+pub struct Step<'a> {
+    pub call: &'a str,
+    pub name: &'a str,
+    pub text: &'a str,
+    pub wanted: &'a str,
+}
+
+/// The step of a line `CALL NAME TEXT -> ANSWER`, where the name and the text may be missing.
+pub fn step_of(line: &str) -> Step {
+    let (asked, wanted) = line.split_once(" -> ").unwrap_or((line, "no answer"));
+    let (call, names) = asked.split_once(' ').unwrap_or((asked, ""));
+    let (name, text) = names.split_once(' ').unwrap_or((names, ""));
+    Step {
+        call,
+        name,
+        text,
+        wanted,
+    }
+}
+
+/// The path of a name in a folder.
+pub fn path_in(alloc: Global, folder: &PathText, name: &str) -> Result<PathText, Fail> {
+    let path = folder.join(alloc, name)?;
+    Ok(path)
+}
+
+/// The name of a fault.
+fn fault_text(alloc: Global, fault: PlaceFault) -> Result<String, AllocError> {
+    format!(in alloc; "{fault:?}")
+}
+
+/// The text of a file, `none`, `wrong` where it is no text, or the fault.
+pub fn file_text(
+    alloc: Global,
+    answer: Result<Option<Bytes>, PlaceFault>,
+) -> Result<String, AllocError> {
+    let text = match &answer {
+        Ok(Some(bytes)) => {
+            let text = str::from_utf8(bytes.as_slice()).unwrap_or("wrong");
+            String::from_str(alloc, text)
+        }
+        Ok(None) => String::from_str(alloc, "none"),
+        Err(fault) => fault_text(alloc, *fault),
+    };
+    drop(answer);
+    text
+}
+
+/// The value of a variable, `none`, or the fault.
+fn value_text(
+    alloc: Global,
+    answer: Result<Option<Text>, PlaceFault>,
+) -> Result<String, AllocError> {
+    let text = match &answer {
+        Ok(Some(value)) => String::from_str(alloc, value.as_str()),
+        Ok(None) => String::from_str(alloc, "none"),
+        Err(fault) => fault_text(alloc, *fault),
+    };
+    drop(answer);
+    text
+}
+
+/// The names of paths below a root, each with a space after it.
+fn names(alloc: Global, root: &str, paths: &[PathText]) -> Result<String, AllocError> {
+    let mut text = String::new(alloc);
+    for path in paths {
+        text.push_str(path.as_str().strip_prefix(root).unwrap_or("?"))?;
+        text.push_str(" ")?;
+    }
+    Ok(text)
+}
+
+/// The names that are listed, or the fault.
+fn listed(
+    alloc: Global,
+    root: &str,
+    answer: Result<Items<PathText>, PlaceFault>,
+) -> Result<String, AllocError> {
+    let text = match &answer {
+        Ok(paths) => names(alloc, root, paths.as_slice()),
+        Err(fault) => fault_text(alloc, *fault),
+    };
+    drop(answer);
+    text
+}
+
+/// `true`, `false`, or the fault.
+fn truth(alloc: Global, answer: Result<bool, PlaceFault>) -> Result<String, AllocError> {
+    match answer {
+        Ok(answer) => format!(in alloc; "{answer}"),
+        Err(fault) => fault_text(alloc, fault),
+    }
+}
+
+/// `done`, or the fault.
+pub fn done(alloc: Global, answer: Result<(), PlaceFault>) -> Result<String, AllocError> {
+    match answer {
+        Ok(()) => String::from_str(alloc, "done"),
+        Err(fault) => fault_text(alloc, fault),
+    }
+}
+
+/// Two numbers.
+pub fn numbers(alloc: Global, first: u64, second: u64) -> Result<String, AllocError> {
+    format!(in alloc; "{first} {second}")
+}
+
+/// The first bytes of a file, as many as the text of the step says.
+fn first_text<P: Place>(
+    alloc: Global,
+    place: &mut P,
+    path: &PathText,
+    step: &Step,
+) -> Result<String, AllocError> {
+    match step.text.parse::<usize>() {
+        Ok(most) => file_text(alloc, place.read_first(alloc, path, most)),
+        Err(_) => String::from_str(alloc, "no number"),
+    }
+}
+
+/// What a step answers, of which these are the two paths. `counts` tells how many calls failed, and how many came since
+/// the last of them; `starts` how many children were started, and how many flew at most at one moment.
+pub fn answer<P: Place>(
+    alloc: Global,
+    place: &mut P,
+    root: &str,
+    step: &Step,
+    paths: (&PathText, &PathText),
+) -> Result<String, Fail> {
+    let (path, other) = paths;
+    let said = match step.call {
+        "read" => file_text(alloc, place.read(alloc, path)),
+        "first" => first_text(alloc, place, path, step),
+        "list" => listed(alloc, root, place.list(alloc, path)),
+        "outside" => listed(alloc, root, place.list_outside(alloc, path, other)),
+        "directly" => listed(alloc, root, place.list_directly(alloc, path)),
+        "folders" => listed(alloc, root, place.list_folders(alloc, path, other)),
+        "is" => truth(alloc, place.is_file(alloc, path)),
+        "write" => done(alloc, place.write(alloc, path, step.text.as_bytes())),
+        "remove" => done(alloc, place.remove_tree(alloc, path)),
+        "variable" => value_text(alloc, place.variable(alloc, step.name)),
+        "counts" => numbers(alloc, place.failures(), place.late()),
+        "starts" => numbers(alloc, place.starts(), place.most()),
+        _ => String::from_str(alloc, "no such call"),
+    };
+    Ok(said?)
+}
+
+/// Compares what a step answered, where memory was not refused, with what is wanted.
+pub fn compare(step: &Step, said: Result<String, Fail>) -> Result<(), Fail> {
+    let said = said?;
+    let said = said.as_str();
+    if said != step.wanted {
+        return Err(Fail::new(format_args!("{} {} {}: {said}", step.call, step.name, step.text)));
+    }
+    Ok(())
+}
+
+/// Tries that what was said, where memory was not refused, is this.
+pub fn try_said(said: Result<String, Fail>, wanted: &str) -> Result<(), Fail> {
+    let said = said?;
+    let said = said.as_str();
+    if said != wanted {
+        return Err(Fail::new(format_args!("{said} in place of {wanted}")));
+    }
+    Ok(())
+}
+
+/// How a child ended: its status, and its two streams, each in brackets, `wrong` where one is no text; or the fault.
+pub fn end_text(alloc: Global, answer: Result<Ended, StartFault>) -> Result<String, AllocError> {
+    let text = match &answer {
+        Ok(ended) => {
+            let status = ended.status;
+            let stdout = str::from_utf8(ended.stdout.as_slice()).unwrap_or("wrong");
+            let stderr = str::from_utf8(ended.stderr.as_slice()).unwrap_or("wrong");
+            format!(in alloc; "{status}({stdout})({stderr})")
+        }
+        Err(fault) => format!(in alloc; "{fault:?}"),
+    };
+    drop(answer);
+    text
+}
+
+/// How the child of a command ended, and the numbers of starts and failures.
+pub fn said<P: Place>(alloc: Global, place: &mut P, command: &Command) -> Result<String, Fail> {
+    let end = end_text(alloc, place.start(alloc, command))?;
+    let (starts, failures) = (place.starts(), place.failures());
+    Ok(format!(in alloc; "{} {starts} {failures}", end.as_str())?)
+}

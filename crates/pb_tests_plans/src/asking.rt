@@ -1,0 +1,90 @@
+//! The parts of a case, workspaces of tests, and what is asked of them.
+
+use pb_tests_files::{Silent, no_options, put_files, workspace_in};
+use pb_data::Text;
+use pb_place::Memory;
+use pb_workspace_types::{Options, SettledWorkspace};
+use std::alloc::{AllocError, Global};
+use std::test::Fail;
+
+/// The files and the questions of a case, which is a name, files, and after a line `---` the questions.
+pub fn parts_of(case: &str) -> Option<(&str, &str)> {
+    let (_, rest) = case.split_once('\n')?;
+    rest.split_once("---\n")
+}
+
+/// The workspace of files that are put at a place, behind those of a first text.
+fn workspace_at(
+    alloc: Global,
+    memory: &mut Memory<Silent>,
+    first: &str,
+    files: &str,
+) -> Result<SettledWorkspace, Fail> {
+    put_files(alloc, memory, first)?;
+    put_files(alloc, memory, files)?;
+    let workspace = workspace_in(alloc, memory)??;
+    Ok(workspace)
+}
+
+/// The workspace of these files, behind those of a first text.
+pub fn workspace_of(alloc: Global, first: &str, files: &str) -> Result<SettledWorkspace, Fail> {
+    let mut memory = Memory::new(alloc, Silent);
+    let workspace = workspace_at(alloc, &mut memory, first, files);
+    drop(memory);
+    workspace
+}
+
+/// Adds what a word asks for: `lib`, `bins`, `bin:NAME`, `workspace` or `*`, `all`, `no-default`, `f:TEXT` for the
+/// text of `--features`, and else a package by its name, also behind `p:`. Words that begin with `@`, `!` or `-` ask for
+/// nothing here.
+fn add_word(alloc: Global, options: &mut Options, word: &str) -> Result<(), AllocError> {
+    match word {
+        "lib" => options.lib = true,
+        "bins" => options.bins = true,
+        "*" | "workspace" => options.workspace = true,
+        "all" => options.all_features = true,
+        "no-default" => options.no_default_features = true,
+        _ => return add_name(alloc, options, word),
+    }
+    Ok(())
+}
+
+/// Adds what a word asks for that has a name in it.
+fn add_name(alloc: Global, options: &mut Options, word: &str) -> Result<(), AllocError> {
+    if let Some(name) = word.strip_prefix("bin:") {
+        return options.bin.push(Text::from_str(alloc, name)?);
+    }
+    if let Some(text) = word.strip_prefix("f:") {
+        return options.features.push(Text::from_str(alloc, text)?);
+    }
+    if word.starts_with("@") || word.starts_with("!") || word.starts_with("-") {
+        return Ok(());
+    }
+    let name = word.strip_prefix("p:").unwrap_or(word);
+    options.packages.push(Text::from_str(alloc, name)?)
+}
+
+/// Adds what words ask for, with this between them.
+fn add_words(
+    alloc: Global,
+    options: &mut Options,
+    words: &str,
+    between: &str,
+) -> Result<(), AllocError> {
+    for word in words.split(between) {
+        add_word(alloc, options, word)?;
+    }
+    Ok(())
+}
+
+/// What words ask for, with this between them.
+pub fn options_of(alloc: Global, words: &str, between: &str) -> Result<Options, Fail> {
+    let mut options = no_options(alloc)?;
+    match add_words(alloc, &mut options, words, between) {
+        Ok(()) => Ok(options),
+        Err(fault) => {
+            drop(options);
+            Err(Fail::from(fault))
+        }
+    }
+}

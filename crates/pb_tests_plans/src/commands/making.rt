@@ -1,0 +1,145 @@
+//! Projects of tests, from files in memory.
+
+use pb_tests_files::{Silent, no_options, workspace_in};
+use pb_data::{Bytes, Items, Text, TryCopy};
+use pb_directive::{Directives, read_directives};
+use pb_feature::{Features, resolve};
+use pb_place::Memory;
+use pb_workspace_types::{Options, SelectedWorkspace, SettledWorkspace};
+use pb_place_types::PathText;
+use pb_command_types::Project;
+use pb_unit::{Plan, Planned, What};
+use pb_workspace::selected;
+use std::alloc::{AllocError, Global};
+use std::test::Fail;
+
+/// The bytes of the file of a unit in a folder, or none where it is not there.
+pub fn file_of(
+    alloc: Global,
+    memory: &Memory<Silent>,
+    folder: &str,
+    unit: &Planned,
+) -> Result<Option<Bytes>, Fail> {
+    let folder = PathText::parse(alloc, folder)?;
+    let path = folder.join(alloc, unit.key.as_str())?;
+    Ok(memory.file(alloc, &path)?)
+}
+
+/// The profile that words ask for, at their end.
+fn profile_in(words: &str) -> &str {
+    words.split('@').nth(1).unwrap_or("dev")
+}
+
+/// The features that words ask for, each behind a `+`.
+fn features_in(alloc: Global, words: &str) -> Result<Items<Text>, AllocError> {
+    let mut features = Items::new(alloc);
+    for word in words.split(' ') {
+        if let Some(name) = word.strip_prefix("+") {
+            features.push(Text::from_str(alloc, name)?)?;
+        }
+    }
+    Ok(features)
+}
+
+/// A build of all members, with what words ask for: `+FEATURE`, and `@PROFILE` at the end.
+pub fn options_of(alloc: Global, words: &str) -> Result<Options, Fail> {
+    let features = features_in(alloc, words)?;
+    let profile = Text::from_str(alloc, profile_in(words))?;
+    let options = no_options(alloc)?;
+    Ok(Options {
+        workspace: true,
+        profile,
+        features,
+        ..options
+    })
+}
+
+/// What is on of what is selected, and the plan of it, or none where these are refused.
+fn plan_of(
+    alloc: Global,
+    chosen: &SelectedWorkspace<'_>,
+    profile: &str,
+) -> Option<(Features, Plan)> {
+    let features = resolve(alloc, chosen).ok()?;
+    match Plan::plan(alloc, chosen, &features, profile) {
+        Ok(plan) => Some((features, plan)),
+        Err(_) => {
+            drop(features);
+            None
+        }
+    }
+}
+
+/// The same of what options select of a workspace.
+fn parts_of(
+    alloc: Global,
+    workspace: &SettledWorkspace,
+    options: &Options,
+) -> Option<(Features, Plan)> {
+    let chosen = selected(alloc, workspace, options).ok()?;
+    let parts = plan_of(alloc, &chosen, options.profile.as_str());
+    drop(chosen);
+    parts
+}
+
+/// The project of a workspace, or none where what is asked for is refused.
+fn planned(alloc: Global, workspace: SettledWorkspace, options: &Options) -> Option<Project> {
+    let Some((features, plan)) = parts_of(alloc, &workspace, options) else {
+        drop(workspace);
+        return None;
+    };
+    match options.profile.copy(alloc) {
+        Ok(profile) => Some(Project {
+            workspace: workspace.into_workspace(),
+            features,
+            plan,
+            profile,
+        }),
+        Err(_) => {
+            drop(workspace);
+            drop(features);
+            drop(plan);
+            None
+        }
+    }
+}
+
+/// The project at `/w`, whose target folder is `/w/target`, or none where it is refused.
+pub fn project_of(
+    alloc: Global,
+    memory: &mut Memory<Silent>,
+    options: &Options,
+) -> Result<Option<Project>, Fail> {
+    match workspace_in(alloc, memory)? {
+        Ok(workspace) => Ok(planned(alloc, workspace, options)),
+        Err(_) => Ok(None),
+    }
+}
+
+/// What the run of a unit has said, by the file of its key in `/said`; none for a compile.
+fn said_of(
+    alloc: Global,
+    memory: &Memory<Silent>,
+    unit: &Planned,
+) -> Result<Option<Directives>, Fail> {
+    if !matches!(unit.unit.what, What::Run) {
+        return Ok(None);
+    }
+    match file_of(alloc, memory, "/said", unit)? {
+        Some(bytes) => Ok(read_directives(alloc, bytes.as_slice()).ok()),
+        None => Ok(Some(Items::new(alloc))),
+    }
+}
+
+/// What all runs have said, by place.
+pub fn done_of(
+    alloc: Global,
+    memory: &Memory<Silent>,
+    project: &Project,
+) -> Result<Vec<Option<Directives>>, Fail> {
+    let mut done = Vec::new(alloc);
+    for unit in project.plan.units() {
+        done.push(said_of(alloc, memory, unit)?)?;
+    }
+    Ok(done)
+}

@@ -1,0 +1,310 @@
+//! Plans, against a table of plans written by hand.
+
+use crate::asking::{options_of, parts_of, workspace_of};
+use crate::cases::CASES;
+use crate::script_cases::SCRIPT_CASES;
+use crate::show::{put_fault, put_plan, put_texts};
+use pb_tests_files::Shown;
+use pb_data::Text;
+use pb_feature::resolve;
+use pb_workspace_types::{Options, SelectedWorkspace, SettledWorkspace, Side, Workspace};
+use pb_unit::{Plan, PlanFault, Unit, What};
+use pb_workspace::selected;
+use std::alloc::{AllocError, Global};
+use std::process::Abort;
+use std::test::Fail;
+
+/// The profile that the words ask for, at their end.
+fn profile_in(words: &str) -> &str {
+    match words.split_once("@") {
+        Some((_, profile)) => profile,
+        None => "dev",
+    }
+}
+
+/// A root manifest in `/w`, all of whose folders with a manifest are members.
+const ROOT: &str = "@ /w/Cargo.toml\n[workspace]\nmembers = [\"*\"]\n";
+
+/// The plan of a selection.
+fn planned(
+    alloc: Global,
+    chosen: &SelectedWorkspace<'_>,
+    words: &str,
+) -> Result<Result<Plan, PlanFault>, Fail> {
+    let features = resolve(alloc, chosen)?;
+    let plan = Plan::plan(alloc, chosen, &features, profile_in(words));
+    drop(features);
+    Ok(plan)
+}
+
+/// The plan of what options select of a workspace.
+fn plan_with(
+    alloc: Global,
+    workspace: &SettledWorkspace,
+    options: &Options,
+    words: &str,
+) -> Result<Result<Plan, PlanFault>, Fail> {
+    let chosen = selected(alloc, workspace, options)?;
+    let plan = planned(alloc, &chosen, words);
+    drop(chosen);
+    plan
+}
+
+/// The plan of a workspace.
+fn plan_of(
+    alloc: Global,
+    workspace: &SettledWorkspace,
+    words: &str,
+) -> Result<Result<Plan, PlanFault>, Fail> {
+    let options = options_of(alloc, words, " ")?;
+    let plan = plan_with(alloc, workspace, &options, words);
+    drop(options);
+    plan
+}
+
+/// Puts what an answer is shown as.
+fn put_answer(out: &mut Shown, answer: &Result<Plan, PlanFault>, words: &str) {
+    match answer {
+        Err(fault) => put_fault(out, fault),
+        Ok(plan) => {
+            if words.contains("!missing") {
+                put_texts(out, plan.without_library());
+            } else {
+                put_plan(out, plan, words.contains("!whole"));
+            }
+        }
+    }
+}
+
+/// Whether the plan of a workspace is shown as this.
+fn is_answered(
+    alloc: Global,
+    workspace: &SettledWorkspace,
+    words: &str,
+    want: &str,
+) -> Result<bool, Fail> {
+    let answer = plan_of(alloc, workspace, words)?;
+    let mut out = Shown::new(alloc);
+    put_answer(&mut out, &answer, words);
+    drop(answer);
+    Ok(out.says(want))
+}
+
+/// Asks the questions about a workspace, one a line, each with its answer behind ` = `. How many there were.
+fn ask_all(
+    rt: &impl Abort,
+    alloc: Global,
+    workspace: &SettledWorkspace,
+    questions: &str,
+) -> Result<usize, Fail> {
+    let mut count = 0usize;
+    for line in questions.lines() {
+        if let Some((words, want)) = line.split_once(" = ") {
+            assert!(rt; is_answered(alloc, workspace, words, want)?, "{line}");
+            count = count.saturating_add(1);
+        }
+    }
+    Ok(count)
+}
+
+/// Tries one case. How many questions it has.
+fn try_case(rt: &impl Abort, alloc: Global, case: &str) -> Result<usize, Fail> {
+    let Some((files, questions)) = parts_of(case) else {
+        return Ok(0);
+    };
+    let workspace = workspace_of(alloc, ROOT, files)?;
+    let count = ask_all(rt, alloc, &workspace, questions);
+    drop(workspace);
+    count
+}
+
+/// Tries the cases of a table. How many questions there were.
+fn try_cases(rt: &impl Abort, alloc: Global, cases: &str) -> Result<usize, Fail> {
+    let mut count = 0usize;
+    for case in cases.split("=== ") {
+        count = count.saturating_add(try_case(rt, alloc, case)?);
+    }
+    Ok(count)
+}
+
+/// The files of the package `a` with so many binaries, behind these files.
+fn many_binaries(alloc: Global, first: &str, count: u64) -> Result<String, AllocError> {
+    let mut files = Shown::new(alloc);
+    files.put(&[first]);
+    for number in 0..count {
+        files.put(&["@ /w/a/src/bin/b"]);
+        files.put_number(number);
+        files.put(&[".rs\n"]);
+    }
+    files.whole()
+}
+
+/// Whether a plan has so many units; none for too many.
+fn has_units(answer: &Result<Plan, PlanFault>, wanted: Option<usize>) -> bool {
+    match answer {
+        Ok(plan) => wanted == Some(plan.units().len()),
+        Err(PlanFault::TooManyUnits) => wanted.is_none(),
+        Err(_) => false,
+    }
+}
+
+/// Whether the plan of the package of a workspace has so many units.
+fn plans_units(
+    alloc: Global,
+    workspace: &SettledWorkspace,
+    wanted: Option<usize>,
+) -> Result<bool, Fail> {
+    let answer = plan_of(alloc, workspace, "a")?;
+    let has_units = has_units(&answer, wanted);
+    drop(answer);
+    Ok(has_units)
+}
+
+/// A package alone.
+const ALONE: &str = "@ /w/a/Cargo.toml\npackage.name = \"a\"\n";
+
+/// Whether the plan of a package with so many binaries has so many units.
+fn binaries_give(alloc: Global, count: u64, wanted: Option<usize>) -> Result<bool, Fail> {
+    let files = many_binaries(alloc, ALONE, count)?;
+    let workspace = workspace_of(alloc, ROOT, files.as_str())?;
+    let plans_units = plans_units(alloc, &workspace, wanted);
+    drop(workspace);
+    plans_units
+}
+
+/// The same with a library, and another package: a feature makes a circle of the two.
+const CIRCLE: &str = r#"@ /w/a/Cargo.toml
+package.name = "a"
+[dependencies]
+b = { path = "../b" }
+[features]
+circle = ["b/a"]
+@ /w/a/src/lib.rs
+@ /w/b/Cargo.toml
+package.name = "b"
+[dependencies]
+a = { path = "../a", optional = true }
+@ /w/b/src/lib.rs
+"#;
+
+/// What is asked of them where there are too many units, with the circle and without: the circle comes first.
+const CIRCLE_QUESTIONS: &str = r#"a = TooManyUnits
+a f:circle = Cycle a b
+"#;
+
+/// Asks this of them with so many binaries. How many questions there were.
+fn try_circle(rt: &impl Abort, alloc: Global, count: u64) -> Result<usize, Fail> {
+    let files = many_binaries(alloc, CIRCLE, count)?;
+    let workspace = workspace_of(alloc, ROOT, files.as_str())?;
+    let count = ask_all(rt, alloc, &workspace, CIRCLE_QUESTIONS);
+    drop(workspace);
+    count
+}
+
+/// A package with a script, and one that it needs on both sides.
+const BOTH_SIDES: &str = r#"@ /w/a/Cargo.toml
+package.name = "a"
+[dependencies]
+b = { path = "../b" }
+[build-dependencies]
+b = { path = "../b" }
+@ /w/a/src/lib.rs
+@ /w/a/build.rs
+@ /w/b/Cargo.toml
+package.name = "b"
+@ /w/b/src/lib.rs
+"#;
+
+/// What is shown of it.
+const FOLDERS_AND_LEVELS: &str = r#"/w/target/release/b.host.lib Zero
+/w/target/release/b.target.lib Three
+/w/target/release/a.target.script Zero
+/w/target/release/a.target.run Three
+/w/target/release/a.target.lib Three
+"#;
+
+/// Whether these are the folders and levels of a plan, and a place behind its five units has nothing.
+fn has_folders(alloc: Global, plan: &Plan) -> bool {
+    let mut shown = Shown::new(alloc);
+    for planned in plan.units() {
+        shown.put(&[planned.out.as_str(), " "]);
+        shown.put_value(&planned.settings.opt_level);
+        shown.put(&["\n"]);
+    }
+    shown.says(FOLDERS_AND_LEVELS)
+        && plan.level(5) == 0
+        && plan.needs(5).is_empty()
+        && plan.reaches(5).is_empty()
+}
+
+/// Whether a plan was made that has these folders and levels.
+fn are_folders(alloc: Global, answer: &Result<Plan, PlanFault>) -> bool {
+    match answer {
+        Ok(plan) => has_folders(alloc, plan),
+        Err(_) => false,
+    }
+}
+
+/// Whether the plan of a workspace under the profile `bench` has these folders and levels.
+fn bench_has_folders(alloc: Global, workspace: &SettledWorkspace) -> Result<bool, Fail> {
+    let answer = plan_of(alloc, workspace, "a @bench")?;
+    let are_folders = are_folders(alloc, &answer);
+    drop(answer);
+    Ok(are_folders)
+}
+
+/// Whether this is the key of a unit.
+fn has_key(
+    alloc: Global,
+    workspace: &Workspace,
+    unit: &Unit,
+    wanted: &str,
+) -> Result<bool, AllocError> {
+    let key = unit.key(alloc, workspace)?;
+    Ok(key.as_str() == wanted)
+}
+
+/// A binary of the package `b` on the host.
+fn binary(alloc: Global) -> Result<Unit, AllocError> {
+    let name = Text::from_str(alloc, "x_1")?;
+    Ok(Unit {
+        owner: 1,
+        side: Side::Host,
+        what: What::Bin(name),
+    })
+}
+
+/// Whether the keys of a unit, and of one of no package, are right.
+fn has_keys(alloc: Global, workspace: &Workspace) -> Result<bool, AllocError> {
+    let run = Unit {
+        owner: 2,
+        side: Side::Target,
+        what: What::Run,
+    };
+    let is_run = has_key(alloc, workspace, &run, ".target.run");
+    drop(run);
+    let binary = binary(alloc)?;
+    let is_binary = has_key(alloc, workspace, &binary, "b.host.bin-x_1");
+    drop(binary);
+    Ok(is_run? && is_binary?)
+}
+
+/// Whether the folders, levels and keys of `BOTH_SIDES` are right.
+fn are_both_right(alloc: Global) -> Result<bool, Fail> {
+    let workspace = workspace_of(alloc, ROOT, BOTH_SIDES)?;
+    let has_keys = has_keys(alloc, workspace.get());
+    let has_folders = bench_has_folders(alloc, &workspace);
+    drop(workspace);
+    Ok(has_folders? && has_keys?)
+}
+
+#[test]
+fn plans(rt: HostRuntime) -> Result<(), Fail> {
+    assert_eq!(rt; try_cases(&rt, rt.alloc(), CASES)?, 53);
+    assert_eq!(rt; try_cases(&rt, rt.alloc(), SCRIPT_CASES)?, 25);
+    assert!(rt; binaries_give(rt.alloc(), 4096, Some(4096))?);
+    assert!(rt; binaries_give(rt.alloc(), 4097, None)?);
+    assert_eq!(rt; try_circle(&rt, rt.alloc(), 4096)?, 2);
+    assert!(rt; are_both_right(rt.alloc())?);
+    Ok(())
+}

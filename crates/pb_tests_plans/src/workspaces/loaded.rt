@@ -1,0 +1,220 @@
+//! Workspaces, by a table of files with the packages that are loaded or the refusal.
+
+use crate::asking::{options_of, parts_of};
+use crate::workspaces::cases::CASES;
+use crate::workspaces::show::{put_answer, put_places};
+use pb_tests_files::{Shown, Silent, put_files, workspace_in};
+use pb_place::Memory;
+use pb_workspace_types::{LoadFault, SelectedWorkspace, SettledWorkspace};
+use pb_place_types::{PathFault, PathText, Place};
+use pb_workspace::{load, selected};
+use std::alloc::Global;
+use std::process::Abort;
+use std::test::Fail;
+
+/// Puts what is selected: the places, or the refusal.
+fn put_selected(out: &mut Shown, answer: &Result<SelectedWorkspace<'_>, LoadFault>) {
+    match answer {
+        Ok(chosen) => put_places(out, "", chosen.selection().packages.as_slice()),
+        Err(fault) => {
+            out.put(&[" "]);
+            out.put_value(fault);
+            out.put(&["\n"]);
+        }
+    }
+}
+
+/// Puts the selection that a word stands for.
+fn put_selection(
+    alloc: Global,
+    workspace: &SettledWorkspace,
+    word: &str,
+    out: &mut Shown,
+) -> Result<(), Fail> {
+    let options = options_of(alloc, word, " ")?;
+    let answer = selected(alloc, workspace, &options);
+    drop(options);
+    put_selected(out, &answer);
+    drop(answer);
+    Ok(())
+}
+
+/// Puts a line for each word that stands for a selection: `WORD =` and what is selected.
+fn put_selections(
+    alloc: Global,
+    workspace: &SettledWorkspace,
+    words: &str,
+    out: &mut Shown,
+) -> Result<(), Fail> {
+    for word in words.split(' ') {
+        if !word.is_empty() {
+            out.put(&[word, " ="]);
+            put_selection(alloc, workspace, word, out)?;
+        }
+    }
+    Ok(())
+}
+
+/// Whether an answer, with a line for each word that stands for a selection in it, is shown as this.
+fn says(
+    alloc: Global,
+    answer: &Result<SettledWorkspace, LoadFault>,
+    words: &str,
+    want: &str,
+) -> Result<bool, Fail> {
+    let mut out = Shown::new(alloc);
+    put_answer(&mut out, answer);
+    if let Ok(workspace) = answer {
+        put_selections(alloc, workspace, words, &mut out)?;
+    }
+    Ok(out.says(want))
+}
+
+/// Whether files that are put at a place answer this.
+fn is_answered_at(
+    alloc: Global,
+    memory: &mut Memory<Silent>,
+    files: &str,
+    words: &str,
+    want: &str,
+) -> Result<bool, Fail> {
+    put_files(alloc, memory, files)?;
+    let answer = workspace_in(alloc, memory)?;
+    let says = says(alloc, &answer, words, want);
+    drop(answer);
+    says
+}
+
+/// Whether files answer this at a place of their own.
+fn is_answered(alloc: Global, files: &str, words: &str, want: &str) -> Result<bool, Fail> {
+    let mut memory = Memory::new(alloc, Silent);
+    let is_answered = is_answered_at(alloc, &mut memory, files, words, want);
+    drop(memory);
+    is_answered
+}
+
+/// Tries one case: a name and words of selections, files, and after a line `---` the answer. Whether it is one.
+fn try_case(rt: &impl Abort, alloc: Global, case: &str) -> Result<bool, Fail> {
+    let Some((files, want)) = parts_of(case) else {
+        return Ok(false);
+    };
+    let head = case.lines().next().unwrap_or("");
+    let (_, words) = head.split_once(": ").unwrap_or((head, ""));
+    assert!(rt; is_answered(alloc, files, words, want)?, "{case}");
+    Ok(true)
+}
+
+/// Puts the shortest manifest of a member.
+fn put_member(alloc: Global, memory: &mut Memory<Silent>, number: usize) -> Result<(), Fail> {
+    let path = format!(in alloc; "/w/m{number}/Cargo.toml")?;
+    let path = PathText::parse(alloc, path.as_str())?;
+    let text = format!(in alloc; "package.name = \"p{number}\"\n")?;
+    memory.put(alloc, &path, text.as_bytes())?;
+    Ok(())
+}
+
+/// Puts a root manifest, and so many members.
+fn put_many(alloc: Global, memory: &mut Memory<Silent>, count: usize) -> Result<(), Fail> {
+    put_files(
+        alloc,
+        memory,
+        "@ /w/Cargo.toml\n[workspace]\nmembers = [\"m*\"]\n",
+    )?;
+    for number in 0..count {
+        put_member(alloc, memory, number)?;
+    }
+    Ok(())
+}
+
+/// How many packages an answer has; none where these are too many.
+fn count_in(answer: &Result<SettledWorkspace, LoadFault>) -> usize {
+    match answer {
+        Ok(found) => found.get().packages.len(),
+        Err(LoadFault::TooMany) => 0,
+        Err(_) => usize::MAX,
+    }
+}
+
+/// How many packages are loaded of a root and so many members that are put at a place, how many calls of the place
+/// failed, and how many children were started.
+fn count_loaded_at(
+    alloc: Global,
+    memory: &mut Memory<Silent>,
+    count: usize,
+) -> Result<(usize, u64, u64), Fail> {
+    put_many(alloc, memory, count)?;
+    let answer = workspace_in(alloc, memory)?;
+    let count = count_in(&answer);
+    drop(answer);
+    Ok((count, memory.failures(), memory.starts()))
+}
+
+/// The same at a place of its own.
+fn count_loaded(alloc: Global, count: usize) -> Result<(usize, u64, u64), Fail> {
+    let mut memory = Memory::new(alloc, Silent);
+    let counted = count_loaded_at(alloc, &mut memory, count);
+    drop(memory);
+    counted
+}
+
+/// A package whose manifests `/w/Cargo.toml` and `/w/other.toml` are.
+const TWO_MANIFESTS: &str =
+    "@ /w/Cargo.toml\npackage.name = \"a\"\n@ /w/other.toml\npackage.name = \"a\"\n";
+
+/// Whether the loader finds no manifest at a path.
+fn finds_none(
+    alloc: Global,
+    memory: &mut Memory<Silent>,
+    manifest: &str,
+    target: &str,
+) -> Result<bool, PathFault> {
+    let manifest = PathText::parse(alloc, manifest)?;
+    let target = PathText::parse(alloc, target)?;
+    let answer = load(alloc, memory, &manifest, &target);
+    let is_none = matches!(answer, Err(LoadFault::NoManifest(_)));
+    drop(answer);
+    Ok(is_none)
+}
+
+/// Manifests and target folders, and whether there is no manifest there, of the package of `TWO_MANIFESTS`.
+static ROOTS: &[(&str, &str, bool)] = &[
+    ("/w/Cargo.toml", "/w/target", false),
+    ("/w/other.toml", "/w/target", true),
+    ("/w/Cargo.toml", "/w", true),
+    ("/w/Cargo.toml", "/w/Cargo.toml", true),
+    ("/v/Cargo.toml", "/w/target", true),
+];
+
+/// How many of them are so, up to the first that is not.
+fn count_roots(alloc: Global, memory: &mut Memory<Silent>) -> Result<usize, PathFault> {
+    put_files(alloc, memory, TWO_MANIFESTS)?;
+    for (count, case) in ROOTS.iter().enumerate() {
+        let (manifest, target, is_none) = *case;
+        if finds_none(alloc, memory, manifest, target)? != is_none {
+            return Ok(count);
+        }
+    }
+    Ok(ROOTS.len())
+}
+
+/// The same at a place of its own.
+fn count_own_roots(alloc: Global) -> Result<usize, PathFault> {
+    let mut memory = Memory::new(alloc, Silent);
+    let count = count_roots(alloc, &mut memory);
+    drop(memory);
+    count
+}
+
+#[test]
+fn workspaces(rt: HostRuntime) -> Result<(), Fail> {
+    let mut count = 0usize;
+    for case in CASES.split("=== ") {
+        let is_case = try_case(&rt, rt.alloc(), case)?;
+        count = count.saturating_add(usize::from(is_case));
+    }
+    assert_eq!(rt; count, 95);
+    assert!(rt; count_loaded(rt.alloc(), 256)? == (256, 0, 0));
+    assert!(rt; count_loaded(rt.alloc(), 257)? == (0, 0, 0));
+    assert_eq!(rt; count_own_roots(rt.alloc())?, 5);
+    Ok(())
+}

@@ -1,0 +1,39 @@
+//! Diagnostics, taken from a standard error.
+
+use pb_tests_files::{Shown, holds};
+use pb_message::diagnostics;
+use std::alloc::{AllocError, Global};
+
+/// Whether these are the diagnostics of a standard error, each with `;` behind it.
+fn finds(alloc: Global, stderr: &[u8], wanted: &str) -> Result<bool, AllocError> {
+    let found = diagnostics(alloc, stderr)?;
+    let mut all = Shown::new(alloc);
+    all.put_each("", found.as_slice(), ";");
+    Ok(all.says(wanted))
+}
+
+/// What stands on standard error, and its diagnostics, each with `;` behind it.
+static OBJECTS_ALONE: &[(&[u8], &str)] = &[
+    (b"", ""),
+    (b"{}", "{};"),
+    (b"{}\n", "{};"),
+    (b"{}\n\n{\"a\":1}", "{};{\"a\":1};"),
+    (b" \t{ }\r\n", "{ };"),
+    (b"[]\nnull\n1\n\"{}\"\ntrue", ""),
+    (b"error: no\n{\"b\":[]}\nmore", "{\"b\":[]};"),
+    (b"{\"a\":}\n{\"a\" : 1 }", "{\"a\" : 1 };"),
+    (b"{} {}", ""),
+    (b"{\"a\":\n1}", ""),
+    (b"{\"a\":\"\xff\"}\n{}", "{};"),
+];
+
+#[test]
+fn objects_alone(rt: HostRuntime) {
+    for (place, case) in OBJECTS_ALONE.iter().enumerate() {
+        let (stderr, wanted) = *case;
+        assert!(rt;
+            holds(finds(rt.alloc(), stderr, wanted)),
+            "case {place}: {wanted}"
+        );
+    }
+}

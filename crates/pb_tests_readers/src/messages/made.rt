@@ -1,0 +1,91 @@
+//! Subjects and messages for tests.
+
+use crate::texts::{add_pair, texts_of};
+use pb_data::{Items, Text, with_next};
+use pb_manifest_types::{CrateType, DebugInfo, Edition, Lto, OptLevel, Panic, Strip};
+use pb_message::{Artifact, Executed, Message, Target};
+use pb_place_types::PathText;
+use pb_profile::Settings;
+use std::alloc::{AllocError, Global};
+use std::test::Fail;
+
+/// A text.
+pub fn text(alloc: Global, text: &str) -> Result<Text, Fail> {
+    Ok(Text::from_str(alloc, text)?)
+}
+
+/// The library at `/w/src/lib.rs`.
+pub fn library(alloc: Global, types: &[CrateType]) -> Result<Target, Fail> {
+    let name = text(alloc, "a")?;
+    let source = PathText::parse(alloc, "/w/src/lib.rs")?;
+    Ok(Target::library(alloc, types, name, source, Edition::E2021)?)
+}
+
+/// The built-in settings of `dev`, with this level and this much for debuggers.
+pub fn settings(opt_level: OptLevel, debug: DebugInfo) -> Settings {
+    Settings {
+        opt_level,
+        debug,
+        debug_assertions: true,
+        overflow_checks: true,
+        lto: Lto::ThinLocal,
+        panic: Panic::Unwind,
+        codegen_units: 256,
+        rpath: false,
+        strip: Strip::Nothing,
+    }
+}
+
+/// A file that was made.
+pub fn artifact(
+    alloc: Global,
+    settings: Settings,
+    features: &str,
+    file: &str,
+    is_executable: bool,
+) -> Result<Message, Fail> {
+    let features = texts_of(alloc, features)?;
+    let (features, file) = with_next(features, PathText::parse(alloc, file))?;
+    Ok(Message::CompilerArtifact(Artifact {
+        settings,
+        features,
+        file,
+        is_executable,
+    }))
+}
+
+/// The variable `A` with a value and an empty variable `B`; neither for an empty value.
+fn variables(alloc: Global, value: &str) -> Result<Items<(Text, Text)>, AllocError> {
+    let mut made = Items::new(alloc);
+    if !value.is_empty() {
+        add_pair(alloc, &mut made, "A", value)?;
+        add_pair(alloc, &mut made, "B", "")?;
+    }
+    Ok(made)
+}
+
+/// Three lists of the same words.
+fn three_lists(
+    alloc: Global,
+    words: &str,
+) -> Result<((Items<Text>, Items<Text>), Items<Text>), AllocError> {
+    let first = texts_of(alloc, words)?;
+    let two = with_next(first, texts_of(alloc, words))?;
+    with_next(two, texts_of(alloc, words))
+}
+
+/// What a script gave: libraries, folders and conditions, one variable and an empty one, and its folder.
+pub fn executed(alloc: Global, lists: &str, value: &str) -> Result<Message, Fail> {
+    let lists = three_lists(alloc, lists)?;
+    let given = with_next(lists, variables(alloc, value))?;
+    let out_folder = PathText::parse(alloc, "/w/target/debug/a.target.run");
+    let ((lists, variables), out_folder) = with_next(given, out_folder)?;
+    let ((linked_libraries, linked_paths), conditions) = lists;
+    Ok(Message::BuildScriptExecuted(Executed {
+        linked_libraries,
+        linked_paths,
+        conditions,
+        variables,
+        out_folder,
+    }))
+}

@@ -1,0 +1,71 @@
+//! What faults are in words, against worked examples.
+
+use crate::faults::{Bad, Ending, build_fault, unit_fault};
+use pb_tests_files::{Shown, holds};
+use pb_directive::LineFault;
+use pb_manifest_types::{Key, ManifestFault};
+use pb_place_types::PathFault;
+use std::alloc::Global;
+use std::fmt::Display;
+
+/// Whether a value is this in words.
+pub fn reads<T: Display>(alloc: Global, value: &T, wanted: &str) -> bool {
+    let mut words = Shown::new(alloc);
+    words.put_words(value);
+    words.says(wanted)
+}
+
+/// Whether the fault of a build that ended so is this in words.
+fn ending_reads(alloc: Global, ending: Ending, wanted: &str) -> Result<bool, PathFault> {
+    let fault = build_fault(alloc, ending)?;
+    Ok(reads(alloc, &fault, wanted))
+}
+
+/// Faults of a build, and what they are in words.
+static BUILD_WORDS: &[(Ending, &str)] = &[
+    (Ending::Plan("NothingToBuild"), "there is nothing to build"),
+    (Ending::Toolchain, "the compiler does not say its host"),
+    (Ending::Sink, "the message lines cannot be written"),
+    (Ending::OutOfMemory, "out of memory"),
+    (Ending::Load("NoManifest"), "no manifest at `/w/Cargo.toml`"),
+    (Ending::Load("NoInherited"), "a key is not there to inherit"),
+    (
+        Ending::Manifest(ManifestFault::BadKind(Key::LicenseFile)),
+        "the manifest at `/w/m/Cargo.toml` is refused: `license-file` has a value that it may not have",
+    ),
+];
+
+/// Whether the fault of a unit is this in words.
+fn bad_reads(alloc: Global, bad: Bad, wanted: &str) -> Result<bool, PathFault> {
+    let fault = unit_fault(alloc, bad)?;
+    Ok(reads(alloc, &fault, wanted))
+}
+
+/// Faults of a unit, and what they are in words.
+static UNIT_WORDS: &[(Bad, &str)] = &[
+    (Bad::Named("ScriptError"), "the script told of an error"),
+    (Bad::Named("NoDepInfo"), "no dep-info that can be read"),
+    (
+        Bad::Named("ForeignInput"),
+        "`/w/target/x` lies in the target folder",
+    ),
+    (Bad::Named("OutputTooLong"), "a stream is too long"),
+    (Bad::Named("OutOfMemory"), "out of memory"),
+    (Bad::Status(-1), "the child ended with status -1"),
+    (
+        Bad::Line(LineFault::BadValue(3)),
+        "a line of the script's output is refused: line 3 has a bad value",
+    ),
+];
+
+#[test]
+fn words(rt: HostRuntime) {
+    for case in BUILD_WORDS {
+        let (ending, wanted) = *case;
+        assert!(rt; holds(ending_reads(rt.alloc(), ending, wanted)), "{wanted}");
+    }
+    for case in UNIT_WORDS {
+        let (bad, wanted) = *case;
+        assert!(rt; holds(bad_reads(rt.alloc(), bad, wanted)), "{wanted}");
+    }
+}

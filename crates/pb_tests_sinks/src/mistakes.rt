@@ -1,0 +1,198 @@
+//! What `pb_tool build` writes on standard error after mistakes, by tables of files.
+
+mod manifests;
+mod plans;
+mod unused;
+mod workspaces;
+
+ghost use Rattle.std.specs.Prelude.{◌≡◌, [], IfOk};
+
+use crate::told::Unguarded;
+use pb_tests_files::put_files;
+use pb_place::Memory;
+use pb_mini::Mini;
+use pb_place_types::{Over, PathText};
+use pb_tool_program::{Here, Rendered, Spoken, page_of_errors, run};
+use std::alloc::{AllocError, Global};
+use std::process::Abort;
+use std::test::Fail;
+
+/// The words of a command line.
+fn words_of(alloc: Global, words: &str) -> Result<Vec<&str>, AllocError> {
+    let mut all = Vec::new(alloc);
+    all.push("pb_tool")?;
+    all.push("build")?;
+    for word in words.split(' ') {
+        if !word.is_empty() {
+            all.push(word)?;
+        }
+    }
+    Ok(all)
+}
+
+/// Returns what a build in the folder `/w` writes on standard error.
+fn said_at(alloc: Global, memory: Memory<Mini>, words: &str) -> Result<Vec<u8>, Fail>
+    requires { memory.flying ≡ [] }
+{
+    let words = words_of(alloc, words)?;
+    let here = Here {
+        folder: PathText::parse(alloc, "/w")?,
+        processors: 1,
+    };
+    let mut said = Vec::new(alloc);
+    let mut place = Spoken::new(memory, Over::new(Vec::new(alloc)));
+    run(
+        alloc,
+        words.as_slice(),
+        &here,
+        &page_of_errors(),
+        &mut place,
+        &mut Unguarded {},
+        &mut Rendered::new(
+            alloc,
+            Over::new(Vec::new(alloc)),
+            Over::new(Vec::new(alloc)),
+        ),
+        &mut Over::new(&mut said),
+    );
+    drop(place);
+    Ok(said)
+}
+
+/// Returns a place in memory with these files.
+fn memory_of(alloc: Global, files: &str) -> Result<Memory<Mini>, Fail>
+    ensures { IfOk result (λ memory. memory.flying ≡ []) }
+{
+    let mut memory = Memory::new(alloc, Mini);
+    match put_files(alloc, &mut memory, files) {
+        Ok(()) => Ok(memory),
+        Err(fault) => {
+            drop(memory);
+            Err(fault.into())
+        }
+    }
+}
+
+/// Returns what a build of files writes on standard error.
+fn said_alone(alloc: Global, words: &str, files: &str) -> Result<Vec<u8>, Fail> {
+    let memory = memory_of(alloc, files)?;
+    said_at(alloc, memory, words)
+}
+
+/// Tries one case: a name and words, files, and after a line `---` standard error. Whether it is one.
+fn try_case(rt: &impl Abort, alloc: Global, case: &str) -> Result<bool, Fail> {
+    let Some((head, rest)) = case.split_once('\n') else {
+        return Ok(false);
+    };
+    let Some((files, want)) = rest.split_once("---\n") else {
+        return Ok(false);
+    };
+    let (name, words) = head.split_once(": ").unwrap_or((head, ""));
+    let said = said_alone(alloc, words, files)?;
+    let said = str::from_utf8(said.as_slice()).unwrap_or("");
+    assert!(rt; said == want, "{name}: {said}");
+    Ok(true)
+}
+
+/// Tries each case of a table. How many there are.
+fn try_all(rt: &impl Abort, alloc: Global, cases: &str) -> Result<usize, Fail> {
+    let mut count = 0usize;
+    for case in cases.split("=== ") {
+        let is_case = try_case(rt, alloc, case)?;
+        count = count.saturating_add(usize::from(is_case));
+    }
+    Ok(count)
+}
+
+#[test]
+fn mistakes_in_a_manifest(rt: HostRuntime) -> Result<(), Fail> {
+    assert_eq!(rt; try_all(&rt, rt.alloc(), manifests::CASES)?, 18);
+    Ok(())
+}
+
+#[test]
+fn mistakes_in_a_workspace(rt: HostRuntime) -> Result<(), Fail> {
+    assert_eq!(rt; try_all(&rt, rt.alloc(), workspaces::CASES)?, 14);
+    Ok(())
+}
+
+#[test]
+fn mistakes_in_a_plan(rt: HostRuntime) -> Result<(), Fail> {
+    assert_eq!(rt; try_all(&rt, rt.alloc(), plans::CASES)?, 15);
+    Ok(())
+}
+
+#[test]
+fn keys_that_nothing_reads(rt: HostRuntime) -> Result<(), Fail> {
+    assert_eq!(rt; try_all(&rt, rt.alloc(), unused::CASES)?, 5);
+    Ok(())
+}
+
+/// Returns a place in memory with one manifest of these bytes.
+fn memory_with(alloc: Global, manifest: &[u8]) -> Result<Memory<Mini>, Fail>
+    ensures { IfOk result (λ memory. memory.flying ≡ []) }
+{
+    let path = PathText::parse(alloc, "/w/Cargo.toml")?;
+    let mut memory = Memory::new(alloc, Mini);
+    match memory.put(alloc, &path, manifest) {
+        Ok(()) => Ok(memory),
+        Err(fault) => {
+            drop(memory);
+            Err(fault.into())
+        }
+    }
+}
+
+/// Returns how many lines a build of one manifest of these bytes writes on standard error, and the bytes of the longest.
+fn lines_said(alloc: Global, manifest: &[u8]) -> Result<(usize, usize), Fail> {
+    let memory = memory_with(alloc, manifest)?;
+    let said = said_at(alloc, memory, "")?;
+    let text = str::from_utf8(said.as_slice()).unwrap_or("");
+    let longest = text.lines().map(|line| line.len()).max().unwrap_or(0);
+    Ok((text.lines().count(), longest))
+}
+
+/// A manifest with so many keys that nothing reads, and a name that may not be.
+fn many_keys(alloc: Global, count: usize) -> Result<String, AllocError> {
+    let mut text = String::from_str(alloc, "[package]\nname = \"a b\"\n")?;
+    for number in 0..count {
+        text.push_str(format!(in alloc; "key{number} = 1\n")?.as_str())?;
+    }
+    Ok(text)
+}
+
+/// A manifest whose name is so many words long.
+fn long_name(alloc: Global, count: usize) -> Result<String, AllocError> {
+    let mut text = String::from_str(alloc, "[package]\nname = \"")?;
+    for _word in 0..count {
+        text.push_str("a ")?;
+    }
+    text.push_str("\"\n")?;
+    Ok(text)
+}
+
+#[test]
+fn ten_thousand_bad_keys(rt: HostRuntime) -> Result<(), Fail> {
+    let alloc = rt.alloc();
+    let (count, longest) = lines_said(alloc, many_keys(alloc, 10_000)?.as_bytes())?;
+    assert_eq!(rt; count, 12);
+    assert!(rt; longest < 500);
+    Ok(())
+}
+
+#[test]
+fn a_line_of_a_mebibyte(rt: HostRuntime) -> Result<(), Fail> {
+    let alloc = rt.alloc();
+    let (count, longest) = lines_said(alloc, long_name(alloc, 524_000)?.as_bytes())?;
+    assert_eq!(rt; count, 3);
+    assert!(rt; longest < 500);
+    Ok(())
+}
+
+#[test]
+fn a_manifest_that_is_no_text(rt: HostRuntime) -> Result<(), Fail> {
+    let (count, longest) = lines_said(rt.alloc(), b"[package]\nname = \"\xff\xfe\"\n")?;
+    assert_eq!(rt; count, 3);
+    assert!(rt; longest < 500);
+    Ok(())
+}

@@ -1,0 +1,164 @@
+-- What the words of a command line request, or why they request nothing.
+use Rattle.std.specs.Prelude.{◌≡◌, ◌≢◌, ◌⊎◌, ◌<◌, ◌^◌, ℕ, Bool, true, false, codes, List, [], ◌∷◌, Option, Some, None, Ok, Err, unwrap_or, option_map, if◌then◌else◌}
+use Rattle.std.specs.Str.Parse.{IsNumeral, digits_value}
+use Rattle.clap.specs.Faults.{fault_of}
+use Rattle.clap.specs.Kinds.{IsAmong}
+use Rattle.clap.specs.Walk.{Row, Text, first_of, one_of, all_of}
+use Rattle.clap.specs.Simple.{subcommand_of}
+use Rattle.clap.specs.declared.builder.value_parser.ValueParser.{ValueParser}
+use Rattle.clap.specs.declared.error.kind.ErrorKind.{ErrorKind}
+use Rattle.clap.specs.declared.error.kind.ErrorKind.TheVariants as kind
+use Rattle.pb_directive.specs.Directives.{words_of}
+use Rattle.pb_place_types.specs.Paths.{joined}
+use Rattle.pb_place_types.specs.declared.path.PathFault.{PathFault}
+use Rattle.pb_workspace_types.specs.declared.options.Options.{Options}
+use Rattle.pb_tool_arguments.specs.Description.{IsJson, program}
+use Rattle.pb_tool_arguments.specs.declared.asked.Asked.{Asked}
+use Rattle.pb_tool_arguments.specs.declared.asked.Asked.TheVariants.{Session, Build, Explain}
+use Rattle.pb_tool_arguments.specs.declared.asked.Shown.{Shown}
+use Rattle.pb_tool_arguments.specs.declared.here.Here.{Here}
+use Rattle.pb_tool_arguments.specs.declared.asked.Unasked.{Unasked}
+use Rattle.pb_tool_arguments.specs.declared.asked.Unasked.TheVariants.{Help, Wrong, OutOfMemory}
+
+-- an option without a value was given, or was not
+pub record IsFlag (name : Text) (rows : List Row) (given : Bool) : Type 0 where
+  pub absent : one_of name rows ≡ None → given ≡ false
+  pub on : one_of name rows ≡ Some (codes "true") → given ≡ true
+  pub off : one_of name rows ≡ Some (codes "false") → given ≡ false
+
+-- the values of an option, in order
+abbrev pub values_of : Text → List Row → List Text
+values_of name rows = unwrap_or (all_of name rows) []
+
+-- `release` if `--release` was given, else the given profile, else `dev`
+abbrev pub profile_of : Bool → List Row → Text
+profile_of release rows = if release then codes "release" else unwrap_or (first_of (codes "profile") rows) (codes "dev")
+
+-- both `--release` and `--profile` were given
+abbrev pub HasTwoProfiles : List Row → Type 0
+HasTwoProfiles rows = IsFlag (codes "release") rows true × ((profile : Text) × (first_of (codes "profile") rows ≡ Some profile))
+
+-- the profile is the one that was given, in only one way
+abbrev pub IsProfile : List Row → Text → Type 0
+IsProfile rows profile =
+    (release : Bool) × IsFlag (codes "release") rows release × (release ≡ true → first_of (codes "profile") rows ≡ None) × (profile ≡ profile_of release rows)
+
+-- the text is this number in digits alone, and the number is below 2 ^ 64
+abbrev pub IsNumber : Text → ℕ → Type 0
+IsNumber text n = IsNumeral 10 text × (digits_value 10 text < 2 ^ 64) × (n ≡ digits_value 10 text)
+
+-- how many units may be in flight at a time: the given number;
+-- the number of processors if `default` was given; otherwise 1
+abbrev pub IsJobs : ℕ → Option Text → ℕ → Type 0
+IsJobs processors None n = n ≡ 1
+IsJobs processors (Some text) n = (text ≡ codes "default") × (n ≡ processors) ⊎ IsNumber text n
+
+-- `--jobs` was given with neither a number nor `default`
+abbrev pub HasBadJobs : List Row → Type 0
+HasBadJobs rows = (text : Text) × (first_of (codes "jobs") rows ≡ Some text) × (text ≢ codes "default") × ((n : ℕ) → ¬ IsNumber text n)
+
+-- the path of a build's manifest; `Cargo.toml` if none was given
+abbrev pub manifest_of : List Row → Text
+manifest_of rows = unwrap_or (first_of (codes "manifest-path") rows) (codes "Cargo.toml")
+
+-- the path of a session's file
+abbrev pub file_of : List Row → Text
+file_of rows = unwrap_or (first_of (codes "FILE") rows) []
+
+-- the name to be explained
+abbrev pub name_of : List Row → Text
+name_of rows = unwrap_or (first_of (codes "NAME") rows) []
+
+-- the options of a build, by what was given
+pub record IsOptions (called : Text) (here : Here) (rows : List Row) (options : Options) : Type 0 where
+  pub manifest : joined here.folder (manifest_of rows) ≡ Ok options.manifest
+  pub packages : options.packages ≡ values_of (codes "package") rows
+  pub workspace : IsFlag (codes "workspace") rows options.workspace
+  pub features : options.features ≡ values_of (codes "features") rows
+  pub all_features : IsFlag (codes "all-features") rows options.all_features
+  pub no_default_features : IsFlag (codes "no-default-features") rows options.no_default_features
+  pub profile : IsProfile rows options.profile
+  pub lib : IsFlag (codes "lib") rows options.lib
+  pub bins : IsFlag (codes "bins") rows options.bins
+  pub bin : options.bin ≡ values_of (codes "bin") rows
+  pub target_dir : options.target_dir ≡ first_of (codes "target-dir") rows
+  pub runner : options.runner ≡ words_of (unwrap_or (first_of (codes "runner") rows) [])
+  pub tool : options.tool ≡ unwrap_or (first_of (codes "tool") rows) called
+  pub jobs : IsJobs here.processors (first_of (codes "jobs") rows) options.jobs
+
+-- what is shown of a build beside its message lines
+pub record IsShown (rows : List Row) (shown : Shown) : Type 0 where
+  pub explain : IsFlag (codes "explain") rows shown.explain
+  pub render : IsFlag (codes "render") rows shown.render
+  pub verbose : IsFlag (codes "verbose") rows shown.verbose
+
+-- a subcommand with these values requests this
+abbrev pub AsksBy : Text → Here → Option (Text × List Row) → Asked → Type 0
+AsksBy tool here given (Build options shown) = (rows : List Row) × (given ≡ Some (codes "build", rows)) × IsOptions tool here rows options × IsShown rows shown
+AsksBy tool here given (Session path) = (rows : List Row) × (given ≡ Some (codes "session", rows)) × (joined here.folder (file_of rows) ≡ Ok path)
+AsksBy tool here given (Explain name) = (rows : List Row) × (given ≡ Some (codes "explain", rows)) × (name ≡ name_of rows)
+
+-- the first word
+abbrev pub tool_of : List Text → Text
+tool_of [] = []
+tool_of (word ∷ words) = word
+
+-- the description of the command line accepts the words: `clap` finds no fault with them, and they do not request help
+abbrev pub IsTaken : ValueParser → List Text → Type 0
+IsTaken formats words = fault_of (program formats) words ≡ []
+
+-- the words request this, by the description of the command line
+abbrev pub Asks : List Text → Here → Asked → Type 0
+Asks words here asked = (formats : ValueParser) × IsJson formats × IsTaken formats words × AsksBy (tool_of words) here (subcommand_of (program formats) words) asked
+
+-- Why the words request nothing.
+
+-- the texts that are reported: for a path with byte 0, for two profiles, for jobs that
+-- are no number, and for a command that is neither a build, a session nor an explanation
+abbrev pub path_told : Text
+path_told = codes "error: a path has byte 0\n"
+
+abbrev pub profiles_told : Text
+profiles_told = codes "error: the argument '--release' cannot be used with '--profile <NAME>'\n"
+
+abbrev pub jobs_told : Text
+jobs_told = codes "error: the value of '--jobs <N>' is `default`, or digits alone, up to 18446744073709551615\n"
+
+abbrev pub command_told : Text
+command_told = codes "error: neither `build`, `session` nor `explain`\n"
+
+-- why a build with these values requests nothing, and the text that is reported: the path of its
+-- manifest has byte 0; else two profiles are given; or only one is, and the jobs are no number
+pub data BuildsWrongly (folder : Text) (rows : List Row) (text : Text) : Type 0 where
+  bad_manifest : (fault : PathFault) (bad : joined folder (manifest_of rows) ≡ Err fault) (told : text ≡ path_told) → BuildsWrongly folder rows text
+  two_profiles : (path : Text) (good : joined folder (manifest_of rows) ≡ Ok path) (both : HasTwoProfiles rows) (told : text ≡ profiles_told) → BuildsWrongly folder rows text
+  bad_jobs : (path profile : Text) (good : joined folder (manifest_of rows) ≡ Ok path) (one : IsProfile rows profile) (bad : HasBadJobs rows) (told : text ≡ jobs_told) → BuildsWrongly folder rows text
+
+-- why a subcommand with these values requests nothing, and the text that is reported: it
+-- is such a build; the path of a session's file has byte 0; or it is none of the three
+pub data AsksWrongly (folder : Text) (given : Option (Text × List Row)) (text : Text) : Type 0 where
+  bad_build : (rows : List Row) (build : given ≡ Some (codes "build", rows)) (wrong : BuildsWrongly folder rows text) → AsksWrongly folder given text
+  bad_file : (rows : List Row) (fault : PathFault) (session : given ≡ Some (codes "session", rows)) (bad : joined folder (file_of rows) ≡ Err fault) (told : text ≡ path_told) → AsksWrongly folder given text
+  no_command : (no_build : option_map (λ p. p.0) given ≢ Some (codes "build")) (no_session : option_map (λ p. p.0) given ≢ Some (codes "session")) (no_explain : option_map (λ p. p.0) given ≢ Some (codes "explain")) (told : text ≡ command_told) → AsksWrongly folder given text
+
+-- what `clap` found is no fault: help or the version is requested, or there are no words
+abbrev pub is_help : ErrorKind → Bool
+is_help kind.DisplayHelp = true
+is_help kind.DisplayVersion = true
+is_help kind.DisplayHelpOnMissingArgumentOrSubcommand = true
+is_help _ = false
+
+-- help or the version is requested, or there are no words
+abbrev pub AsksForHelp : ValueParser → List Text → Type 0
+AsksForHelp formats words = (found : ErrorKind) × (is_help found ≡ true) × IsAmong found (fault_of (program formats) words)
+
+-- `clap` finds a fault with the words
+abbrev pub IsRefused : ValueParser → List Text → Type 0
+IsRefused formats words = (found : ErrorKind) × (is_help found ≡ false) × IsAmong found (fault_of (program formats) words)
+
+-- why the words request nothing, and the text that is reported; nothing is said about the texts of `clap`;
+-- wrong values are reported only for words that `clap` accepts, so never if help is requested
+abbrev pub Unasks : List Text → Text → Unasked → Type 0
+Unasks words folder (Help text) = (formats : ValueParser) × IsJson formats × AsksForHelp formats words
+Unasks words folder (Wrong text) = (formats : ValueParser) × IsJson formats × (IsRefused formats words ⊎ IsTaken formats words × AsksWrongly folder (subcommand_of (program formats) words) text)
+Unasks words folder OutOfMemory = Unit {0}

@@ -1,0 +1,28 @@
+-- What private functions of the command line promise to one another. Nothing here is needed to read what words request.
+use Rattle.std.specs.Prelude.{◌≡◌, ◌≢◌, true, false, List}
+use Rattle.clap.specs.Walk.{Text}
+use Rattle.clap.specs.declared.builder.value_parser.ValueParser.{ValueParser}
+use Rattle.clap.specs.declared.error.kind.ErrorKind.{ErrorKind}
+use Rattle.clap.specs.declared.error.kind.ErrorKind.TheVariants as kind
+use Rattle.pb_tool_arguments.specs.Asking.{AsksForHelp, IsRefused, is_help}
+use Rattle.pb_tool_arguments.specs.Description.{IsJson}
+use Rattle.pb_tool_arguments.specs.declared.asked.Unasked.{Unasked}
+use Rattle.pb_tool_arguments.specs.declared.asked.Unasked.TheVariants.{Help, Wrong, OutOfMemory}
+
+-- if the words are reported as wrong, this is true of the text
+abbrev pub ToldWrong : (Text → Type 0) → Unasked → Type 0
+ToldWrong why (Help text) = ⊥
+ToldWrong why (Wrong text) = why text
+ToldWrong why OutOfMemory = Unit {0}
+
+-- an error of this kind is reported in this way
+abbrev pub TellsKind : ErrorKind → Unasked → Type 0
+TellsKind k (Help text) = is_help k ≡ true
+TellsKind k (Wrong text) = (is_help k ≡ false) × (k ≢ kind.OutOfMemory)
+TellsKind k OutOfMemory = Unit {0}
+
+-- the description does not accept the words
+abbrev pub RefusedBy : List Text → Unasked → Type 0
+RefusedBy words (Help text) = (formats : ValueParser) × IsJson formats × AsksForHelp formats words
+RefusedBy words (Wrong text) = (formats : ValueParser) × IsJson formats × IsRefused formats words
+RefusedBy words OutOfMemory = Unit {0}

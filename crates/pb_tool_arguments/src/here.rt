@@ -1,0 +1,12 @@
+//! What a command line is read with, beside its words.
+
+use pb_place_types::PathText;
+
+/// What a program knows about where it runs.
+#[derive(Drop)]
+pub struct Here {
+    /// The current folder, at which relative paths start.
+    pub folder: PathText,
+    /// How many processors it may use.
+    pub processors: u64,
+}

@@ -1,0 +1,413 @@
+//! From the words of a command line to what it requests.
+
+ghost use Rattle.std.specs.Prelude.{◌≡◌, ◌⊎◌, ℕ, Ok, Err, IfOk, IfErr, MatchOption, Bool, [], codes, map, option_map, unwrap_or};
+ghost use Rattle.clap.specs.Matches.{found_of};
+ghost use Rattle.clap.specs.Walk.{rows_of, first_of};
+ghost use Rattle.clap.specs.Simple.{subcommand_of, subcommand_rows_of};
+ghost use Rattle.clap.specs.declared.builder.value_parser.ValueParser.{ValueParser};
+ghost use Rattle.pb_directive.specs.Directives.{words_of};
+ghost use Rattle.pb_place_types.specs.Paths.{joined};
+ghost use Rattle.pb_place_types.specs.declared.path.PathFault.{PathFault};
+ghost use Rattle.pb_tool_arguments.specs.Description.{IsJson, program};
+ghost use Rattle.pb_tool_arguments.specs.Asking.{IsFlag, HasTwoProfiles, IsProfile, IsNumber, IsJobs, HasBadJobs, IsOptions, IsShown, IsTaken, BuildsWrongly, AsksBy, Asks, AsksWrongly, Unasks, manifest_of, values_of, tool_of, path_told, profiles_told, jobs_told};
+ghost use Rattle.pb_tool_arguments.specs.Private.{ToldWrong, RefusedBy};
+
+use crate::asked::{
+    Asked, Shown, Unasked, bad_jobs, bad_path, no_command, two_profiles, unasked_of,
+};
+use crate::description::program;
+use crate::here::Here;
+use clap::ArgMatches;
+use pb_data::{Items, Text, with_next};
+use pb_directive::words::words_of;
+use pb_workspace_types::Options;
+use pb_place_types::PathText;
+use std::alloc::{AllocError, Global};
+use std::convert::AsStr;
+
+/// Returns whether an option without a value was given.
+fn is_given(matches: &ArgMatches<'_>, name: &str) -> bool
+    ensures { IsFlag name.now (rows_of (found_of matches.now)) result }
+{
+    matches.get_flag(name)
+}
+
+/// Returns the first value of an option, if it was given.
+fn first<'m>(matches: &ArgMatches<'m>, name: &str) -> Option<&'m str>
+    ensures { option_map (λ text. text.now) result ≡ first_of name.now (rows_of (found_of matches.now)) }
+{
+    matches.get_str(name)
+}
+
+/// Returns the first value of an option, or another text if it was not given.
+fn first_or<'m>(matches: &ArgMatches<'m>, name: &str, other: &'m str) -> &'m str
+    ensures { result.now ≡ unwrap_or (first_of name.now (rows_of (found_of matches.now))) other.now }
+{
+    match first(matches, name) {
+        Some(text) => text,
+        None => other,
+    }
+}
+
+/// Returns copies of texts, in order.
+fn copies(alloc: Global, texts: &[&str]) -> Result<Items<Text>, AllocError>
+    ensures { IfOk result (λ copies. copies ≡ map (λ text. text.now) texts.now) }
+{
+    let mut copies = Items::new(alloc);
+    for text in texts {
+        copies.push(Text::from_str(alloc, *text)?)?;
+    }
+    Ok(copies)
+}
+
+/// Returns the values of an option, in order.
+fn values_of(alloc: Global, matches: &ArgMatches<'_>, name: &str) -> Result<Items<Text>, AllocError>
+    ensures { IfOk result (λ values. values ≡ values_of name.now (rows_of (found_of matches.now))) }
+{
+    match matches.get_strs(name) {
+        Some(values) => copies(alloc, values),
+        None => Ok(Items::new(alloc)),
+    }
+}
+
+/// Returns the value of an option, if it was given.
+fn value_of(alloc: Global, matches: &ArgMatches<'_>, name: &str) -> Result<Option<Text>, AllocError>
+    ensures { IfOk result (λ value. value ≡ first_of name.now (rows_of (found_of matches.now))) }
+{
+    match first(matches, name) {
+        None => Ok(None),
+        Some(value) => Ok(Some(Text::from_str(alloc, value)?)),
+    }
+}
+
+/// Returns the profile: `release` for `--release`, else what `--profile` says, else `dev`.
+///
+/// Errors: `Wrong`, if both are given.
+fn profile_of(alloc: Global, matches: &ArgMatches<'_>) -> Result<Text, Unasked>
+    ensures profile { IfOk result (IsProfile (rows_of (found_of matches.now))) }
+    ensures wrong { IfErr result (ToldWrong (λ told. HasTwoProfiles (rows_of (found_of matches.now)) × (told ≡ profiles_told))) }
+{
+    let release = is_given(matches, "release");
+    match first(matches, "profile") {
+        Some(profile) => {
+            if release {
+                return Err(two_profiles(alloc));
+            }
+            Ok(Text::from_str(alloc, profile)?)
+        }
+        None => Ok(Text::from_str(alloc, if release { "release" } else { "dev" })?),
+    }
+}
+
+/// Returns the number that digits alone write; `None` if the
+/// text has anything else, or the number is too great.
+fn number_in(text: &str) -> Option<u64>
+    ensures { MatchOption result ((n : ℕ) → ¬ IsNumber text.now n) (IsNumber text.now) }
+{
+    if text.starts_with('+') {
+        return None;
+    }
+    text.parse::<u64>().ok()
+}
+
+/// Returns the value of `--jobs`; the number of processors for `default`; 1 if it was not given.
+///
+/// Errors: `Wrong`, if the value is neither a number nor `default`.
+fn jobs_of(alloc: Global, processors: u64, matches: &ArgMatches<'_>) -> Result<u64, Unasked>
+    ensures jobs { IfOk result (IsJobs processors (first_of (codes "jobs") (rows_of (found_of matches.now)))) }
+    ensures wrong { IfErr result (ToldWrong (λ told. HasBadJobs (rows_of (found_of matches.now)) × (told ≡ jobs_told))) }
+{
+    match first(matches, "jobs") {
+        None => Ok(1),
+        Some("default") => Ok(processors),
+        Some(text) => match number_in(text) {
+            Some(jobs) => Ok(jobs),
+            None => Err(bad_jobs(alloc)),
+        },
+    }
+}
+
+/// Returns the words of a text, separated by spaces.
+fn parted(alloc: Global, text: &str) -> Result<Items<Text>, AllocError>
+    ensures { IfOk result (λ words. words ≡ words_of text.now) }
+{
+    let mut words = Items::new(alloc);
+    for word in words_of(text) {
+        words.push(Text::from_str(alloc, word)?)?;
+    }
+    Ok(words)
+}
+
+/// Returns the path that a text of the command line means. A relative one starts at the folder.
+fn path_of(alloc: Global, folder: &PathText, text: &str) -> Result<PathText, Unasked>
+    ensures path { IfOk result (λ path. joined folder.now text.now ≡ Ok path) }
+    ensures wrong { IfErr result (ToldWrong (λ told. (fault : PathFault) × (joined folder.now text.now ≡ Err fault) × (told ≡ path_told))) }
+{
+    match folder.join(alloc, text) {
+        Ok(path) => Ok(path),
+        Err(fault) => Err(bad_path(alloc, fault)),
+    }
+}
+
+/// The options of a build that may be wrong.
+#[derive(Drop)]
+struct Judged {
+    manifest: PathText,
+    profile: Text,
+    jobs: u64,
+}
+
+/// The options of a build that name something, each by any number of texts.
+#[derive(Drop)]
+struct Named {
+    packages: Items<Text>,
+    features: Items<Text>,
+    bin: Items<Text>,
+}
+
+/// Where all that is made goes, what runs the build scripts, and
+/// what children are told about which program the builder is.
+#[derive(Drop)]
+struct Tools {
+    target_dir: Option<Text>,
+    runner: Items<Text>,
+    tool: Text,
+}
+
+/// Which options without a value were given.
+#[derive(Clone, Copy)]
+struct Flags {
+    workspace: bool,
+    all_features: bool,
+    no_default_features: bool,
+    lib: bool,
+    bins: bool,
+}
+
+/// Returns the options of a build that may be wrong. A relative
+/// path of the manifest starts at the folder.
+fn judged_of(alloc: Global, here: &Here, matches: &ArgMatches<'_>) -> Result<Judged, Unasked>
+    ensures manifest { IfOk result (λ judged. joined here.now.folder (manifest_of (rows_of (found_of matches.now))) ≡ Ok judged.manifest) }
+    ensures profile { IfOk result (λ judged. IsProfile (rows_of (found_of matches.now)) judged.profile) }
+    ensures jobs { IfOk result (λ judged. IsJobs here.now.processors (first_of (codes "jobs") (rows_of (found_of matches.now))) judged.jobs) }
+    ensures wrong { IfErr result (ToldWrong (BuildsWrongly here.now.folder (rows_of (found_of matches.now)))) }
+{
+    let manifest = path_of(
+        alloc,
+        &here.folder,
+        first_or(matches, "manifest-path", "Cargo.toml"),
+    )?;
+    let profile = profile_of(alloc, matches)?;
+    let jobs = jobs_of(alloc, here.processors, matches)?;
+    Ok(Judged {
+        manifest,
+        profile,
+        jobs,
+    })
+}
+
+/// Returns the options of a build that name something.
+fn named_of(alloc: Global, matches: &ArgMatches<'_>) -> Result<Named, AllocError>
+    ensures packages { IfOk result (λ named. named.packages ≡ values_of (codes "package") (rows_of (found_of matches.now))) }
+    ensures features { IfOk result (λ named. named.features ≡ values_of (codes "features") (rows_of (found_of matches.now))) }
+    ensures bin { IfOk result (λ named. named.bin ≡ values_of (codes "bin") (rows_of (found_of matches.now))) }
+{
+    let packages = values_of(alloc, matches, "package")?;
+    let features = values_of(alloc, matches, "features")?;
+    let bin = values_of(alloc, matches, "bin")?;
+    Ok(Named {
+        packages,
+        features,
+        bin,
+    })
+}
+
+/// Returns what children are told about which program the
+/// builder is: what was given for that, else how it was called.
+fn told_tool(alloc: Global, tool: &str, matches: &ArgMatches<'_>) -> Result<Text, AllocError>
+    ensures { IfOk result (λ told. told ≡ unwrap_or (first_of (codes "tool") (rows_of (found_of matches.now))) tool.now) }
+{
+    match value_of(alloc, matches, "tool")? {
+        Some(told) => Ok(told),
+        None => Text::from_str(alloc, tool),
+    }
+}
+
+/// Returns where all that is made goes, and what a build starts.
+fn tools_of(alloc: Global, tool: &str, matches: &ArgMatches<'_>) -> Result<Tools, AllocError>
+    ensures target_dir { IfOk result (λ tools. tools.target_dir ≡ first_of (codes "target-dir") (rows_of (found_of matches.now))) }
+    ensures runner { IfOk result (λ tools. tools.runner ≡ words_of (unwrap_or (first_of (codes "runner") (rows_of (found_of matches.now))) [])) }
+    ensures tool { IfOk result (λ tools. tools.tool ≡ unwrap_or (first_of (codes "tool") (rows_of (found_of matches.now))) tool.now) }
+{
+    let target_dir = value_of(alloc, matches, "target-dir")?;
+    let runner = parted(alloc, first_or(matches, "runner", ""))?;
+    let tool = told_tool(alloc, tool, matches)?;
+    Ok(Tools {
+        target_dir,
+        runner,
+        tool,
+    })
+}
+
+/// Returns which options without a value were given.
+fn flags_of(matches: &ArgMatches<'_>) -> Flags
+    ensures workspace { IsFlag (codes "workspace") (rows_of (found_of matches.now)) result.workspace }
+    ensures all_features { IsFlag (codes "all-features") (rows_of (found_of matches.now)) result.all_features }
+    ensures no_default_features { IsFlag (codes "no-default-features") (rows_of (found_of matches.now)) result.no_default_features }
+    ensures lib { IsFlag (codes "lib") (rows_of (found_of matches.now)) result.lib }
+    ensures bins { IsFlag (codes "bins") (rows_of (found_of matches.now)) result.bins }
+{
+    Flags {
+        workspace: is_given(matches, "workspace"),
+        all_features: is_given(matches, "all-features"),
+        no_default_features: is_given(matches, "no-default-features"),
+        lib: is_given(matches, "lib"),
+        bins: is_given(matches, "bins"),
+    }
+}
+
+/// Returns options, made of their parts.
+fn joined_of(judged: Judged, named: Named, tools: Tools, flags: Flags) -> Options
+    ensures { result ≡ record {
+      manifest = judged.manifest;
+      packages = named.packages;
+      workspace = flags.workspace;
+      features = named.features;
+      all_features = flags.all_features;
+      no_default_features = flags.no_default_features;
+      profile = judged.profile;
+      lib = flags.lib;
+      bins = flags.bins;
+      bin = named.bin;
+      target_dir = tools.target_dir;
+      runner = tools.runner;
+      tool = tools.tool;
+      jobs = judged.jobs;
+    } }
+{
+    Options {
+        manifest: judged.manifest,
+        packages: named.packages,
+        workspace: flags.workspace,
+        features: named.features,
+        all_features: flags.all_features,
+        no_default_features: flags.no_default_features,
+        profile: judged.profile,
+        lib: flags.lib,
+        bins: flags.bins,
+        bin: named.bin,
+        target_dir: tools.target_dir,
+        runner: tools.runner,
+        tool: tools.tool,
+        jobs: judged.jobs,
+    }
+}
+
+/// Returns what `pb_tool build` requests. A relative path of
+/// the manifest starts at the current folder.
+fn options_of(
+    alloc: Global,
+    tool: &str,
+    here: &Here,
+    matches: &ArgMatches<'_>,
+) -> Result<Options, Unasked>
+    ensures options { IfOk result (IsOptions tool.now here.now (rows_of (found_of matches.now))) }
+    ensures wrong { IfErr result (ToldWrong (BuildsWrongly here.now.folder (rows_of (found_of matches.now)))) }
+{
+    let judged = judged_of(alloc, here, matches)?;
+    let named = named_of(alloc, matches);
+    let (judged, named) = with_next(judged, named)?;
+    let tools = tools_of(alloc, tool, matches);
+    let ((judged, named), tools) = with_next((judged, named), tools)?;
+    Ok(joined_of(judged, named, tools, flags_of(matches)))
+}
+
+/// Returns what is shown of a build beside its lines.
+fn shown_of(matches: &ArgMatches<'_>) -> Shown
+    ensures { IsShown (rows_of (found_of matches.now)) result }
+{
+    Shown {
+        explain: is_given(matches, "explain"),
+        render: is_given(matches, "render"),
+        verbose: is_given(matches, "verbose"),
+    }
+}
+
+/// Returns what the subcommand requests. A relative path of a
+/// session's file starts at the current folder.
+fn asked_by(
+    alloc: Global,
+    tool: &str,
+    here: &Here,
+    matches: &ArgMatches<'_>,
+) -> Result<Asked, Unasked>
+    ensures asked { IfOk result (AsksBy tool.now here.now (subcommand_rows_of matches.now)) }
+    ensures wrong { IfErr result (ToldWrong (AsksWrongly here.now.folder (subcommand_rows_of matches.now))) }
+{
+    if let Some(build) = matches.subcommand_matches("build") {
+        return match options_of(alloc, tool, here, build) {
+            Ok(options) => Ok(Asked::Build {
+                options,
+                shown: shown_of(build),
+            }),
+            Err(unasked) => Err(unasked),
+        };
+    }
+    if let Some(explain) = matches.subcommand_matches("explain") {
+        return match Text::from_str(alloc, first_or(explain, "NAME", "")) {
+            Ok(name) => Ok(Asked::Explain(name)),
+            Err(_) => Err(Unasked::OutOfMemory),
+        };
+    }
+    match matches.subcommand_matches("session") {
+        Some(session) => match path_of(alloc, &here.folder, first_or(session, "FILE", "")) {
+            Ok(path) => Ok(Asked::Session(path)),
+            Err(unasked) => Err(unasked),
+        },
+        None => Err(no_command(alloc)),
+    }
+}
+
+/// Returns the words as the description of the command line
+/// reads them, or why it does not accept them.
+fn matches_of<'a, S: AsStr>(alloc: Global, words: &'a [S]) -> Result<ArgMatches<'a>, Unasked>
+    ensures matches { IfOk result (λ matches. (formats : ValueParser) × IsJson formats × IsTaken formats (map S.text words.now)
+        × (subcommand_rows_of matches ≡ subcommand_of (program formats) (map S.text words.now))) }
+    ensures refused { IfErr result (RefusedBy (map S.text words.now)) }
+{
+    let program = program(alloc)?;
+    match program.try_get_matches_from(words) {
+        Ok(matches) => Ok(matches),
+        Err(error) => Err(unasked_of(alloc, &error)),
+    }
+}
+
+/// Returns the first word; it is empty if there is none.
+fn tool_of<S: AsStr>(words: &[S]) -> &str
+    ensures { result.now ≡ tool_of (map S.text words.now) }
+{
+    match words.first() {
+        Some(word) => word.as_str(),
+        None => "",
+    }
+}
+
+/// Returns what a command line requests. The words are those of
+/// the whole command line, with the program's own name first.
+///
+/// Errors: `Help`, if help or the version is requested, or there are no words;
+/// `Wrong`, with its text, if the words are not a command line, two profiles
+/// are given, `--jobs` is wrong, or a path has byte 0; `OutOfMemory`.
+pub fn read_command_line<S: AsStr>(
+    alloc: Global,
+    words: &[S],
+    here: &Here,
+) -> Result<Asked, Unasked>
+    ensures asked { IfOk result (Asks (map S.text words.now) here.now) }
+    ensures unasked { IfErr result (Unasks (map S.text words.now) here.now.folder) }
+{
+    match matches_of(alloc, words) {
+        Ok(matches) => asked_by(alloc, tool_of(words), here, &matches),
+        Err(unasked) => Err(unasked),
+    }
+}

@@ -1,0 +1,109 @@
+//! A sink of message lines that shows them.
+
+ghost use Rattle.std.specs.Prelude.{◌≡◌, ◌≤◌, ◌++◌, Bool, false, length, take, MatchOption, OnOk};
+ghost use Rattle.std.specs.Io.KnownBytes.{Keeps, Appends};
+ghost use Rattle.pb_place_types.specs.Sinks.{Heard, sunk};
+
+use crate::rendering::line_shown;
+use pb_place_types::{Out, write_all};
+use std::alloc::{AllocError, Global};
+
+/// A sink of message lines that can also show them as text.
+pub trait Screen: Out {
+    /// How it is set to show lines: the sink before, whether it shows lines, and the sink after.
+    ghost shows: { Self → Bool → Self → Type 0 };
+
+    /// Sets whether lines are shown from now on. What the sink has received stays.
+    fn show(&mut self, on: bool)
+        ensures shows { shows self.old on self.new }
+        ensures heard { Self.heard self.new ≡ Self.heard self.old };
+}
+
+/// A sink over another one, which receives all that this one receives. If it is set to do so, it
+/// shows each whole line on a third sink, as soon as the other sink has taken it. If memory runs
+/// out for a line, it reports that the line is lost. The third sink may fail in any way.
+#[derive(Drop)]
+pub struct Rendered<O, S> {
+    /// The sink that receives the lines.
+    out: O,
+    /// The sink on which they are shown.
+    aside: S,
+    /// Whether they are shown.
+    on: bool,
+    /// What was received of a line that has not ended.
+    line: Vec<u8>,
+    alloc: Global,
+}
+
+/// Shows the text of a line.
+fn show_line<S: Out>(alloc: Global, aside: &mut S, line: &[u8]) {
+    let Ok(line) = str::from_utf8(line) else {
+        return;
+    };
+    match line_shown(alloc, line) {
+        Ok(text) => write_all(aside, text.as_str().as_bytes()),
+        Err(_) => write_all(aside, b"note: out of memory for the text of a line\n"),
+    };
+}
+
+/// Adds received bytes, and shows each line that they end.
+fn follow<S: Out>(
+    alloc: Global,
+    aside: &mut S,
+    line: &mut Vec<u8>,
+    bytes: &[u8],
+) -> Result<(), AllocError> {
+    for byte in bytes {
+        if *byte == b'\n' {
+            show_line(alloc, aside, line.as_slice());
+            line.clear();
+        } else {
+            line.push(*byte)?;
+        }
+    }
+    Ok(())
+}
+
+impl<O: Out, S: Out> Rendered<O, S> {
+    /// Returns a sink over these two, which shows nothing yet.
+    pub fn new(alloc: Global, out: O, aside: S) -> Rendered<O, S>
+        ensures { ⟦<Rendered<O, S> as Out>⟧.heard result ≡ O.heard out }
+    {
+        Rendered {
+            out,
+            aside,
+            on: false,
+            line: Vec::new(alloc),
+            alloc,
+        }
+    }
+}
+
+impl<O: Out, S: Out> Out for Rendered<O, S> {
+    ghost heard = { λ r. O.heard r.out };
+
+    fn write(&mut self, bytes: &[u8]) -> Option<usize> {
+        let taken = self.out.write(bytes);
+        if !self.on {
+            return taken;
+        }
+        if let Some(count) = taken {
+            if follow(self.alloc, &mut self.aside, &mut self.line, &bytes[..count]).is_err() {
+                self.line.clear();
+            }
+        }
+        taken
+    }
+
+    fn failures(&self) -> u64 {
+        self.out.failures()
+    }
+}
+
+impl<O: Out, S: Out> Screen for Rendered<O, S> {
+    ghost shows = { λ old on new. new ≡ record old { on = on } };
+
+    fn show(&mut self, on: bool) {
+        self.on = on;
+    }
+}

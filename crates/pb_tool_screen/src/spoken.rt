@@ -1,0 +1,228 @@
+//! A place that names the children that it starts.
+
+ghost use Rattle.std.specs.Prelude.{◌≡◌, Bool};
+ghost use Rattle.pb_place_types.specs.At.{IsUnchanged};
+
+use pb_data::{Bytes, Items, Text};
+use pb_place_types::{
+    Command, Ended, Moved, Out, PathFault, PathText, Place, PlaceFault, StartFault, write_all,
+};
+use std::alloc::{AllocError, Global};
+
+/// A place that can also name the children that it starts.
+pub trait Speaking: Place {
+    /// How it is set to name children: the place before, whether it names them, and the place
+    /// after.
+    ghost speaks: { Self → Bool → Self → Type 0 };
+
+    /// Sets whether children are named from now on. Everything else of the place stays.
+    fn speak(&mut self, on: bool)
+        ensures speaks { speaks self.old on self.new }
+        ensures at { IsUnchanged (Self.at self.old) (Self.at self.new) };
+}
+
+/// A place that does what another one does. If it is set to do so, it writes a line to a sink
+/// before each child is started: the program and its arguments, as a shell takes them. That sink
+/// may fail in any way.
+#[derive(Drop)]
+pub struct Spoken<P, S> {
+    /// The place that makes the calls.
+    inside: P,
+    /// The sink to which children are named.
+    aside: S,
+    /// Whether they are named.
+    on: bool,
+}
+
+/// Returns whether a shell takes an argument as it is.
+fn is_plain(word: &str) -> bool {
+    !word.is_empty()
+        && word.chars().all(|letter| {
+            letter.is_ascii_alphanumeric() || "_@%+=:,./-".contains(letter)
+        })
+}
+
+/// Adds an argument as a shell takes it: in quotation marks if it is not plain.
+fn push_word(line: &mut String, word: &str) -> Result<(), AllocError> {
+    if is_plain(word) {
+        line.push_str(word)?;
+        return Ok(());
+    }
+    line.push_str("'")?;
+    for letter in word.chars() {
+        if letter == '\'' {
+            line.push_str("'\\''")?;
+        } else {
+            line.push(letter)?;
+        }
+    }
+    line.push_str("'")?;
+    Ok(())
+}
+
+/// Returns the line of a child.
+fn line_of(alloc: Global, command: &Command) -> Result<String, AllocError> {
+    let mut line = String::new(alloc);
+    push_word(&mut line, command.program.as_str())?;
+    for word in command.words.as_slice() {
+        line.push_str(" ")?;
+        push_word(&mut line, word.as_str())?;
+    }
+    line.push_str("\n")?;
+    Ok(line)
+}
+
+/// Names a child.
+fn name<S: Out>(alloc: Global, aside: &mut S, command: &Command) {
+    match line_of(alloc, command) {
+        Ok(line) => write_all(aside, line.as_bytes()),
+        Err(_) => write_all(aside, b"note: out of memory for the words of a child\n"),
+    };
+}
+
+impl<P: Place, S: Out> Spoken<P, S> {
+    /// Returns a place that does what this one does, and names no child yet.
+    pub fn new(inside: P, aside: S) -> Spoken<P, S>
+        ensures { IsUnchanged (P.at inside) (⟦<Spoken<P, S> as Place>⟧.at result) }
+    {
+        Spoken {
+            inside,
+            aside,
+            on: false,
+        }
+    }
+}
+
+impl<P: Place, S: Out> Speaking for Spoken<P, S> {
+    ghost speaks = { λ old on new. new ≡ record old { on = on } };
+
+    fn speak(&mut self, on: bool) {
+        self.on = on;
+    }
+}
+
+impl<P: Place, S: Out> Place for Spoken<P, S> {
+    ghost tells = { P.tells };
+
+    ghost at = { λ p. P.at p.inside };
+
+    ghost child = { P.child };
+
+    ghost fails = { λ p. P.fails p.inside };
+
+    fn read(&mut self, alloc: Global, path: &PathText) -> Result<Option<Bytes>, PlaceFault> {
+        self.inside.read(alloc, path)
+    }
+
+    fn read_first(
+        &mut self,
+        alloc: Global,
+        path: &PathText,
+        most: usize,
+    ) -> Result<Option<Bytes>, PlaceFault> {
+        self.inside.read_first(alloc, path, most)
+    }
+
+    fn is_file(&mut self, alloc: Global, path: &PathText) -> Result<bool, PlaceFault> {
+        self.inside.is_file(alloc, path)
+    }
+
+    fn list(&mut self, alloc: Global, folder: &PathText) -> Result<Items<PathText>, PlaceFault> {
+        self.inside.list(alloc, folder)
+    }
+
+    fn list_outside(
+        &mut self,
+        alloc: Global,
+        folder: &PathText,
+        left_out: &PathText,
+    ) -> Result<Items<PathText>, PlaceFault> {
+        self.inside.list_outside(alloc, folder, left_out)
+    }
+
+    fn list_directly(
+        &mut self,
+        alloc: Global,
+        folder: &PathText,
+    ) -> Result<Items<PathText>, PlaceFault> {
+        self.inside.list_directly(alloc, folder)
+    }
+
+    fn list_folders(
+        &mut self,
+        alloc: Global,
+        folder: &PathText,
+        left_out: &PathText,
+    ) -> Result<Items<PathText>, PlaceFault> {
+        self.inside.list_folders(alloc, folder, left_out)
+    }
+
+    fn write(&mut self, alloc: Global, path: &PathText, bytes: &[u8]) -> Result<(), PlaceFault> {
+        self.inside.write(alloc, path, bytes)
+    }
+
+    fn remove_tree(&mut self, alloc: Global, path: &PathText) -> Result<(), PlaceFault> {
+        self.inside.remove_tree(alloc, path)
+    }
+
+    fn variable(&mut self, alloc: Global, name: &str) -> Result<Option<Text>, PlaceFault> {
+        self.inside.variable(alloc, name)
+    }
+
+    fn spawn(&mut self, alloc: Global, command: &Command) -> Result<u64, StartFault> {
+        if self.on {
+            name(alloc, &mut self.aside, command);
+        }
+        self.inside.spawn(alloc, command)
+    }
+
+    fn finish(&mut self, alloc: Global, ticket: u64) -> Result<Ended, StartFault> {
+        self.inside.finish(alloc, ticket)
+    }
+
+    fn path_from(
+        &self,
+        alloc: Global,
+        folder: &PathText,
+        text: &str,
+    ) -> Result<PathText, PathFault> {
+        self.inside.path_from(alloc, folder, text)
+    }
+
+    fn watch(
+        &mut self,
+        alloc: Global,
+        command: &Command,
+        path: &PathText,
+    ) -> Result<(), AllocError> {
+        self.inside.watch(alloc, command, path)
+    }
+
+    fn stood_still(&self, command: &Command) -> bool {
+        self.inside.stood_still(command)
+    }
+
+    fn moved(&self) -> &[Moved] {
+        self.inside.moved()
+    }
+
+    fn files_have_paths(&self) {
+        self.inside.files_have_paths()
+    }
+
+    fn failures(&self) -> u64 {
+        self.inside.failures()
+    }
+
+    fn starts(&self) -> u64 {
+        self.inside.starts()
+    }
+
+    fn late(&self) -> u64 {
+        self.inside.late()
+    }
+
+    fn most(&self) -> u64 {
+        self.inside.most()
+    }
+}

@@ -1,5 +1,0 @@
-use Rattle.pb_turn_laws.proofs.Asking.{part_for_part}
-use Rattle.pb_turn_laws.proofs.asked_part_for_part.Goals as goal
-
-pub returns : goal.returns
-returns c = part_for_part

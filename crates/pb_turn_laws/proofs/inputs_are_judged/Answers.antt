@@ -1,5 +1,0 @@
-use Rattle.pb_turn_laws.proofs.Giving.{inputs_are_judged}
-use Rattle.pb_turn_laws.proofs.inputs_are_judged.Goals as goal
-
-pub returns : goal.returns
-returns c = inputs_are_judged

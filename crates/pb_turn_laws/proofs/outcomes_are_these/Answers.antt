@@ -1,5 +1,0 @@
-use Rattle.pb_turn_laws.proofs.Giving.{outcomes_are_these}
-use Rattle.pb_turn_laws.proofs.outcomes_are_these.Goals as goal
-
-pub returns : goal.returns
-returns c = outcomes_are_these

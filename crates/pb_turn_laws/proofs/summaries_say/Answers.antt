@@ -1,5 +1,0 @@
-use Rattle.pb_turn_laws.proofs.Summing.{summaries_say}
-use Rattle.pb_turn_laws.proofs.summaries_say.Goals as goal
-
-pub returns : goal.returns
-returns c = summaries_say

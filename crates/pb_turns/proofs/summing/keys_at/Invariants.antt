@@ -1,6 +1,0 @@
-use Rattle.std.proofs.Common.{◌≡◌, ◌++◌, drop}
-use Rattle.pb_turns.specs.Rows.{keys_at}
-use Rattle.pb_turns.proofs.summing.keys_at.Given as goal
-
-abbrev pub invariant-loop-place : goal.invariant-loop-place
-invariant-loop-place l = l.keys ++ keys_at l.units (drop l.place-index l.places) ≡ keys_at l.units l.places

@@ -1,7 +1,0 @@
-use Rattle.std.proofs.Common.{◌≡◌, ◌++◌, drop}
-use Rattle.std.specs.List.{filter_map}
-use Rattle.pb_unit_messages.specs.Telling.{condition_in}
-use Rattle.pb_unit_messages.proofs.messages.conditions_in.Given as goal
-
-abbrev pub invariant-loop-directive : goal.invariant-loop-directive
-invariant-loop-directive l = l.made ++ filter_map condition_in (drop l.directive-index l.directives) ≡ filter_map condition_in l.directives

@@ -1,7 +1,0 @@
-use Rattle.std.proofs.Common.{◌≡◌, ◌++◌, drop}
-use Rattle.std.specs.List.{filter_map}
-use Rattle.pb_unit_messages.specs.Telling.{variable_in}
-use Rattle.pb_unit_messages.proofs.messages.variables_in.Given as goal
-
-abbrev pub invariant-loop-directive : goal.invariant-loop-directive
-invariant-loop-directive l = l.made ++ filter_map variable_in (drop l.directive-index l.directives) ≡ filter_map variable_in l.directives

@@ -1,7 +1,0 @@
-use Rattle.std.proofs.Common.{◌≡◌, drop, map}
-use Rattle.pb_project.specs.NamedTexts.{all_set}
-use Rattle.pb_variables.specs.Pairs.{feature_pair}
-use Rattle.pb_variables.proofs.run_pairs.set_features.Given as goal
-
-abbrev pub invariant-loop-feature : goal.invariant-loop-feature
-invariant-loop-feature l = all_set l.all (map feature_pair (drop l.feature-index l.features)) ≡ all_set l.fn.all (map feature_pair l.features)

@@ -1,7 +1,0 @@
-use Rattle.std.proofs.Common.{◌≡◌, ◌++◌, drop}
-use Rattle.std.specs.List.{flat_map}
-use Rattle.pb_words.specs.Said.{searched_words}
-use Rattle.pb_words.proofs.said.push_all_searched.Given as goal
-
-abbrev pub invariant-loop-place : goal.invariant-loop-place
-invariant-loop-place l = l.words ++ flat_map (searched_words l.done) (drop l.place-index l.places) ≡ l.fn.words ++ flat_map (searched_words l.done) l.places

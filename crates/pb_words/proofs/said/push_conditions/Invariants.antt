@@ -1,7 +1,0 @@
-use Rattle.std.proofs.Common.{◌≡◌, ◌++◌, drop}
-use Rattle.std.specs.List.{flat_map}
-use Rattle.pb_words.specs.Said.{condition_word}
-use Rattle.pb_words.proofs.said.push_conditions.Given as goal
-
-abbrev pub invariant-loop-directive : goal.invariant-loop-directive
-invariant-loop-directive l = l.words ++ flat_map condition_word (drop l.directive-index l.said) ≡ l.fn.words ++ flat_map condition_word l.said

@@ -1,0 +1,41 @@
+-- The binaries of a package that was read (The Cargo Book, Cargo Targets).
+-- `sources` is the world without the files at or below the target folder.
+use Rattle.std.specs.Prelude.{◌≡◌, ◌≢◌, ◌↔◌, ℕ, true, if◌then◌else◌, codes, List, [], ◌∷◌, ◌++◌, map, Option, Some, Contains, get_or, unwrap_or}
+use Rattle.std.specs.Option.{option_map_or}
+use Rattle.std.specs.Str.{bytes_eq}
+use Rattle.pb_manifest_types.specs.Letters.{is_name}
+use Rattle.pb_manifest_types.specs.declared.manifest.Manifest.{Manifest}
+use Rattle.pb_manifest_types.specs.declared.package.Package.{Package as Written}
+use Rattle.pb_manifest_types.specs.declared.target.Binary.{Binary as WrittenBinary}
+use Rattle.pb_workspace_types.specs.Settled.{IsAscending}
+use Rattle.pb_workspace_types.specs.declared.package.Binary.{Binary}
+use Rattle.pb_workspace_types.specs.declared.package.Package.{Package}
+use Rattle.pb_place_types.specs.Paths.{below}
+use Rattle.pb_place_types.specs.World.{World}
+use Rattle.pb_workspace_package.specs.Sources.{resolved}
+use Rattle.pb_workspace_laws.specs.Files.{first_file}
+
+-- `src/bin/NAME.rs`, `src/bin/NAME/main.rs`
+abbrev pub in_bin : List ℕ → List (List ℕ)
+in_bin name = (codes "src/bin/" ++ (name ++ codes ".rs")) ∷ (codes "src/bin/" ++ (name ++ codes "/main.rs")) ∷ []
+
+-- where the source of a binary is looked for, in order: `src/main.rs` if it has its package's name, then these two
+abbrev pub places : List ℕ → List ℕ → List (List ℕ)
+places package_name name = if bytes_eq name package_name then codes "src/main.rs" ∷ in_bin name else in_bin name
+
+-- the source of a `[[bin]]`:
+-- its written path, else the first of these names that is a file, else the first of these names
+abbrev pub source_of : World → List ℕ → List (List ℕ) → Option (List ℕ) → List ℕ
+source_of sources folder names path = option_map_or (resolved folder) path (below folder (unwrap_or (first_file sources folder names) (get_or names 0 [])))
+
+-- a binary of a `[[bin]]`; or, unless `autobins = false`, one whose file is found and whose name no `[[bin]]` has
+pub data IsBinary (sources : World) (folder : List ℕ) (m : Manifest) (w : Written) (b : Binary) : Type 0 where
+  written : (t : WrittenBinary) (table : Contains m.binaries t) (name : b.name ≡ t.name) (source : b.source ≡ source_of sources folder (places w.name t.name) t.path) (features : b.required_features ≡ t.required_features)
+      → IsBinary sources folder m w b
+  found : (wanted : w.autobins ≡ true) (letters : is_name b.name ≡ true) (unwritten : (t : WrittenBinary) → Contains m.binaries t → t.name ≢ b.name) (place : List ℕ) (first : first_file sources folder (places w.name b.name) ≡ Some place)
+      (source : b.source ≡ below folder place) (features : b.required_features ≡ []) → IsBinary sources folder m w b
+
+-- the binaries of a package with the manifest `m` and its `[package]` table `w`
+pub record HasBinaries (sources : World) (m : Manifest) (w : Written) (p : Package) : Type 0 where
+  pub order : IsAscending (map (λ (b : Binary). b.name) p.binaries)
+  pub are : (b : Binary) → Contains p.binaries b ↔ IsBinary sources p.folder m w b

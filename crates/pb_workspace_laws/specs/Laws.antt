@@ -1,0 +1,59 @@
+-- The law of workspaces: a workspace that was read is determined by its manifests and their folders.
+use Rattle.std.specs.Prelude.{◌≡◌, ◌↔◌, ℕ, true, codes, List, map, Some, Ok, Contains}
+use Rattle.std.specs.List.{position}
+use Rattle.std.specs.Str.{bytes_eq}
+use Rattle.pb_manifest_types.specs.declared.manifest.Manifest.{Manifest}
+use Rattle.pb_manifest_types.specs.declared.package.Package.{Package as Written}
+use Rattle.pb_workspace_types.specs.Settled.{IsAscending, IsSettled}
+use Rattle.pb_workspace_types.specs.declared.package.Package.{Package}
+use Rattle.pb_workspace_types.specs.declared.workspace.Workspace.{Workspace}
+use Rattle.pb_place_types.specs.Paths.{below, folder_of, is_path}
+use Rattle.pb_place_types.specs.World.{World, from_nothing, FilesHavePaths}
+use Rattle.pb_workspace.specs.Assembled.{default_members_of}
+use Rattle.pb_workspace.specs.Frames.{frame_of, given_to}
+use Rattle.pb_workspace.specs.Loaded.{workspace_of}
+use Rattle.pb_workspace.specs.declared.frame.Frame.{Frame}
+use Rattle.pb_workspace_laws.specs.Binaries.{HasBinaries}
+use Rattle.pb_workspace_laws.specs.Files.{IsManifestAt}
+use Rattle.pb_workspace_laws.specs.Folders.{IsPackageFolder}
+use Rattle.pb_workspace_laws.specs.Members.{IsMember}
+use Rattle.pb_workspace_laws.specs.Packages.{IsPackageOf}
+
+-- A package is that of its folder: the one that the manifest and the files there describe.
+-- A member inherits from its workspace; `f` is what the root manifest contains about it.
+pub record IsOfItsFolder (sources : World) (f : Frame) (ws : Workspace) (p : Package) : Type 0 where
+  pub manifest : p.manifest ≡ below p.folder (codes "Cargo.toml")
+  pub own : Manifest
+  pub read : IsManifestAt sources p.manifest own
+  pub written : Written
+  pub is_package : own.package ≡ Some written
+  pub member : (p.is_member ≡ true) ↔ IsMember sources f p.folder
+  pub says : IsPackageOf sources f.root (given_to f p.is_member) ws own written p
+  pub binaries : FilesHavePaths sources → HasBinaries sources own written p
+
+-- what a root manifest contains about its workspace
+abbrev pub frame_in : List ℕ → Manifest → Frame
+frame_in manifest r = frame_of (folder_of manifest) manifest r.workspace
+
+-- The workspace of the root manifest `r` at this path. Its root package is the one in the root's folder.
+pub record IsWorkspaceOf (sources : World) (manifest : List ℕ) (r : Manifest) (ws : Workspace) : Type 0 where
+  pub read : IsManifestAt sources manifest r
+  pub root : ws.root ≡ folder_of manifest
+  pub order : IsAscending (map (λ (p : Package). p.folder) ws.packages)
+  pub folders : (folder : List ℕ) → Contains (map (λ (p : Package). p.folder) ws.packages) folder ↔ IsPackageFolder sources (frame_in manifest r) r folder
+  pub packages : (p : Package) → Contains ws.packages p → IsOfItsFolder sources (frame_in manifest r) ws p
+  pub root_package : ws.root_package ≡ position (λ (p : Package). bytes_eq p.folder ws.root) ws.packages
+  pub default_members : ws.default_members ≡ default_members_of ws.root ws.packages (frame_in manifest r).default_members
+  pub profiles : ws.profiles ≡ r.profiles
+
+abbrev pub WorkspacesAreRead : Type 0
+WorkspacesAreRead = (manifest target : List ℕ) (w : World) (ws : Workspace) → is_path manifest ≡ true → workspace_of manifest target w ≡ Ok ws
+    → (ws.target ≡ target) × ((r : Manifest) × IsWorkspaceOf (from_nothing target w) manifest r ws)
+
+-- There is at most one such workspace, if each file of the sources has a normalised absolute path.
+abbrev pub WorkspacesAreOne : Type 0
+WorkspacesAreOne = (sources : World) (manifest : List ℕ) (r s : Manifest) (v w : Workspace) → FilesHavePaths sources → IsWorkspaceOf sources manifest r v → IsWorkspaceOf sources manifest s w → v.target ≡ w.target → v ≡ w
+
+-- A workspace that was read is settled: its names have valid letters, and its entries lead to packages.
+abbrev pub AllAreSettled : Type 0
+AllAreSettled = (manifest target : List ℕ) (w : World) (ws : Workspace) → is_path manifest ≡ true → workspace_of manifest target w ≡ Ok ws → IsSettled ws

@@ -1,0 +1,15 @@
+-- How a path is spelled, and how it is spelled relative to a folder.
+use Rattle.std.specs.Prelude.{◌≡◌, ◌++◌, ◌∷◌, ◌-◌, ◌==◌, ℕ, if◌then◌else◌, codes, drop, List, length, replicate}
+use Rattle.std.specs.List.{common_prefix_len, flat_map, join_by}
+use Rattle.std.specs.Str.{bytes_eq}
+use Rattle.pb_place_types.specs.Paths.{path_of}
+use Rattle.pb_workspace_package.specs.Between.{names_in, text_between}
+
+-- The relative path from a folder to a path goes up to the folder in which the two part, and then down.
+abbrev pub TextsLeadBetween : Type 0
+TextsLeadBetween = (folder path : List ℕ) → let same = common_prefix_len bytes_eq (names_in folder) (names_in path) in
+    text_between folder path ≡ join_by (λ name. name) (codes "/") (replicate (length (names_in folder) - same) (codes "..") ++ drop same (names_in path))
+
+-- A path is its names, each after a slash, or a single slash if it has none.
+abbrev pub PathsAreSpelled : Type 0
+PathsAreSpelled = (names : List (List ℕ)) → path_of names ≡ (if length names == 0 then codes "/" else flat_map (λ name. 47 ∷ name) names)

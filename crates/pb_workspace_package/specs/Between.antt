@@ -1,0 +1,33 @@
+-- The path from one folder to another path, as a text of names.
+use Rattle.std.specs.Prelude.{ℕ, Bool, not, ◌==◌, if◌then◌else◌, codes, List, [], ◌∷◌, ◌++◌, length, replicate, filter}
+use Rattle.std.specs.List.{slice_split}
+use Rattle.std.specs.Str.{bytes_eq}
+use Rattle.pb_place_types.specs.Paths.{slashed}
+
+-- a part that is not empty
+abbrev pub is_word : List ℕ → Bool
+is_word part = not (length part == 0)
+
+-- the names of a normalised path: its parts that are not empty
+abbrev pub names_in : List ℕ → List (List ℕ)
+names_in path = filter is_word (slice_split (λ b. b == 47) path)
+
+-- one `..` for each of these names
+abbrev pub upward : List (List ℕ) → List (List ℕ)
+upward names = replicate (length names) (codes "..")
+
+-- the steps from the end of the first names to the end of the others: their common beginning
+-- is left out, then `..` for each name that is left of the first, then the rest of the others
+abbrev pub steps_between : List (List ℕ) → List (List ℕ) → List (List ℕ)
+steps_between [] others = others
+steps_between (name ∷ names) [] = upward (name ∷ names)
+steps_between (name ∷ names) (other ∷ others) = if bytes_eq name other then steps_between names others else upward (name ∷ names) ++ other ∷ others
+
+-- names with a slash between them
+abbrev pub spelled : List (List ℕ) → List ℕ
+spelled [] = []
+spelled (name ∷ names) = name ++ slashed names
+
+-- the path from a folder to a path, as `../README.md`; empty if they are equal
+abbrev pub text_between : List ℕ → List ℕ → List ℕ
+text_between folder path = spelled (steps_between (names_in folder) (names_in path))

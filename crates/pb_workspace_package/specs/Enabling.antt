@@ -1,0 +1,28 @@
+-- The names that some feature lists as `dep:N`; only private functions need these definitions.
+use Rattle.std.specs.Prelude.{◌≡◌, ℕ, not, ◌&&◌, if◌then◌else◌, List, [], ◌∷◌}
+use Rattle.std.specs.List.{flat_map}
+use Rattle.pb_data.specs.Mentions.{is_mentioned}
+use Rattle.pb_manifest_types.specs.declared.dependency.Dependency.{Dependency}
+use Rattle.pb_manifest_types.specs.declared.feature.Feature.{Feature}
+use Rattle.pb_manifest_types.specs.declared.feature.FeatureItem.{FeatureItem}
+use Rattle.pb_manifest_types.specs.declared.feature.FeatureItem.TheVariants as item
+use Rattle.pb_workspace_package.specs.Features.{is_enabled_by_name}
+use Rattle.pb_workspace_package.specs.Sorted.{with_entry}
+
+-- the name N of an item `dep:N`
+abbrev pub named_by : FeatureItem → List (List ℕ)
+named_by (item.Own feature) = []
+named_by (item.Dependency dependency) = dependency ∷ []
+named_by (item.Of dependency feature) = []
+named_by (item.OfEnabled dependency feature) = []
+
+abbrev pub named_in : Feature → List (List ℕ)
+named_in f = flat_map named_by f.items
+
+-- the names are those that some feature lists as `dep:N`, and no others
+abbrev pub AreEnabledNames : List (List ℕ) → List Feature → Type 0
+AreEnabledNames names features = (name : List ℕ) → is_mentioned names name ≡ is_enabled_by_name name features
+
+-- the entries with the feature that an entry of a dependency table makes
+abbrev pub with_one : List (List ℕ) → List (List ℕ × List FeatureItem) → Dependency → List (List ℕ × List FeatureItem)
+with_one names entries d = if d.optional && not (is_mentioned names d.key) then with_entry entries d.key (item.Dependency d.key ∷ []) else entries

@@ -1,0 +1,42 @@
+-- The features of a package, with those that its optional dependencies make (The Cargo Book, Features).
+use Rattle.std.specs.Prelude.{ℕ, Bool, false, not, ◌&&◌, if◌then◌else◌, List, [], ◌∷◌, map}
+use Rattle.std.specs.List.{list_any}
+use Rattle.std.specs.Str.{bytes_eq}
+use Rattle.pb_manifest_types.specs.declared.dependency.Dependency.{Dependency}
+use Rattle.pb_manifest_types.specs.declared.feature.Feature.{Feature}
+use Rattle.pb_manifest_types.specs.declared.feature.FeatureItem.{FeatureItem}
+use Rattle.pb_manifest_types.specs.declared.feature.FeatureItem.TheVariants as item
+use Rattle.pb_workspace_package.specs.Sorted.{with_entry}
+
+-- a feature's item is `dep:N` with this name
+abbrev pub enables : List ℕ → FeatureItem → Bool
+enables name (item.Own feature) = false
+enables name (item.Dependency dependency) = bytes_eq name dependency
+enables name (item.Of dependency feature) = false
+enables name (item.OfEnabled dependency feature) = false
+
+-- some feature lists `dep:N`
+abbrev pub is_enabled_by_name : List ℕ → List Feature → Bool
+is_enabled_by_name name features = list_any (λ f. list_any (enables name) f.items) features
+
+-- an optional entry N makes a feature N, unless some `dep:N` is written
+abbrev pub makes_feature : List Feature → Dependency → Bool
+makes_feature written d = d.optional && not (is_enabled_by_name d.key written)
+
+-- the entries with the features that dependency entries make, each with the single item `dep:N`
+abbrev pub with_made : List Feature → List (List ℕ × List FeatureItem) → List Dependency → List (List ℕ × List FeatureItem)
+with_made written entries [] = entries
+with_made written entries (d ∷ ds) = with_made written (if makes_feature written d then with_entry entries d.key (item.Dependency d.key ∷ []) else entries) ds
+
+-- the entries with the written features, each of which replaces a made one of the same name
+abbrev pub with_written : List (List ℕ × List FeatureItem) → List Feature → List (List ℕ × List FeatureItem)
+with_written entries [] = entries
+with_written entries (f ∷ fs) = with_written (with_entry entries f.name f.items) fs
+
+abbrev pub feature_of : List ℕ × List FeatureItem → Feature
+feature_of entry = record { name = entry.0; items = entry.1 }
+
+-- the features of a package with these entries in `[dependencies]`
+-- and `[build-dependencies]`, in byte order of their names
+abbrev pub features_of : List Feature → List Dependency → List Dependency → List Feature
+features_of written dependencies build = map feature_of (with_written (with_made written (with_made written [] dependencies) build) written)

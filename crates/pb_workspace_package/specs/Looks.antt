@@ -1,0 +1,48 @@
+-- What a step looks at: the calls of the place in order, each with the path that is passed to it, up to the first
+-- refusal. Which calls these are for a package's folder is our own choice, since The Cargo Book does not define it.
+use Rattle.std.specs.Prelude.{◌≡◌, ℕ, false, true, if◌then◌else◌, List, [], ◌∷◌, ◌++◌, Result, Ok, Err, MatchResult}
+use Rattle.std.specs.List.{flat_map}
+use Rattle.pb_place_types.specs.CallsInTurn.{FailsAt, MakesSome, past_calls}
+use Rattle.pb_place_types.specs.declared.call.Call.{Call}
+use Rattle.pb_place_types.specs.declared.call.Call.TheVariants as call
+use Rattle.pb_place_types.specs.Counts.{Counts, name_given}
+use Rattle.pb_place_types.specs.Paths.{below, is_at_or_below}
+use Rattle.pb_workspace_types.specs.declared.fault.LoadFault.{LoadFault}
+use Rattle.pb_workspace_types.specs.declared.fault.LoadFault.TheVariants.{Place}
+use Rattle.pb_workspace_package.specs.declared.own_file.OwnFile.{OwnFile}
+use Rattle.pb_workspace_package.specs.Causes.{is_failure, is_outside}
+use Rattle.pb_workspace_package.specs.FoundBinaries.{bin_folder}
+use Rattle.pb_workspace_package.specs.OwnFile.{name_of, own_files}
+
+-- the failed call was one of these: those before it succeeded, and it was the last
+abbrev pub FailsOn : LoadFault → List Call → Counts → Counts → Type 0
+FailsOn (Place path fault) calls old new = FailsAt fault calls old new
+FailsOn e calls old new = ⊥
+
+-- how an error ended these calls: a refusal came after all of them, out of
+-- memory after the first few, and a failed call is one of them and the last
+abbrev pub LooksUntil : LoadFault → List Call → Counts → Counts → Type 0
+LooksUntil e calls old new = (is_outside e ≡ false → new ≡ past_calls calls old) × (is_failure e ≡ false → MakesSome calls old new) × (is_failure e ≡ true → FailsOn e calls old new)
+
+-- exactly these calls were made, or those up to an error;
+-- each call is counted, and the one that failed is kept, so the counters also say their order
+abbrev pub Looks : {T : Type 0} → Result T LoadFault → List Call → Counts → Counts → Type 0
+Looks result calls old new = MatchResult result (λ _. new ≡ past_calls calls old) (λ e. LooksUntil e calls old new)
+
+-- a call on a path, unless the path is at or below the target folder
+abbrev pub looked : List ℕ → Call → List Call
+looked target call = if is_at_or_below target (name_given call) then [] else call ∷ []
+
+-- the calls that come next, unless there was a fault
+abbrev pub after : {A : Type 0} → Result A LoadFault → (A → List Call) → List Call
+after (Ok x) next = next x
+after (Err e) next = []
+
+-- the question whether a package's folder has one of the files at fixed paths
+abbrev pub own_asked : List ℕ → List ℕ → OwnFile → List Call
+own_asked target folder file = looked target (call.IsFile (below folder (name_of file)))
+
+-- the calls for a package's folder: a question for each file at
+-- a fixed path, then a listing of the files below its `src/bin`
+abbrev pub listings_at : List ℕ → List ℕ → List Call
+listings_at target folder = flat_map (own_asked target folder) own_files ++ looked target (call.ListOutside (bin_folder folder) target)

@@ -1,0 +1,127 @@
+//! The keys of a package, each settled.
+
+ghost use Rattle.std.specs.Prelude.{◌≡◌, IfErr, false, IfOk};
+ghost use Rattle.pb_data.specs.Gives.{Gives};
+ghost use Rattle.pb_place_types.specs.World.{World};
+ghost use Rattle.pb_workspace_package.specs.Causes.{is_failure};
+ghost use Rattle.pb_workspace_package.specs.Listings.{AreListingsOf};
+ghost use Rattle.pb_workspace_package.specs.Keys.{keys_from, keys_of};
+ghost use Rattle.pb_workspace_types.specs.declared.fault.LoadFault.TheVariants as load_fault;
+
+use crate::listings::Listings;
+use crate::settling::readme_found;
+use crate::taken::{about_of, edition_of, version_of};
+use crate::wanted::Standing;
+use pb_data::{Text, TryCopy, with_next};
+use pb_manifest_types::{Build, Edition, Package, Version, WorkspacePackage};
+use pb_workspace_types::{About, LoadFault};
+use std::alloc::{AllocError, Global};
+
+/// The keys of a package, with nothing left to inherit.
+#[derive(Drop)]
+pub struct Keys {
+    /// Its name.
+    pub name: Text,
+    /// Its version.
+    pub version: Version,
+    /// Its edition.
+    pub edition: Edition,
+    /// What it says about itself to people.
+    pub about: About,
+    /// The native library that it links.
+    pub links: Option<Text>,
+    /// Whether binaries are discovered.
+    pub autobins: bool,
+    /// What `build` says.
+    pub build: Build,
+}
+
+/// Returns a copy of what `build` says.
+fn build_of(alloc: Global, build: &Build) -> Result<Build, AllocError>
+    ensures { IfOk result (λ made. made ≡ build.now) }
+{
+    match build {
+        Build::Discovered => Ok(Build::Discovered),
+        Build::Standard => Ok(Build::Standard),
+        Build::Never => Ok(Build::Never),
+        Build::At(path) => {
+            let path = path.copy(alloc)?;
+            Ok(Build::At(path))
+        }
+    }
+}
+
+/// Those keys of a package that it cannot inherit.
+#[derive(Drop)]
+pub struct Own {
+    /// Its name.
+    pub name: Text,
+    /// The native library that it links.
+    pub links: Option<Text>,
+    /// What `build` says.
+    pub build: Build,
+}
+
+/// Returns a copy of those keys of a package that it cannot inherit.
+fn own_keys(alloc: Global, found: &Package) -> Result<Own, AllocError>
+    ensures name { IfOk result (λ own. own.name ≡ found.now.name) }
+    ensures links { IfOk result (λ own. own.links ≡ found.now.links) }
+    ensures build { IfOk result (λ own. own.build ≡ found.now.build) }
+{
+    let name = found.name.copy(alloc)?;
+    let links = found.links.copy(alloc)?;
+    let build = build_of(alloc, &found.build)?;
+    Ok(Own { name, links, build })
+}
+
+/// Returns the keys, with the README that was looked for.
+fn keys_from(
+    alloc: Global,
+    at: &Standing,
+    given: &WorkspacePackage,
+    readme: &Text,
+    found: &Package,
+) -> Result<Keys, LoadFault>
+    ensures told { Gives load_fault.OutOfMemory (λ keys. keys) result
+        (keys_from at.now given.now readme.now found.now) }
+    ensures name { IfOk result (λ keys. keys.name ≡ found.now.name) }
+    ensures here { IfErr result (λ e. is_failure e ≡ false) }
+{
+    let own = own_keys(alloc, found)?;
+    let version = version_of(alloc, &found.version, &given.version);
+    let (own, version) = with_next(own, version)?;
+    let edition = edition_of(&found.edition, given.edition);
+    let (kept, edition) = with_next((own, version), edition)?;
+    let about = about_of(alloc, &at.root, &at.folder, readme, found, given);
+    let ((own, version), about) = with_next(kept, about)?;
+    Ok(Keys {
+        name: own.name,
+        version,
+        edition,
+        about,
+        links: own.links,
+        autobins: found.autobins,
+        build: own.build,
+    })
+}
+
+/// Returns the keys of a package: what it writes, takes from its workspace
+/// or has in its folder (The Cargo Book, Manifest Format and Workspaces).
+///
+/// Errors: `NoInherited`, if a key is taken from a workspace that does not have it; `OutOfMemory`.
+pub fn keys_of(
+    alloc: Global,
+    listings: &Listings,
+    at: &Standing,
+    given: &WorkspacePackage,
+    found: &Package,
+) -> Result<Keys, LoadFault>
+    ensures told { (sources : World) → AreListingsOf at.now.folder sources listings.now
+        → Gives load_fault.OutOfMemory (λ keys. keys) result
+        (keys_of sources at.now given.now found.now) }
+    ensures name { IfOk result (λ keys. keys.name ≡ found.now.name) }
+    ensures here { IfErr result (λ e. is_failure e ≡ false) }
+{
+    let readme = readme_found(alloc, listings, &at.folder, &found.readme)?;
+    keys_from(alloc, at, given, &readme, found)
+}

@@ -1,0 +1,55 @@
+-- What is true of every workspace that was read, whatever its files contain:
+-- packages are in order of folders and differ in name.
+-- Entries lead to packages and have names as keys, and features and binaries are in order of their names.
+use Rattle.std.specs.Prelude.{◌≡◌, ℕ, ◌<◌, ◌≤◌, ◌||◌, true, List, map, All, IfSome, length}
+use Rattle.std.specs.Ordering.{nat_cmp}
+use Rattle.std.specs.Cmp.Lexicographic.{slice_cmp}
+use Rattle.std.specs.List.{IsDistinct}
+use Rattle.std.specs.List.Sorted.{IsStrictlySortedBy}
+use Rattle.std.specs.Str.{bytes_eq}
+use Rattle.pb_manifest_types.specs.Letters.{is_name, is_crate_name, is_feature_name}
+use Rattle.pb_manifest_types.specs.declared.feature.Feature.{Feature}
+use Rattle.pb_workspace_types.specs.declared.package.Package.{Package}
+use Rattle.pb_workspace_types.specs.declared.package.Binary.{Binary}
+use Rattle.pb_workspace_types.specs.declared.package.Entry.{Entry}
+use Rattle.pb_workspace_types.specs.declared.options.Selection.{Selection}
+use Rattle.pb_workspace_types.specs.declared.workspace.DefaultMembers.{DefaultMembers}
+use Rattle.pb_workspace_types.specs.declared.workspace.DefaultMembers.TheVariants.{Unwritten, Named, Unknown}
+use Rattle.pb_workspace_types.specs.declared.workspace.Workspace.{Workspace}
+
+-- the texts are in byte order without repeats
+abbrev pub IsAscending : List (List ℕ) → Type 0
+IsAscending texts = IsStrictlySortedBy (slice_cmp nat_cmp) texts
+
+-- A package in a workspace of `count` packages.
+-- The name of a feature has the letters of features, or those of packages if an optional dependency makes the feature.
+pub record IsPackage (count : ℕ) (p : Package) : Type 0 where
+  pub name : is_name p.name ≡ true
+  pub crate_name : IfSome p.library (λ library. is_crate_name library.name ≡ true)
+  pub binary_names : All (λ (binary : Binary). is_name binary.name ≡ true) p.binaries
+  pub binaries : IsAscending (map (λ (binary : Binary). binary.name) p.binaries)
+  pub feature_names : All (λ (feature : Feature). is_feature_name feature.name || is_name feature.name ≡ true) p.features
+  pub features : IsAscending (map (λ (feature : Feature). feature.name) p.features)
+  pub leads : All (λ (entry : Entry). entry.to < count) p.entries
+  pub entry_keys : All (λ (entry : Entry). is_name entry.key ≡ true) p.entries
+
+-- this is true of the packages that `default-members` names, if it names members
+abbrev pub IfNamed : DefaultMembers → (List ℕ → Type 0) → Type 0
+IfNamed Unwritten Holds = Unit {0}
+IfNamed (Named places) Holds = Holds places
+IfNamed Unknown Holds = Unit {0}
+
+-- A workspace that was read: it has at most 256 packages, in byte order of their folders and with distinct names.
+-- The root package and the default members are among these packages.
+pub record IsSettled (ws : Workspace) : Type 0 where
+  pub few : length ws.packages ≤ 256
+  pub folders : IsAscending (map (λ (p : Package). p.folder) ws.packages)
+  pub names : IsDistinct bytes_eq (map (λ (p : Package). p.name) ws.packages)
+  pub packages : All (IsPackage (length ws.packages)) ws.packages
+  pub root : IfSome ws.root_package (λ place. place < length ws.packages)
+  pub defaults : IfNamed ws.default_members (All (λ place. place < length ws.packages))
+
+-- a workspace, and what is selected in it
+pub record Selected : Type 0 where
+  pub workspace : Workspace
+  pub selection : Selection

@@ -1,0 +1,70 @@
+//! Why a workspace cannot be read, or why nothing can be selected in it.
+
+ghost use Rattle.std.specs.Prelude.{◌≡◌};
+ghost use Rattle.pb_workspace_types.specs.declared.fault.LoadFault.TheVariants as load_fault;
+
+use pb_manifest_types::ManifestFault;
+use pb_place_types::{PathText, PlaceFault};
+use std::alloc::{AllocError, AllocFailed};
+use thiserror::Error;
+
+/// Why a workspace cannot be read, or why nothing can be selected in it.
+#[derive(Debug, Drop, Error)]
+pub enum LoadFault {
+    /// No manifest can be read at this path: no file is there, it is not named `Cargo.toml`, or it
+    /// is at or below the target folder. The last two are our own choice.
+    #[error("no manifest at `{}`", .0.as_str())]
+    NoManifest(PathText),
+    /// The manifest at this path is refused.
+    #[error("the manifest at `{}` is refused: {}", .0.as_str(), .1)]
+    Manifest(PathText, ManifestFault),
+    /// Two packages have the same name.
+    #[error("two packages have one name")]
+    SameName,
+    /// A dependency leads to a package with another name.
+    #[error("a dependency leads to a package of another name")]
+    NameMismatch,
+    /// A dependency leads to a package whose version does not match its requirement.
+    #[error("a dependency leads to a package of another version")]
+    VersionMismatch,
+    /// Two packages link the same native library.
+    #[error("two packages link one native library")]
+    LinksTwice,
+    /// A package links a native library but has no build script.
+    #[error("a package links a native library and has no build script")]
+    LinksWithoutScript,
+    /// A package inherits a key or an entry that the workspace does not have, or is no member.
+    #[error("a key is not there to inherit")]
+    NoInherited,
+    /// There are more than 256 packages.
+    #[error("there are more than 256 packages")]
+    TooMany,
+    /// A package has two `[[bin]]` with the same name.
+    #[error("a package has two binaries of one name")]
+    SameBinary,
+    /// A call on this path failed.
+    #[error("a call on `{}` failed: {}", .0.as_str(), .1)]
+    Place(PathText, PlaceFault),
+    /// `-p` names a package that is no member, or `default-members` names a folder that is none.
+    #[error("a package is asked for that is no member")]
+    NoSuchPackage,
+    /// Out of memory.
+    #[error("out of memory")]
+    OutOfMemory,
+}
+
+impl From<AllocError> for LoadFault {
+    ghost from_gives = { λ _ e. e ≡ load_fault.OutOfMemory };
+
+    fn from(_: AllocError) -> Self {
+        LoadFault::OutOfMemory
+    }
+}
+
+impl<T: Drop> From<AllocFailed<T>> for LoadFault {
+    ghost from_gives = { λ _ e. e ≡ load_fault.OutOfMemory };
+
+    fn from(_: AllocFailed<T>) -> Self {
+        LoadFault::OutOfMemory
+    }
+}
