@@ -17,7 +17,7 @@ use Rattle.pb_place_types.specs.Counts.{Counts, past_call}
 use Rattle.pb_place_types.specs.World.{World}
 use Rattle.pb_command_types.specs.declared.project.Project.{Project}
 use Rattle.pb_run.specs.Steps.{StopsAt}
-use Rattle.pb_run.specs.Standing.{records_folder}
+use Rattle.pb_run.specs.Invariants.{records_folder}
 use Rattle.pb_run.proofs.Calling.{memory_last, stops_first, stops_then}
 use Rattle.pb_store.specs.Looking.{opened_looked}
 use Rattle.pb_workspace_package.specs.Causes.{is_failure, is_outside}

@@ -9,7 +9,7 @@ use Rattle.pb_place_types.proofs.Folders.{sources_alike}
 use Rattle.pb_place_types.proofs.MapLemmas.{get-kept}
 use Rattle.pb_build_session.specs.declared.step.SessionStep.{SessionStep}
 use Rattle.pb_build_session.specs.declared.step.SessionStep.TheVariants.{Write, Remove, Set, Unset, Build, Die, Fuse}
-use Rattle.pb_build_turns.specs.Crew.{Moment}
+use Rattle.pb_build_turns.specs.Executor.{BuildState}
 use Rattle.pb_build.specs.Kept.{SourcesStay}
 use Rattle.pb_build.specs.Environment.{environment_of}
 use Rattle.pb_build.specs.Session.{Point, Course, edit, edited, OneTarget, Unaffected}
@@ -77,7 +77,7 @@ sources_edited child target (Fuse number ∷ steps) v before after stay one (mid
 sources_edited child target (Build o pick ∷ steps) v before after stay one (mid, built, rest) =
     let is : (environment_of o before.moment.world.variables).target ≡ target = ap (λ (m : Map). (environment_of o m).target) (same_variables target v before.moment.world stay) ∙ one.0 in
     let stays : SourcesStay target before.moment.world mid.moment.world =
-    subst (SourcesStay target before.moment.world) (sym (ap (λ (m : Moment). m.world) built.behind)) (subst (λ (t : List ℕ). SourcesStay t before.moment.world built.ended.world) is built.kept) in
+    subst (SourcesStay target before.moment.world) (sym (ap (λ (m : BuildState). m.world) built.behind)) (subst (λ (t : List ℕ). SourcesStay t before.moment.world built.ended.world) is built.kept) in
     sources_edited child target steps v mid after (stays ∙ stay) one.1 rest
 
 pub unaffected : Unaffected

@@ -27,24 +27,24 @@ use Rattle.pb_profile.specs.Line.{folder_of}
 use Rattle.pb_build_result.specs.declared.bad_unit.BadUnit.{BadUnit}
 use Rattle.pb_command_types.specs.declared.project.Project.{Project}
 use Rattle.pb_command_types.specs.declared.project.Setup.{Setup}
-use Rattle.pb_run.specs.Halves.{Footing, OnRecords, OnNothing, Basis, basis, key_in, outcomes_in, Keeps, HoldsBy}
+use Rattle.pb_run.specs.UnitSteps.{Premise, TrustedRecords, NoRecords, BuildContext, basis, key_in, outcomes_in, BuildInvariant, HoldsBy}
 use Rattle.pb_run.specs.Outcome.{Outcome, Good}
-use Rattle.pb_run.specs.Standing.{records_folder}
+use Rattle.pb_run.specs.Invariants.{records_folder}
 use Rattle.pb_store_soundness.specs.Records.{reading, records}
 use Rattle.pb_store_soundness.specs.Sound.{Sound}
 use Rattle.pb_store.specs.Folder.{next_in}
 use Rattle.pb_store.proofs.Ahead.{opened_ahead}
-use Rattle.pb_build_turns.specs.Crew.{needs_of, ticket_of_child, Moment}
-use Rattle.pb_build_turns.specs.Ends.{TurnsEnd, Drained, StandsWhole, StandsCut, Stands, nothing_said, rows_in}
-use Rattle.pb_place_types.specs.Sinks.{Heard}
+use Rattle.pb_build_turns.specs.Executor.{needs_of, ticket_of_child, BuildState}
+use Rattle.pb_build_turns.specs.Ends.{TurnsEnd, Drained, StandsWhole, StandsCut, OutcomeHolds, nothing_said, rows_in}
+use Rattle.pb_place_types.specs.Sinks.{SinkState}
 use Rattle.pb_build_turns.specs.Rows.{Row, to_first_bad, is_bad, fault_in, said_from}
-use Rattle.pb_build_turns.specs.Story.{states_in, untouched, upped, Stops, StopsAt, StopsAtSink, AllBeganFor, IsBeginning, LacksNumber, NamesUnit, NumbersGiven, Spends}
+use Rattle.pb_build_turns.specs.History.{states_in, untouched, upped, Stops, StopsAt, StopsAtSink, AllBeganFor, IsBeginning, LacksNumber, NamesUnit, NumbersGiven, Spends}
 use Rattle.pb_build_turns.proofs.Repeating.{dropped_count}
 use Rattle.pb_unit.specs.declared.plan.Planned.{Planned}
 use Rattle.pb_workspace.proofs.Accepted.{target_kept}
 use Rattle.pb_build.specs.Ending.{Works, Builds, StopsEarly}
 use Rattle.pb_build.specs.Environment.{environment_of}
-use Rattle.pb_build.specs.Headline.{records_of, RestsOn, ByTurns, UnitsOf, AnswersAs, NamesOpened, FailsAt, LinesBefore, GivesUnits, LeavesRecords, Gives, Headline}
+use Rattle.pb_build.specs.Headline.{records_of, RestsOn, ByTurns, UnitsOf, AnswersAs, NamesOpened, FailsAt, LinesBefore, GivesUnits, LeavesRecords, GivesCleanResult, Headline}
 use Rattle.pb_build.specs.Planning.{IsProject}
 use Rattle.pb_build.specs.Result.{toolchain_of, setup_of}
 use Rattle.pb_build.proofs.Opened.{names_opened}
@@ -62,7 +62,7 @@ none_good (n ∷ needs) zero good = cc
 none_good (n ∷ needs) (suc place) good = none_good needs place good
 
 -- what the halves of units keep then
-first_kept : (b : Basis) (next : Option ℕ) (w : World) → from_nothing b.project.workspace.target w ≡ b.sources → HoldsBy b.footing b (untouched b.project) next w → Keeps b (untouched b.project) (nothing_said b.project) next w
+first_kept : (b : BuildContext) (next : Option ℕ) (w : World) → from_nothing b.project.workspace.target w ≡ b.sources → HoldsBy b.footing b (untouched b.project) next w → BuildInvariant b (untouched b.project) (nothing_said b.project) next w
 first_kept b next w sources holds = record {
   long = length-map b.project.plan.planned _ ∙ sym (length-map (needs_of b.project) _ ∙ length-map b.project.plan.planned _);
   sources_stay = sources;
@@ -115,30 +115,30 @@ same_folder options w project is = ap₂ (λ (t n : List ℕ). below t (folder_o
 module _ (child : Answers) (options : Options) (w : World) (project : Project) (toolchain : List ℕ) (is : IsProject options (environment_of options w.variables).target w project)
     (says : toolchain_of child (environment_of options w.variables) project (from_nothing (environment_of options w.variables).target w) ≡ Some toolchain) (next : Option ℕ)
     (is_next : next ≡ next_in (records_folder project) w) where
-  abbrev its_basis : Footing → Basis
+  abbrev its_basis : Premise → BuildContext
   its_basis f = basis f child (setup_of options (environment_of options w.variables) toolchain) project (from_nothing (environment_of options w.variables).target w)
 
-  holds : (f : Footing) → RestsOn f child options w → HoldsBy f (its_basis f) (untouched project) next w
-  holds OnRecords (sound, honest) = record {
+  holds : (f : Premise) → RestsOn f child options w → HoldsBy f (its_basis f) (untouched project) next w
+  holds TrustedRecords (sound, honest) = record {
     honest = honest record { project = project; toolchain = toolchain; is = is; says = says };
     sound = subst (λ (f : List ℕ). Sound reading judge child f w.files) (sym (same_folder options w project is)) sound;
     ahead = opened_ahead (records_folder project) w next is_next;
     recorded = λ place good. absurd (none_good (needs_of project) place good);
   }
-  holds OnNothing none = λ place u there state. subst (λ (f : List ℕ). records f w u.key ≡ None) (sym (same_folder options w project is)) (none u.key)
+  holds NoRecords none = λ place u there state. subst (λ (f : List ℕ). records f w u.key ≡ None) (sym (same_folder options w project is)) (none u.key)
 
-  pub rests_first : (f : Footing) → RestsOn f child options w → Keeps (its_basis f) (untouched project) (nothing_said project) next w
+  pub rests_first : (f : Premise) → RestsOn f child options w → BuildInvariant (its_basis f) (untouched project) (nothing_said project) next w
   rests_first f on =
       first_kept (its_basis f) next w (ap (λ (t : List ℕ). from_nothing t w) (target_kept options.manifest (environment_of options w.variables).target w project.workspace is.selected.read)) (holds f on)
 
-module _ (footing : Footing) (child : Answers) (options : Options) where
+module _ (footing : Premise) (child : Answers) (options : Options) where
   -- before the units nothing was changed
-  stay_true : (f : Footing) (old new : World) → RestsOn f child options old → new ≡ old → LeavesRecords f child options old new
-  stay_true OnRecords old new (sound, honest) same = subst (λ (w : World). Sound reading judge child (records_of options old.variables) w.files) (sym same) sound
-  stay_true OnNothing old new none same = tt
+  stay_true : (f : Premise) (old new : World) → RestsOn f child options old → new ≡ old → LeavesRecords f child options old new
+  stay_true TrustedRecords old new (sound, honest) same = subst (λ (w : World). Sound reading judge child (records_of options old.variables) w.files) (sym same) sound
+  stay_true NoRecords old new none same = tt
 
   module _ {S : Type 0} (Turns : S → List ℕ → List ℕ → Step → S → Type 0) (from last : S) where
-    none_gives : (result : Result Summary BuildFault) (old new : Moment) → StopsEarly true child options from last result old new → GivesUnits footing child (ByTurns Turns from) options result old new
+    none_gives : (result : Result Summary BuildFault) (old new : BuildState) → StopsEarly true child options from last result old new → GivesUnits footing child (ByTurns Turns from) options result old new
     none_gives (Ok summary) old new early = absurd (no_fault early.none_began.answer)
     none_gives (Err fault) old new early =
         let same : early.none_began.fault ≡ fault = told_of (Err fault) fault early.none_began.fault refl early.none_began.answer in
@@ -151,7 +151,7 @@ module _ (footing : Footing) (child : Answers) (options : Options) where
         told_of : (result : Result Summary BuildFault) (f g : BuildFault) → result ≡ Err f → result ≡ Err g → g ≡ f
         told_of result f g first second = cc
 
-    module _ (project : Project) (toolchain : List ℕ) (old mid new : Moment) (is : IsProject options (environment_of options old.world.variables).target old.world project)
+    module _ (project : Project) (toolchain : List ℕ) (old mid new : BuildState) (is : IsProject options (environment_of options old.world.variables).target old.world project)
         (says : toolchain_of child (environment_of options old.world.variables) project (from_nothing (environment_of options old.world.variables).target old.world) ≡ Some toolchain) (next : Option ℕ)
         (is_next : next ≡ next_in (records_folder project) old.world) (stays : mid.world ≡ old.world) (queried : mid.counts.starts ≡ up_starts old.counts.starts) (heard : mid.heard ≡ old.heard) (rests : RestsOn footing child options old.world) where
       abbrev setup : Setup
@@ -160,11 +160,11 @@ module _ (footing : Footing) (child : Answers) (options : Options) where
       abbrev sources : World
       sources = from_nothing (environment_of options old.world.variables).target old.world
 
-      abbrev b : Basis
+      abbrev b : BuildContext
       b = basis footing child setup project sources
 
-      kept_first : (f : Footing) → RestsOn f child options old.world → Keeps (basis f child setup project sources) (untouched project) (nothing_said project) next mid.world
-      kept_first f on = subst (λ (w : World). Keeps (basis f child setup project sources) (untouched project) (nothing_said project) next w) (sym stays) (rests_first child options old.world project toolchain is says next is_next f on)
+      kept_first : (f : Premise) → RestsOn f child options old.world → BuildInvariant (basis f child setup project sources) (untouched project) (nothing_said project) next mid.world
+      kept_first f on = subst (λ (w : World). BuildInvariant (basis f child setup project sources) (untouched project) (nothing_said project) next w) (sym stays) (rests_first child options old.world project toolchain is says next is_next f on)
 
       abbrev units : UnitsOf child options old.world
       units = record { project = project; toolchain = toolchain; is = is; says = says }
@@ -175,15 +175,15 @@ module _ (footing : Footing) (child : Answers) (options : Options) where
       counted es stop starts drained =
           dropped_count (map ticket_of_child stop.starts.flying) stop new.counts drained ∙ (starts ∙ ap (λ (s : Starts). upped (length (started_by es)) s.count) queried)
 
-      leaves : (f : Footing) (es : List (Event BadUnit)) → Stands (basis f child setup project sources) es new.world → LeavesRecords f child options old.world new.world
-      leaves OnRecords es stands = subst (λ (f : List ℕ). Sound reading judge child f new.world.files) (same_folder options old.world project is) stands.keeps.records.sound
-      leaves OnNothing es stands = tt
+      leaves : (f : Premise) (es : List (Event BadUnit)) → OutcomeHolds (basis f child setup project sources) es new.world → LeavesRecords f child options old.world new.world
+      leaves TrustedRecords es stands = subst (λ (f : List ℕ). Sound reading judge child f new.world.files) (same_folder options old.world project is) stands.keeps.records.sound
+      leaves NoRecords es stands = tt
 
       -- the bytes that were handed out since the start
       since : (es : List (Event BadUnit)) (bytes told : List ℕ) → bytes ≡ told → Appends mid.heard.taken new.heard.taken bytes → Appends old.heard.taken new.heard.taken told
-      since es bytes told same taken = subst (λ (h : Heard). Appends h.taken new.heard.taken told) heard (subst (Appends mid.heard.taken new.heard.taken) same taken)
+      since es bytes told same taken = subst (λ (h : SinkState). Appends h.taken new.heard.taken told) heard (subst (Appends mid.heard.taken new.heard.taken) same taken)
 
-      module _ (es : List (Event BadUnit)) (stands : Stands b es new.world) where
+      module _ (es : List (Event BadUnit)) (stands : OutcomeHolds b es new.world) where
         -- the folder of a good unit among those that were told
         file_holds : count_due (states_in project es) ≡ length (rows_in b) → (place : ℕ) (u : Planned) (made : Map) (directives : Option (List Directive)) (messages : List Message)
             → slice_get (rows_in b) place ≡ Some record { unit = u; outcome = Good made directives messages } → files_in u.out new.world.files ≡ made
@@ -212,10 +212,10 @@ module _ (footing : Footing) (child : Answers) (options : Options) where
         all_lines all = stands.lines ∙ (ap (λ (n : ℕ). said_from project es 0 (take n (rows_in b))) all ∙ ap (said_from project es 0) (take-length (rows_in b)))
 
       -- the lines before a fault
-      module _ (es : List (Event BadUnit)) (stands : Stands b es new.world) (stop : Moment) (after : new.heard ≡ stop.heard) (stopped : S) (flies : Flies Turns (needs_of project) Anyhow Anything from es stopped)
+      module _ (es : List (Event BadUnit)) (stands : OutcomeHolds b es new.world) (stop : BuildState) (after : new.heard ≡ stop.heard) (stopped : S) (flies : Flies Turns (needs_of project) Anyhow Anything from es stopped)
           (asked : Option ℕ) (hands : HandsBack Turns (needs_of project) es stopped asked last) (before : List (Event BadUnit)) where
         first_lines : (bytes told : List ℕ) → bytes ≡ told → Appends mid.heard.taken stop.heard.taken bytes → Appends old.heard.taken new.heard.taken told
-        first_lines bytes told same taken = since es bytes told same (subst (λ (h : Heard). Appends mid.heard.taken h.taken bytes) (sym after) taken)
+        first_lines bytes told same taken = since es bytes told same (subst (λ (h : SinkState). Appends mid.heard.taken h.taken bytes) (sym after) taken)
 
         -- units were missing as an answer was asked for, or a unit could not begin
         units_missing : (key : List ℕ) (spawned : Bool) (unit : Option ℕ) → HandsBack Turns (needs_of project) es stopped unit last → (unit ≡ None → IsBeginning project key spawned before es) → is_finished (states_in project es) ≡ false
@@ -277,7 +277,7 @@ module _ (footing : Footing) (child : Answers) (options : Options) where
             leaves footing ends.es cut.stands,
           )
 
-    works_give : (result : Result Summary BuildFault) (old new : Moment) → RestsOn footing child options old.world → Works true child Turns options from last result old new
+    works_give : (result : Result Summary BuildFault) (old new : BuildState) → RestsOn footing child options old.world → Works true child Turns options from last result old new
         → GivesUnits footing child (ByTurns Turns from) options result old new × LeavesRecords footing child options old.world new.world
     works_give result old new rests (inl early) = (none_gives result old new early, stay_true footing old.world new.world rests (early.none_began.stays refl))
     works_give result old new rests (inr units) =
@@ -287,14 +287,14 @@ module _ (footing : Footing) (child : Answers) (options : Options) where
         is.next (units.prepares.stays refl) units.prepares.starts units.heard rests result
         (subst (λ (s : Setup). TurnsEnd true child Turns s project units.prepared.store.next from last result units.mid new) is.setup units.ends)
 
-    builds_give : (result : Result Summary BuildFault) (old new : Moment) → RestsOn footing child options old.world → Builds true child Turns options from last result old new → Gives footing child (ByTurns Turns from) options result old new
+    builds_give : (result : Result Summary BuildFault) (old new : BuildState) → RestsOn footing child options old.world → Builds true child Turns options from last result old new → GivesCleanResult footing child (ByTurns Turns from) options result old new
     builds_give result old new rests builds =
         let (units, records) = works_give builds.inner old record new { heard = builds.heard } rests builds.works in
         record { inner = builds.inner; heard = builds.heard; units = units; closes = builds.closes; records = records }
 
 -- the headline, of every build
-pub headline : {S : Type 0} (tells : Bool) (child : Answers) (Turns : S → List ℕ → List ℕ → Step → S → Type 0) (options : Options) (from last : S) (result : Result Summary BuildFault) (old new : Moment)
-    → Builds tells child Turns options from last result old new → Headline tells child (ByTurns Turns from) options result old new
+pub headline : {S : Type 0} (is_modelled : Bool) (child : Answers) (Turns : S → List ℕ → List ℕ → Step → S → Type 0) (options : Options) (from last : S) (result : Result Summary BuildFault) (old new : BuildState)
+    → Builds is_modelled child Turns options from last result old new → Headline is_modelled child (ByTurns Turns from) options result old new
 headline true child Turns options from last result old new builds told footing rests = builds_give footing child options Turns from last result old new rests builds
 headline false child Turns options from last result old new builds told footing rests = absurd (told_false told)
   where

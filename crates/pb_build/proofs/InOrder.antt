@@ -17,7 +17,7 @@ use Rattle.pb_unit.specs.Laws.{TellsWhat, last_word}
 use Rattle.pb_unit.proofs.Telling.{behind_point, keys_tell_what}
 use Rattle.pb_unit.specs.declared.unit.What.{What}
 use Rattle.pb_unit.specs.declared.unit.What.TheVariants.{Lib, Bin, Script, Run}
-use Rattle.pb_data.specs.Gives.{◌>>=◌}
+use Rattle.pb_data.specs.UnlessOom.{◌>>=◌}
 use Rattle.pb_place_types.specs.Paths.{below, is_below, is_at_or_below, is_path, is_relative}
 use Rattle.pb_place_types.proofs.PathLemmas.{below_is_below, below_is_path}
 use Rattle.pb_place_types.proofs.Within.{goes_below, below_then_at, at_below}
@@ -33,7 +33,7 @@ use Rattle.pb_unit.specs.declared.plan.Plan.{Plan}
 use Rattle.pb_unit.specs.declared.plan.Planned.{Planned}
 use Rattle.pb_unit.specs.declared.unit.Unit.{Unit}
 use Rattle.pb_command_types.specs.declared.project.Project.{Project}
-use Rattle.pb_run.specs.Standing.{IsInOrder, IsReadByNeed}
+use Rattle.pb_run.specs.Invariants.{IsInOrder, IsReadByNeed}
 
 -- an element of a list is at a place of it, and the other way round
 level_below : (levels : List ℕ) (level : ℕ) → (i : ℕ) → slice_get levels i ≡ Some level → level < above levels

@@ -13,7 +13,7 @@ use Rattle.pb_place_types.specs.World.{Answers}
 use Rattle.pb_command_types.specs.declared.project.Project.{Project}
 use Rattle.pb_command_types.specs.declared.project.Setup.{Setup}
 use Rattle.pb_build_turns.specs.Ends.{TurnsEnd}
-use Rattle.pb_build_turns.specs.Crew.{Moment}
+use Rattle.pb_build_turns.specs.Executor.{BuildState}
 use Rattle.pb_build.specs.Ending.{Works, Builds, BuildsBy}
 
 -- What each turn leaves as it was, a build does.
@@ -29,16 +29,16 @@ module _ {S X : Type 0} (Turns : S → List ℕ → List ℕ → Step → S → 
   hands_stay needs es last None back is = ap read is
   hands_stay needs es last (Some u) back (i, missing, at, turned) = stays last _ _ (step.Answer i) back turned
 
-  module _ (tells : Bool) (child : Answers) (options : Options) (from last : S) where
-    ends_stay : (setup : Setup) (project : Project) (next : Option ℕ) (result : Result Summary BuildFault) (old new : Moment) → TurnsEnd tells child Turns setup project next from last result old new → read last ≡ read from
+  module _ (is_modelled : Bool) (child : Answers) (options : Options) (from last : S) where
+    ends_stay : (setup : Setup) (project : Project) (next : Option ℕ) (result : Result Summary BuildFault) (old new : BuildState) → TurnsEnd is_modelled child Turns setup project next from last result old new → read last ≡ read from
     ends_stay setup project next (Ok summary) old new ends = flies_stay _ from ends.es last ends.flies
     ends_stay setup project next (Err fault) old new ends = hands_stay _ ends.es ends.last ends.asked last ends.hands ∙ flies_stay _ from ends.es ends.last ends.flies
 
-    works_stay : (result : Result Summary BuildFault) (old new : Moment) → Works tells child Turns options from last result old new → read last ≡ read from
+    works_stay : (result : Result Summary BuildFault) (old new : BuildState) → Works is_modelled child Turns options from last result old new → read last ≡ read from
     works_stay result old new (inl early) = ap read early.unasked
     works_stay result old new (inr units) = ends_stay units.prepared.setup units.prepared.project units.prepared.store.next result units.mid new units.ends
 
-    builds_stay : (result : Result Summary BuildFault) (old new : Moment) → Builds tells child Turns options from last result old new → read last ≡ read from
+    builds_stay : (result : Result Summary BuildFault) (old new : BuildState) → Builds is_modelled child Turns options from last result old new → read last ≡ read from
     builds_stay result old new builds = works_stay builds.inner old _ builds.works
 
 -- Where each turn is one of other states, a build is: all but its states is as it was.
@@ -56,9 +56,9 @@ module _ {S R : Type 0} (Turns : S → List ℕ → List ℕ → Step → S → 
   hands_as needs es last None back is = ap image is
   hands_as needs es last (Some u) back (i, missing, at, turned) = (i, missing, at, turns_as last _ _ (step.Answer i) back turned)
 
-  module _ (tells : Bool) (child : Answers) (options : Options) (from last : S) where
-    ends_as : (setup : Setup) (project : Project) (next : Option ℕ) (result : Result Summary BuildFault) (old new : Moment) → TurnsEnd tells child Turns setup project next from last result old new
-        → TurnsEnd tells child Others setup project next (image from) (image last) result old new
+  module _ (is_modelled : Bool) (child : Answers) (options : Options) (from last : S) where
+    ends_as : (setup : Setup) (project : Project) (next : Option ℕ) (result : Result Summary BuildFault) (old new : BuildState) → TurnsEnd is_modelled child Turns setup project next from last result old new
+        → TurnsEnd is_modelled child Others setup project next (image from) (image last) result old new
     ends_as setup project next (Ok summary) old new e = record {
       es = e.es;
       flies = flies_as _ from e.es last e.flies;
@@ -134,12 +134,12 @@ module _ {S R : Type 0} (Turns : S → List ℕ → List ℕ → Step → S → 
       calls_on_any = e.calls_on_any;
     }
 
-    works_as : (result : Result Summary BuildFault) (old new : Moment) → Works tells child Turns options from last result old new → Works tells child Others options (image from) (image last) result old new
+    works_as : (result : Result Summary BuildFault) (old new : BuildState) → Works is_modelled child Turns options from last result old new → Works is_modelled child Others options (image from) (image last) result old new
     works_as result old new (inl early) = inl record { none_began = early.none_began; unasked = ap image early.unasked; calls = early.calls }
     works_as result old new (inr units) =
         inr record { prepared = units.prepared; mid = units.mid; heard = units.heard; prepares = units.prepares; ends = ends_as units.prepared.setup units.prepared.project units.prepared.store.next result units.mid new units.ends }
 
-    builds_as : (result : Result Summary BuildFault) (old new : Moment) → Builds tells child Turns options from last result old new → Builds tells child Others options (image from) (image last) result old new
+    builds_as : (result : Result Summary BuildFault) (old new : BuildState) → Builds is_modelled child Turns options from last result old new → Builds is_modelled child Others options (image from) (image last) result old new
     builds_as result old new builds = record { inner = builds.inner; heard = builds.heard; works = works_as builds.inner old _ builds.works; closes = builds.closes }
 
 -- Turns by a number of jobs.
@@ -150,12 +150,12 @@ module _ {S : Type 0} (Picks : S → List ℕ → ℕ → S → Type 0) where
   jobs_stay now ready flying (step.Answer i) next (after, first, stays, why) = after
 
   -- their number is at the end what it was
-  pub built_by : (tells : Bool) (child : Answers) (options : Options) (pick : S) (last : Jobs S) (result : Result Summary BuildFault) (old new : Moment)
-      → Builds tells child (TurnsOfJobs Picks) options record { pick = pick; jobs = options.jobs } last result old new → BuildsBy tells child Picks options pick last.pick result old new
-  built_by tells child options pick last result old new builds =
+  pub built_by : (is_modelled : Bool) (child : Answers) (options : Options) (pick : S) (last : Jobs S) (result : Result Summary BuildFault) (old new : BuildState)
+      → Builds is_modelled child (TurnsOfJobs Picks) options record { pick = pick; jobs = options.jobs } last result old new → BuildsBy is_modelled child Picks options pick last.pick result old new
+  built_by is_modelled child options pick last result old new builds =
       let from : Jobs S = record { pick = pick; jobs = options.jobs } in
-      subst (λ (jobs : ℕ). Builds tells child (TurnsOfJobs Picks) options from record { pick = last.pick; jobs = jobs } result old new)
-      (builds_stay (TurnsOfJobs Picks) (λ now. now.jobs) jobs_stay tells child options from last result old new builds) builds
+      subst (λ (jobs : ℕ). Builds is_modelled child (TurnsOfJobs Picks) options from record { pick = last.pick; jobs = jobs } result old new)
+      (builds_stay (TurnsOfJobs Picks) (λ now. now.jobs) jobs_stay is_modelled child options from last result old new builds) builds
 
   lent_stays : (now : Jobs (MutBor S)) (ready flying : List ℕ) (step : Step) (next : Jobs (MutBor S)) → TurnsOfJobs (PicksLent Picks) now ready flying step next → next.pick.ghost_name ≡ now.pick.ghost_name
   lent_stays now ready flying (step.Begin i) next (after, some, room, picked) = picked.1
@@ -171,11 +171,11 @@ module _ {S : Type 0} (Picks : S → List ℕ → ℕ → S → Type 0) where
   turns_behind now ready flying (step.Answer i) next (after, first, stays, why) = (after, first, ap (λ pick. pick.now) stays, why)
 
   -- the pick that was lent is handed back as the last turn left it
-  pub built_lent : (tells : Bool) (child : Answers) (options : Options) (pick : MutBor S) (last : Jobs (MutBor S)) (back : S) (result : Result Summary BuildFault) (old new : Moment)
-      → Builds tells child (TurnsOfJobs (PicksLent Picks)) options record { pick = pick; jobs = options.jobs } last result old new → (pick.ghost_name ≡ last.pick.ghost_name → back ≡ last.pick.now)
-      → BuildsBy tells child Picks options pick.now back result old new
-  built_lent tells child options pick last back result old new builds is_back =
+  pub built_lent : (is_modelled : Bool) (child : Answers) (options : Options) (pick : MutBor S) (last : Jobs (MutBor S)) (back : S) (result : Result Summary BuildFault) (old new : BuildState)
+      → Builds is_modelled child (TurnsOfJobs (PicksLent Picks)) options record { pick = pick; jobs = options.jobs } last result old new → (pick.ghost_name ≡ last.pick.ghost_name → back ≡ last.pick.now)
+      → BuildsBy is_modelled child Picks options pick.now back result old new
+  built_lent is_modelled child options pick last back result old new builds is_back =
       let from : Jobs (MutBor S) = record { pick = pick; jobs = options.jobs } in
-      let same = builds_stay (TurnsOfJobs (PicksLent Picks)) (λ now. now.pick.ghost_name) lent_stays tells child options from last result old new builds in
-      subst (λ (picked : S). BuildsBy tells child Picks options pick.now picked result old new) (sym (is_back (sym same)))
-      (built_by tells child options pick.now (behind last) result old new (builds_as (TurnsOfJobs (PicksLent Picks)) (TurnsOfJobs Picks) behind turns_behind tells child options from last result old new builds))
+      let same = builds_stay (TurnsOfJobs (PicksLent Picks)) (λ now. now.pick.ghost_name) lent_stays is_modelled child options from last result old new builds in
+      subst (λ (picked : S). BuildsBy is_modelled child Picks options pick.now picked result old new) (sym (is_back (sym same)))
+      (built_by is_modelled child options pick.now (behind last) result old new (builds_as (TurnsOfJobs (PicksLent Picks)) (TurnsOfJobs Picks) behind turns_behind is_modelled child options from last result old new builds))

@@ -14,7 +14,7 @@ use Rattle.pb_place_types.specs.World.{World, Answers}
 use Rattle.pb_place_types.specs.declared.place.PlaceFault.{PlaceFault}
 use Rattle.pb_place_types.specs.declared.place.PlaceFault.TheVariants as place
 use Rattle.pb_command_types.specs.declared.project.Project.{Project}
-use Rattle.pb_run.specs.Standing.{records_folder}
+use Rattle.pb_run.specs.Invariants.{records_folder}
 use Rattle.pb_store.specs.Looking.{opened_looked}
 use Rattle.pb_build.specs.Causes.{StopsBefore, plan_called}
 use Rattle.pb_build.specs.Ending.{FailsBefore}

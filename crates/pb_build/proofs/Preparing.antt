@@ -9,14 +9,14 @@ use Rattle.pb_place_types.specs.declared.place.PlaceFault.TheVariants as place
 use Rattle.pb_workspace_types.specs.declared.options.Options.{Options}
 use Rattle.pb_command_types.specs.declared.project.Project.{Project}
 use Rattle.pb_run.specs.Steps.{HasCause}
-use Rattle.pb_run.specs.Standing.{records_folder}
+use Rattle.pb_run.specs.Invariants.{records_folder}
 use Rattle.pb_store.specs.Calls.{FailsToOpen}
 use Rattle.pb_store.specs.Folder.{next_in}
 use Rattle.pb_store.specs.declared.fault.OpenFault.{OpenFault}
 use Rattle.pb_store.specs.declared.fault.OpenFault.TheVariants as open_fault
 use Rattle.pb_workspace.proofs.Accepted.{target_kept}
 use Rattle.pb_build.specs.Causes.{MayPlan, MayAsk, MayReady, Names}
-use Rattle.pb_build_turns.specs.Crew.{Moment}
+use Rattle.pb_build_turns.specs.Executor.{BuildState}
 use Rattle.pb_build.specs.Ending.{FailsBefore, IsSilent, IsPrepared, PlansFrom}
 use Rattle.pb_build.specs.Environment.{environment_of}
 use Rattle.pb_build.specs.Planning.{IsProject, IsToldRefusal}
@@ -74,25 +74,25 @@ open_ready OutOfMemory old mid new one unrefused may = inr (may ∙ one)
 
 -- Faults before the units.
 
-pub plan_fails : (tells : Bool) (child : Answers) (options : Options) (e : BuildFault) (w : World) (old new : Counts) → MayPlan e old.starts new.starts → HasCause e old new → Names e new
-    → (IsTrue tells → IsToldRefusal options (environment_of options w.variables).target w e) → FailsBefore tells child options e w old new
-plan_fails tells child options (Plan why) w old new may cause named refused = (refused, may, cause)
-plan_fails tells child options Toolchain w old new may cause named refused = absurd may
-plan_fails tells child options (Child key fault) w old new may cause named refused = absurd may
-plan_fails tells child options (Device name (device.Place fault)) w old new may cause named refused = (inl may, cause, named)
-plan_fails tells child options (Device name device.NumbersSpent) w old new may cause named refused = absurd may
-plan_fails tells child options Sink w old new may cause named refused = absurd may
-plan_fails tells child options OutOfMemory w old new may cause named refused = (inl may, cause)
+pub plan_fails : (is_modelled : Bool) (child : Answers) (options : Options) (e : BuildFault) (w : World) (old new : Counts) → MayPlan e old.starts new.starts → HasCause e old new → Names e new
+    → (IsTrue is_modelled → IsToldRefusal options (environment_of options w.variables).target w e) → FailsBefore is_modelled child options e w old new
+plan_fails is_modelled child options (Plan why) w old new may cause named refused = (refused, may, cause)
+plan_fails is_modelled child options Toolchain w old new may cause named refused = absurd may
+plan_fails is_modelled child options (Child key fault) w old new may cause named refused = absurd may
+plan_fails is_modelled child options (Device name (device.Place fault)) w old new may cause named refused = (inl may, cause, named)
+plan_fails is_modelled child options (Device name device.NumbersSpent) w old new may cause named refused = absurd may
+plan_fails is_modelled child options Sink w old new may cause named refused = absurd may
+plan_fails is_modelled child options OutOfMemory w old new may cause named refused = (inl may, cause)
 
-pub ready_fails : (tells : Bool) (child : Answers) (options : Options) (e : BuildFault) (w : World) (old new : Counts) → MayReady e old.starts new.starts → HasCause e old new → Names e new
-    → (IsTrue tells → e ≡ Toolchain → IsSilent child options w) → FailsBefore tells child options e w old new
-ready_fails tells child options (Plan why) w old new may cause named silent = absurd may
-ready_fails tells child options Toolchain w old new may cause named silent = (λ t. silent t refl, may, cause)
-ready_fails tells child options (Child key fault) w old new may cause named silent = (may.0, may.1, cause)
-ready_fails tells child options (Device name (device.Place fault)) w old new may cause named silent = (inr may, cause, named)
-ready_fails tells child options (Device name device.NumbersSpent) w old new may cause named silent = absurd may
-ready_fails tells child options Sink w old new may cause named silent = absurd may
-ready_fails tells child options OutOfMemory w old new may cause named silent = (may, cause)
+pub ready_fails : (is_modelled : Bool) (child : Answers) (options : Options) (e : BuildFault) (w : World) (old new : Counts) → MayReady e old.starts new.starts → HasCause e old new → Names e new
+    → (IsTrue is_modelled → e ≡ Toolchain → IsSilent child options w) → FailsBefore is_modelled child options e w old new
+ready_fails is_modelled child options (Plan why) w old new may cause named silent = absurd may
+ready_fails is_modelled child options Toolchain w old new may cause named silent = (λ t. silent t refl, may, cause)
+ready_fails is_modelled child options (Child key fault) w old new may cause named silent = (may.0, may.1, cause)
+ready_fails is_modelled child options (Device name (device.Place fault)) w old new may cause named silent = (inr may, cause, named)
+ready_fails is_modelled child options (Device name device.NumbersSpent) w old new may cause named silent = absurd may
+ready_fails is_modelled child options Sink w old new may cause named silent = absurd may
+ready_fails is_modelled child options OutOfMemory w old new may cause named silent = (may, cause)
 
 -- the counters of a call that ended well before
 pub may_ready_from : (e : BuildFault) (old mid new : Starts) → mid ≡ old → MayReady e mid new → MayReady e old new
@@ -110,12 +110,12 @@ may_ready_landed OutOfMemory old new (inl may) none = ap (λ (s : Starts). s.fly
 may_ready_landed OutOfMemory old new (inr may) none = ap (λ (s : Starts). s.flying) may ∙ none
 
 -- a plan that ended so
-pub plan_at : (tells : Bool) (options : Options) (plan ended : Result BuildPlan BuildFault) (from here : Moment) → plan ≡ ended → PlansFrom tells options plan from here → PlansFrom tells options ended from here
-plan_at tells options plan ended from here is planned = subst (λ (r : Result BuildPlan BuildFault). PlansFrom tells options r from here) is planned
+pub plan_at : (is_modelled : Bool) (options : Options) (plan ended : Result BuildPlan BuildFault) (from here : BuildState) → plan ≡ ended → PlansFrom is_modelled options plan from here → PlansFrom is_modelled options ended from here
+plan_at is_modelled options plan ended from here is planned = subst (λ (r : Result BuildPlan BuildFault). PlansFrom is_modelled options r from here) is planned
 
 -- the same, whatever the sink
-pub unheard : (tells : Bool) (options : Options) (plan : Result BuildPlan BuildFault) (from here : Moment) → PlansFrom tells options plan from here → PlansFrom tells options plan from record here { heard = from.heard }
-unheard tells options plan from here planned = record {
+pub unheard : (is_modelled : Bool) (options : Options) (plan : Result BuildPlan BuildFault) (from here : BuildState) → PlansFrom is_modelled options plan from here → PlansFrom is_modelled options plan from record here { heard = from.heard }
+unheard is_modelled options plan from here planned = record {
   is = planned.is;
   refused = planned.refused;
   stays = planned.stays;

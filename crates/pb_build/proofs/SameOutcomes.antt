@@ -9,7 +9,7 @@ use Rattle.pb_command_environment.specs.Pairs.{about_pairs, package_pairs, versi
 use Rattle.pb_command_arguments.specs.Said.{said_words}
 use Rattle.pb_command_types.specs.Targets.{library_file, dep_info_of, made_file_of, package_of}
 use Rattle.pb_command_arguments.specs.Words.{active_words, crate_words, expected_words, feature_word, output_words, settings_words}
-use Rattle.pb_command_types.specs.declared.answer.Answered.{Answered}
+use Rattle.pb_command_types.specs.declared.checked_reply.CheckedReply.{CheckedReply}
 use Rattle.pb_command_types.specs.declared.fault.UnitFault.{UnitFault}
 use Rattle.pb_command_types.specs.declared.project.Project.{Project}
 use Rattle.pb_command_types.specs.declared.project.Setup.{Setup}
@@ -100,7 +100,7 @@ module _ (p : Project) (g : Features) (names : (o : ℕ) (s : Side) → features
   messages_same u stderr None = ap (λ ms. compiler_messages stderr ++ ms) (artifacts_same u (made_file_of p u))
   messages_same u stderr (Some directives) = refl
 
-  ran_same : (u : Planned) (ended : Ended) (r : Result Answered UnitFault) → ran_by p u ended r ≡ ran_by other u ended r
+  ran_same : (u : Planned) (ended : Ended) (r : Result CheckedReply UnitFault) → ran_by p u ended r ≡ ran_by other u ended r
   ran_same u ended (Ok a) = ap (λ (ms : List Message). record { started = true; bad = None; directives = a.directives; messages = ms }) (messages_same u ended.stderr a.directives)
   ran_same u ended (Err e) = refl
 

@@ -17,8 +17,8 @@ use Rattle.pb_place_types.proofs.Within.{at_below, at_itself, at_then_below}
 use Rattle.pb_build_result.specs.declared.bad_unit.BadUnit.{BadUnit}
 use Rattle.pb_command_types.specs.declared.project.Project.{Project}
 use Rattle.pb_command_types.specs.declared.project.Setup.{Setup}
-use Rattle.pb_run.specs.Halves.{OnRecords}
-use Rattle.pb_run.specs.Standing.{IsInOrder, records_folder}
+use Rattle.pb_run.specs.UnitSteps.{TrustedRecords}
+use Rattle.pb_run.specs.Invariants.{IsInOrder, records_folder}
 use Rattle.pb_build_session.specs.declared.pick.PickBy.{PickBy}
 use Rattle.pb_build_session.specs.declared.pick.PickBy.TheVariants.{First, Last}
 use Rattle.pb_build_session.specs.declared.step.SessionStep.{SessionStep}
@@ -28,8 +28,8 @@ use Rattle.pb_store_soundness.specs.Sound.{Sound}
 use Rattle.pb_store_soundness.proofs.Four.{outside}
 use Rattle.pb_store_soundness.proofs.Places.{place_in}
 use Rattle.pb_build_turns.specs.Ends.{TurnsEnd}
-use Rattle.pb_build_turns.specs.Crew.{Moment}
-use Rattle.pb_build_turns.specs.Story.{OnlyOf}
+use Rattle.pb_build_turns.specs.Executor.{BuildState}
+use Rattle.pb_build_turns.specs.History.{OnlyOf}
 use Rattle.pb_build.specs.Ending.{Works, Builds}
 use Rattle.pb_build.specs.Headline.{records_of, IsHonestBuild, RestsOn, UnitsOf}
 use Rattle.pb_build.specs.Lasting.{ShareNoPath, Spares, SparingCourse, NothingIsSound, RecordsStayTrue, AnyBuildGives}
@@ -44,12 +44,12 @@ only_within project es old new order only q outside_it =
     only.files q (λ place u begun there. none_of (records_folder project) (records_folder project) u.key q (at_itself (records_folder project) (records_folder project) refl) (order.keys place u there) outside_it)
 
 module _ {S : Type 0} (child : Answers) (Turns : S → List ℕ → List ℕ → Step → S → Type 0) (options : Options) (from last : S) where
-  turns_within : (setup : Setup) (project : Project) (next : Option ℕ) (result : Result Summary BuildFault) (old new : Moment) → IsInOrder project → TurnsEnd true child Turns setup project next from last result old new
+  turns_within : (setup : Setup) (project : Project) (next : Option ℕ) (result : Result Summary BuildFault) (old new : BuildState) → IsInOrder project → TurnsEnd true child Turns setup project next from last result old new
       → AgreeBut (is_at_or_below (records_folder project)) old.world.files new.world.files
   turns_within setup project next (Ok summary) old new order ends = only_within project ends.es old.world new.world order (ends.only refl)
   turns_within setup project next (Err fault) old new order ends = only_within project ends.es old.world new.world order (ends.only refl)
 
-  works_within : (result : Result Summary BuildFault) (old new : Moment) → Works true child Turns options from last result old new → AgreeBut (is_at_or_below (records_of options old.world.variables)) old.world.files new.world.files
+  works_within : (result : Result Summary BuildFault) (old new : BuildState) → Works true child Turns options from last result old new → AgreeBut (is_at_or_below (records_of options old.world.variables)) old.world.files new.world.files
   works_within result old new (inl early) q outside_it = ap (λ (w : World). get w.files q) (early.none_began.stays refl)
   works_within result old new (inr units) q outside_it =
       let project = units.prepared.project in
@@ -58,23 +58,23 @@ module _ {S : Type 0} (child : Answers) (Turns : S → List ℕ → List ℕ →
       turns_within units.prepared.setup project units.prepared.store.next result units.mid new units.prepares.order units.ends q (subst (λ (f : List ℕ). is_at_or_below f q ≡ false) (sym same) outside_it)
       ∙ ap (λ (w : World). get w.files q) (units.prepares.stays refl)
 
-  pub builds_within : (result : Result Summary BuildFault) (old new : Moment) → Builds true child Turns options from last result old new → AgreeBut (is_at_or_below (records_of options old.world.variables)) old.world.files new.world.files
+  pub builds_within : (result : Result Summary BuildFault) (old new : BuildState) → Builds true child Turns options from last result old new → AgreeBut (is_at_or_below (records_of options old.world.variables)) old.world.files new.world.files
   builds_within result old new builds = works_within builds.inner old record new { heard = builds.heard } builds.works
 
-picked_within : (child : Answers) (options : Options) (pick : PickBy) (result : Result Summary BuildFault) (old new : Moment) → Picked child options pick result old new
+picked_within : (child : Answers) (options : Options) (pick : PickBy) (result : Result Summary BuildFault) (old new : BuildState) → Picked child options pick result old new
     → AgreeBut (is_at_or_below (records_of options old.world.variables)) old.world.files new.world.files
 picked_within child options First result old new builds = builds_within child _ options _ _ result old new builds
 picked_within child options Last result old new builds = builds_within child _ options _ _ result old new builds
 
 -- A build found units, or it changed nothing.
 
-works_units : {S : Type 0} (child : Answers) (Turns : S → List ℕ → List ℕ → Step → S → Type 0) (options : Options) (from last : S) (result : Result Summary BuildFault) (old new : Moment) → Works true child Turns options from last result old new
+works_units : {S : Type 0} (child : Answers) (Turns : S → List ℕ → List ℕ → Step → S → Type 0) (options : Options) (from last : S) (result : Result Summary BuildFault) (old new : BuildState) → Works true child Turns options from last result old new
     → (new.world ≡ old.world) ⊎ UnitsOf child options old.world
 works_units child Turns options from last result old new (inl early) = inl (early.none_began.stays refl)
 works_units child Turns options from last result old new (inr units) =
     let is = units.prepares.is refl in inr record { project = units.prepared.project; toolchain = is.toolchain; is = is.project; says = is.says }
 
-picked_units : (child : Answers) (options : Options) (pick : PickBy) (result : Result Summary BuildFault) (old new : Moment) → Picked child options pick result old new → (new.world ≡ old.world) ⊎ UnitsOf child options old.world
+picked_units : (child : Answers) (options : Options) (pick : PickBy) (result : Result Summary BuildFault) (old new : BuildState) → Picked child options pick result old new → (new.world ≡ old.world) ⊎ UnitsOf child options old.world
 picked_units child options First result old new builds = works_units child _ options _ _ builds.inner old record new { heard = builds.heard } builds.works
 picked_units child options Last result old new builds = works_units child _ options _ _ builds.inner old record new { heard = builds.heard } builds.works
 
@@ -119,10 +119,10 @@ module _ (child : Answers) (folder : List ℕ) where
   build_sound : (options : Options) (pick : PickBy) (before after : Point) → ((records_of options before.moment.world.variables ≡ folder) × IsHonestBuild child options before.moment.world) ⊎ ShareNoPath folder (records_of options before.moment.world.variables)
       → Carries child (Build options pick) before after → IsSound before.moment.world → IsSound after.moment.world
   build_sound options pick before after (inl (same, honest)) built sound =
-      let there : RestsOn OnRecords child options before.moment.world = (subst (λ (f : List ℕ). Sound reading judge child f before.moment.world.files) (sym same) sound, honest) in
-      subst IsSound (sym (ap (λ (m : Moment). m.world) built.behind)) (subst (λ (f : List ℕ). Sound reading judge child f built.ended.world.files) same (built.headline refl OnRecords there).records)
+      let there : RestsOn TrustedRecords child options before.moment.world = (subst (λ (f : List ℕ). Sound reading judge child f before.moment.world.files) (sym same) sound, honest) in
+      subst IsSound (sym (ap (λ (m : BuildState). m.world) built.behind)) (subst (λ (f : List ℕ). Sound reading judge child f built.ended.world.files) same (built.headline refl TrustedRecords there).records)
   build_sound options pick before after (inr apart) built sound =
-      subst IsSound (sym (ap (λ (m : Moment). m.world) built.behind))
+      subst IsSound (sym (ap (λ (m : BuildState). m.world) built.behind))
       (outside reading judge child folder before.moment.world.files built.ended.world.files (λ q within. picked_within child options pick built.answer.result before.moment built.ended built.picked q (apart q within)) sound)
 
   step_sound : (step : SessionStep) (before after : Point) → Spares child folder step before.moment.world → Carries child step before after → IsSound before.moment.world → IsSound after.moment.world
@@ -135,7 +135,7 @@ module _ (child : Answers) (folder : List ℕ) where
   step_sound (Die key death) before after out same sound = subst (λ (p : Point). IsSound p.moment.world) (sym same) sound
   step_sound (Fuse number) before after out same sound = subst (λ (p : Point). IsSound p.moment.world) (sym same) sound
   step_sound (Build options pick) before after spares built sound = elim (picked_units child options pick built.answer.result before.moment built.ended built.picked) [
-    | inl same ↦ subst IsSound (sym (ap (λ (m : Moment). m.world) built.behind)) (subst IsSound (sym same) sound)
+    | inl same ↦ subst IsSound (sym (ap (λ (m : BuildState). m.world) built.behind)) (subst IsSound (sym same) sound)
     | inr units ↦ build_sound options pick before after (spares units) built sound
   ]
 
@@ -150,4 +150,4 @@ records_stay_true child folder steps before after course sound = course_sound ch
 
 pub any_build_gives : AnyBuildGives
 any_build_gives child options pick steps before mid after course sound honest built =
-    built.headline refl OnRecords (course_sound child (records_of options mid.moment.world.variables) steps before mid course sound, honest)
+    built.headline refl TrustedRecords (course_sound child (records_of options mid.moment.world.variables) steps before mid course sound, honest)

@@ -4,14 +4,14 @@ use Rattle.pb_build_result.specs.declared.summary.Summary.{Summary}
 use Rattle.pb_run_flight.specs.declared.turn.Step.{Step}
 use Rattle.pb_workspace_types.specs.declared.options.Options.{Options}
 use Rattle.pb_place_types.specs.World.{Answers}
-use Rattle.pb_run.specs.Halves.{OnRecords}
-use Rattle.pb_build_turns.specs.Crew.{Moment}
+use Rattle.pb_run.specs.UnitSteps.{TrustedRecords}
+use Rattle.pb_build_turns.specs.Executor.{BuildState}
 use Rattle.pb_build.specs.Ending.{Builds}
 use Rattle.pb_build.specs.Headline.{RestsOn}
 
 -- A build over true records with an honest child succeeded. In the world that it left,
 -- the same build reports no unit as started, by whatever turn, unless a fault ends it.
 abbrev pub SameBuildStartsNone : {S T : Type 0} → (S → List ℕ → List ℕ → Step → S → Type 0) → (T → List ℕ → List ℕ → Step → T → Type 0) → Type 0
-SameBuildStartsNone {S} {T} Turns OtherTurns = (child : Answers) (options : Options) (from last : S) (again end : T) (summary other : Summary) (first second third fourth : Moment)
-    → RestsOn OnRecords child options first.world → Builds true child Turns options from last (Ok summary) first second → summary.success ≡ true
+SameBuildStartsNone {S} {T} Turns OtherTurns = (child : Answers) (options : Options) (from last : S) (again end : T) (summary other : Summary) (first second third fourth : BuildState)
+    → RestsOn TrustedRecords child options first.world → Builds true child Turns options from last (Ok summary) first second → summary.success ≡ true
     → third.world ≡ second.world → Builds true child OtherTurns options again end (Ok other) third fourth → other.started ≡ []

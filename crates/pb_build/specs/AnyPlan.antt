@@ -12,12 +12,12 @@ use Rattle.pb_place_types.specs.Counts.{up_starts}
 use Rattle.pb_place_types.specs.World.{World, Answers, from_nothing}
 use Rattle.pb_command_types.specs.declared.project.Project.{Project}
 use Rattle.pb_run.specs.Steps.{HasCause}
-use Rattle.pb_run.specs.Standing.{IsInOrder, records_folder}
+use Rattle.pb_run.specs.Invariants.{IsInOrder, records_folder}
 use Rattle.pb_store.specs.Looking.{opened_looked}
 use Rattle.pb_store.specs.Folder.{next_in}
 use Rattle.pb_build_turns.specs.Ends.{TurnsEnd}
-use Rattle.pb_place_types.specs.Sinks.{Heard}
-use Rattle.pb_build_turns.specs.Crew.{Moment}
+use Rattle.pb_place_types.specs.Sinks.{SinkState}
+use Rattle.pb_build_turns.specs.Executor.{BuildState}
 use Rattle.pb_build.specs.Causes.{MayReady, Names, ReadyStopsAt, ready_called}
 use Rattle.pb_build.specs.Ending.{Closes, PicksFirstOf, Stays}
 use Rattle.pb_build.specs.Result.{toolchain_of, setup_of}
@@ -45,49 +45,49 @@ IsSilentFault child environment project w OutOfMemory = Unit {0}
 
 -- a plan's units were prepared, over the plan's own environment and project:
 -- the compiler answered the query, the project's records were opened, and nothing was changed or written
-pub record IsReadied (tells : Bool) (child : Answers) (options : Options) (plan : BuildPlan) (prepared : Prepared) (old new : Moment) : Type 0 where
-  pub ready : IsTrue tells → IsReadyFor child options plan.environment plan.project old.world prepared
+pub record IsReadied (is_modelled : Bool) (child : Answers) (options : Options) (plan : BuildPlan) (prepared : Prepared) (old new : BuildState) : Type 0 where
+  pub ready : IsTrue is_modelled → IsReadyFor child options plan.environment plan.project old.world prepared
   pub project : prepared.project ≡ plan.project
   pub order : IsInOrder prepared.project
-  pub stays : Stays tells old.world new.world
+  pub stays : Stays is_modelled old.world new.world
   pub starts : new.counts.starts ≡ up_starts old.counts.starts
   pub failures : new.counts.failures ≡ old.counts.failures
-  pub calls : IsTrue tells → new.counts ≡ ready_called (opened_looked (records_folder plan.project) old.world) old.counts
+  pub calls : IsTrue is_modelled → new.counts ≡ ready_called (opened_looked (records_folder plan.project) old.world) old.counts
   pub most : new.most ≡ max old.most 1
   pub heard : new.heard ≡ old.heard
 
 -- a fault of the query, or of opening the records, ended the preparation; nothing was changed or written
-pub record IsUnready (tells : Bool) (child : Answers) (plan : BuildPlan) (fault : BuildFault) (old new : Moment) : Type 0 where
-  pub silent : IsTrue tells → IsSilentFault child plan.environment plan.project old.world fault
+pub record IsUnready (is_modelled : Bool) (child : Answers) (plan : BuildPlan) (fault : BuildFault) (old new : BuildState) : Type 0 where
+  pub silent : IsTrue is_modelled → IsSilentFault child plan.environment plan.project old.world fault
   pub may : MayReady fault old.counts.starts new.counts.starts
   pub cause : HasCause fault old.counts new.counts
   pub names : Names fault new.counts
-  pub stays : Stays tells old.world new.world
-  pub calls : IsTrue tells → ReadyStopsAt fault (opened_looked (records_folder plan.project) old.world) old.counts new.counts
+  pub stays : Stays is_modelled old.world new.world
+  pub calls : IsTrue is_modelled → ReadyStopsAt fault (opened_looked (records_folder plan.project) old.world) old.counts new.counts
   pub most : (new.most ≡ old.most) ⊎ (new.most ≡ max old.most 1)
   pub heard : new.heard ≡ old.heard
 
 -- if there is no plan, its fault is returned and nothing is done; else the plan's units are prepared, or that fails
-abbrev pub Readies : Bool → Answers → Options → Result BuildPlan BuildFault → Result Prepared BuildFault → Moment → Moment → Type 0
-Readies tells child options (Err fault) result old new = (result ≡ Err fault) × (new ≡ old)
-Readies tells child options (Ok plan) (Err fault) old new = IsUnready tells child plan fault old new
-Readies tells child options (Ok plan) (Ok prepared) old new = IsReadied tells child options plan prepared old new
+abbrev pub Readies : Bool → Answers → Options → Result BuildPlan BuildFault → Result Prepared BuildFault → BuildState → BuildState → Type 0
+Readies is_modelled child options (Err fault) result old new = (result ≡ Err fault) × (new ≡ old)
+Readies is_modelled child options (Ok plan) (Err fault) old new = IsUnready is_modelled child plan fault old new
+Readies is_modelled child options (Ok plan) (Ok prepared) old new = IsReadied is_modelled child options plan prepared old new
 
 -- either no unit began and the turn was not asked; or the units were prepared and then ended
-pub data WorksOn {S : Type 0} (tells : Bool) (child : Answers) (Turns : S → List ℕ → List ℕ → Step → S → Type 0) (options : Options) (plan : Result BuildPlan BuildFault) (from : S) : S → Result Summary BuildFault → Moment → Moment → Type 0 where
-  stopped : (fault : BuildFault) (old new : Moment) (unready : Readies tells child options plan (Err fault) old new) → WorksOn tells child Turns options plan from from (Err fault) old new
-  worked : (prepared : Prepared) (last : S) (result : Result Summary BuildFault) (old mid new : Moment) (ready : Readies tells child options plan (Ok prepared) old mid) (ends : TurnsEnd tells child Turns prepared.setup prepared.project prepared.store.next from last result mid new)
-      → WorksOn tells child Turns options plan from last result old new
+pub data WorksOn {S : Type 0} (is_modelled : Bool) (child : Answers) (Turns : S → List ℕ → List ℕ → Step → S → Type 0) (options : Options) (plan : Result BuildPlan BuildFault) (from : S) : S → Result Summary BuildFault → BuildState → BuildState → Type 0 where
+  stopped : (fault : BuildFault) (old new : BuildState) (unready : Readies is_modelled child options plan (Err fault) old new) → WorksOn is_modelled child Turns options plan from from (Err fault) old new
+  worked : (prepared : Prepared) (last : S) (result : Result Summary BuildFault) (old mid new : BuildState) (ready : Readies is_modelled child options plan (Ok prepared) old mid) (ends : TurnsEnd is_modelled child Turns prepared.setup prepared.project prepared.store.next from last result mid new)
+      → WorksOn is_modelled child Turns options plan from last result old new
 
 -- a build of a plan: how its work ended, and what was written after it
-pub record BuildsOn {S : Type 0} (tells : Bool) (child : Answers) (Turns : S → List ℕ → List ℕ → Step → S → Type 0) (options : Options) (plan : Result BuildPlan BuildFault) (from last : S) (result : Result Summary BuildFault) (old new : Moment) : Type 0 where
+pub record BuildsOn {S : Type 0} (is_modelled : Bool) (child : Answers) (Turns : S → List ℕ → List ℕ → Step → S → Type 0) (options : Options) (plan : Result BuildPlan BuildFault) (from last : S) (result : Result Summary BuildFault) (old new : BuildState) : Type 0 where
   pub inner : Result Summary BuildFault
-  pub heard : Heard
-  pub works : WorksOn tells child Turns options plan from last inner old record new { heard = heard }
+  pub heard : SinkState
+  pub works : WorksOn is_modelled child Turns options plan from last inner old record new { heard = heard }
   pub closes : Closes inner result heard new.heard
 
 -- a build of a plan with the options' number of units in flight,
 -- in which the first in plan order of those that may begin does so
-abbrev pub BuildsOnFirst : Bool → Answers → Options → Result BuildPlan BuildFault → Result Summary BuildFault → Moment → Moment → Type 0
-BuildsOnFirst tells child options plan result old new =
-    (from : Jobs First) × (from.jobs ≡ options.jobs) × (last : Jobs First) × BuildsOn tells child (TurnsOfJobs PicksFirstOf) options plan from last result old new
+abbrev pub BuildsOnFirst : Bool → Answers → Options → Result BuildPlan BuildFault → Result Summary BuildFault → BuildState → BuildState → Type 0
+BuildsOnFirst is_modelled child options plan result old new =
+    (from : Jobs First) × (from.jobs ≡ options.jobs) × (last : Jobs First) × BuildsOn is_modelled child (TurnsOfJobs PicksFirstOf) options plan from last result old new

@@ -10,7 +10,7 @@ use Rattle.pb_place_types.specs.World.{World}
 use Rattle.pb_workspace_types.specs.declared.options.Options.{Options}
 use Rattle.pb_command_types.specs.declared.project.Project.{Project}
 use Rattle.pb_run.specs.Steps.{NoStart, StopsAt, HasCause}
-use Rattle.pb_run.specs.Standing.{records_folder}
+use Rattle.pb_run.specs.Invariants.{records_folder}
 use Rattle.pb_store.specs.Looking.{opened_looked}
 use Rattle.pb_workspace.specs.LookedAt.{looked_at}
 use Rattle.pb_build.specs.Environment.{environment_of}
@@ -73,8 +73,8 @@ child_fault unit start.OutOfMemory = OutOfMemory
 -- how a step moves the counters:
 -- - if it succeeds, no call failed, and it started the children that `Begins` says
 -- - if it fails, `May` allows the fault after these starts, and the fault has its cause
-abbrev pub Takes : {T : Type 0} → (T → Starts → Starts → Type 0) → (BuildFault → Starts → Starts → Type 0) → Result T BuildFault → Counts → Counts → Type 0
-Takes Begins May result old new = MatchResult result (λ x. (new.failures ≡ old.failures) × Begins x old.starts new.starts) (λ e. May e old.starts new.starts × HasCause e old new)
+abbrev pub CountsAs : {T : Type 0} → (T → Starts → Starts → Type 0) → (BuildFault → Starts → Starts → Type 0) → Result T BuildFault → Counts → Counts → Type 0
+CountsAs Begins May result old new = MatchResult result (λ x. (new.failures ≡ old.failures) × Begins x old.starts new.starts) (λ e. May e old.starts new.starts × HasCause e old new)
 
 abbrev pub OneStart : {T : Type 0} → T → Starts → Starts → Type 0
 OneStart x old new = new ≡ up_starts old
@@ -104,7 +104,7 @@ SpawnEnds e old new = ⊥
 pub record OnlyLooks {T : Type 0} (May : BuildFault → Starts → Starts → Type 0) (result : Result T BuildFault) (old new : At) : Type 0 where
   pub world : new.world ≡ old.world
   pub most : new.most ≡ old.most
-  pub takes : Takes NoStart May result old.counts new.counts
+  pub takes : CountsAs NoStart May result old.counts new.counts
   pub names : NamesCall result new.counts
 
 -- it starts one child and waits for its end; otherwise it only looks
@@ -112,7 +112,7 @@ pub record OnlyAsks {T : Type 0} (May : BuildFault → Starts → Starts → Typ
   pub world : new.world ≡ old.world
   pub most : OnOk result (new.most ≡ max old.most (length old.counts.starts.flying + 1))
   pub most_else : OnErr result ((new.most ≡ old.most) ⊎ (new.most ≡ max old.most (length old.counts.starts.flying + 1)))
-  pub takes : Takes OneStart May result old.counts new.counts
+  pub takes : CountsAs OneStart May result old.counts new.counts
 
 -- Which calls are made before the units.
 

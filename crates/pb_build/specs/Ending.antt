@@ -14,17 +14,17 @@ use Rattle.pb_message.specs.Message.{finish_line}
 use Rattle.pb_workspace_types.specs.declared.options.Options.{Options}
 use Rattle.pb_place_types.specs.CallsInTurn.{past_calls}
 use Rattle.pb_place_types.specs.Counts.{Counts, named_in, up, up_starts}
-use Rattle.pb_place_types.specs.Sinks.{Heard, TakesPart}
+use Rattle.pb_place_types.specs.Sinks.{SinkState, TakesPart}
 use Rattle.pb_place_types.specs.World.{World, Answers, from_nothing}
 use Rattle.pb_place_types.specs.declared.place.Failure.TheVariants.{Called, Started}
 use Rattle.pb_command_types.specs.declared.project.Project.{Project}
 use Rattle.pb_run.specs.Steps.{NoStart}
-use Rattle.pb_run.specs.Standing.{IsInOrder, records_folder}
+use Rattle.pb_run.specs.Invariants.{IsInOrder, records_folder}
 use Rattle.pb_store.specs.Looking.{opened_looked}
 use Rattle.pb_store.specs.Folder.{next_in}
 use Rattle.pb_build_turns.specs.Ends.{TurnsEnd}
-use Rattle.pb_build_turns.specs.Crew.{Moment}
-use Rattle.pb_build.specs.Causes.{MayPlan, NamesCall, PlansInTurn, StopsBefore, plan_called, ready_called, Takes}
+use Rattle.pb_build_turns.specs.Executor.{BuildState}
+use Rattle.pb_build.specs.Causes.{MayPlan, NamesCall, PlansInTurn, StopsBefore, plan_called, ready_called, CountsAs}
 use Rattle.pb_build.specs.Environment.{environment_of}
 use Rattle.pb_build.specs.Planning.{IsProject, IsRefused, IsToldRefusal}
 use Rattle.pb_build.specs.Result.{toolchain_of, setup_of}
@@ -36,7 +36,7 @@ use Rattle.pb_store.specs.Calls.{FailedLast}
 
 -- nothing was changed
 abbrev pub Stays : Bool → World → World → Type 0
-Stays tells old new = IsTrue tells → new ≡ old
+Stays is_modelled old new = IsTrue is_modelled → new ≡ old
 
 -- the plan of a build of this world: the environment that its variables and options say, and its project
 abbrev pub IsPlanOf : Options → World → BuildPlan → Type 0
@@ -44,13 +44,13 @@ IsPlanOf options w plan = (plan.environment ≡ environment_of options w.variabl
 
 -- between two moments a build was planned and nothing else was done:
 -- nothing was changed or written, no child was started, and only the plan's calls were made
-pub record PlansFrom (tells : Bool) (options : Options) (plan : Result BuildPlan BuildFault) (old new : Moment) : Type 0 where
-  pub is : IsTrue tells → IfOk plan (IsPlanOf options old.world)
-  pub refused : IsTrue tells → IfErr plan (IsToldRefusal options (environment_of options old.world.variables).target old.world)
-  pub stays : Stays tells old.world new.world
-  pub takes : Takes NoStart MayPlan plan old.counts new.counts
+pub record PlansFrom (is_modelled : Bool) (options : Options) (plan : Result BuildPlan BuildFault) (old new : BuildState) : Type 0 where
+  pub is : IsTrue is_modelled → IfOk plan (IsPlanOf options old.world)
+  pub refused : IsTrue is_modelled → IfErr plan (IsToldRefusal options (environment_of options old.world.variables).target old.world)
+  pub stays : Stays is_modelled old.world new.world
+  pub takes : CountsAs NoStart MayPlan plan old.counts new.counts
   pub named : NamesCall plan new.counts
-  pub calls : IsTrue tells → PlansInTurn plan (plan_called options old.world) old.counts new.counts
+  pub calls : IsTrue is_modelled → PlansInTurn plan (plan_called options old.world) old.counts new.counts
   pub most : new.most ≡ old.most
   pub heard : new.heard ≡ old.heard
 
@@ -62,13 +62,13 @@ IsSilent child options w =
 -- why no unit began: a refusal; a compiler that does not report its version, or does not answer; out of memory; or a
 -- call on this path or variable that failed, before the query or after it, when the folder of the records is looked at
 abbrev pub FailsBefore : Bool → Answers → Options → BuildFault → World → Counts → Counts → Type 0
-FailsBefore tells child options (Plan why) w old new = (IsTrue tells → IsRefused options (environment_of options w.variables).target w why) × (new.starts ≡ old.starts) × (new.failures ≡ old.failures)
-FailsBefore tells child options Toolchain w old new = (IsTrue tells → IsSilent child options w) × (new.starts ≡ up_starts old.starts) × (new.failures ≡ old.failures)
-FailsBefore tells child options (Child key fault) w old new = (key ≡ codes "-vV") × (new.starts ≡ up_starts old.starts) × FailedLast (Started fault) old new
-FailsBefore tells child options (Device name (device.Place fault)) w old new = ((new.starts ≡ old.starts) ⊎ (new.starts ≡ up_starts old.starts)) × FailedLast (Called fault) old new × (named_in new ≡ name)
-FailsBefore tells child options (Device name device.NumbersSpent) w old new = ⊥
-FailsBefore tells child options Sink w old new = ⊥
-FailsBefore tells child options OutOfMemory w old new = ((new.starts ≡ old.starts) ⊎ (new.starts ≡ up_starts old.starts)) × (new.failures ≡ old.failures)
+FailsBefore is_modelled child options (Plan why) w old new = (IsTrue is_modelled → IsRefused options (environment_of options w.variables).target w why) × (new.starts ≡ old.starts) × (new.failures ≡ old.failures)
+FailsBefore is_modelled child options Toolchain w old new = (IsTrue is_modelled → IsSilent child options w) × (new.starts ≡ up_starts old.starts) × (new.failures ≡ old.failures)
+FailsBefore is_modelled child options (Child key fault) w old new = (key ≡ codes "-vV") × (new.starts ≡ up_starts old.starts) × FailedLast (Started fault) old new
+FailsBefore is_modelled child options (Device name (device.Place fault)) w old new = ((new.starts ≡ old.starts) ⊎ (new.starts ≡ up_starts old.starts)) × FailedLast (Called fault) old new × (named_in new ≡ name)
+FailsBefore is_modelled child options (Device name device.NumbersSpent) w old new = ⊥
+FailsBefore is_modelled child options Sink w old new = ⊥
+FailsBefore is_modelled child options OutOfMemory w old new = ((new.starts ≡ old.starts) ⊎ (new.starts ≡ up_starts old.starts)) × (new.failures ≡ old.failures)
 
 -- what a build's units start from: the project of this world; its setup; and
 -- the next run number, one above the greatest that its records contain or name
@@ -81,55 +81,55 @@ pub record IsPrepared (child : Answers) (options : Options) (w : World) (prepare
 
 -- the units start after one query, which the compiler answered; the project is in order, and nothing was changed;
 -- the calls were those of the plan, the query and the opening of the records, in this order
-pub record Prepares (tells : Bool) (child : Answers) (options : Options) (prepared : Prepared) (old new : World) (before now : Counts) (most : ℕ) (after : ℕ) : Type 0 where
-  pub is : IsTrue tells → IsPrepared child options old prepared
+pub record Prepares (is_modelled : Bool) (child : Answers) (options : Options) (prepared : Prepared) (old new : World) (before now : Counts) (most : ℕ) (after : ℕ) : Type 0 where
+  pub is : IsTrue is_modelled → IsPrepared child options old prepared
   pub order : IsInOrder prepared.project
-  pub stays : Stays tells old new
+  pub stays : Stays is_modelled old new
   pub starts : now.starts ≡ up_starts before.starts
   pub failures : now.failures ≡ before.failures
-  pub calls : IsTrue tells → now ≡ ready_called (opened_looked (records_folder prepared.project) old) (past_calls (plan_called options old) before)
+  pub calls : IsTrue is_modelled → now ≡ ready_called (opened_looked (records_folder prepared.project) old) (past_calls (plan_called options old) before)
   pub at_most : after ≡ max most 1
 
 -- The units.
 
 -- the units were prepared and then ended
-pub record UnitsEnd {S : Type 0} (tells : Bool) (child : Answers) (Turns : S → List ℕ → List ℕ → Step → S → Type 0) (options : Options) (from last : S) (result : Result Summary BuildFault) (old new : Moment) : Type 0 where
+pub record UnitsEnd {S : Type 0} (is_modelled : Bool) (child : Answers) (Turns : S → List ℕ → List ℕ → Step → S → Type 0) (options : Options) (from last : S) (result : Result Summary BuildFault) (old new : BuildState) : Type 0 where
   pub prepared : Prepared
-  pub mid : Moment
+  pub mid : BuildState
   pub heard : mid.heard ≡ old.heard
-  pub prepares : Prepares tells child options prepared old.world mid.world old.counts mid.counts old.most mid.most
-  pub ends : TurnsEnd tells child Turns prepared.setup prepared.project prepared.store.next from last result mid new
+  pub prepares : Prepares is_modelled child options prepared old.world mid.world old.counts mid.counts old.most mid.most
+  pub ends : TurnsEnd is_modelled child Turns prepared.setup prepared.project prepared.store.next from last result mid new
 
 -- no unit began
-pub record NoneBegan (tells : Bool) (child : Answers) (options : Options) (result : Result Summary BuildFault) (old new : Moment) : Type 0 where
+pub record NoneBegan (is_modelled : Bool) (child : Answers) (options : Options) (result : Result Summary BuildFault) (old new : BuildState) : Type 0 where
   pub fault : BuildFault
   pub answer : result ≡ Err fault
-  pub why : FailsBefore tells child options fault old.world old.counts new.counts
-  pub stays : Stays tells old.world new.world
+  pub why : FailsBefore is_modelled child options fault old.world old.counts new.counts
+  pub stays : Stays is_modelled old.world new.world
   pub most : (new.most ≡ old.most) ⊎ (new.most ≡ max old.most 1)
   pub heard : new.heard ≡ old.heard
   pub landed : new.counts.starts.flying ≡ []
 
 -- no unit began, the calls stopped there, and the turn was not asked
-pub record StopsEarly {S : Type 0} (tells : Bool) (child : Answers) (options : Options) (from last : S) (result : Result Summary BuildFault) (old new : Moment) : Type 0 where
-  pub none_began : NoneBegan tells child options result old new
+pub record StopsEarly {S : Type 0} (is_modelled : Bool) (child : Answers) (options : Options) (from last : S) (result : Result Summary BuildFault) (old new : BuildState) : Type 0 where
+  pub none_began : NoneBegan is_modelled child options result old new
   pub unasked : last ≡ from
-  pub calls : IsTrue tells → StopsBefore options old.world none_began.fault old.counts new.counts
+  pub calls : IsTrue is_modelled → StopsBefore options old.world none_began.fault old.counts new.counts
 
 -- a build's work up to its finish line: it stops before its units, or its units end
-abbrev pub Works : {S : Type 0} → Bool → Answers → (S → List ℕ → List ℕ → Step → S → Type 0) → Options → S → S → Result Summary BuildFault → Moment → Moment → Type 0
-Works tells child Turns options from last result old new = StopsEarly tells child options from last result old new ⊎ UnitsEnd tells child Turns options from last result old new
+abbrev pub Works : {S : Type 0} → Bool → Answers → (S → List ℕ → List ℕ → Step → S → Type 0) → Options → S → S → Result Summary BuildFault → BuildState → BuildState → Type 0
+Works is_modelled child Turns options from last result old new = StopsEarly is_modelled child options from last result old new ⊎ UnitsEnd is_modelled child Turns options from last result old new
 
 -- The finish line.
 
 -- these bytes are written and this answer is returned; or the sink
 -- takes only the first of them and fails, and the answer is that fault
-abbrev pub Finishes : List ℕ → Result Summary BuildFault → Result Summary BuildFault → Heard → Heard → Type 0
+abbrev pub Finishes : List ℕ → Result Summary BuildFault → Result Summary BuildFault → SinkState → SinkState → Type 0
 Finishes bytes inner result old new =
     ((result ≡ inner) × Appends old.taken new.taken bytes × (new.faults ≡ old.faults)) ⊎ ((result ≡ Err Sink) × TakesPart bytes old.taken new.taken × (new.faults ≡ up old.faults))
 
 -- the finish line is written, unless the build is refused or the sink has failed
-abbrev pub Closes : Result Summary BuildFault → Result Summary BuildFault → Heard → Heard → Type 0
+abbrev pub Closes : Result Summary BuildFault → Result Summary BuildFault → SinkState → SinkState → Type 0
 Closes (Ok summary) result old new = Finishes (finish_line summary.success) (Ok summary) result old new
 Closes (Err (Plan why)) result old new = (result ≡ Err (Plan why)) × (new ≡ old)
 Closes (Err Sink) result old new = (result ≡ Err Sink) × (new ≡ old)
@@ -141,30 +141,30 @@ Closes (Err OutOfMemory) result old new = Finishes (finish_line false) (Err OutO
 -- The whole.
 
 -- a build: how its work ended, and what was written after it
-pub record Builds {S : Type 0} (tells : Bool) (child : Answers) (Turns : S → List ℕ → List ℕ → Step → S → Type 0) (options : Options) (from last : S) (result : Result Summary BuildFault) (old new : Moment) : Type 0 where
+pub record Builds {S : Type 0} (is_modelled : Bool) (child : Answers) (Turns : S → List ℕ → List ℕ → Step → S → Type 0) (options : Options) (from last : S) (result : Result Summary BuildFault) (old new : BuildState) : Type 0 where
   pub inner : Result Summary BuildFault
-  pub heard : Heard
-  pub works : Works tells child Turns options from last inner old record new { heard = heard }
+  pub heard : SinkState
+  pub works : Works is_modelled child Turns options from last inner old record new { heard = heard }
   pub closes : Closes inner result heard new.heard
 
 -- a build with the options' number of units in flight, in which the pick chooses
 -- those that begin, along a chain of the pick's states from the first to the second
-abbrev pub BuildsBy : {S : Type 0} → Bool → Answers → (S → List ℕ → ℕ → S → Type 0) → Options → S → S → Result Summary BuildFault → Moment → Moment → Type 0
-BuildsBy {S} tells child Picks options pick picked result old new =
+abbrev pub BuildsBy : {S : Type 0} → Bool → Answers → (S → List ℕ → ℕ → S → Type 0) → Options → S → S → Result Summary BuildFault → BuildState → BuildState → Type 0
+BuildsBy {S} is_modelled child Picks options pick picked result old new =
     let from : Jobs S = record { pick = pick; jobs = options.jobs } in
     let last : Jobs S = record { pick = picked; jobs = options.jobs } in
-    Builds tells child (TurnsOfJobs Picks) options from last result old new
+    Builds is_modelled child (TurnsOfJobs Picks) options from last result old new
 
 -- the first in plan order of the units that may begin is picked
 abbrev pub PicksFirstOf : First → List ℕ → ℕ → First → Type 0
 PicksFirstOf old ready place new = PicksFirst ready place
 
-abbrev pub BuildsFirst : Bool → Answers → Options → Result Summary BuildFault → Moment → Moment → Type 0
-BuildsFirst tells child options result old new = let pick : First = record {} in BuildsBy tells child PicksFirstOf options pick pick result old new
+abbrev pub BuildsFirst : Bool → Answers → Options → Result Summary BuildFault → BuildState → BuildState → Type 0
+BuildsFirst is_modelled child options result old new = let pick : First = record {} in BuildsBy is_modelled child PicksFirstOf options pick pick result old new
 
 -- the last in plan order of the units that may begin is picked
 abbrev pub PicksLastOf : Last → List ℕ → ℕ → Last → Type 0
 PicksLastOf old ready place new = PicksLast ready place
 
-abbrev pub BuildsLast : Bool → Answers → Options → Result Summary BuildFault → Moment → Moment → Type 0
-BuildsLast tells child options result old new = let pick : Last = record {} in BuildsBy tells child PicksLastOf options pick pick result old new
+abbrev pub BuildsLast : Bool → Answers → Options → Result Summary BuildFault → BuildState → BuildState → Type 0
+BuildsLast is_modelled child options result old new = let pick : Last = record {} in BuildsBy is_modelled child PicksLastOf options pick pick result old new

@@ -23,20 +23,20 @@ use Rattle.pb_place_types.specs.Counts.{Starts, name_given, up}
 use Rattle.pb_place_types.specs.declared.call.Call.{Call}
 use Rattle.pb_place_types.specs.Folders.{files_in}
 use Rattle.pb_place_types.specs.Paths.{below}
-use Rattle.pb_place_types.specs.Sinks.{Heard, TakesPart}
+use Rattle.pb_place_types.specs.Sinks.{SinkState, TakesPart}
 use Rattle.pb_place_types.specs.World.{World, Map, Answers, from_nothing}
 use Rattle.pb_profile.specs.Line.{folder_of}
 use Rattle.pb_build_result.specs.declared.bad_unit.BadUnit.{BadUnit}
 use Rattle.pb_command_types.specs.declared.project.Project.{Project}
-use Rattle.pb_run.specs.Halves.{Footing, OnRecords, OnNothing, Basis, basis, key_at, IsHonestOnUnits}
+use Rattle.pb_run.specs.UnitSteps.{Premise, TrustedRecords, NoRecords, BuildContext, basis, key_at, IsHonestOnUnits}
 use Rattle.pb_run.specs.Outcome.{Outcome, Good, outcomes}
 use Rattle.pb_store_soundness.specs.Records.{reading, records}
 use Rattle.pb_store_soundness.specs.Sound.{Sound}
 use Rattle.pb_store.specs.Looking.{opened_looked}
 use Rattle.pb_store.specs.Folder.{next_in}
-use Rattle.pb_build_turns.specs.Crew.{needs_of, Moment}
+use Rattle.pb_build_turns.specs.Executor.{needs_of, BuildState}
 use Rattle.pb_build_turns.specs.Rows.{Row, Reasons, fault_in, rows_of, said_from, summary_of}
-use Rattle.pb_build_turns.specs.Story.{states_in, upped, AllBeganFor, CameAfter, LacksNumber, NumbersGiven, Spends}
+use Rattle.pb_build_turns.specs.History.{states_in, upped, AllBeganFor, CameAfter, LacksNumber, NumbersGiven, Spends}
 use Rattle.pb_unit.specs.declared.plan.Planned.{Planned}
 use Rattle.pb_build.specs.Ending.{NoneBegan, PicksFirstOf, PicksLastOf, Closes}
 use Rattle.pb_build.specs.Environment.{environment_of}
@@ -56,17 +56,17 @@ pub record UnitsOf (child : Answers) (options : Options) (w : World) : Type 0 wh
   pub is : IsProject options (environment_of options w.variables).target w project
   pub says : toolchain_of child (environment_of options w.variables) project (from_nothing (environment_of options w.variables).target w) ≡ Some toolchain
 
-abbrev pub basis_of : (footing : Footing) (child : Answers) (options : Options) (w : World) → UnitsOf child options w → Basis
+abbrev pub basis_of : (footing : Premise) (child : Answers) (options : Options) (w : World) → UnitsOf child options w → BuildContext
 basis_of footing child options w units = basis footing child (setup_of options (environment_of options w.variables) units.toolchain) units.project (from_nothing (environment_of options w.variables).target w)
 
 -- the child is honest on the units of a build, whatever units it finds in a world
 abbrev pub IsHonestBuild : Answers → Options → World → Type 0
-IsHonestBuild child options w = (units : UnitsOf child options w) → IsHonestOnUnits (basis_of OnRecords child options w units)
+IsHonestBuild child options w = (units : UnitsOf child options w) → IsHonestOnUnits (basis_of TrustedRecords child options w units)
 
 -- the records in its folder are true and its child is honest; or no text there counts as a record
-abbrev pub RestsOn : Footing → Answers → Options → World → Type 0
-RestsOn OnRecords child options w = Sound reading judge child (records_of options w.variables) w.files × IsHonestBuild child options w
-RestsOn OnNothing child options w = (key : List ℕ) → records (records_of options w.variables) w key ≡ None
+abbrev pub RestsOn : Premise → Answers → Options → World → Type 0
+RestsOn TrustedRecords child options w = Sound reading judge child (records_of options w.variables) w.files × IsHonestBuild child options w
+RestsOn NoRecords child options w = (key : List ℕ) → records (records_of options w.variables) w key ≡ None
 
 -- The schedule: which events the units of a project may have.
 
@@ -103,7 +103,7 @@ AnswersAs given project es =
 
 -- the units began and answered in such events, by the schedule, each good or bad as in a clean build;
 -- one child was started for the query and one for each unit that began with a child; what differed for each is noted
-pub record UnitsFly (child : Answers) (Schedule : Project → List (Event BadUnit) → Type 0) (options : Options) (old new : Moment) : Type 0 where
+pub record UnitsFly (child : Answers) (Schedule : Project → List (Event BadUnit) → Type 0) (options : Options) (old new : BuildState) : Type 0 where
   pub units : UnitsOf child options old.world
   pub es : List (Event BadUnit)
   pub flies : Schedule units.project es
@@ -112,7 +112,7 @@ pub record UnitsFly (child : Answers) (Schedule : Project → List (Event BadUni
   pub reasons : Reasons
 
 -- all units have answered, or all up to and including the first bad one; later ones may have been in flight too
-pub record GivesAll (footing : Footing) (child : Answers) (Schedule : Project → List (Event BadUnit) → Type 0) (options : Options) (summary : Summary) (old new : Moment) : Type 0 where
+pub record GivesAll (footing : Premise) (child : Answers) (Schedule : Project → List (Event BadUnit) → Type 0) (options : Options) (summary : Summary) (old new : BuildState) : Type 0 where
   pub flown : UnitsFly child Schedule options old new
   pub finished : is_finished (states_in flown.units.project flown.es) ≡ true
   -- each unit that took a run number took the next one, beginning with the number after those of the records
@@ -147,7 +147,7 @@ LinesBefore fault project es rows old new = ⊥
 -- a fault came at a unit, at the sink, because memory ran out, or because no run number was left;
 -- in the last case, all numbers from the next one of the records on were given
 -- (what differed for a unit that could not begin is said of the build's units, `StandsCut`)
-pub record GivesFirst (footing : Footing) (child : Answers) (Schedule : Project → List (Event BadUnit) → Type 0) (options : Options) (fault : BuildFault) (old new : Moment) : Type 0 where
+pub record GivesFirst (footing : Premise) (child : Answers) (Schedule : Project → List (Event BadUnit) → Type 0) (options : Options) (fault : BuildFault) (old new : BuildState) : Type 0 where
   pub flown : UnitsFly child Schedule options old new
   pub spent : Spends (LacksNumber flown.units.project old.world) fault (next_in (records_of options old.world.variables) old.world) flown.es
   pub lines : LinesBefore fault flown.units.project flown.es (rows_for child options old.world flown.units) old.heard.taken new.heard.taken
@@ -162,25 +162,25 @@ NamesOpened folder w (Device name (device.Place fault)) old new = (new ≡ old) 
 NamesOpened folder w e old new = Unit {0}
 
 -- what was produced when the finish line was due
-abbrev pub GivesUnits : Footing → Answers → (Project → List (Event BadUnit) → Type 0) → Options → Result Summary BuildFault → Moment → Moment → Type 0
+abbrev pub GivesUnits : Premise → Answers → (Project → List (Event BadUnit) → Type 0) → Options → Result Summary BuildFault → BuildState → BuildState → Type 0
 GivesUnits footing child Schedule options (Ok summary) old new = GivesAll footing child Schedule options summary old new
 GivesUnits footing child Schedule options (Err fault) old new =
     (NoneBegan true child options (Err fault) old new × NamesOpened (records_of options old.world.variables) old.world fault old.counts.starts new.counts.starts) ⊎ GivesFirst footing child Schedule options fault old new
 
 -- if the build rests on records, they are true again
-abbrev pub LeavesRecords : Footing → Answers → Options → World → World → Type 0
-LeavesRecords OnRecords child options old new = Sound reading judge child (records_of options old.variables) new.files
-LeavesRecords OnNothing child options old new = Unit {0}
+abbrev pub LeavesRecords : Premise → Answers → Options → World → World → Type 0
+LeavesRecords TrustedRecords child options old new = Sound reading judge child (records_of options old.variables) new.files
+LeavesRecords NoRecords child options old new = Unit {0}
 
 -- what a build produces, however it ends: its units, the finish line, and true records
-pub record Gives (footing : Footing) (child : Answers) (Schedule : Project → List (Event BadUnit) → Type 0) (options : Options) (result : Result Summary BuildFault) (old new : Moment) : Type 0 where
+pub record GivesCleanResult (footing : Premise) (child : Answers) (Schedule : Project → List (Event BadUnit) → Type 0) (options : Options) (result : Result Summary BuildFault) (old new : BuildState) : Type 0 where
   pub inner : Result Summary BuildFault
-  pub heard : Heard
+  pub heard : SinkState
   pub units : GivesUnits footing child Schedule options inner old record new { heard = heard }
   pub closes : Closes inner result heard new.heard
   pub records : LeavesRecords footing child options old.world new.world
 
 -- The headline: over a place that tells its maps, whatever a build rests
 -- on, it produces what a clean build of the present workspace produces.
-abbrev pub Headline : Bool → Answers → (Project → List (Event BadUnit) → Type 0) → Options → Result Summary BuildFault → Moment → Moment → Type 0
-Headline tells child Schedule options result old new = IsTrue tells → (footing : Footing) → RestsOn footing child options old.world → Gives footing child Schedule options result old new
+abbrev pub Headline : Bool → Answers → (Project → List (Event BadUnit) → Type 0) → Options → Result Summary BuildFault → BuildState → BuildState → Type 0
+Headline is_modelled child Schedule options result old new = IsTrue is_modelled → (footing : Premise) → RestsOn footing child options old.world → GivesCleanResult footing child Schedule options result old new

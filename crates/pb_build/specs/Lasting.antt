@@ -5,13 +5,13 @@ use Rattle.pb_command.specs.Judge.{judge}
 use Rattle.pb_workspace_types.specs.declared.options.Options.{Options}
 use Rattle.pb_place_types.specs.Paths.{is_at_or_below}
 use Rattle.pb_place_types.specs.World.{World, Map, Answers}
-use Rattle.pb_run.specs.Halves.{OnRecords}
+use Rattle.pb_run.specs.UnitSteps.{TrustedRecords}
 use Rattle.pb_build_session.specs.declared.pick.PickBy.{PickBy}
 use Rattle.pb_build_session.specs.declared.step.SessionStep.{SessionStep}
 use Rattle.pb_build_session.specs.declared.step.SessionStep.TheVariants.{Write, Remove, Set, Unset, Build, Die, Fuse}
 use Rattle.pb_store_soundness.specs.Records.{record_at, reading}
 use Rattle.pb_store_soundness.specs.Sound.{Sound}
-use Rattle.pb_build.specs.Headline.{records_of, IsHonestBuild, UnitsOf, Gives}
+use Rattle.pb_build.specs.Headline.{records_of, IsHonestBuild, UnitsOf, GivesCleanResult}
 use Rattle.pb_build.specs.Session.{Point, Carries, CarriesBuild, ByPicked}
 
 -- no path is at or below both
@@ -50,4 +50,4 @@ RecordsStayTrue = (child : Answers) (folder : List ℕ) (steps : List SessionSte
 abbrev pub AnyBuildGives : Type 0
 AnyBuildGives = (child : Answers) (options : Options) (pick : PickBy) (steps : List SessionStep) (before mid after : Point)
     → SparingCourse child (records_of options mid.moment.world.variables) steps before mid → Sound reading judge child (records_of options mid.moment.world.variables) before.moment.world.files
-    → IsHonestBuild child options mid.moment.world → (built : CarriesBuild child options pick mid after) → Gives OnRecords child (ByPicked pick options) options built.answer.result mid.moment built.ended
+    → IsHonestBuild child options mid.moment.world → (built : CarriesBuild child options pick mid after) → GivesCleanResult TrustedRecords child (ByPicked pick options) options built.answer.result mid.moment built.ended

@@ -9,7 +9,7 @@ use Rattle.pb_build.specs.Ending.{Builds, BuildsFirst}
 use Rattle.pb_build.specs.Environment.{environment_of}
 use Rattle.pb_build.specs.Headline.{ByFirst, ByTurns, Headline, UnitsOf, rows_for}
 use Rattle.pb_build.specs.Result.{BuildResult, Refused, NoToolchain, Finished, IsResult}
-use Rattle.pb_build_turns.specs.Crew.{Moment}
+use Rattle.pb_build_turns.specs.Executor.{BuildState}
 
 -- two worlds with the same variables and the same files outside the target folder give the same results
 abbrev pub LooksAtSources : Type 0
@@ -39,9 +39,9 @@ UnitsAreOfResult = (child : Answers) (options : Options) (w : World) (units : Un
 -- a build by turns, known only by how its work ended and what was written after it, keeps
 -- the headline; so a build that promises only that keeps it too, as the program's does
 abbrev pub BuildsKeepHeadline : {S : Type 0} → (S → List ℕ → List ℕ → Step → S → Type 0) → Type 0
-BuildsKeepHeadline {S} Turns = (tells : Bool) (child : Answers) (options : Options) (from last : S) (result : Result Summary BuildFault) (old new : Moment) → Builds tells child Turns options from last result old new
-    → Headline tells child (ByTurns Turns from) options result old new
+BuildsKeepHeadline {S} Turns = (is_modelled : Bool) (child : Answers) (options : Options) (from last : S) (result : Result Summary BuildFault) (old new : BuildState) → Builds is_modelled child Turns options from last result old new
+    → Headline is_modelled child (ByTurns Turns from) options result old new
 
 -- a build in plan order keeps it too
 abbrev pub FirstBuildsKeepHeadline : Type 0
-FirstBuildsKeepHeadline = (tells : Bool) (child : Answers) (options : Options) (result : Result Summary BuildFault) (old new : Moment) → BuildsFirst tells child options result old new → Headline tells child (ByFirst options) options result old new
+FirstBuildsKeepHeadline = (is_modelled : Bool) (child : Answers) (options : Options) (result : Result Summary BuildFault) (old new : BuildState) → BuildsFirst is_modelled child options result old new → Headline is_modelled child (ByFirst options) options result old new

@@ -1,6 +1,6 @@
 -- A session: edits and builds, one after another. Each build's end and its cause are passed on.
 use Rattle.std.specs.Prelude.{◌≡◌, ◌↔◌, ⊤, ℕ, true, List, [], ◌∷◌, ◌++◌, Result}
-use Rattle.pb_place_types.specs.Sinks.{Heard}
+use Rattle.pb_place_types.specs.Sinks.{SinkState}
 use Rattle.pb_place_types.specs.World.{World, Answers, FilesHavePaths, written, removed}
 use Rattle.pb_place.specs.Memory.{Held, at_in, set, unset}
 use Rattle.pb_place.specs.Tallies.{one_setting}
@@ -15,9 +15,9 @@ use Rattle.pb_build_session.specs.declared.pick.PickBy.{PickBy}
 use Rattle.pb_build_session.specs.declared.pick.PickBy.TheVariants.{First, Last}
 use Rattle.pb_build_session.specs.declared.step.SessionStep.{SessionStep}
 use Rattle.pb_build_session.specs.declared.step.SessionStep.TheVariants.{Write, Remove, Set, Unset, Build, Die, Fuse}
-use Rattle.pb_build.specs.declared.sessions.Answer.{Answer}
+use Rattle.pb_build.specs.declared.sessions.BuildOutcome.{BuildOutcome}
 use Rattle.pb_build.specs.Ending.{BuildsFirst, BuildsLast}
-use Rattle.pb_build_turns.specs.Crew.{Moment, moment}
+use Rattle.pb_build_turns.specs.Executor.{BuildState, moment}
 use Rattle.pb_build.specs.Environment.{environment_of}
 use Rattle.pb_build.specs.Headline.{ByFirst, ByLast, Headline}
 use Rattle.pb_build.specs.Kept.{SourcesStay}
@@ -27,13 +27,13 @@ use Rattle.pb_workspace_types.specs.declared.options.Options.{Options}
 -- a moment of a session: the answers of the builds so far, the number of
 -- the call that is to fail (0 for none), and the starts that are to fail
 pub record Point : Type 0 where
-  pub moment : Moment
-  pub answers : List Answer
+  pub moment : BuildState
+  pub answers : List BuildOutcome
   pub fuse : ℕ
   pub deaths : List Death
 
 -- the point with a place in memory
-abbrev pub point : Held → Heard → List Answer → Point
+abbrev pub point : Held → SinkState → List BuildOutcome → Point
 point memory heard answers = record { moment = moment (at_in memory) heard; answers = answers; fuse = memory.fuse; deaths = memory.deaths }
 
 -- an edit makes this of the world, and nothing else happens
@@ -41,7 +41,7 @@ abbrev pub Edits : World → Point → Point → Type 0
 Edits w before after = after ≡ record before { moment = record before.moment { world = w } }
 
 -- a build in which the units begin that the session picks
-abbrev pub Picked : Answers → Options → PickBy → Result Summary BuildFault → Moment → Moment → Type 0
+abbrev pub Picked : Answers → Options → PickBy → Result Summary BuildFault → BuildState → BuildState → Type 0
 Picked child options First result old new = BuildsFirst true child options result old new
 Picked child options Last result old new = BuildsLast true child options result old new
 
@@ -51,13 +51,13 @@ ByPicked First options = ByFirst options
 ByPicked Last options = ByLast options
 
 -- the same moment, except that one more setting of failures is counted
-abbrev pub set_anew : Moment → Moment
+abbrev pub set_anew : BuildState → BuildState
 set_anew m = record m { counts = one_setting m.counts }
 
 -- A build.
 pub record CarriesBuild (child : Answers) (options : Options) (pick : PickBy) (before after : Point) : Type 0 where
-  pub answer : Answer
-  pub ended : Moment
+  pub answer : BuildOutcome
+  pub ended : BuildState
   pub picked : Picked child options pick answer.result before.moment ended
   -- it changed no source and kept the headline
   pub kept : SourcesStay (environment_of options before.moment.world.variables).target before.moment.world ended.world

@@ -12,28 +12,28 @@ ghost use Rattle.pb_build.specs.Private.{IsUnrefused, unopened};
 ghost use Rattle.pb_build.specs.Result.{setup_of};
 ghost use Rattle.pb_message.specs.Message.{finish_line};
 ghost use Rattle.pb_run.specs.Steps.{MakesInTurn};
-ghost use Rattle.pb_run.specs.Standing.{records_folder};
+ghost use Rattle.pb_run.specs.Invariants.{records_folder};
 ghost use Rattle.pb_command_types.specs.declared.project.Project.{Project};
 ghost use Rattle.pb_store_soundness.specs.Records.{records};
 ghost use Rattle.pb_store.specs.Folder.{HasNumbers, OpensStore};
 ghost use Rattle.pb_store.specs.Looking.{opened_looked};
-ghost use Rattle.pb_place_types.specs.Sinks.{Heard};
-ghost use Rattle.pb_build_turns.specs.Crew.{Moment, moment};
+ghost use Rattle.pb_place_types.specs.Sinks.{SinkState};
+ghost use Rattle.pb_build_turns.specs.Executor.{BuildState, moment};
 
 use crate::environment::{Environment, environment_of};
 use crate::planning::planned;
 use crate::toolchain::ask;
 use pb_build_result::{BuildFault, Summary};
+use pb_build_turns::run_turns;
+use pb_command_types::Setup;
 use pb_data::{Bytes, Items, Text, TryCopy};
-use pb_run_flight::{First, Jobs, Pick, Turn};
 use pb_message::{finish_line, write_lines};
-use pb_workspace_types::Options;
 use pb_place_types::{Out, PathText, Place, RelativePath};
 use pb_profile::folder_of;
-use pb_command_types::Setup;
 use pb_run::{OrderedProject, deviceless};
+use pb_run_flight::{First, Jobs, Pick, Turn};
 use pb_store::{OpenFault, Store};
-use pb_build_turns::run_turns;
+use pb_workspace_types::Options;
 use std::alloc::{AllocError, Global};
 
 /// What the units of a build start from.
@@ -100,11 +100,11 @@ fn opened<P: Place>(
     project: &OrderedProject,
 ) -> Result<Store, BuildFault>
     ensures folder { IfOk result (λ store. store.folder ≡ records_folder project.now) }
-    ensures opens { IsTrue P.tells → IfOk result
+    ensures opens { IsTrue P.is_modelled → IfOk result
         (OpensStore (records_folder project.now) (P.at place.old).world) }
     ensures quiet { OnlyLooks MayPlan result (P.at place.old) (P.at place.new) }
     ensures unrefused { IfErr result IsUnrefused }
-    ensures calls { IsTrue P.tells
+    ensures calls { IsTrue P.is_modelled
         → MakesInTurn result (opened_looked (records_folder project.now) (P.at place.old).world)
         (P.at place.old).counts (P.at place.new).counts }
 {
@@ -129,17 +129,17 @@ fn ready<P: Place>(
 ) -> Result<Prepared, BuildFault>
     ensures folder { IfOk result
         (λ prepared. prepared.store.folder ≡ records_folder prepared.project) }
-    ensures numbers { IsTrue P.tells → IfOk result (λ prepared.
+    ensures numbers { IsTrue P.is_modelled → IfOk result (λ prepared.
         HasNumbers (records (records_folder prepared.project) (P.at place.new).world)
         prepared.store.numbers) }
-    ensures ready { IsTrue P.tells
+    ensures ready { IsTrue P.is_modelled
         → IfOk result (IsReadyFor P.child options.now environment project (P.at place.old).world) }
     ensures project { IfOk result (λ prepared. prepared.project ≡ project) }
-    ensures silent { IsTrue P.tells
+    ensures silent { IsTrue P.is_modelled
         → IfErr result (IsSilentFault P.child environment project (P.at place.old).world) }
     ensures asks { OnlyAsks MayReady result (P.at place.old) (P.at place.new) }
     ensures names { NamesCall result (P.at place.new).counts }
-    ensures calls { IsTrue P.tells
+    ensures calls { IsTrue P.is_modelled
         → ReadiesInTurn result (opened_looked (records_folder project) (P.at place.old).world)
         (P.at place.old).counts (P.at place.new).counts }
 {
@@ -190,15 +190,15 @@ pub fn plan_build<P: Place>(
     place: &mut P,
     options: &Options,
 ) -> Result<BuildPlan, BuildFault>
-    ensures plan { IsTrue P.tells → IfOk result (IsPlanOf options.now (P.at place.old).world) }
+    ensures plan { IsTrue P.is_modelled → IfOk result (IsPlanOf options.now (P.at place.old).world) }
     ensures quiet { OnlyLooks MayPlan result (P.at place.old) (P.at place.new) }
     ensures unstarted { (P.at place.new).counts.starts ≡ (P.at place.old).counts.starts }
-    ensures refused { IsTrue P.tells
+    ensures refused { IsTrue P.is_modelled
         → IfErr result
         (IsToldRefusal options.now
         (environment_of options.now (P.at place.old).world.variables).target
         (P.at place.old).world) }
-    ensures calls { IsTrue P.tells
+    ensures calls { IsTrue P.is_modelled
         → PlansInTurn result (plan_called options.now (P.at place.old).world)
         (P.at place.old).counts (P.at place.new).counts }
 {
@@ -226,30 +226,30 @@ fn prepare<P: Place>(
     requires none { (P.at place.old).counts.starts.flying ≡ [] }
     ensures folder { IfOk result
         (λ prepared. prepared.store.folder ≡ records_folder prepared.project) }
-    ensures numbers { IsTrue P.tells → IfOk result (λ prepared.
+    ensures numbers { IsTrue P.is_modelled → IfOk result (λ prepared.
         HasNumbers (records (records_folder prepared.project) (P.at place.new).world)
         prepared.store.numbers) }
-    ensures readies { (heard : Heard)
-        → Readies P.tells P.child options.now plan result (moment (P.at place.old) heard)
+    ensures readies { (heard : SinkState)
+        → Readies P.is_modelled P.child options.now plan result (moment (P.at place.old) heard)
         (moment (P.at place.new) heard) }
     ensures prepares { IfOk result
         (λ prepared.
-        (from : Moment)
-        → PlansFrom P.tells options.now plan from (moment (P.at place.old) from.heard)
-        → Prepares P.tells P.child options.now prepared from.world
+        (from : BuildState)
+        → PlansFrom P.is_modelled options.now plan from (moment (P.at place.old) from.heard)
+        → Prepares P.is_modelled P.child options.now prepared from.world
         (P.at place.new).world from.counts (P.at place.new).counts from.most
         (P.at place.new).most) }
     ensures fails { IfErr result
         (λ e.
-        (from : Moment)
-        → PlansFrom P.tells options.now plan from (moment (P.at place.old) from.heard)
-        → FailsBefore P.tells P.child options.now e from.world from.counts
+        (from : BuildState)
+        → PlansFrom P.is_modelled options.now plan from (moment (P.at place.old) from.heard)
+        → FailsBefore P.is_modelled P.child options.now e from.world from.counts
         (P.at place.new).counts) }
-    ensures stops { IsTrue P.tells
+    ensures stops { IsTrue P.is_modelled
         → IfErr result
         (λ e.
-        (from : Moment)
-        → PlansFrom P.tells options.now plan from
+        (from : BuildState)
+        → PlansFrom P.is_modelled options.now plan from
         (moment (P.at place.old) from.heard)
         → StopsBefore options.now from.world e from.counts (P.at place.new).counts) }
     ensures same { (P.at place.new).world ≡ (P.at place.old).world }
@@ -282,11 +282,11 @@ fn work<P: Place, O: Out, T: Turn>(
     turn: &mut T,
 ) -> Result<Summary, BuildFault>
     requires none { (P.at place.old).counts.starts.flying ≡ [] }
-    ensures on { WorksOn P.tells P.child T.turns options.now plan turn.old turn.new result
+    ensures on { WorksOn P.is_modelled P.child T.turns options.now plan turn.old turn.new result
         (moment (P.at place.old) (O.heard out.old)) (moment (P.at place.new) (O.heard out.new)) }
-    ensures works { (from : Moment)
-        → PlansFrom P.tells options.now plan from (moment (P.at place.old) (O.heard out.old))
-        → Works P.tells P.child T.turns options.now turn.old turn.new result from
+    ensures works { (from : BuildState)
+        → PlansFrom P.is_modelled options.now plan from (moment (P.at place.old) (O.heard out.old))
+        → Works P.is_modelled P.child T.turns options.now turn.old turn.new result from
         (moment (P.at place.new) (O.heard out.new)) }
 {
     let prepared = match prepare(alloc, place, options, plan) {
@@ -348,18 +348,18 @@ pub fn build_plan_turns<P: Place, O: Out, T: Turn>(
     turn: &mut T,
 ) -> Result<Summary, BuildFault>
     requires none { (P.at place.old).counts.starts.flying ≡ [] }
-    ensures on { BuildsOn P.tells P.child T.turns options.now plan turn.old turn.new result
+    ensures on { BuildsOn P.is_modelled P.child T.turns options.now plan turn.old turn.new result
         (moment (P.at place.old) (O.heard out.old)) (moment (P.at place.new) (O.heard out.new)) }
-    ensures kept { IsTrue P.tells
+    ensures kept { IsTrue P.is_modelled
         → MatchResult plan
         (λ p.
         SourcesStay p.project.workspace.target (P.at place.old).world
         (P.at place.new).world)
         (λ e. (P.at place.new).world ≡ (P.at place.old).world) }
     ensures landed { (P.at place.new).counts.starts.flying ≡ [] }
-    ensures builds { (from : Moment)
-        → PlansFrom P.tells options.now plan from (moment (P.at place.old) (O.heard out.old))
-        → Builds P.tells P.child T.turns options.now turn.old turn.new result from
+    ensures builds { (from : BuildState)
+        → PlansFrom P.is_modelled options.now plan from (moment (P.at place.old) (O.heard out.old))
+        → Builds P.is_modelled P.child T.turns options.now turn.old turn.new result from
         (moment (P.at place.new) (O.heard out.new)) }
 {
     let inner = work(alloc, place, out, options, plan, turn);
@@ -375,18 +375,18 @@ pub fn build_plan<P: Place, O: Out>(
     plan: Result<BuildPlan, BuildFault>,
 ) -> Result<Summary, BuildFault>
     requires none { (P.at place.old).counts.starts.flying ≡ [] }
-    ensures on { BuildsOnFirst P.tells P.child options.now plan result
+    ensures on { BuildsOnFirst P.is_modelled P.child options.now plan result
         (moment (P.at place.old) (O.heard out.old)) (moment (P.at place.new) (O.heard out.new)) }
-    ensures kept { IsTrue P.tells
+    ensures kept { IsTrue P.is_modelled
         → MatchResult plan
         (λ p.
         SourcesStay p.project.workspace.target (P.at place.old).world
         (P.at place.new).world)
         (λ e. (P.at place.new).world ≡ (P.at place.old).world) }
     ensures landed { (P.at place.new).counts.starts.flying ≡ [] }
-    ensures builds { (from : Moment)
-        → PlansFrom P.tells options.now plan from (moment (P.at place.old) (O.heard out.old))
-        → BuildsFirst P.tells P.child options.now result from
+    ensures builds { (from : BuildState)
+        → PlansFrom P.is_modelled options.now plan from (moment (P.at place.old) (O.heard out.old))
+        → BuildsFirst P.is_modelled P.child options.now result from
         (moment (P.at place.new) (O.heard out.new)) }
 {
     let mut jobs = Jobs {
@@ -424,11 +424,11 @@ pub fn build_turns<P: Place, O: Out, T: Turn>(
     turn: &mut T,
 ) -> Result<Summary, BuildFault>
     requires none { (P.at place.old).counts.starts.flying ≡ [] }
-    ensures builds { Builds P.tells P.child T.turns options.now turn.old turn.new result
+    ensures builds { Builds P.is_modelled P.child T.turns options.now turn.old turn.new result
         (moment (P.at place.old) (O.heard out.old)) (moment (P.at place.new) (O.heard out.new)) }
-    ensures headline { Headline P.tells P.child (ByTurns T.turns turn.old) options.now result
+    ensures headline { Headline P.is_modelled P.child (ByTurns T.turns turn.old) options.now result
         (moment (P.at place.old) (O.heard out.old)) (moment (P.at place.new) (O.heard out.new)) }
-    ensures kept { IsTrue P.tells
+    ensures kept { IsTrue P.is_modelled
         → SourcesStay (environment_of options.now (P.at place.old).world.variables).target
         (P.at place.old).world (P.at place.new).world }
     ensures landed { (P.at place.new).counts.starts.flying ≡ [] }
@@ -451,12 +451,12 @@ pub fn build_with<P: Place, O: Out, K: Pick>(
     pick: &mut K,
 ) -> Result<Summary, BuildFault>
     requires none { (P.at place.old).counts.starts.flying ≡ [] }
-    ensures builds { BuildsBy P.tells P.child K.picks options.now pick.old pick.new result
+    ensures builds { BuildsBy P.is_modelled P.child K.picks options.now pick.old pick.new result
         (moment (P.at place.old) (O.heard out.old)) (moment (P.at place.new) (O.heard out.new)) }
-    ensures headline { Headline P.tells P.child (ByPick K.picks options.now pick.old) options.now
+    ensures headline { Headline P.is_modelled P.child (ByPick K.picks options.now pick.old) options.now
         result (moment (P.at place.old) (O.heard out.old))
         (moment (P.at place.new) (O.heard out.new)) }
-    ensures kept { IsTrue P.tells
+    ensures kept { IsTrue P.is_modelled
         → SourcesStay (environment_of options.now (P.at place.old).world.variables).target
         (P.at place.old).world (P.at place.new).world }
     ensures landed { (P.at place.new).counts.starts.flying ≡ [] }
@@ -478,11 +478,11 @@ pub fn build<P: Place, O: Out>(
     options: &Options,
 ) -> Result<Summary, BuildFault>
     requires none { (P.at place.old).counts.starts.flying ≡ [] }
-    ensures builds { BuildsFirst P.tells P.child options.now result
+    ensures builds { BuildsFirst P.is_modelled P.child options.now result
         (moment (P.at place.old) (O.heard out.old)) (moment (P.at place.new) (O.heard out.new)) }
-    ensures headline { Headline P.tells P.child (ByFirst options.now) options.now result
+    ensures headline { Headline P.is_modelled P.child (ByFirst options.now) options.now result
         (moment (P.at place.old) (O.heard out.old)) (moment (P.at place.new) (O.heard out.new)) }
-    ensures kept { IsTrue P.tells
+    ensures kept { IsTrue P.is_modelled
         → SourcesStay (environment_of options.now (P.at place.old).world.variables).target
         (P.at place.old).world (P.at place.new).world }
     ensures landed { (P.at place.new).counts.starts.flying ≡ [] }
@@ -511,7 +511,7 @@ pub fn missing_libraries<P: Place>(
     place: &mut P,
     options: &Options,
 ) -> Result<Items<Text>, BuildFault>
-    ensures names { IsTrue P.tells
+    ensures names { IsTrue P.is_modelled
         → IfOk result
         (λ names.
         (project : Project)
@@ -520,12 +520,12 @@ pub fn missing_libraries<P: Place>(
         (P.at place.old).world project
         × (names ≡ project.plan.without_library)) }
     ensures quiet { OnlyLooks MayPlan result (P.at place.old) (P.at place.new) }
-    ensures refused { IsTrue P.tells
+    ensures refused { IsTrue P.is_modelled
         → IfErr result
         (IsToldRefusal options.now
         (environment_of options.now (P.at place.old).world.variables).target
         (P.at place.old).world) }
-    ensures calls { IsTrue P.tells
+    ensures calls { IsTrue P.is_modelled
         → PlansInTurn result (plan_called options.now (P.at place.old).world)
         (P.at place.old).counts (P.at place.new).counts }
 {

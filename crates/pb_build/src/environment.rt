@@ -13,9 +13,9 @@ ghost use Rattle.pb_run.specs.Steps.{MakesInTurn};
 use pb_build_result::BuildFault;
 use pb_data::{Items, Text, TryCopy};
 use pb_directive::words::words_of;
-use pb_workspace_types::Options;
 use pb_place_types::{PathFault, PathText, Place, RelativePath};
 use pb_run::deviceless;
+use pb_workspace_types::Options;
 use std::alloc::{AllocError, Global};
 
 /// What the variables and the options say about a build.
@@ -49,7 +49,7 @@ fn filled(found: Option<Text>) -> Option<Text>
 /// Reads a variable by one call; an empty variable counts as absent (our own choice).
 #[tactic(auto, using(pb_run::proofs::Calling::call_laws))]
 fn variable<P: Place>(alloc: Global, place: &mut P, name: &str) -> Result<Option<Text>, BuildFault>
-    ensures ok { IsTrue P.tells
+    ensures ok { IsTrue P.is_modelled
         → IfOk result
         (λ found. found ≡ set_text (finite.get (P.at place.old).world.variables name.now)) }
     ensures quiet { OnlyLooks MayPlan result (P.at place.old) (P.at place.new) }
@@ -171,7 +171,7 @@ pub(crate) fn environment_of<P: Place>(
     place: &mut P,
     options: &Options,
 ) -> Result<Environment, BuildFault>
-    ensures ok { IsTrue P.tells
+    ensures ok { IsTrue P.is_modelled
         → IfOk result
         (λ environment.
         environment ≡ environment_of options.now (P.at place.old).world.variables) }

@@ -20,7 +20,7 @@ pub use laws::{
     units_are_of_the_result, worlds_have_one_result,
 };
 pub use pb_build_result::{BuildFault, Refusal, Summary, result_line};
-pub use pb_workspace_types::Options;
-pub use pb_command_types::UnitFault;
 pub use pb_build_session::{BadSession, SessionStep, read_session};
-pub use sessions::{Answer, session};
+pub use pb_command_types::UnitFault;
+pub use pb_workspace_types::Options;
+pub use sessions::{BuildOutcome, session};

@@ -17,14 +17,14 @@ ghost use Rattle.pb_workspace_types.specs.declared.fault.LoadFault.{LoadFault};
 ghost use Rattle.pb_workspace_types.specs.declared.options.Selection.{Selection};
 
 use pb_build_result::{BuildFault, DeviceFault, Refusal};
+use pb_command_types::Project;
 use pb_data::TryCopy;
 use pb_feature::{FeatureFault, Features, resolve};
-use pb_workspace_types::{LoadFault, Options, SelectedWorkspace, SettledWorkspace};
 use pb_place_types::{PathText, Place};
-use pb_command_types::Project;
 use pb_run::OrderedProject;
 use pb_unit::{Plan, PlanFault};
 use pb_workspace::{load, selected};
+use pb_workspace_types::{LoadFault, Options, SelectedWorkspace, SettledWorkspace};
 use std::alloc::Global;
 
 /// Returns the fault of a build whose workspace cannot be read.
@@ -48,13 +48,13 @@ fn read<P: Place>(
     options: &Options,
     target: &PathText,
 ) -> Result<SettledWorkspace, BuildFault>
-    ensures ok { IsTrue P.tells
+    ensures ok { IsTrue P.is_modelled
         → IfOk result
         (λ ws. workspace_of options.now.manifest target.now (P.at place.old).world ≡ Ok ws) }
     ensures quiet { OnlyLooks MayPlan result (P.at place.old) (P.at place.new) }
-    ensures refused { IsTrue P.tells
+    ensures refused { IsTrue P.is_modelled
         → IfErr result (IsToldRefusal options.now target.now (P.at place.old).world) }
-    ensures calls { IsTrue P.tells
+    ensures calls { IsTrue P.is_modelled
         → PlansInTurn result (looked_at options.now.manifest target.now (P.at place.old).world)
         (P.at place.old).counts (P.at place.new).counts }
 {
@@ -205,12 +205,12 @@ pub(crate) fn planned<P: Place>(
     options: &Options,
     target: &PathText,
 ) -> Result<OrderedProject, BuildFault>
-    ensures project { IsTrue P.tells
+    ensures project { IsTrue P.is_modelled
         → IfOk result (IsProject options.now target.now (P.at place.old).world) }
     ensures quiet { OnlyLooks MayPlan result (P.at place.old) (P.at place.new) }
-    ensures refused { IsTrue P.tells
+    ensures refused { IsTrue P.is_modelled
         → IfErr result (IsToldRefusal options.now target.now (P.at place.old).world) }
-    ensures calls { IsTrue P.tells
+    ensures calls { IsTrue P.is_modelled
         → PlansInTurn result (looked_at options.now.manifest target.now (P.at place.old).world)
         (P.at place.old).counts (P.at place.new).counts }
 {

@@ -2,28 +2,28 @@
 
 ghost use Rattle.std.specs.Prelude.{◌≡◌, List, [], true, false, IfOk, OnOk, OnErr};
 ghost use Rattle.pb_build_session.specs.declared.step.SessionStep.TheVariants.{Build};
-ghost use Rattle.pb_build.specs.declared.sessions.Answer as declared;
+ghost use Rattle.pb_build.specs.declared.sessions.BuildOutcome as declared;
 ghost use Rattle.pb_build.specs.Environment.{environment_of};
 ghost use Rattle.pb_build.specs.Headline.{Headline};
 ghost use Rattle.pb_build.specs.Kept.{SourcesStay};
 ghost use Rattle.pb_build.specs.Session.{Picked, ByPicked, Carries, Course, Loses, Breaks, point};
 ghost use Rattle.pb_place.specs.Memory.{at_in, counts_in, may_fail};
 ghost use Rattle.pb_place.specs.Tallies.{one_setting};
-ghost use Rattle.pb_build_turns.specs.Crew.{moment};
+ghost use Rattle.pb_build_turns.specs.Executor.{moment};
 
 use crate::builder::{build, build_with};
 use pb_build_result::{BuildFault, Summary};
-use pb_data::Items;
-use pb_run_flight::Last;
-use pb_place::{Memory, Unfailing};
-use pb_workspace_types::Options;
-use pb_place_types::{Child, Out, Place};
 use pb_build_session::{PickBy, SessionStep};
+use pb_data::Items;
+use pb_place::{Memory, Unfailing};
+use pb_place_types::{Child, Out, Place};
+use pb_run_flight::Last;
+use pb_workspace_types::Options;
 use std::alloc::{AllocError, Global};
 
 /// The answer of one build of a session.
 #[derive(Drop)]
-pub struct Answer {
+pub struct BuildOutcome {
     /// The build's summary, or the fault that ended it.
     pub result: Result<Summary, BuildFault>,
 }
@@ -148,7 +148,7 @@ fn add_build<C: Child + Copy, O: Out>(
     out: &mut O,
     options: &Options,
     pick: PickBy,
-    answers: &mut Items<Answer>,
+    answers: &mut Items<BuildOutcome>,
 ) -> Result<(), AllocError>
     requires none { (counts_in memory.old).starts.flying ≡ [] }
     ensures taken { OnOk result
@@ -164,7 +164,7 @@ fn add_build<C: Child + Copy, O: Out>(
     let result = built(alloc, memory, out, options, pick);
     memory.files_have_paths();
     memory.fuse(0);
-    answers.push(Answer { result })?;
+    answers.push(BuildOutcome { result })?;
     Ok(())
 }
 
@@ -174,7 +174,7 @@ fn take_step<C: Child + Copy, O: Out>(
     memory: &mut Memory<C>,
     out: &mut O,
     step: &SessionStep,
-    answers: &mut Items<Answer>,
+    answers: &mut Items<BuildOutcome>,
 ) -> Result<(), AllocError>
     requires none { (counts_in memory.old).starts.flying ≡ [] }
     ensures taken { OnOk result
@@ -221,14 +221,14 @@ pub fn session<C: Child + Copy, O: Out>(
     memory: &mut Memory<C>,
     out: &mut O,
     steps: &[SessionStep],
-) -> Result<Items<Answer>, AllocError>
+) -> Result<Items<BuildOutcome>, AllocError>
     requires none { (counts_in memory.old).starts.flying ≡ [] }
     ensures taken { IfOk result
         (λ answers.
         Course C.answers steps.now (point memory.old (O.heard out.old) [])
         (point memory.new (O.heard out.new) answers)) }
     ensures broken { OnErr result
-        ((answers : List declared.Answer)
+        ((answers : List declared.BuildOutcome)
         × Breaks C.answers steps.now (point memory.old (O.heard out.old) [])
         (point memory.new (O.heard out.new) answers)) }
 {

@@ -3,7 +3,7 @@
 ghost use Rattle.std.specs.Prelude.{◌≡◌, ◌⊎◌, ◌+◌, max, length, IsTrue, IfOk, OnErr, OnOk, MatchResult, Some, None};
 ghost use Rattle.std.specs.List.{list_any};
 ghost use Rattle.pb_place_types.specs.World.{ChangesOnlyInSome, Ends, from_nothing};
-ghost use Rattle.pb_build.specs.Causes.{AskEnds, MayAsk, OnlyAsks, MayStart, OneStart, RunsOnce, SpawnEnds, Takes, child_fault};
+ghost use Rattle.pb_build.specs.Causes.{AskEnds, MayAsk, OnlyAsks, MayStart, OneStart, RunsOnce, SpawnEnds, CountsAs, child_fault};
 ghost use Rattle.pb_build.specs.Result.{is_host, says_host, toolchain_in, toolchain_of};
 ghost use Rattle.pb_directive.specs.Lines.{lines_of};
 ghost use Rattle.pb_build_result.specs.declared.fault.BuildFault.TheVariants as build_fault;
@@ -12,11 +12,11 @@ ghost use Rattle.pb_run.specs.Running.{Calls};
 use crate::environment::Environment;
 use pb_build_result::BuildFault;
 use pb_command::{ended_fault, query};
+use pb_command_types::Project;
 use pb_data::{Bytes, Text};
 use pb_directive::lines::lines_of;
 use pb_directive::texts::text_of;
 use pb_place_types::{Command, Ended, Place, StartFault};
-use pb_command_types::Project;
 use std::alloc::Global;
 
 /// Returns whether a line names the host: `host: ` and something after it.
@@ -76,7 +76,7 @@ fn start<P: Place>(
     name: &str,
     command: &Command,
 ) -> Result<Ended, BuildFault>
-    ensures ok { IsTrue P.tells → IfOk result (λ ended. Ends (P.child command.now) command.now
+    ensures ok { IsTrue P.is_modelled → IfOk result (λ ended. Ends (P.child command.now) command.now
         (P.at place.old).world ended (P.at place.new).world) }
     ensures only { ChangesOnlyInSome command.now.out (P.at place.old).world
         (P.at place.new).world }
@@ -87,7 +87,7 @@ fn start<P: Place>(
     ensures most_else { OnErr result (((P.at place.new).most ≡ (P.at place.old).most)
         ⊎ ((P.at place.new).most
         ≡ max (P.at place.old).most (length (P.at place.old).counts.starts.flying + 1))) }
-    ensures takes { Takes OneStart (MayStart name.now) result (P.at place.old).counts
+    ensures takes { CountsAs OneStart (MayStart name.now) result (P.at place.old).counts
         (P.at place.new).counts }
     ensures calls { Calls RunsOnce SpawnEnds result (P.at place.old).counts
         (P.at place.new).counts }
@@ -113,7 +113,7 @@ pub(crate) fn ask<P: Place>(
     environment: &Environment,
     project: &Project,
 ) -> Result<Bytes, BuildFault>
-    ensures answer { IsTrue P.tells
+    ensures answer { IsTrue P.is_modelled
         → MatchResult result
         (λ toolchain.
         toolchain_of P.child environment.now project.now

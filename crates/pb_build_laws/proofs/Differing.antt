@@ -6,7 +6,7 @@ use Rattle.pb_place_types.specs.declared.command.Command as commands
 use Rattle.pb_record.specs.declared.record.Needed.{Needed}
 use Rattle.pb_record.specs.declared.record.Needed.TheVariants.{Copies, Numbers}
 use Rattle.pb_record.specs.declared.record.Record.{Record}
-use Rattle.pb_store_soundness.specs.Grounded.{Standing}
+use Rattle.pb_store_soundness.specs.Grounded.{RecordMap}
 use Rattle.pb_store_soundness.specs.Inputs.{Agrees, name_of}
 use Rattle.pb_store_soundness.specs.Records.{records}
 use Rattle.pb_record.specs.Commands.{command_of}
@@ -46,7 +46,7 @@ module _ {A B : Type 0} (Holds : A → Type 0) (told : A → B) (row : List A) (
   from_first : IsFirstOf Holds told row b → IsFirst Holds told row b
   from_first (n, here, at, fails, hold, tells) = record { before = take n row; here = here; after = drop (suc n) row; place = cut row n here at; hold = hold; fails = fails; tells = tells }
 
-module _ (folder : List ℕ) (at : Standing) (c : commands.Command) (w : World) where
+module _ (folder : List ℕ) (at : RecordMap) (c : commands.Command) (w : World) where
   need_only : (r : Record) (same : command_of r.asked ≡ c) (inputs : Agrees c.target r.inputs w) (key : List ℕ) (needed : Needed) → r.needed ≡ needed → FirstNeed folder at w.files needed key → Differs folder at c w (Some r) (Some (Dependency key))
   need_only r same inputs key (Copies copies) is first = words.copied r same inputs copies is key (to_first (HasFiles folder w.files) (λ copy. copy.0) copies key first)
   need_only r same inputs key (Numbers number needs) is first = words.need r same inputs number needs is key (to_first (HasNumber at) (λ need. need.0) needs key first)

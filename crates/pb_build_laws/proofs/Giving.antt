@@ -12,7 +12,7 @@ use Rattle.pb_place_types.specs.World.{World, Map, Answers}
 use Rattle.pb_place_types.specs.declared.child.Reply.{Reply}
 use Rattle.pb_place_types.specs.declared.command.Command.{Command}
 use Rattle.pb_command_types.specs.Targets.{dep_info_of}
-use Rattle.pb_command_types.specs.declared.answer.Answered.{Answered}
+use Rattle.pb_command_types.specs.declared.checked_reply.CheckedReply.{CheckedReply}
 use Rattle.pb_command_types.specs.declared.fault.UnitFault.{UnitFault}
 use Rattle.pb_command_types.specs.declared.project.Project.{Project}
 use Rattle.pb_command_types.specs.declared.project.Setup.{Setup}
@@ -32,7 +32,7 @@ file_is (Some path) files = refl
 answer_is : (project : Project) (u : Planned) (c : Command) (r : Reply) → answered_of project u c (ended_by r) (file_at (dep_info_of project u) (replied_files u.out r)) ≡ answer_in project u c r
 answer_is project u c r = ap (answered_of project u c (ended_by r)) (file_is (dep_info_of project u) (replied_files u.out r))
 
-by_answer : (project : Project) (u : Planned) (r : Reply) (a : Result Answered UnitFault) → outcome_by (replied_files u.out r) (ran_by project u (ended_by r) a) ≡ given_by project u r a
+by_answer : (project : Project) (u : Planned) (r : Reply) (a : Result CheckedReply UnitFault) → outcome_by (replied_files u.out r) (ran_by project u (ended_by r) a) ≡ given_by project u r a
 by_answer project u r (Ok a) = ap (Good (replied_files u.out r) a.directives) (good_units_tell project u r.stderr a.directives)
 by_answer project u r (Err fault) = ap (λ (told : List Message × List ℕ). Bad record { fault = fault; said = told.1 } told.0) (bad_units_tell u.unit.what fault (ended_by r))
 
@@ -105,7 +105,7 @@ outcomes_are_these child setup project sources os = (
 
 -- the inputs in a reply
 
-inputs_of : (a : Result Answered UnitFault) (names : List InputName) → (inputs_if a ≡ Some names) ↔ IsOkAnd a (λ answered. answered.inputs ≡ names)
+inputs_of : (a : Result CheckedReply UnitFault) (names : List InputName) → (inputs_if a ≡ Some names) ↔ IsOkAnd a (λ answered. answered.inputs ≡ names)
 inputs_of (Ok a) names = (λ same. cc, λ same. ap Some same)
 inputs_of (Err fault) names = (λ same. cc, λ never. absurd never)
 

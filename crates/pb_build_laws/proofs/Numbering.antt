@@ -11,7 +11,7 @@ use Rattle.pb_record.specs.declared.record.Needed.{Needed}
 use Rattle.pb_record.specs.declared.record.Needed.TheVariants.{Copies, Numbers}
 use Rattle.pb_record.specs.declared.record.Record.{Record}
 use Rattle.pb_store_soundness.specs.Numbers.{after}
-use Rattle.pb_store_soundness.specs.Records.{Reading, reading, ends_as_record, if_of_key, is_key, number_in, number_of, place_of, read_text, record_at}
+use Rattle.pb_store_soundness.specs.Records.{RecordParser, reading, ends_as_record, if_of_key, is_key, number_in, number_of, place_of, read_text, record_at}
 use Rattle.pb_store_soundness.specs.Reuse.{number_if}
 use Rattle.pb_store.specs.Folder.{lacks_number, greatest_at, greatest_if, greatest_named}
 use Rattle.pb_build_laws.specs.Numbers.{NextIsAbove, RecordsAreNumbered, RecordsCount, numbers_at, numbers_in}
@@ -87,7 +87,7 @@ records_are_numbered = (λ r. own_is r.needed, λ o. (if_is o, lacks_is o))
 
 -- the record of a key
 
-module _ (read : Reading) (key : List ℕ) (found : Option (List ℕ)) (r : Record) where
+module _ (read : RecordParser) (key : List ℕ) (found : Option (List ℕ)) (r : Record) where
   Counts : Bool → Type 0
   Counts so = (text : List ℕ) × (found ≡ Some text) × (read text ≡ Some r) × (r.key ≡ key) × (so ≡ true)
 

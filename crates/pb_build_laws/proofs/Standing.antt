@@ -9,7 +9,7 @@ use Rattle.pb_run_flight.specs.declared.flight.Answer.{Answer}
 use Rattle.pb_run_flight.specs.declared.flight.State.{State}
 use Rattle.pb_run_flight.specs.declared.flight.State.TheVariants.{Untouched, Begun, Answered}
 use Rattle.pb_command_types.specs.Targets.{unit_at}
-use Rattle.pb_run.specs.Halves.{key_in}
+use Rattle.pb_run.specs.UnitSteps.{key_in}
 use Rattle.pb_run.specs.Outcome.{Outcome, Waiting, Good, Bad}
 use Rattle.pb_build_turns.specs.Rows as rows
 use Rattle.pb_build_turns.specs.Rows.{fault_in}

@@ -9,7 +9,7 @@ use Rattle.pb_run_flight.specs.Events.{Event, started_by}
 use Rattle.pb_command_types.specs.Targets.{unit_at}
 use Rattle.pb_command_types.specs.declared.fault.UnitFault.{UnitFault}
 use Rattle.pb_command_types.specs.declared.project.Project.{Project}
-use Rattle.pb_run.specs.Halves.{key_in}
+use Rattle.pb_run.specs.UnitSteps.{key_in}
 use Rattle.pb_run.specs.Outcome.{Outcome, Waiting, Good, Bad, directives_in}
 use Rattle.pb_store.specs.declared.difference.Difference.{Difference}
 use Rattle.pb_build_turns.specs.Rows.{Reasons, Row, bad_of, bad_or, difference_in, directives_told, fault_in, is_success, kept_key, kept_of, key_told, keyed, said_told, summary_of}
@@ -134,5 +134,5 @@ module _ (project : Project) (es : List (Event BadUnit)) (reasons : Reasons) (ro
 pub summaries_say : SummariesSay
 summaries_say project es reasons rows summary = (
   λ same. subst (IsSummary project es reasons rows) (sym same) (says project es reasons rows),
-  λ tells. summaries_same project es reasons rows summary (summary_of project es reasons rows) tells (says project es reasons rows),
+  λ is_modelled. summaries_same project es reasons rows summary (summary_of project es reasons rows) is_modelled (says project es reasons rows),
 )

@@ -12,7 +12,7 @@ use Rattle.pb_run_flight.specs.declared.turn.First.{First}
 use Rattle.pb_run_flight.specs.declared.turn.Jobs.{Jobs}
 use Rattle.pb_run_flight.specs.declared.turn.Step.{Step}
 use Rattle.pb_build.specs.Ending.{PicksFirstOf}
-use Rattle.pb_build_turns.specs.Crew.{needs_of}
+use Rattle.pb_build_turns.specs.Executor.{needs_of}
 use Rattle.pb_build_laws.specs.Schedules.{IsFirstToBegin, BuildsGoInTurn, AreInTurn}
 
 -- the first of a list that rises is the least

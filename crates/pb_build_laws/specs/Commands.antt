@@ -6,7 +6,7 @@ use Rattle.pb_place_types.specs.declared.command.Command.{Command}
 use Rattle.pb_command_types.specs.declared.project.Project.{Project}
 use Rattle.pb_command_types.specs.declared.project.Setup.{Setup}
 use Rattle.pb_record.specs.Commands.{AsksAs, command_of}
-use Rattle.pb_record.specs.declared.asked.Asked.{Asked}
+use Rattle.pb_record.specs.declared.recorded_command.RecordedCommand.{RecordedCommand}
 use Rattle.pb_record.specs.declared.record.Record.{Record}
 use Rattle.pb_store_soundness.specs.Records.{reading}
 use Rattle.pb_store.specs.Asking.{IsFirstName, IsLeastName, SamePart}
@@ -14,13 +14,13 @@ use Rattle.pb_store.specs.declared.difference.CommandPart.{CommandPart}
 use Rattle.pb_unit.specs.declared.plan.Planned.{Planned}
 
 -- each part of a command, apart from its variables, is equal to the recorded one
-abbrev pub HasEachPart : Asked → Command → Type 0
+abbrev pub HasEachPart : RecordedCommand → Command → Type 0
 HasEachPart a c = (part : CommandPart) → SamePart a c part
 
 -- A command requests the same, variables apart, if and only if each part is equal to the recorded one. It is the
 -- recorded command if and only if its variables are equal too.
 abbrev pub AskedPartForPart : Type 0
-AskedPartForPart = (a : Asked) (c : Command) → (AsksAs a c ↔ HasEachPart a c) × ((command_of a ≡ c) ↔ (HasEachPart a c × (a.pairs ≡ c.pairs)))
+AskedPartForPart = (a : RecordedCommand) (c : Command) → (AsksAs a c ↔ HasEachPart a c) × ((command_of a ≡ c) ↔ (HasEachPart a c × (a.pairs ≡ c.pairs)))
 
 -- The first name at which the variables of a record and those of a unit's command differ is the least such name, in
 -- byte order: the texts of this name differ, or only one of them has it.

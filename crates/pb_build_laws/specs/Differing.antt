@@ -7,7 +7,7 @@ use Rattle.pb_record.specs.Commands.{AsksAs, command_of}
 use Rattle.pb_record.specs.declared.record.InputName.{InputName}
 use Rattle.pb_record.specs.declared.record.Needed.TheVariants.{Copies, Numbers}
 use Rattle.pb_record.specs.declared.record.Record.{Record}
-use Rattle.pb_store_soundness.specs.Grounded.{Standing}
+use Rattle.pb_store_soundness.specs.Grounded.{RecordMap}
 use Rattle.pb_store_soundness.specs.Inputs.{Agrees, name_of}
 use Rattle.pb_store_soundness.specs.Records.{records}
 use Rattle.pb_store.specs.Asking.{IsFirstName, SamePart, parts}
@@ -22,7 +22,7 @@ IsFirstOf {A} Holds told row b = (n : ℕ) × (here : A) × (slice_get row n ≡
 
 -- no record counts; or, in this order, a part of the command differs, then a variable, then an input, then a needed
 -- unit by its number or by its files; or nothing differs
-pub data Differs (folder : List ℕ) (at : Standing) (c : commands.Command) (w : World) : Option Record → Option Difference → Type 0 where
+pub data Differs (folder : List ℕ) (at : RecordMap) (c : commands.Command) (w : World) : Option Record → Option Difference → Type 0 where
   no_record : Differs folder at c w None (Some NoRecord)
   part : (r : Record) (p : CommandPart) (first : IsFirstOf (SamePart r.asked c) (λ p. p) parts p) → Differs folder at c w (Some r) (Some (Command p))
   variable : (r : Record) (name : List ℕ) (same : AsksAs r.asked c) (first : IsFirstName r.asked.pairs c.pairs name) → Differs folder at c w (Some r) (Some (Pair name))

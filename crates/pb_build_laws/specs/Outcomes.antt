@@ -13,7 +13,7 @@ use Rattle.pb_place_types.specs.World.{World, Answers}
 use Rattle.pb_place_types.specs.declared.child.Reply.{Reply}
 use Rattle.pb_place_types.specs.declared.command.Command.{Command}
 use Rattle.pb_command_types.specs.Targets.{dep_info_of}
-use Rattle.pb_command_types.specs.declared.answer.Answered.{Answered}
+use Rattle.pb_command_types.specs.declared.checked_reply.CheckedReply.{CheckedReply}
 use Rattle.pb_command_types.specs.declared.fault.UnitFault.{UnitFault}
 use Rattle.pb_command_types.specs.declared.project.Project.{Project}
 use Rattle.pb_command_types.specs.declared.project.Setup.{Setup}
@@ -25,12 +25,12 @@ use Rattle.pb_unit.specs.declared.plan.Planned.{Planned}
 
 -- the answer in a child's reply to a unit's command: it depends on how the child ended, and on the dep-info that it
 -- left
-abbrev pub answer_in : Project → Planned → Command → Reply → Result Answered UnitFault
+abbrev pub answer_in : Project → Planned → Command → Reply → Result CheckedReply UnitFault
 answer_in project u c r = answered_of project u c (ended_by r) (option_and_then (finite.get (replied_files u.out r)) (dep_info_of project u))
 
 -- the outcome of a unit by its reply and the answer in it: good, with the files of its output folder, a run's
 -- directives and its messages; or bad, with the reason and its messages
-abbrev pub given_by : Project → Planned → Reply → Result Answered UnitFault → Outcome
+abbrev pub given_by : Project → Planned → Reply → Result CheckedReply UnitFault → Outcome
 given_by project u r (Ok answered) = Good (replied_files u.out r) answered.directives (told_well project u r.stderr answered.directives)
 given_by project u r (Err fault) = Bad record { fault = fault; said = (told_badly u.unit.what fault r.stdout r.stderr).1 } (told_badly u.unit.what fault r.stdout r.stderr).0
 

@@ -7,7 +7,7 @@ use Rattle.pb_run_flight.specs.Table.{is_finished}
 use Rattle.pb_run_flight.specs.declared.flight.State.{State}
 use Rattle.pb_workspace_types.specs.declared.options.Options.{Options}
 use Rattle.pb_command_types.specs.declared.project.Project.{Project}
-use Rattle.pb_build_turns.specs.Crew.{needs_of}
+use Rattle.pb_build_turns.specs.Executor.{needs_of}
 
 -- this is the first in plan order of the units that may begin
 abbrev pub IsFirstToBegin : {F : Type 0} → List (List ℕ) → List (State F) → ℕ → Type 0

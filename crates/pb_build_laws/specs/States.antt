@@ -9,7 +9,7 @@ use Rattle.pb_run_flight.specs.declared.flight.State.{State}
 use Rattle.pb_run_flight.specs.declared.flight.State.TheVariants.{Untouched, Answered}
 use Rattle.pb_command_types.specs.Targets.{unit_at}
 use Rattle.pb_command_types.specs.declared.project.Project.{Project}
-use Rattle.pb_run.specs.Halves.{key_at}
+use Rattle.pb_run.specs.UnitSteps.{key_at}
 use Rattle.pb_run.specs.Outcome.{Outcome}
 use Rattle.pb_build_turns.specs.Rows as rows
 use Rattle.pb_build_turns.specs.Rows.{fault_in}

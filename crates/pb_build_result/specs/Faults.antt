@@ -13,5 +13,5 @@ is_outside Sink = true
 is_outside OutOfMemory = true
 
 -- the result is the answer, unless the outside failed or memory ran out
-abbrev pub Told : {A : Type 0} → Result A BuildFault → Result A BuildFault → Type 0
-Told result answer = MatchResult result (λ x. answer ≡ Ok x) (λ e. is_outside e ≡ false → answer ≡ Err e)
+abbrev pub UnlessFailed : {A : Type 0} → Result A BuildFault → Result A BuildFault → Type 0
+UnlessFailed result answer = MatchResult result (λ x. answer ≡ Ok x) (λ e. is_outside e ≡ false → answer ≡ Err e)

@@ -1,7 +1,7 @@
 //! A unit that is bad.
 
-use pb_data::Bytes;
 use pb_command_types::UnitFault;
+use pb_data::Bytes;
 
 /// A unit that is bad.
 #[derive(Debug, Drop)]

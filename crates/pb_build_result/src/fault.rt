@@ -5,9 +5,9 @@ ghost use Rattle.pb_build_result.specs.declared.fault.BuildFault.TheVariants as 
 
 use pb_data::Text;
 use pb_feature::FeatureFault;
-use pb_workspace_types::LoadFault;
 use pb_place_types::{PlaceFault, StartFault};
 use pb_unit::PlanFault;
+use pb_workspace_types::LoadFault;
 use std::alloc::{AllocError, AllocFailed};
 use thiserror::Error;
 

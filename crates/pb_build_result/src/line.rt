@@ -6,15 +6,15 @@ ghost use Rattle.pb_build_result.specs.ResultLine.{keys_rest, keys_text, line_fa
 
 use crate::fault::{BuildFault, DeviceFault, Refusal};
 use crate::summary::Summary;
+use pb_command_types::UnitFault;
 use pb_data::Text;
 use pb_directive::LineFault;
 use pb_feature::FeatureFault;
 use pb_manifest_types::ManifestFault;
-use pb_workspace_types::LoadFault;
 use pb_place_types::StartFault;
 use pb_profile::ProfileFault;
-use pb_command_types::UnitFault;
 use pb_unit::PlanFault;
+use pb_workspace_types::LoadFault;
 use std::alloc::{AllocError, Global};
 
 /// Returns texts one after another.

@@ -1,8 +1,8 @@
 //! The summary of a build that came to its end.
 
+use pb_command_types::UnitFault;
 use pb_data::{Bytes, Items, Text};
 use pb_directive::Directives;
-use pb_command_types::UnitFault;
 use pb_store::Difference;
 
 /// The summary of a build that came to its end.

@@ -1,6 +1,6 @@
 -- What reading a session returns: a value, or why the session is bad.
 use Rattle.std.specs.Prelude.{Result}
-use Rattle.pb_data.specs.Gives as answers
+use Rattle.pb_data.specs.UnlessOom as answers
 use Rattle.pb_place_types.specs.declared.path.PathFault.{PathFault}
 use Rattle.pb_place_types.specs.declared.path.PathFault.TheVariants as path
 use Rattle.pb_build_session.specs.declared.fault.BadSession.{BadSession}
@@ -10,12 +10,12 @@ abbrev pub Read : Type 0 → Type 0
 Read A = Result A BadSession
 
 -- the result is this answer, unless memory ran out
-abbrev pub Gives : {A : Type 0} → Read A → Read A → Type 0
-Gives result answer = answers.Gives OutOfMemory (λ x. x) result answer
+abbrev pub UnlessOom : {A : Type 0} → Read A → Read A → Type 0
+UnlessOom result answer = answers.UnlessOom OutOfMemory (λ x. x) result answer
 
 -- the result corresponds to this answer, unless memory ran out
 abbrev pub GivesAs : {T A : Type 0} → (T → A) → Read T → Read A → Type 0
-GivesAs shows result answer = answers.Gives OutOfMemory shows result answer
+GivesAs shows result answer = answers.UnlessOom OutOfMemory shows result answer
 
 -- a text that is no path makes a session bad
 abbrev pub of_path_fault : PathFault → BadSession

@@ -2,7 +2,7 @@
 use Rattle.std.specs.Prelude.{◌≡◌, codes, List, [], ◌∷◌, ◌++◌, None, false, Ok}
 use Rattle.serde_json.specs.Data.{Data, object, no_members}
 use Rattle.serde_json.specs.View.{items_of}
-use Rattle.pb_data.specs.Gives.{◌>>=◌}
+use Rattle.pb_data.specs.UnlessOom.{◌>>=◌}
 use Rattle.pb_build_session.specs.Faults.{Read}
 use Rattle.pb_build_session.specs.Sessions.{build_of, steps_of}
 use Rattle.pb_build_session.specs.declared.pick.PickBy.TheVariants.{First}

@@ -5,7 +5,7 @@ use Rattle.std.specs.Result.{OkIff}
 use Rattle.std.specs.Str.Parse.{IsNumeral, digits_value}
 use Rattle.serde_json.specs.Data.{Num, number}
 use Rattle.serde_json.specs.Read.{number_of as numeral_of}
-use Rattle.pb_data.specs.Gives.{◌>>=◌, some_or}
+use Rattle.pb_data.specs.UnlessOom.{◌>>=◌, some_or}
 use Rattle.pb_build_session.specs.Faults.{Read}
 use Rattle.pb_build_session.specs.Values.{number_of}
 use Rattle.pb_build_session.specs.declared.fault.BadSession.TheVariants.{BadForm}

@@ -3,7 +3,7 @@ use Rattle.std.specs.Prelude.{ℕ, Bool, true, false, ◌&&◌, ◌||◌, if◌t
 use Rattle.std.specs.Str.{bytes_eq}
 use Rattle.serde_json.specs.Data.{Data, Items, no_items, item, Members, no_members, member}
 use Rattle.serde_json.specs.Find.{get, as_object, as_bool}
-use Rattle.pb_data.specs.Gives.{◌>>=◌, some_or}
+use Rattle.pb_data.specs.UnlessOom.{◌>>=◌, some_or}
 use Rattle.pb_build_session.specs.Faults.{Read}
 use Rattle.pb_build_session.specs.Values.{text_of, number_of, path_in, path_of, array_of}
 use Rattle.pb_build_session.specs.Picks.{pick_named}

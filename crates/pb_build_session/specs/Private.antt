@@ -2,17 +2,17 @@
 use Rattle.std.specs.Prelude.{codes, None, Ok}
 use Rattle.serde_json.specs.Data.{Data}
 use Rattle.serde_json.specs.Find.{get}
-use Rattle.pb_data.specs.Gives.{◌>>=◌}
+use Rattle.pb_data.specs.UnlessOom.{◌>>=◌}
 use Rattle.pb_build_session.specs.Faults.{Read}
 use Rattle.pb_build_session.specs.Options.{manifest_or_default, number_or, text_or, texts_at, truth_at}
 use Rattle.pb_workspace_types.specs.declared.options.Options.{Options}
-use Rattle.pb_build_session.specs.declared.options.Asked.{Asked}
+use Rattle.pb_build_session.specs.declared.options.OptionValues.{OptionValues}
 use Rattle.pb_build_session.specs.declared.options.Featured.{Featured}
 use Rattle.pb_build_session.specs.declared.options.Targeted.{Targeted}
 use Rattle.pb_build_session.specs.declared.options.Tools.{Tools}
 
 -- the parts of these options: the packages; below, their features and the profile, the targets, and the units in flight
-abbrev pub asked_in : Data → Read Asked
+abbrev pub asked_in : Data → Read OptionValues
 asked_in d =
     manifest_or_default (get (codes "manifest") d) >>= (λ manifest.
     texts_at (codes "packages") d >>= (λ packages.
@@ -36,7 +36,7 @@ targeted_in d =
     Ok record { lib = lib; bins = bins; bin = bin; jobs = jobs }))))
 
 -- the options made of their parts
-abbrev pub joined : Asked → Featured → Targeted → Tools → Options
+abbrev pub joined : OptionValues → Featured → Targeted → Tools → Options
 joined asked featured targeted tools = record {
   manifest = asked.manifest;
   packages = asked.packages;

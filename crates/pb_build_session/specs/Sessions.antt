@@ -4,7 +4,7 @@ use Rattle.std.specs.Str.{bytes_eq, is_utf8}
 use Rattle.serde_json.specs.Data.{Data, Items, no_items, item}
 use Rattle.serde_json.specs.Find.{get, as_object}
 use Rattle.serde_json.specs.Read.{read}
-use Rattle.pb_data.specs.Gives.{◌>>=◌, some_or}
+use Rattle.pb_data.specs.UnlessOom.{◌>>=◌, some_or}
 use Rattle.pb_build_session.specs.Deaths.{death_named}
 use Rattle.pb_build_session.specs.Faults.{Read}
 use Rattle.pb_build_session.specs.Values.{text_of, number_of, path_in, path_of, pair_of, array_of, only_member}

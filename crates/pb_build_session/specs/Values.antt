@@ -2,7 +2,7 @@
 use Rattle.std.specs.Prelude.{ℕ, List, Option, Some, None, Ok, Err, option_and_then}
 use Rattle.serde_json.specs.Data.{Data, Items, no_items, item, Members, no_members, member}
 use Rattle.serde_json.specs.Find.{as_str, as_array, as_number, as_u64}
-use Rattle.pb_data.specs.Gives.{◌>>=◌, lifted, some_or}
+use Rattle.pb_data.specs.UnlessOom.{◌>>=◌, lifted, some_or}
 use Rattle.pb_place_types.specs.Paths.{parsed}
 use Rattle.pb_build_session.specs.Faults.{Read, of_path_fault}
 use Rattle.pb_build_session.specs.declared.fault.BadSession.TheVariants.{BadForm}

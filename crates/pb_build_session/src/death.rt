@@ -3,7 +3,7 @@
 ghost use Rattle.std.specs.Prelude.{◌≡◌, ◌≢◌};
 ghost use Rattle.pb_place_types.specs.declared.place.StartFault.TheVariants as start;
 ghost use Rattle.pb_build_session.specs.Deaths.{fault_of, death_named};
-ghost use Rattle.pb_build_session.specs.Faults.{Gives};
+ghost use Rattle.pb_build_session.specs.Faults.{UnlessOom};
 
 use crate::fault::BadSession;
 use pb_place_types::StartFault;
@@ -37,7 +37,7 @@ impl Death {
 
 /// Returns the way to fail that has this name.
 pub(crate) fn death_named(name: &str) -> Result<Death, BadSession>
-    ensures { Gives result (death_named name.now) }
+    ensures { UnlessOom result (death_named name.now) }
 {
     match name {
         "CannotStart" => Ok(Death::CannotStart),

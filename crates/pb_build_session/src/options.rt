@@ -4,7 +4,7 @@ ghost use Rattle.std.specs.Prelude.{◌≡◌, ◌||◌, ◌∷◌, [], IfOk, co
 ghost use Rattle.std.specs.Str.{bytes_eq};
 ghost use Rattle.serde_json.specs.Find.{get};
 ghost use Rattle.serde_json.specs.View.{view, items_view, members_view};
-ghost use Rattle.pb_build_session.specs.Faults.{Gives};
+ghost use Rattle.pb_build_session.specs.Faults.{UnlessOom};
 ghost use Rattle.pb_build_session.specs.Options.{are_known, is_known, texts_in, texts_of, truth_of, texts_or_none, truth_or_false, text_or, number_or, manifest_or_default, texts_at, truth_at, options_in, options_of, pick_of, pick_or_first};
 ghost use Rattle.pb_build_session.specs.Private.{asked_in, featured_in, targeted_in, joined};
 
@@ -12,8 +12,8 @@ use crate::fault::BadSession;
 use crate::pick::{PickBy, pick_named};
 use crate::value::{array_of, number_of, path_in, path_of, text_of};
 use pb_data::{Items, Text, with_next};
-use pb_workspace_types::Options;
 use pb_place_types::PathText;
+use pb_workspace_types::Options;
 use serde_json::{Map, Value};
 use std::alloc::{AllocError, Global};
 
@@ -62,7 +62,7 @@ fn are_known(map: &Map<String, Value>) -> bool
 
 /// Returns the texts of a list.
 fn texts_in(alloc: Global, values: &[Value]) -> Result<Items<Text>, BadSession>
-    ensures { Gives result (texts_in (items_view values.now)) }
+    ensures { UnlessOom result (texts_in (items_view values.now)) }
 {
     let mut texts = Items::new(alloc);
     for value in values {
@@ -73,7 +73,7 @@ fn texts_in(alloc: Global, values: &[Value]) -> Result<Items<Text>, BadSession>
 
 /// Returns a list of texts.
 fn texts_of(alloc: Global, value: &Value) -> Result<Items<Text>, BadSession>
-    ensures { Gives result (texts_of (view value.now)) }
+    ensures { UnlessOom result (texts_of (view value.now)) }
 {
     let texts = texts_in(alloc, array_of(value)?)?;
     Ok(texts)
@@ -81,7 +81,7 @@ fn texts_of(alloc: Global, value: &Value) -> Result<Items<Text>, BadSession>
 
 /// Returns the texts at a key, or none if the key is absent.
 fn texts_at(alloc: Global, key: &str, value: &Value) -> Result<Items<Text>, BadSession>
-    ensures { Gives result (texts_at key.now (view value.now)) }
+    ensures { UnlessOom result (texts_at key.now (view value.now)) }
 {
     match value.get(key) {
         None => Ok(Items::new(alloc)),
@@ -91,7 +91,7 @@ fn texts_at(alloc: Global, key: &str, value: &Value) -> Result<Items<Text>, BadS
 
 /// Returns a truth value.
 fn truth_of(value: &Value) -> Result<bool, BadSession>
-    ensures { Gives result (truth_of (view value.now)) }
+    ensures { UnlessOom result (truth_of (view value.now)) }
 {
     match value.as_bool() {
         Some(truth) => Ok(truth),
@@ -101,7 +101,7 @@ fn truth_of(value: &Value) -> Result<bool, BadSession>
 
 /// Returns the truth value at a key, or false if the key is absent.
 fn truth_at(key: &str, value: &Value) -> Result<bool, BadSession>
-    ensures { Gives result (truth_at key.now (view value.now)) }
+    ensures { UnlessOom result (truth_at key.now (view value.now)) }
 {
     match value.get(key) {
         None => Ok(false),
@@ -111,7 +111,7 @@ fn truth_at(key: &str, value: &Value) -> Result<bool, BadSession>
 
 /// Returns the name of the profile, or `dev` if the key `profile` is absent.
 fn profile_of(alloc: Global, value: &Value) -> Result<Text, BadSession>
-    ensures { Gives result (text_or (codes "dev") (get (codes "profile") (view value.now))) }
+    ensures { UnlessOom result (text_or (codes "dev") (get (codes "profile") (view value.now))) }
 {
     match value.get("profile") {
         None => {
@@ -124,7 +124,7 @@ fn profile_of(alloc: Global, value: &Value) -> Result<Text, BadSession>
 
 /// Returns how many units may be in flight at a time, or 1 if the key `jobs` is absent.
 fn jobs_of(value: &Value) -> Result<u64, BadSession>
-    ensures { Gives result (number_or 1 (get (codes "jobs") (view value.now))) }
+    ensures { UnlessOom result (number_or 1 (get (codes "jobs") (view value.now))) }
 {
     match value.get("jobs") {
         None => Ok(1),
@@ -134,7 +134,7 @@ fn jobs_of(value: &Value) -> Result<u64, BadSession>
 
 /// Returns the path of the root manifest, from the value of the key `manifest`.
 fn manifest_of(alloc: Global, value: &Value) -> Result<PathText, BadSession>
-    ensures { Gives result (manifest_or_default (get (codes "manifest") (view value.now))) }
+    ensures { UnlessOom result (manifest_or_default (get (codes "manifest") (view value.now))) }
 {
     match value.get("manifest") {
         None => path_in(alloc, "/w/Cargo.toml"),
@@ -154,7 +154,7 @@ fn runner_words(alloc: Global) -> Result<Items<Text>, AllocError>
 
 /// The packages of a build.
 #[derive(Drop)]
-struct Asked {
+struct OptionValues {
     manifest: PathText,
     packages: Items<Text>,
     workspace: bool,
@@ -186,13 +186,13 @@ struct Tools {
 }
 
 /// Returns the packages of a build.
-fn asked_in(alloc: Global, value: &Value) -> Result<Asked, BadSession>
-    ensures { Gives result (asked_in (view value.now)) }
+fn asked_in(alloc: Global, value: &Value) -> Result<OptionValues, BadSession>
+    ensures { UnlessOom result (asked_in (view value.now)) }
 {
     let manifest = manifest_of(alloc, value)?;
     let packages = texts_at(alloc, "packages", value)?;
     let workspace = truth_at("workspace", value)?;
-    Ok(Asked {
+    Ok(OptionValues {
         manifest,
         packages,
         workspace,
@@ -201,7 +201,7 @@ fn asked_in(alloc: Global, value: &Value) -> Result<Asked, BadSession>
 
 /// Returns the features and the profile of a build.
 fn featured_in(alloc: Global, value: &Value) -> Result<Featured, BadSession>
-    ensures { Gives result (featured_in (view value.now)) }
+    ensures { UnlessOom result (featured_in (view value.now)) }
 {
     let features = texts_at(alloc, "features", value)?;
     let all_features = truth_at("all_features", value)?;
@@ -217,7 +217,7 @@ fn featured_in(alloc: Global, value: &Value) -> Result<Featured, BadSession>
 
 /// Returns the targets of a build, and how many units may be in flight.
 fn targeted_in(alloc: Global, value: &Value) -> Result<Targeted, BadSession>
-    ensures { Gives result (targeted_in (view value.now)) }
+    ensures { UnlessOom result (targeted_in (view value.now)) }
 {
     let lib = truth_at("lib", value)?;
     let bins = truth_at("bins", value)?;
@@ -241,7 +241,7 @@ fn default_tools(alloc: Global) -> Result<Tools, AllocError>
 }
 
 /// Returns the options made of their parts.
-fn joined(asked: Asked, featured: Featured, targeted: Targeted, tools: Tools) -> Options
+fn joined(asked: OptionValues, featured: Featured, targeted: Targeted, tools: Tools) -> Options
     ensures { result ≡ joined asked featured targeted tools }
 {
     Options {
@@ -264,7 +264,7 @@ fn joined(asked: Asked, featured: Featured, targeted: Targeted, tools: Tools) ->
 
 /// Returns the options of a build, if their keys are known.
 fn options_in(alloc: Global, value: &Value) -> Result<Options, BadSession>
-    ensures { Gives result (options_in (view value.now)) }
+    ensures { UnlessOom result (options_in (view value.now)) }
 {
     let asked = asked_in(alloc, value)?;
     let featured = featured_in(alloc, value);
@@ -278,7 +278,7 @@ fn options_in(alloc: Global, value: &Value) -> Result<Options, BadSession>
 
 /// Returns the options of a build.
 pub(crate) fn options_of(alloc: Global, value: &Value) -> Result<Options, BadSession>
-    ensures { Gives result (options_of (view value.now)) }
+    ensures { UnlessOom result (options_of (view value.now)) }
 {
     let known = match value.as_object() {
         Some(map) => are_known(map),
@@ -292,7 +292,7 @@ pub(crate) fn options_of(alloc: Global, value: &Value) -> Result<Options, BadSes
 
 /// Returns a choice among the units that may begin.
 fn pick_of(value: &Value) -> Result<PickBy, BadSession>
-    ensures { Gives result (pick_of (view value.now)) }
+    ensures { UnlessOom result (pick_of (view value.now)) }
 {
     match value.as_str() {
         Some(name) => pick_named(name),
@@ -302,7 +302,7 @@ fn pick_of(value: &Value) -> Result<PickBy, BadSession>
 
 /// Returns which of the units that may begin does: the first if the key `pick` is absent.
 pub(crate) fn pick_in(value: &Value) -> Result<PickBy, BadSession>
-    ensures { Gives result (pick_or_first (get (codes "pick") (view value.now))) }
+    ensures { UnlessOom result (pick_or_first (get (codes "pick") (view value.now))) }
 {
     match value.get("pick") {
         None => Ok(PickBy::First),

@@ -1,6 +1,6 @@
 //! Which of the units that may begin does.
 
-ghost use Rattle.pb_build_session.specs.Faults.{Gives};
+ghost use Rattle.pb_build_session.specs.Faults.{UnlessOom};
 ghost use Rattle.pb_build_session.specs.Picks.{pick_named};
 
 use crate::fault::BadSession;
@@ -16,7 +16,7 @@ pub enum PickBy {
 
 /// Returns the choice that has this name.
 pub(crate) fn pick_named(name: &str) -> Result<PickBy, BadSession>
-    ensures { Gives result (pick_named name.now) }
+    ensures { UnlessOom result (pick_named name.now) }
 {
     match name {
         "first" => Ok(PickBy::First),

@@ -2,7 +2,7 @@
 
 ghost use Rattle.std.specs.Prelude.{◌≡◌, ℕ, List};
 ghost use Rattle.serde_json.specs.View.{view, items_view};
-ghost use Rattle.pb_build_session.specs.Faults.{Gives, GivesAs};
+ghost use Rattle.pb_build_session.specs.Faults.{UnlessOom, GivesAs};
 ghost use Rattle.pb_build_session.specs.Options.{options_of, pick_or_first};
 ghost use Rattle.pb_build_session.specs.Sessions.{write_of, set_of, build_of, die_of, step_named, step_of, steps_of, document_in, session_of};
 
@@ -17,7 +17,7 @@ use std::alloc::Global;
 
 /// Returns the step that writes a file.
 fn write_of(alloc: Global, value: &Value) -> Result<SessionStep, BadSession>
-    ensures { Gives result (write_of (view value.now)) }
+    ensures { UnlessOom result (write_of (view value.now)) }
 {
     let (path, text) = pair_of(alloc, value)?;
     let path = path_in(alloc, path.as_str())?;
@@ -26,7 +26,7 @@ fn write_of(alloc: Global, value: &Value) -> Result<SessionStep, BadSession>
 
 /// Returns the step that sets a variable.
 fn set_of(alloc: Global, value: &Value) -> Result<SessionStep, BadSession>
-    ensures { Gives result (set_of (view value.now)) }
+    ensures { UnlessOom result (set_of (view value.now)) }
 {
     let (name, text) = pair_of(alloc, value)?;
     Ok(SessionStep::Set(name, text))
@@ -34,7 +34,7 @@ fn set_of(alloc: Global, value: &Value) -> Result<SessionStep, BadSession>
 
 /// Returns the step that builds.
 fn build_of(alloc: Global, value: &Value) -> Result<SessionStep, BadSession>
-    ensures { Gives result (build_of (view value.now)) }
+    ensures { UnlessOom result (build_of (view value.now)) }
 {
     let options = options_of(alloc, value)?;
     let pick = pick_in(value)?;
@@ -43,7 +43,7 @@ fn build_of(alloc: Global, value: &Value) -> Result<SessionStep, BadSession>
 
 /// Returns the step that sets a start to fail.
 fn die_of(alloc: Global, value: &Value) -> Result<SessionStep, BadSession>
-    ensures { Gives result (die_of (view value.now)) }
+    ensures { UnlessOom result (die_of (view value.now)) }
 {
     let (key, kind) = pair_of(alloc, value)?;
     let death = death_named(kind.as_str())?;
@@ -52,7 +52,7 @@ fn die_of(alloc: Global, value: &Value) -> Result<SessionStep, BadSession>
 
 /// Returns the step that has this name.
 fn step_named(alloc: Global, name: &str, value: &Value) -> Result<SessionStep, BadSession>
-    ensures { Gives result (step_named name.now (view value.now)) }
+    ensures { UnlessOom result (step_named name.now (view value.now)) }
 {
     match name {
         "write" => write_of(alloc, value),
@@ -77,7 +77,7 @@ fn step_named(alloc: Global, name: &str, value: &Value) -> Result<SessionStep, B
 
 /// Returns a step: an object with one key, the step's name.
 fn step_of(alloc: Global, value: &Value) -> Result<SessionStep, BadSession>
-    ensures { Gives result (step_of (view value.now)) }
+    ensures { UnlessOom result (step_of (view value.now)) }
 {
     let map = match value.as_object() {
         Some(map) => map,
@@ -91,7 +91,7 @@ fn step_of(alloc: Global, value: &Value) -> Result<SessionStep, BadSession>
 
 /// Returns the steps of a list, in its order.
 fn steps_of(alloc: Global, values: &[Value]) -> Result<Items<SessionStep>, BadSession>
-    ensures { Gives result (steps_of (items_view values.now)) }
+    ensures { UnlessOom result (steps_of (items_view values.now)) }
 {
     let mut steps = Items::new(alloc);
     for value in values {
@@ -143,7 +143,7 @@ fn document_in(alloc: Global, bytes: &[u8]) -> Result<Value, BadSession>
 ///
 /// Errors: `BadForm` if the bytes are of any other form; `OutOfMemory`.
 pub fn read_session(alloc: Global, bytes: &[u8]) -> Result<Items<SessionStep>, BadSession>
-    ensures { Gives result (session_of bytes.now) }
+    ensures { UnlessOom result (session_of bytes.now) }
 {
     let value = document_in(alloc, bytes)?;
     let steps = steps_of(alloc, array_of(&value)?)?;

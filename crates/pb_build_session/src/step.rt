@@ -3,8 +3,8 @@
 use crate::death::Death;
 use crate::pick::PickBy;
 use pb_data::Text;
-use pb_workspace_types::Options;
 use pb_place_types::PathText;
+use pb_workspace_types::Options;
 
 /// A step of a session: an edit of the outside world, an injected failure, or a build.
 #[derive(Drop)]

@@ -1,10 +1,10 @@
 //! What the JSON values of a session mean.
 
 ghost use Rattle.std.specs.Prelude.{◌≡◌, option_map, Ok, Err, IfOk, IfErr, ℕ, List};
-ghost use Rattle.pb_data.specs.Gives.{lifted};
+ghost use Rattle.pb_data.specs.UnlessOom.{lifted};
 ghost use Rattle.pb_place_types.specs.Paths.{parsed};
 ghost use Rattle.serde_json.specs.View.{view, items_view, members_view};
-ghost use Rattle.pb_build_session.specs.Faults.{Gives, of_path_fault};
+ghost use Rattle.pb_build_session.specs.Faults.{UnlessOom, of_path_fault};
 ghost use Rattle.pb_build_session.specs.Values.{text_of, number_of, path_in, path_of, pair_of, pair_in, array_of, only_member};
 
 use crate::fault::BadSession;
@@ -15,7 +15,7 @@ use std::alloc::Global;
 
 /// Returns a text.
 pub(crate) fn text_of(alloc: Global, value: &Value) -> Result<Text, BadSession>
-    ensures { Gives result (text_of (view value.now)) }
+    ensures { UnlessOom result (text_of (view value.now)) }
 {
     match value.as_str() {
         Some(text) => {
@@ -30,7 +30,7 @@ pub(crate) fn text_of(alloc: Global, value: &Value) -> Result<Text, BadSession>
 /// sign, a point or an exponent, as `-0`, `1.0` and `1e1`, and a greater one, is another kind of
 /// number.
 pub(crate) fn number_of(value: &Value) -> Result<u64, BadSession>
-    ensures { Gives result (number_of (view value.now)) }
+    ensures { UnlessOom result (number_of (view value.now)) }
 {
     match value.as_u64() {
         Some(number) => Ok(number),
@@ -40,7 +40,7 @@ pub(crate) fn number_of(value: &Value) -> Result<u64, BadSession>
 
 /// Returns the path in a text.
 pub(crate) fn path_in(alloc: Global, text: &str) -> Result<PathText, BadSession>
-    ensures { Gives result (path_in text.now) }
+    ensures { UnlessOom result (path_in text.now) }
 {
     let path = PathText::parse(alloc, text)?;
     Ok(path)
@@ -48,7 +48,7 @@ pub(crate) fn path_in(alloc: Global, text: &str) -> Result<PathText, BadSession>
 
 /// Returns a path.
 pub(crate) fn path_of(alloc: Global, value: &Value) -> Result<PathText, BadSession>
-    ensures { Gives result (path_of (view value.now)) }
+    ensures { UnlessOom result (path_of (view value.now)) }
 {
     let text = text_of(alloc, value)?;
     let path = path_in(alloc, text.as_str())?;
@@ -69,7 +69,7 @@ pub(crate) fn array_of(value: &Value) -> Result<&[Value], BadSession>
 /// Returns the two texts of a list of two.
 #[tactic(auto, using(crate::proofs::Pairs::pair_laws))]
 fn pair_in(alloc: Global, values: &[Value]) -> Result<(Text, Text), BadSession>
-    ensures { Gives result (pair_in (items_view values.now)) }
+    ensures { UnlessOom result (pair_in (items_view values.now)) }
 {
     match values {
         [first, second] => {
@@ -83,7 +83,7 @@ fn pair_in(alloc: Global, values: &[Value]) -> Result<(Text, Text), BadSession>
 
 /// Returns a list of two texts.
 pub(crate) fn pair_of(alloc: Global, value: &Value) -> Result<(Text, Text), BadSession>
-    ensures { Gives result (pair_of (view value.now)) }
+    ensures { UnlessOom result (pair_of (view value.now)) }
 {
     let pair = pair_in(alloc, array_of(value)?)?;
     Ok(pair)

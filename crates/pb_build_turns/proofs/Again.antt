@@ -29,22 +29,22 @@ use Rattle.pb_command_types.specs.declared.project.Project.{Project}
 use Rattle.pb_command_types.specs.declared.project.Setup.{Setup}
 use Rattle.pb_record.specs.Commands.{command_of as asked_command}
 use Rattle.pb_record.specs.declared.record.Record.{Record}
-use Rattle.pb_run.specs.Halves.{child_in, child_of}
+use Rattle.pb_run.specs.UnitSteps.{child_in, child_of}
 use Rattle.pb_run.specs.Running.{EndsBy, GivesRecord, IsJudged}
 use Rattle.pb_run.specs.Outcome.{ran_by, ran_of, unstarted}
-use Rattle.pb_run.specs.Standing.{IsInOrder, records_folder}
+use Rattle.pb_run.specs.Invariants.{IsInOrder, records_folder}
 use Rattle.pb_message_units.specs.Telling.{unit_lines}
 use Rattle.pb_run.specs.declared.begun.Awaited.{Awaited}
 use Rattle.pb_run.specs.declared.begun.Awaited.TheVariants as awaited
 use Rattle.pb_run.specs.declared.begun.Begun.{Begun as unit_begun}
-use Rattle.pb_run.specs.declared.begun.Launched.{Launched}
+use Rattle.pb_run.specs.declared.begun.SpawnedChild.{SpawnedChild}
 use Rattle.pb_run.specs.declared.ran.Ran.{Ran}
 use Rattle.pb_run.proofs.Commands.{command_same}
 use Rattle.pb_run.proofs.RecordedOthers.{agrees_still}
 use Rattle.pb_run.proofs.Units.{dep_info_inside}
 use Rattle.pb_run.proofs.Views.{is_for}
 use Rattle.pb_store_soundness.specs.Apart.{is_of}
-use Rattle.pb_store_soundness.specs.Grounded.{Standing}
+use Rattle.pb_store_soundness.specs.Grounded.{RecordMap}
 use Rattle.pb_store_soundness.specs.Inputs.{Agrees}
 use Rattle.pb_store_soundness.specs.Records.{out_of, place_of, reading, records}
 use Rattle.pb_store_soundness.proofs.Places.{out_in, place_in, record_same}
@@ -52,11 +52,11 @@ use Rattle.pb_store.specs.Differences.{FirstDifference, FirstOf, replayed}
 use Rattle.pb_store.specs.declared.difference.Difference.{Difference}
 use Rattle.pb_store.specs.declared.replaying.Replayed.{Replayed}
 use Rattle.pb_build_turns.specs.Calling.{ran_again, AnswersAgain, CarriesAgain, FliesAgain, WaitsAgain}
-use Rattle.pb_build_turns.specs.Crew.{needs_of, place_of_unit, places_of, IsManned, Moment}
+use Rattle.pb_build_turns.specs.Executor.{needs_of, place_of_unit, places_of, IsConsistent, BuildState}
 use Rattle.pb_build_turns.specs.Rows.{is_started}
-use Rattle.pb_build_turns.specs.Story.{states_in, AllAnswerAgain, FliesIn, OnlyOf, Replays, Story}
-use Rattle.pb_build_turns.specs.declared.crew.Aloft.{Aloft}
-use Rattle.pb_build_turns.specs.declared.crew.UnitCrew.{UnitCrew}
+use Rattle.pb_build_turns.specs.History.{states_in, AllAnswerAgain, FliesIn, OnlyOf, Replays, History}
+use Rattle.pb_build_turns.specs.declared.executor.RunningUnit.{RunningUnit}
+use Rattle.pb_build_turns.specs.declared.executor.UnitExecutor.{UnitExecutor}
 use Rattle.pb_build_turns.proofs.Happening.{none_of, started_other}
 use Rattle.pb_build_turns.proofs.Lists.{all_at_each, all_get, all_left, all_more, apart_places, get_map, get_set_within}
 use Rattle.pb_build_turns.proofs.Reaching.{all_reach, not_of_two}
@@ -107,7 +107,7 @@ command_stays setup project order es lawful i begun done done' d set place u has
 none_some : {A : Type 0} (x : A) → None ≡ Some x → ⊥
 none_some x e = cc
 
-no_child : (l : Launched) → Some l ≡ None → ⊥
+no_child : (l : SpawnedChild) → Some l ≡ None → ⊥
 no_child l e = cc
 
 ended_is : (x y : Ended) → ◌≡◌ {A = Result Ended StartFault} (Ok x) (Ok y) → x ≡ y
@@ -130,7 +130,7 @@ module _ (setup : Setup) (project : Project) (order : IsInOrder project) (first 
 
   -- it has begun, over what stands as at first, and nothing differed
   module _ (w w' : World) (stays : (q : List ℕ) → is_of (records_folder project) u.key q ≡ true → finite.get w.files q ≡ finite.get first.files q)
-      (sources : from_nothing project.workspace.target w ≡ from_nothing project.workspace.target first) (done : List (Option (List Directive))) (c : Command) (asks : c ≡ command_of setup project u done) (at : Standing) where
+      (sources : from_nothing project.workspace.target w ≡ from_nothing project.workspace.target first) (done : List (Option (List Directive))) (c : Command) (asks : c ≡ command_of setup project u done) (at : RecordMap) where
     its_target : c.target ≡ project.workspace.target
     its_target = ap (λ (x : Command). x.target) asks ∙ (is_for setup project u done (order.packages place u there)).target
 
@@ -181,9 +181,9 @@ module _ (setup : Setup) (project : Project) (order : IsInOrder project) (first 
 
 -- Nothing has begun.
 
-pub replays_first : (setup : Setup) (project : Project) (done : List (Option (List Directive))) (aloft : List Aloft) (w : World) → aloft ≡ [] → Replays setup project done aloft [] w w
+pub replays_first : (setup : Setup) (project : Project) (done : List (Option (List Directive))) (aloft : List RunningUnit) (w : World) → aloft ≡ [] → Replays setup project done aloft [] w w
 replays_first setup project done aloft w none = record {
-  waits = subst (AllByRecursion (λ (a : Aloft). FliesAgain setup project done w w a)) (sym none) tt;
+  waits = subst (AllByRecursion (λ (a : RunningUnit). FliesAgain setup project done w w a)) (sym none) tt;
   gave = λ place answer state started. absurd (no_answer (needs_of project) place answer state);
 }
 
@@ -196,18 +196,18 @@ gave_begun setup project done es first unit spawned untouched gave place answer 
     let (ne, before) = answered_before (states_in project es) unit place answer Untouched untouched state in
     gave place answer before (sym (started_other es unit place spawned ne) ∙ started)
 
-module _ (tells : Bool) (child : Answers) (first old : UnitCrew) (at now new : Moment) (still : ℕ → Type 0) (es : List (Event BadUnit)) (given : ℕ) (story : Story tells child first at old now still es given) (order : IsInOrder old.project) where
-  pub begun_again : (unit : ℕ) (u : Planned) → unit_at old.project unit ≡ Some u → slice_get (states_in old.project es) unit ≡ Some Untouched → (IsTrue tells → ChangesOnly (is_of (records_folder old.project) u.key) now.world new.world)
-      → (done : List (Option (List Directive))) → done ≡ old.done.items → (begun : unit_begun) → begun.command ≡ command_of old.setup old.project u done → (difference : Option Difference) (aloft' : List Aloft) → aloft' ≡ old.aloft.items ++ record { unit = unit; begun = begun } ∷ []
-      → (IsTrue tells → FirstDifference (records_folder old.project) u.key begun.command now.world difference) → is_some (child_of begun) ≡ is_some difference
-      → (IsTrue tells → GivesRecord (records (records_folder old.project) now.world u.key) begun.awaited) → (IsTrue tells → child_of begun ≡ None → new.world ≡ now.world)
-      → IsTrue tells → Replays old.setup old.project old.done.items aloft' (Began unit (is_some (child_of begun)) ∷ es) at.world new.world
+module _ (is_modelled : Bool) (child : Answers) (first old : UnitExecutor) (at now new : BuildState) (still : ℕ → Type 0) (es : List (Event BadUnit)) (given : ℕ) (story : History is_modelled child first at old now still es given) (order : IsInOrder old.project) where
+  pub begun_again : (unit : ℕ) (u : Planned) → unit_at old.project unit ≡ Some u → slice_get (states_in old.project es) unit ≡ Some Untouched → (IsTrue is_modelled → ChangesOnly (is_of (records_folder old.project) u.key) now.world new.world)
+      → (done : List (Option (List Directive))) → done ≡ old.done.items → (begun : unit_begun) → begun.command ≡ command_of old.setup old.project u done → (difference : Option Difference) (aloft' : List RunningUnit) → aloft' ≡ old.aloft.items ++ record { unit = unit; begun = begun } ∷ []
+      → (IsTrue is_modelled → FirstDifference (records_folder old.project) u.key begun.command now.world difference) → is_some (child_of begun) ≡ is_some difference
+      → (IsTrue is_modelled → GivesRecord (records (records_folder old.project) now.world u.key) begun.awaited) → (IsTrue is_modelled → child_of begun ≡ None → new.world ≡ now.world)
+      → IsTrue is_modelled → Replays old.setup old.project old.done.items aloft' (Began unit (is_some (child_of begun)) ∷ es) at.world new.world
   begun_again unit u there untouched only done same_done begun asks difference aloft' more differs spawned gives same t =
       let changes = story.changes t in record {
         waits =
-            subst (AllByRecursion (λ (a : Aloft). FliesAgain old.setup old.project old.done.items at.world new.world a)) (sym more)
-            (all_more (λ (a : Aloft). FliesAgain old.setup old.project old.done.items at.world new.world a) old.aloft.items (record { unit = unit; begun = begun } ∷ [])
-            (all_at_each (λ (a : Aloft). FliesAgain old.setup old.project old.done.items at.world now.world a) (λ (a : Aloft). FliesAgain old.setup old.project old.done.items at.world new.world a) old.aloft.items
+            subst (AllByRecursion (λ (a : RunningUnit). FliesAgain old.setup old.project old.done.items at.world new.world a)) (sym more)
+            (all_more (λ (a : RunningUnit). FliesAgain old.setup old.project old.done.items at.world new.world a) old.aloft.items (record { unit = unit; begun = begun } ∷ [])
+            (all_at_each (λ (a : RunningUnit). FliesAgain old.setup old.project old.done.items at.world now.world a) (λ (a : RunningUnit). FliesAgain old.setup old.project old.done.items at.world new.world a) old.aloft.items
             (λ k a at_k waits v at_v. carries_on old.setup old.project order at.world a.unit v at_v now.world new.world unit u there
             (λ e. another (states_in old.project es) unit a.unit untouched (Begun, (all_get (FliesIn old.project es now.world now.counts.starts.flying) old.aloft.items k a changes.flies at_k).state, refl) (sym e))
             (only t) old.done.items old.done.items refl a.begun.command a.begun.awaited (waits v at_v))
@@ -225,17 +225,17 @@ module _ (tells : Bool) (child : Answers) (first old : UnitCrew) (at now new : M
 
   -- A unit answers.
 
-  pub answered_again : (well : Type 0) (lawful : IsLawful (needs_of old.project) es) (index : ℕ) (a : Aloft) (u : Planned) → IsManned old now.counts → slice_get old.aloft.items index ≡ Some a → unit_at old.project a.unit ≡ Some u
-      → (IsTrue tells → ChangesOnly (is_of (records_folder old.project) u.key) now.world new.world) → (ran : Ran) (lines : List ℕ) → lines ≡ unit_lines old.project u ran.started ran.messages
-      → (IsTrue tells → (ended : Ended) × (left : World) × (mid : Counts) × EndsBy a.begun.awaited (Ok ended) well still now.world left now.counts mid × IsJudged old.project u a.begun.command a.begun.awaited ended left ran)
-      → (aloft' : List Aloft) (done' : List (Option (List Directive))) → aloft' ≡ remove old.aloft.items index → done' ≡ slice_set old.done.items a.unit ran.directives
-      → IsTrue tells → Replays old.setup old.project done' aloft' (Gave a.unit record { fault = ran.bad; lines = lines } ∷ es) at.world new.world
+  pub answered_again : (well : Type 0) (lawful : IsLawful (needs_of old.project) es) (index : ℕ) (a : RunningUnit) (u : Planned) → IsConsistent old now.counts → slice_get old.aloft.items index ≡ Some a → unit_at old.project a.unit ≡ Some u
+      → (IsTrue is_modelled → ChangesOnly (is_of (records_folder old.project) u.key) now.world new.world) → (ran : Ran) (lines : List ℕ) → lines ≡ unit_lines old.project u ran.started ran.messages
+      → (IsTrue is_modelled → (ended : Ended) × (left : World) × (mid : Counts) × EndsBy a.begun.awaited (Ok ended) well still now.world left now.counts mid × IsJudged old.project u a.begun.command a.begun.awaited ended left ran)
+      → (aloft' : List RunningUnit) (done' : List (Option (List Directive))) → aloft' ≡ remove old.aloft.items index → done' ≡ slice_set old.done.items a.unit ran.directives
+      → IsTrue is_modelled → Replays old.setup old.project done' aloft' (Gave a.unit record { fault = ran.bad; lines = lines } ∷ es) at.world new.world
   answered_again well lawful index a u manned at_index there only ran lines told judged aloft' done' is set t =
       let changes = story.changes t in
       let so : FliesIn old.project es now.world now.counts.starts.flying a = all_get (FliesIn old.project es now.world now.counts.starts.flying) old.aloft.items index a changes.flies at_index in record {
         waits =
-            subst (AllByRecursion (λ (x : Aloft). FliesAgain old.setup old.project done' at.world new.world x)) (sym is)
-            (all_left (λ (x : Aloft). FliesAgain old.setup old.project old.done.items at.world now.world x) (λ (x : Aloft). FliesAgain old.setup old.project done' at.world new.world x) old.aloft.items index
+            subst (AllByRecursion (λ (x : RunningUnit). FliesAgain old.setup old.project done' at.world new.world x)) (sym is)
+            (all_left (λ (x : RunningUnit). FliesAgain old.setup old.project old.done.items at.world now.world x) (λ (x : RunningUnit). FliesAgain old.setup old.project done' at.world new.world x) old.aloft.items index
             (λ j y at_j ne waits v at_v. carries_on old.setup old.project order at.world y.unit v at_v now.world new.world a.unit u there
             (apart_places (places_of old.aloft.items) j index y.unit a.unit manned.units_apart (get_map place_of_unit old.aloft.items j y at_j) (get_map place_of_unit old.aloft.items index a at_index) ne)
             (only t) old.done.items done' (stays so y.unit v (Begun, (all_get (FliesIn old.project es now.world now.counts.starts.flying) old.aloft.items j y changes.flies at_j).state, refl) at_v) y.begun.command y.begun.awaited (waits v at_v))
@@ -272,4 +272,4 @@ module _ (tells : Bool) (child : Answers) (first old : UnitCrew) (at now new : M
           let (ended, left, mid, ends, is_judged) = judged t in
           answers_so old.setup old.project order at.world a.unit u there now.world left a.begun.command ended well still now.counts mid ran lines told old.done.items done'
           (ap (λ (ds : List (Option (List Directive))). slice_get ds a.unit) set ∙ get_set_within old.done.items a.unit ran.directives within) (stays so a.unit u (Begun, so.state, refl) there)
-          a.begun.awaited (none_of (child_of a.begun) (sym so.started ∙ childless)) (all_get (λ (x : Aloft). FliesAgain old.setup old.project old.done.items at.world now.world x) old.aloft.items index a ((story.again t).waits) at_index u there) ends is_judged
+          a.begun.awaited (none_of (child_of a.begun) (sym so.started ∙ childless)) (all_get (λ (x : RunningUnit). FliesAgain old.setup old.project old.done.items at.world now.world x) old.aloft.items index a ((story.again t).waits) at_index u there) ends is_judged

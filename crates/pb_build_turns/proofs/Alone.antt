@@ -11,12 +11,12 @@ use Rattle.pb_place_types.specs.declared.child_in_flight.ChildInFlight.{ChildInF
 use Rattle.pb_place_types.proofs.Within.{at_itself}
 use Rattle.pb_command_types.specs.Targets.{unit_at}
 use Rattle.pb_command_types.specs.declared.project.Project.{Project}
-use Rattle.pb_run.specs.Halves.{WritesTo, child_of}
-use Rattle.pb_run.specs.Standing.{IsInOrder}
-use Rattle.pb_run.specs.declared.begun.Launched.{Launched}
-use Rattle.pb_build_turns.specs.Crew.{AreApart, IsOfPlan, place_of_unit, places_of, ticket_in, ticket_of_child, tickets_of}
-use Rattle.pb_build_turns.specs.Story.{Changes, FliesIn, NoneWritesTo}
-use Rattle.pb_build_turns.specs.declared.crew.Aloft.{Aloft}
+use Rattle.pb_run.specs.UnitSteps.{WritesTo, child_of}
+use Rattle.pb_run.specs.Invariants.{IsInOrder}
+use Rattle.pb_run.specs.declared.begun.SpawnedChild.{SpawnedChild}
+use Rattle.pb_build_turns.specs.Executor.{AreApart, IsOfPlan, place_of_unit, places_of, ticket_in, ticket_of_child, tickets_of}
+use Rattle.pb_build_turns.specs.History.{Changes, FliesIn, NoneWritesTo}
+use Rattle.pb_build_turns.specs.declared.executor.RunningUnit.{RunningUnit}
 use Rattle.pb_build_turns.proofs.Lists.{all_get, get_map}
 use Rattle.pb_unit.specs.declared.plan.Planned.{Planned}
 
@@ -38,35 +38,35 @@ has_ticket ticket (f ∷ flying) its at = elim (cases_eq f.ticket ticket) [
 ]
 
 -- the unit in flight whose child has this ticket
-record Owner (aloft : List Aloft) (ticket : ℕ) : Type 0 where
+record Owner (aloft : List RunningUnit) (ticket : ℕ) : Type 0 where
   pub index : ℕ
-  pub one : Aloft
+  pub one : RunningUnit
   pub at : slice_get aloft index ≡ Some one
-  pub child : Launched
+  pub child : SpawnedChild
   pub is : child_of one.begun ≡ Some child
   pub its : child.ticket ≡ ticket
 
-owner_of : (aloft : List Aloft) (ticket : ℕ) → Contains (tickets_of aloft) ticket → Owner aloft ticket
+owner_of : (aloft : List RunningUnit) (ticket : ℕ) → Contains (tickets_of aloft) ticket → Owner aloft ticket
 owner_of [] ticket has = absurd (contains_none ticket has)
 owner_of (y ∷ aloft) ticket has = by (child_of y.begun) refl (λ more. owner_of aloft ticket more) has
   where
     later : Owner aloft ticket → Owner (y ∷ aloft) ticket
     later o = record { index = suc o.index; one = o.one; at = o.at; child = o.child; is = o.is; its = o.its }
 
-    by : (o : Option Launched) → child_of y.begun ≡ o → (Contains (tickets_of aloft) ticket → Owner aloft ticket) → Contains (ticket_in o ++ tickets_of aloft) ticket → Owner (y ∷ aloft) ticket
+    by : (o : Option SpawnedChild) → child_of y.begun ≡ o → (Contains (tickets_of aloft) ticket → Owner aloft ticket) → Contains (ticket_in o ++ tickets_of aloft) ticket → Owner (y ∷ aloft) ticket
     by None is rest has = later (rest has)
     by (Some l) is rest has = elim (contains_cases l.ticket (tickets_of aloft) ticket has) [
       | inl same ↦ record { index = 0; one = y; at = refl; child = l; is = is; its = same }
       | inr more ↦ later (rest more)
     ]
 
-pub none_writes : (project : Project) (order : IsInOrder project) (first w : World) (aloft : List Aloft) (es : List (Event BadUnit)) (flying : List ChildInFlight) → AllByRecursion (IsOfPlan project) aloft → map ticket_of_child flying ≡ tickets_of aloft
+pub none_writes : (project : Project) (order : IsInOrder project) (first w : World) (aloft : List RunningUnit) (es : List (Event BadUnit)) (flying : List ChildInFlight) → AllByRecursion (IsOfPlan project) aloft → map ticket_of_child flying ≡ tickets_of aloft
     → Changes project first aloft es w flying → (place : ℕ) (u : Planned) → unit_at project place ≡ Some u → (Contains (places_of aloft) place → ⊥) → NoneWritesTo u.out flying
 none_writes project order first w aloft es flying of_plan tickets changes place u there grounded ticket its at out =
     let o = owner_of aloft ticket (subst (λ (ts : List ℕ). Contains ts ticket) tickets (has_ticket ticket flying its at)) in
     let planned : IsOfPlan project o.one = all_get (IsOfPlan project) aloft o.index o.one of_plan o.at in
     let flies : FliesIn project es w flying o.one = all_get (FliesIn project es w flying) aloft o.index o.one changes.flies o.at in
-    let writes : WritesTo planned.unit.out (Some o.child) flying = subst (λ (l : Option Launched). WritesTo planned.unit.out l flying) o.is (flies.writes planned.unit planned.there) in
+    let writes : WritesTo planned.unit.out (Some o.child) flying = subst (λ (l : Option SpawnedChild). WritesTo planned.unit.out l flying) o.is (flies.writes planned.unit planned.there) in
     let its_out : its.command.out ≡ Some planned.unit.out = subst (λ (c : Option ChildInFlight). IfSome c (λ s. s.command.out ≡ Some planned.unit.out)) (ap (λ (t : ℕ). child_at t flying) o.its ∙ at) writes in
     let same : planned.unit.out ≡ u.out = injective (sym its_out ∙ out) in
     let ne : o.one.unit ≢ place = λ e. grounded (subst (Contains (places_of aloft)) e (at_contains (places_of aloft) o.index o.one.unit (get_map place_of_unit aloft o.index o.one o.at))) in

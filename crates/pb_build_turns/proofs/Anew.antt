@@ -29,15 +29,15 @@ use Rattle.pb_place_types.specs.declared.place.StartFault.{StartFault}
 use Rattle.pb_command_types.specs.Targets.{crate_name_of, dep_info_of, unit_at}
 use Rattle.pb_command_types.specs.declared.project.Project.{Project}
 use Rattle.pb_command_types.specs.declared.project.Setup.{Setup}
-use Rattle.pb_run.specs.Halves.{IsInFlight, KeepsOthersStill, child_in, child_of}
+use Rattle.pb_run.specs.UnitSteps.{IsInFlight, KeepsOthersStill, child_in, child_of}
 use Rattle.pb_run.specs.Running.{EndsBy, HasEnded, IsJudged, IsSpawned}
 use Rattle.pb_run.specs.Outcome.{ran_by, ran_of}
-use Rattle.pb_run.specs.Standing.{IsInOrder, records_folder}
+use Rattle.pb_run.specs.Invariants.{IsInOrder, records_folder}
 use Rattle.pb_message_units.specs.Telling.{unit_lines}
 use Rattle.pb_run.specs.declared.begun.Awaited.{Awaited}
 use Rattle.pb_run.specs.declared.begun.Awaited.TheVariants as awaited
 use Rattle.pb_run.specs.declared.begun.Begun.{Begun as unit_begun}
-use Rattle.pb_run.specs.declared.begun.Launched.{Launched}
+use Rattle.pb_run.specs.declared.begun.SpawnedChild.{SpawnedChild}
 use Rattle.pb_run.specs.declared.ran.Ran.{Ran}
 use Rattle.pb_run.proofs.Answering.{files_kept, landed_files}
 use Rattle.pb_run.specs.declared.faults.StepFault.{StepFault}
@@ -48,11 +48,11 @@ use Rattle.pb_store_soundness.specs.Apart.{is_of}
 use Rattle.pb_store_soundness.specs.Records.{place_of}
 use Rattle.pb_store_soundness.specs.Inputs.{reply_in}
 use Rattle.pb_build_turns.specs.Calling.{ran_anew, AnswersAnew, CarriesAnew, FliesAnew}
-use Rattle.pb_build_turns.specs.Crew.{needs_of, place_of_unit, places_of, ticket_in, IsManned, Moment}
+use Rattle.pb_build_turns.specs.Executor.{needs_of, place_of_unit, places_of, ticket_in, IsConsistent, BuildState}
 use Rattle.pb_build_turns.specs.Rows.{is_started}
-use Rattle.pb_build_turns.specs.Story.{states_in, AllAnswerAnew, FliesIn, Replies, Story}
-use Rattle.pb_build_turns.specs.declared.crew.Aloft.{Aloft}
-use Rattle.pb_build_turns.specs.declared.crew.UnitCrew.{UnitCrew}
+use Rattle.pb_build_turns.specs.History.{states_in, AllAnswerAnew, FliesIn, Replies, History}
+use Rattle.pb_build_turns.specs.declared.executor.RunningUnit.{RunningUnit}
+use Rattle.pb_build_turns.specs.declared.executor.UnitExecutor.{UnitExecutor}
 use Rattle.pb_build_turns.proofs.Again.{command_stays}
 use Rattle.pb_build_turns.proofs.Happening.{started_other}
 use Rattle.pb_build_turns.proofs.Lists.{all_at_each, all_get, all_left, all_more, apart_places, flat_apart, get_map, get_set_within}
@@ -90,11 +90,11 @@ module _ (project : Project) (order : IsInOrder project) (es : List (Event BadUn
 
   module _ (child : Answers) (w w' : World) (only : ChangesOnly (is_of (records_folder project) u.key) w w') where
     -- the child of another flies on, and what it sees stands still
-    carries_on : (flying flying' : List ChildInFlight) (still still' : ℕ → Type 0) (o : Option Launched)
+    carries_on : (flying flying' : List ChildInFlight) (still still' : ℕ → Type 0) (o : Option SpawnedChild)
         → ((ticket : ℕ) (its : ChildInFlight) → IfSome o (λ l. ticket ≢ l.ticket) → child_at ticket flying ≡ Some its → child_at ticket flying' ≡ Some its)
         → KeepsOthersStill o (is_of (records_folder project) u.key) flying still still'
         → (place : ℕ) (v : Planned) → HasBegun (states_in project es) place → unit_at project place ≡ Some v → place ≢ i → (done done' : List (Option (List Directive))) → command_of setup project v done ≡ command_of setup project v done'
-        → (c : Command) (by : Awaited) → ((l : Launched) → child_in by ≡ Some l → IfSome o (λ k. l.ticket ≢ k.ticket)) → CarriesAnew child setup project done w flying still v c by → CarriesAnew child setup project done' w' flying' still' v c by
+        → (c : Command) (by : Awaited) → ((l : SpawnedChild) → child_in by ≡ Some l → IfSome o (λ k. l.ticket ≢ k.ticket)) → CarriesAnew child setup project done w flying still v c by → CarriesAnew child setup project done' w' flying' still' v c by
     carries_on flying flying' still still' o stay keeps place v has at ne done done' same c (awaited.Record again) apart carries = tt
     carries_on flying flying' still still' o stay keeps place v has at ne done done' same c (awaited.Child launched) apart carries =
         let (asks, flight) = carries in (
@@ -199,21 +199,21 @@ module _ (child : Answers) (setup : Setup) (project : Project) (order : IsInOrde
 
 -- Nothing has begun.
 
-pub replies_first : (child : Answers) (setup : Setup) (project : Project) (done : List (Option (List Directive))) (aloft : List Aloft) (w : World) (flying : List ChildInFlight) (still : ℕ → Type 0) → aloft ≡ [] → Replies child setup project done aloft [] w flying still
+pub replies_first : (child : Answers) (setup : Setup) (project : Project) (done : List (Option (List Directive))) (aloft : List RunningUnit) (w : World) (flying : List ChildInFlight) (still : ℕ → Type 0) → aloft ≡ [] → Replies child setup project done aloft [] w flying still
 replies_first child setup project done aloft w flying still none = record {
   waits = subst (AllByRecursion (FliesAnew child setup project done w flying still)) (sym none) tt;
   gave = λ place answer state started. absurd (no_answer (needs_of project) place answer state);
 }
 
-module _ (tells : Bool) (child : Answers) (first old : UnitCrew) (at now new : Moment) (still : ℕ → Type 0) (es : List (Event BadUnit)) (given : ℕ) (story : Story tells child first at old now still es given) (order : IsInOrder old.project) (lawful : IsLawful (needs_of old.project) es) where
-  flown : IsTrue tells → (k : ℕ) (a : Aloft) → slice_get old.aloft.items k ≡ Some a → FliesIn old.project es now.world now.counts.starts.flying a
+module _ (is_modelled : Bool) (child : Answers) (first old : UnitExecutor) (at now new : BuildState) (still : ℕ → Type 0) (es : List (Event BadUnit)) (given : ℕ) (story : History is_modelled child first at old now still es given) (order : IsInOrder old.project) (lawful : IsLawful (needs_of old.project) es) where
+  flown : IsTrue is_modelled → (k : ℕ) (a : RunningUnit) → slice_get old.aloft.items k ≡ Some a → FliesIn old.project es now.world now.counts.starts.flying a
   flown t k a at_k = all_get (FliesIn old.project es now.world now.counts.starts.flying) old.aloft.items k a (story.changes t).flies at_k
 
   -- A unit begins.
 
-  module _ (unit : ℕ) (u : Planned) (there : unit_at old.project unit ≡ Some u) (may : MayBegin (needs_of old.project) (states_in old.project es) unit) (only : IsTrue tells → ChangesOnly (is_of (records_folder old.project) u.key) now.world new.world) where
+  module _ (unit : ℕ) (u : Planned) (there : unit_at old.project unit ≡ Some u) (may : MayBegin (needs_of old.project) (states_in old.project es) unit) (only : IsTrue is_modelled → ChangesOnly (is_of (records_folder old.project) u.key) now.world new.world) where
     -- those that had answered, also where it could not
-    pub unbegun_anew : (spawned : Bool) → IsTrue tells → AllAnswerAnew child old.setup old.project (Began unit spawned ∷ es) old.done.items new.world
+    pub unbegun_anew : (spawned : Bool) → IsTrue is_modelled → AllAnswerAnew child old.setup old.project (Began unit spawned ∷ es) old.done.items new.world
     unbegun_anew spawned t place answer state started =
         let (ne, before) = answered_before (states_in old.project es) unit place answer Untouched may.untouched state in
         gave_on old.project order es lawful unit u there (ap is_good_at may.untouched) old.setup child now.world new.world (only t) (λ a is. untouched_apart a (sym may.untouched ∙ is)) old.done.items (story.anew t).gave
@@ -241,11 +241,11 @@ module _ (tells : Bool) (child : Answers) (first old : UnitCrew) (at now new : M
 
     -- it has
     pub begun_anew : (still' : ℕ → Type 0) → ((ticket : ℕ) (its : ChildInFlight) → child_at ticket now.counts.starts.flying ≡ Some its → child_at ticket new.counts.starts.flying ≡ Some its)
-        → (IsTrue tells → KeepsStillOutside (is_of (records_folder old.project) u.key) now.counts.starts.flying still still')
+        → (IsTrue is_modelled → KeepsStillOutside (is_of (records_folder old.project) u.key) now.counts.starts.flying still still')
         → (done : List (Option (List Directive))) → done ≡ old.done.items → (begun : unit_begun) → begun.command ≡ command_of old.setup old.project u done
-        → (IsTrue tells → IfSome (child_of begun) (λ l. IsSpawned (is_of (records_folder old.project) u.key) child begun.command now.world l.ticket new.counts.starts.flying still'))
-        → (aloft' : List Aloft) → aloft' ≡ old.aloft.items ++ record { unit = unit; begun = begun } ∷ []
-        → IsTrue tells → Replies child old.setup old.project old.done.items aloft' (Began unit (is_some (child_of begun)) ∷ es) new.world new.counts.starts.flying still'
+        → (IsTrue is_modelled → IfSome (child_of begun) (λ l. IsSpawned (is_of (records_folder old.project) u.key) child begun.command now.world l.ticket new.counts.starts.flying still'))
+        → (aloft' : List RunningUnit) → aloft' ≡ old.aloft.items ++ record { unit = unit; begun = begun } ∷ []
+        → IsTrue is_modelled → Replies child old.setup old.project old.done.items aloft' (Began unit (is_some (child_of begun)) ∷ es) new.world new.counts.starts.flying still'
     begun_anew still' stay keeps done same_done begun asks launched aloft' more t = record {
       waits = subst (AllByRecursion (FliesAnew child old.setup old.project old.done.items new.world new.counts.starts.flying still')) (sym more)
           (all_more (FliesAnew child old.setup old.project old.done.items new.world new.counts.starts.flying still') old.aloft.items (record { unit = unit; begun = begun } ∷ [])
@@ -266,22 +266,22 @@ module _ (tells : Bool) (child : Answers) (first old : UnitCrew) (at now new : M
 
   -- A unit answers.
 
-  module _ (index : ℕ) (a : Aloft) (u : Planned) (there : unit_at old.project a.unit ≡ Some u) (at_index : slice_get old.aloft.items index ≡ Some a) (only : IsTrue tells → ChangesOnly (is_of (records_folder old.project) u.key) now.world new.world) where
+  module _ (index : ℕ) (a : RunningUnit) (u : Planned) (there : unit_at old.project a.unit ≡ Some u) (at_index : slice_get old.aloft.items index ≡ Some a) (only : IsTrue is_modelled → ChangesOnly (is_of (records_folder old.project) u.key) now.world new.world) where
     -- a fault came in its place
-    pub unanswered_anew : IsTrue tells → AllAnswerAnew child old.setup old.project es old.done.items new.world
+    pub unanswered_anew : IsTrue is_modelled → AllAnswerAnew child old.setup old.project es old.done.items new.world
     unanswered_anew t =
         let state = (flown t index a at_index).state in
         gave_on old.project order es lawful a.unit u there (ap is_good_at state) old.setup child now.world new.world (only t) (λ b is. begun_apart b (sym state ∙ is)) old.done.items (story.anew t).gave
 
     -- it has
-    pub answered_anew : IsManned old now.counts → (still' : ℕ → Type 0)
+    pub answered_anew : IsConsistent old now.counts → (still' : ℕ → Type 0)
         → ((ticket : ℕ) (its : ChildInFlight) → IfSome (child_of a.begun) (λ l. ticket ≢ l.ticket) → child_at ticket now.counts.starts.flying ≡ Some its → child_at ticket new.counts.starts.flying ≡ Some its)
-        → (IsTrue tells → KeepsOthersStill (child_of a.begun) (is_of (records_folder old.project) u.key) now.counts.starts.flying still still')
+        → (IsTrue is_modelled → KeepsOthersStill (child_of a.begun) (is_of (records_folder old.project) u.key) now.counts.starts.flying still still')
         → (ran : Ran) (lines : List ℕ) → lines ≡ unit_lines old.project u ran.started ran.messages → ran.started ≡ is_some (child_of a.begun)
-        → (IsTrue tells → (ended : Ended) × (left : World) × (mid : Counts) × EndsBy a.begun.awaited (Ok ended) (IsTrue true) still now.world left now.counts mid × IsJudged old.project u a.begun.command a.begun.awaited ended left ran)
-        → (IsTrue tells → (answer : Result Ended StartFault) × (left : World) × (mid : Counts) × EndsBy a.begun.awaited answer (IsOk (well_of ran)) still now.world left now.counts mid × ChangesOnly (is_at_or_below (place_of (records_folder old.project) u.key)) left new.world)
-        → (aloft' : List Aloft) (done' : List (Option (List Directive))) → aloft' ≡ remove old.aloft.items index → done' ≡ slice_set old.done.items a.unit ran.directives
-        → IsTrue tells → Replies child old.setup old.project done' aloft' (Gave a.unit record { fault = ran.bad; lines = lines } ∷ es) new.world new.counts.starts.flying still'
+        → (IsTrue is_modelled → (ended : Ended) × (left : World) × (mid : Counts) × EndsBy a.begun.awaited (Ok ended) (IsTrue true) still now.world left now.counts mid × IsJudged old.project u a.begun.command a.begun.awaited ended left ran)
+        → (IsTrue is_modelled → (answer : Result Ended StartFault) × (left : World) × (mid : Counts) × EndsBy a.begun.awaited answer (IsOk (well_of ran)) still now.world left now.counts mid × ChangesOnly (is_at_or_below (place_of (records_folder old.project) u.key)) left new.world)
+        → (aloft' : List RunningUnit) (done' : List (Option (List Directive))) → aloft' ≡ remove old.aloft.items index → done' ≡ slice_set old.done.items a.unit ran.directives
+        → IsTrue is_modelled → Replies child old.setup old.project done' aloft' (Gave a.unit record { fault = ran.bad; lines = lines } ∷ es) new.world new.counts.starts.flying still'
     answered_anew manned still' stay keeps ran lines told started judged lands aloft' done' is set t =
         let state = (flown t index a at_index).state in record {
           waits = subst (AllByRecursion (FliesAnew child old.setup old.project done' new.world new.counts.starts.flying still')) (sym is)
@@ -303,12 +303,12 @@ module _ (tells : Bool) (child : Answers) (first old : UnitCrew) (at now new : M
           ];
         }
       where
-        commands : IsTrue tells → (place : ℕ) (v : Planned) → HasBegun (states_in old.project es) place → unit_at old.project place ≡ Some v → command_of old.setup old.project v old.done.items ≡ command_of old.setup old.project v done'
+        commands : IsTrue is_modelled → (place : ℕ) (v : Planned) → HasBegun (states_in old.project es) place → unit_at old.project place ≡ Some v → command_of old.setup old.project v old.done.items ≡ command_of old.setup old.project v done'
         commands t place v has at_v = command_stays old.setup old.project order es lawful a.unit (flown t index a at_index).state old.done.items done' ran.directives set place v has at_v
 
-        other_ticket : (j : ℕ) (y : Aloft) → slice_get old.aloft.items j ≡ Some y → j ≢ index → (l : Launched) → child_of y.begun ≡ Some l → (o : Option Launched) → child_of a.begun ≡ o → IfSome o (λ k. l.ticket ≢ k.ticket)
+        other_ticket : (j : ℕ) (y : RunningUnit) → slice_get old.aloft.items j ≡ Some y → j ≢ index → (l : SpawnedChild) → child_of y.begun ≡ Some l → (o : Option SpawnedChild) → child_of a.begun ≡ o → IfSome o (λ k. l.ticket ≢ k.ticket)
         other_ticket j y at_j ne l theirs None ours = tt
-        other_ticket j y at_j ne l theirs (Some k) ours = flat_apart (λ (x : Aloft). ticket_in (child_of x.begun)) old.aloft.items j index y a l.ticket k.ticket manned.tickets_apart at_j at_index (ap ticket_in theirs) (ap ticket_in ours) ne
+        other_ticket j y at_j ne l theirs (Some k) ours = flat_apart (λ (x : RunningUnit). ticket_in (child_of x.begun)) old.aloft.items j index y a l.ticket k.ticket manned.tickets_apart at_j at_index (ap ticket_in theirs) (ap ticket_in ours) ne
 
         within : a.unit < length old.done.items
         within = subst (λ n. a.unit < n) (sym manned.long) (slice_get_within old.project.plan.planned a.unit u there)

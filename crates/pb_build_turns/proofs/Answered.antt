@@ -14,14 +14,14 @@ use Rattle.pb_place_types.specs.World.{World}
 use Rattle.pb_place_types.specs.declared.child_in_flight.ChildInFlight.{ChildInFlight}
 use Rattle.pb_command_types.specs.Targets.{unit_at}
 use Rattle.pb_build_result.specs.declared.bad_unit.BadUnit.{BadUnit}
-use Rattle.pb_run.specs.Halves.{Footing, OnRecords, OnNothing, Basis, HoldsBy, Keeps, StandsGood, IsBegun, CanAnswer, BeginsApart, outcomes_in, child_of}
+use Rattle.pb_run.specs.UnitSteps.{Premise, TrustedRecords, NoRecords, BuildContext, HoldsBy, BuildInvariant, StandsGood, IsBegun, CanAnswer, BeginsApart, outcomes_in, child_of}
 use Rattle.pb_run.specs.Outcome.{Outcome, directives_in}
 use Rattle.pb_message_units.specs.Telling.{unit_lines}
 use Rattle.pb_run.specs.declared.begun.Begun.{Begun as unit_begun}
-use Rattle.pb_build_turns.specs.Crew.{places_of, place_of_unit, ticket_in, number_in, tickets_of, numbers_of, AreApart}
+use Rattle.pb_build_turns.specs.Executor.{places_of, place_of_unit, ticket_in, number_in, tickets_of, numbers_of, AreApart}
 use Rattle.pb_build_turns.specs.Rows.{is_started, fault_in, messages_in}
-use Rattle.pb_build_turns.specs.Story.{states_in, Happened, HasGiven, FliesSo}
-use Rattle.pb_build_turns.specs.declared.crew.Aloft.{Aloft}
+use Rattle.pb_build_turns.specs.History.{states_in, HistoryHolds, HasGiven, FliesSo}
+use Rattle.pb_build_turns.specs.declared.executor.RunningUnit.{RunningUnit}
 use Rattle.pb_build_turns.proofs.Lists.{all_left, all_get, apart_places, flat_apart, get_map, get_set_within}
 use Rattle.pb_build_turns.proofs.States.{good_set, answered_cases}
 use Rattle.pb_unit.specs.declared.plan.Planned.{Planned}
@@ -33,8 +33,8 @@ not_begun (Answered a) e f = cc
 
 -- What is kept, where the answer of a unit is not told.
 
-module _ (b : Basis) (ss : List (State BadUnit)) (done : List (Option (List Directive))) (next next' : Option ℕ) (w w' : World) (i : ℕ) (answer : Answer BadUnit) (d : Option (List Directive))
-    (old : Keeps b ss done next w) (new : Keeps b (slice_set ss i (Answered answer)) (slice_set done i d) next' w') (at : slice_get ss i ≡ Some Begun) where
+module _ (b : BuildContext) (ss : List (State BadUnit)) (done : List (Option (List Directive))) (next next' : Option ℕ) (w w' : World) (i : ℕ) (answer : Answer BadUnit) (d : Option (List Directive))
+    (old : BuildInvariant b ss done next w) (new : BuildInvariant b (slice_set ss i (Answered answer)) (slice_set done i d) next' w') (at : slice_get ss i ≡ Some Begun) where
   good_other : (place : ℕ) → is_good_at (slice_get ss place) ≡ true → i ≢ place
   good_other place good same = false≢true (ap is_good_at (sym at ∙ ap (slice_get ss) same) ∙ good)
 
@@ -56,11 +56,11 @@ module _ (b : Basis) (ss : List (State BadUnit)) (done : List (Option (List Dire
     holds = s.holds;
   }
 
-  records_back : (footing : Footing) → HoldsBy footing b (slice_set ss i (Answered answer)) next' w' → HoldsBy footing b ss next' w'
-  records_back OnRecords holds = record { honest = holds.honest; sound = holds.sound; ahead = holds.ahead; recorded = λ place good. holds.recorded place (good_now place good) }
-  records_back OnNothing holds = λ place u there is. holds place u there (get_set_other ss i place (Answered answer) (untouched_other place is) ∙ is)
+  records_back : (footing : Premise) → HoldsBy footing b (slice_set ss i (Answered answer)) next' w' → HoldsBy footing b ss next' w'
+  records_back TrustedRecords holds = record { honest = holds.honest; sound = holds.sound; ahead = holds.ahead; recorded = λ place good. holds.recorded place (good_now place good) }
+  records_back NoRecords holds = λ place u there is. holds place u there (get_set_other ss i place (Answered answer) (untouched_other place is) ∙ is)
 
-  pub keeps_back : Keeps b ss done next' w'
+  pub keeps_back : BuildInvariant b ss done next' w'
   keeps_back = record {
     long = old.long;
     sources_stay = new.sources_stay;
@@ -69,9 +69,9 @@ module _ (b : Basis) (ss : List (State BadUnit)) (done : List (Option (List Dire
     records = records_back b.footing new.records;
   }
 
-module _ (b : Basis) (done : List (Option (List Directive))) (aloft : List Aloft) (next next' : Option ℕ) (es : List (Event BadUnit)) (w w' : World)
-    (flying flying' : List ChildInFlight) (still still' : ℕ → Type 0) (h : Happened b done aloft next es w flying still)
-    (index : ℕ) (a : Aloft) (at : slice_get aloft index ≡ Some a) (u : Planned) (there : unit_at b.project a.unit ≡ Some u) where
+module _ (b : BuildContext) (done : List (Option (List Directive))) (aloft : List RunningUnit) (next next' : Option ℕ) (es : List (Event BadUnit)) (w w' : World)
+    (flying flying' : List ChildInFlight) (still still' : ℕ → Type 0) (h : HistoryHolds b done aloft next es w flying still)
+    (index : ℕ) (a : RunningUnit) (at : slice_get aloft index ≡ Some a) (u : Planned) (there : unit_at b.project a.unit ≡ Some u) where
   so : FliesSo b es next w flying still a
   so = all_get (FliesSo b es next w flying still) aloft index a h.begun at
 
@@ -86,26 +86,26 @@ module _ (b : Basis) (done : List (Option (List Directive))) (aloft : List Aloft
 
   module _ (places : AreApart (places_of aloft)) (tickets : AreApart (tickets_of aloft)) (numbers : AreApart (numbers_of aloft))
       (others : (other : ℕ) (its : unit_begun) → BeginsApart b (states_in b.project es) a.unit (child_of a.begun) other its next w flying still → IsBegun b other its next' w' flying' still') where
-    ne_unit : (j : ℕ) (y : Aloft) → slice_get aloft j ≡ Some y → j ≢ index → y.unit ≢ a.unit
+    ne_unit : (j : ℕ) (y : RunningUnit) → slice_get aloft j ≡ Some y → j ≢ index → y.unit ≢ a.unit
     ne_unit j y at_j ne = apart_places (places_of aloft) j index y.unit a.unit places (get_map place_of_unit aloft j y at_j) (get_map place_of_unit aloft index a at) ne
 
-    apart_from : (j : ℕ) (y : Aloft) → slice_get aloft j ≡ Some y → j ≢ index → FliesSo b es next w flying still y → BeginsApart b (states_in b.project es) a.unit (child_of a.begun) y.unit y.begun next w flying still
+    apart_from : (j : ℕ) (y : RunningUnit) → slice_get aloft j ≡ Some y → j ≢ index → FliesSo b es next w flying still y → BeginsApart b (states_in b.project es) a.unit (child_of a.begun) y.unit y.begun next w flying still
     apart_from j y at_j ne f = record {
       another = ne_unit j y at_j ne;
       unit = f.begun_so.unit;
       there = f.begun_so.there;
       reaches = f.reaches f.begun_so.unit f.begun_so.there;
-      tickets = λ ours theirs e g. flat_apart (λ (x : Aloft). ticket_in (child_of x.begun)) aloft j index y a theirs.ticket ours.ticket tickets at_j at (ap ticket_in g) (ap ticket_in e) ne;
-      numbers = λ ours theirs e g. flat_apart (λ (x : Aloft). number_in (child_of x.begun)) aloft j index y a theirs.number ours.number numbers at_j at (ap number_in g) (ap number_in e) ne;
+      tickets = λ ours theirs e g. flat_apart (λ (x : RunningUnit). ticket_in (child_of x.begun)) aloft j index y a theirs.ticket ours.ticket tickets at_j at (ap ticket_in g) (ap ticket_in e) ne;
+      numbers = λ ours theirs e g. flat_apart (λ (x : RunningUnit). number_in (child_of x.begun)) aloft j index y a theirs.number ours.number numbers at_j at (ap number_in g) (ap number_in e) ne;
       begun_so = f.begun_so;
     }
 
     -- No answer is noted.
 
-    flies_still : (j : ℕ) (y : Aloft) → slice_get aloft j ≡ Some y → j ≢ index → FliesSo b es next w flying still y → FliesSo b es next' w' flying' still' y
+    flies_still : (j : ℕ) (y : RunningUnit) → slice_get aloft j ≡ Some y → j ≢ index → FliesSo b es next w flying still y → FliesSo b es next' w' flying' still' y
     flies_still j y at_j ne f = record { state = f.state; begun_so = others y.unit y.begun (apart_from j y at_j ne f); reaches = f.reaches; started = f.started }
 
-    pub happened_less : Keeps b (states_in b.project es) done next' w' → Happened b done (remove aloft index) next' es w' flying' still'
+    pub happened_less : BuildInvariant b (states_in b.project es) done next' w' → HistoryHolds b done (remove aloft index) next' es w' flying' still'
     happened_less keeps = record {
       keeps = keeps;
       begun = all_left (FliesSo b es next w flying still) (FliesSo b es next' w' flying' still') aloft index flies_still h.begun;
@@ -114,10 +114,10 @@ module _ (b : Basis) (done : List (Option (List Directive))) (aloft : List Aloft
 
     -- The answer is noted.
 
-    module _ (answer : Answer BadUnit) (d : Option (List Directive)) (keeps : Keeps b (slice_set (states_in b.project es) a.unit (Answered answer)) (slice_set done a.unit d) next' w')
+    module _ (answer : Answer BadUnit) (d : Option (List Directive)) (keeps : BuildInvariant b (slice_set (states_in b.project es) a.unit (Answered answer)) (slice_set done a.unit d) next' w')
         (outcome : Outcome) (is : slice_get (outcomes_in b) a.unit ≡ Some outcome) (fault : answer.fault ≡ fault_in outcome) (noted : d ≡ directives_in outcome)
         (lines : answer.lines ≡ unit_lines b.project u (is_some (child_of a.begun)) (messages_in outcome)) where
-      flies_after : (j : ℕ) (y : Aloft) → slice_get aloft j ≡ Some y → j ≢ index → FliesSo b es next w flying still y → FliesSo b (Gave a.unit answer ∷ es) next' w' flying' still' y
+      flies_after : (j : ℕ) (y : RunningUnit) → slice_get aloft j ≡ Some y → j ≢ index → FliesSo b es next w flying still y → FliesSo b (Gave a.unit answer ∷ es) next' w' flying' still' y
       flies_after j y at_j ne f = record {
         state = get_set_other (states_in b.project es) a.unit y.unit (Answered answer) (λ e. ne_unit j y at_j ne (sym e)) ∙ f.state;
         begun_so = others y.unit y.begun (apart_from j y at_j ne f);
@@ -156,7 +156,7 @@ module _ (b : Basis) (done : List (Option (List Directive))) (aloft : List Aloft
         | inr (ne, before) ↦ old_given place other ne (h.gave place other before)
       ]
 
-      pub happened_after : Happened b (slice_set done a.unit d) (remove aloft index) next' (Gave a.unit answer ∷ es) w' flying' still'
+      pub happened_after : HistoryHolds b (slice_set done a.unit d) (remove aloft index) next' (Gave a.unit answer ∷ es) w' flying' still'
       happened_after = record {
         keeps = keeps;
         begun = all_left (FliesSo b es next w flying still) (FliesSo b (Gave a.unit answer ∷ es) next' w' flying' still') aloft index flies_after h.begun;

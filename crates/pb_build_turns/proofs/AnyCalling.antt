@@ -21,10 +21,10 @@ use Rattle.pb_place_types.proofs.Folders.{only_started}
 use Rattle.pb_command_types.specs.Targets.{unit_at}
 use Rattle.pb_command_types.specs.declared.project.Project.{Project}
 use Rattle.pb_command_types.specs.declared.project.Setup.{Setup}
-use Rattle.pb_run.specs.Halves.{IsInFlight, child_in}
+use Rattle.pb_run.specs.UnitSteps.{IsInFlight, child_in}
 use Rattle.pb_run.specs.Running.{CallsBehind, EndsBy, answered_called}
 use Rattle.pb_run.specs.Steps.{bare}
-use Rattle.pb_run.specs.Standing.{IsInOrder, records_folder}
+use Rattle.pb_run.specs.Invariants.{IsInOrder, records_folder}
 use Rattle.pb_run.specs.declared.begun.Awaited.{Awaited}
 use Rattle.pb_run.specs.declared.begun.Awaited.TheVariants as awaited
 use Rattle.pb_run.proofs.Recorded.{seen_still}
@@ -35,8 +35,8 @@ use Rattle.pb_store_soundness.specs.Records.{out_of, place_of, reading, records}
 use Rattle.pb_store_soundness.proofs.Places.{record_same}
 use Rattle.pb_store.specs.Differences.{IsReplayed, replayed}
 use Rattle.pb_build_turns.specs.Calling.{CarriesAgain, CarriesAnew, AnswersCalling, BeginsCalling, CallsOver, CallsToBegin, EndsAsReplied, FliesFor, CallBasis, call_basis_on_any}
-use Rattle.pb_build_turns.specs.Crew.{needs_of}
-use Rattle.pb_build_turns.specs.Story.{states_in}
+use Rattle.pb_build_turns.specs.Executor.{needs_of}
+use Rattle.pb_build_turns.specs.History.{states_in}
 use Rattle.pb_build_turns.proofs.States.{begun_more, begun_now}
 use Rattle.pb_build_turns.proofs.Staying.{place_its_own}
 use Rattle.pb_unit.specs.declared.plan.Planned.{Planned}

@@ -27,13 +27,13 @@ use Rattle.pb_place_types.specs.declared.place.StartFault.{StartFault}
 use Rattle.pb_place_types.proofs.CallsInTurn.{some_all}
 use Rattle.pb_command_types.specs.Targets.{unit_at}
 use Rattle.pb_run.specs.Running.{StopsToBegin, past_look, CallsBehind, EndsBy, GivesRecord, answered_called, Launches}
-use Rattle.pb_run.specs.Halves.{Footing, Basis, basis, IsInFlight, WaitsBy, child_in, child_of, command_in, view_in}
+use Rattle.pb_run.specs.UnitSteps.{Premise, BuildContext, basis, IsInFlight, WaitsBy, child_in, child_of, command_in, view_in}
 use Rattle.pb_run.specs.Steps.{IsOfUnit, bare, fault_in}
-use Rattle.pb_run.specs.Standing.{IsInOrder, records_folder}
+use Rattle.pb_run.specs.Invariants.{IsInOrder, records_folder}
 use Rattle.pb_run.specs.declared.begun.Awaited.{Awaited}
 use Rattle.pb_run.specs.declared.begun.Awaited.TheVariants as awaited
 use Rattle.pb_run.specs.declared.begun.Begun.{Begun as unit_begun}
-use Rattle.pb_run.specs.declared.begun.Launched.{Launched}
+use Rattle.pb_run.specs.declared.begun.SpawnedChild.{SpawnedChild}
 use Rattle.pb_run.specs.declared.faults.StepFault.{StepFault}
 use Rattle.pb_run.specs.declared.faults.StepFault.TheVariants as step
 use Rattle.pb_run.specs.declared.ran.Ran.{Ran}
@@ -43,11 +43,11 @@ use Rattle.pb_store_soundness.specs.Apart.{is_of}
 use Rattle.pb_store_soundness.specs.Records.{place_of, records}
 use Rattle.pb_store.specs.declared.fault.StoreFault.TheVariants as store
 use Rattle.pb_build_turns.specs.Calling.{FliesAgain, FliesAnew, AnswersCalling, BeginsCalling, CallsCut, CallsCutOnAny, CallsOver, CallsOnAny, CallsToBegin, EndsAsReplied, FliesFor, CallBasis, reply_by, call_basis, call_basis_on_any}
-use Rattle.pb_build_turns.specs.Crew.{needs_of, Moment}
+use Rattle.pb_build_turns.specs.Executor.{needs_of, BuildState}
 use Rattle.pb_build_turns.specs.Rows.{is_started}
-use Rattle.pb_build_turns.specs.Story.{states_in, FliesIn, FliesSo, FromFirst, Story}
-use Rattle.pb_build_turns.specs.declared.crew.Aloft.{Aloft}
-use Rattle.pb_build_turns.specs.declared.crew.UnitCrew.{UnitCrew}
+use Rattle.pb_build_turns.specs.History.{states_in, FliesIn, FliesSo, FromFirst, History}
+use Rattle.pb_build_turns.specs.declared.executor.RunningUnit.{RunningUnit}
+use Rattle.pb_build_turns.specs.declared.executor.UnitExecutor.{UnitExecutor}
 use Rattle.pb_build_turns.proofs.Again.{command_stays}
 use Rattle.pb_build_turns.proofs.AnyCalling.{WaitsTold, asks_now, calls_same, waits_on_any, writes_to_folder}
 use Rattle.pb_build_turns.proofs.Lists.{all_get}
@@ -60,7 +60,7 @@ module _ (told : CallBasis) (unit : ℕ) (u : Planned) (there : unit_at told.pro
   -- by its command, whatever that is told by
   begins_calling : (begun : unit_begun) → begun.command ≡ told.command unit u → ChangesOnly (is_of (records_folder told.project) u.key) before after → (child_of begun ≡ None → after ≡ before)
       → (child_of begun ≡ None → new ≡ past_look told.project u begun.command before old)
-      → ((launched : Launched) → child_of begun ≡ Some launched → Launches told.child begun.command launched.ticket (past_look told.project u begun.command before old) new)
+      → ((launched : SpawnedChild) → child_of begun ≡ Some launched → Launches told.child begun.command launched.ticket (past_look told.project u begun.command before old) new)
       → BeginsCalling told unit (is_some (child_of begun)) before old after new
   begins_calling begun asks only same looks launches = record {
     unit = u;
@@ -69,21 +69,21 @@ module _ (told : CallBasis) (unit : ℕ) (u : Planned) (there : unit_at told.pro
     calls = subst (λ (c : Command). CallsToBegin told.child told.project u c (is_some (child_of begun)) before old after new) asks (by_child (child_of begun) refl);
   }
     where
-      by_child : (o : Option Launched) → child_of begun ≡ o → CallsToBegin told.child told.project u begun.command (is_some o) before old after new
+      by_child : (o : Option SpawnedChild) → child_of begun ≡ o → CallsToBegin told.child told.project u begun.command (is_some o) before old after new
       by_child None is = (same is, looks is)
       by_child (Some launched) is = (launched.ticket, launches launched is)
 
-module _ (tells : Bool) (child : Answers) (first old : UnitCrew) (at now new : Moment) (still : ℕ → Type 0) (es : List (Event BadUnit)) (given unit : ℕ) (u : Planned)
-    (order : IsInOrder old.project) (there : unit_at old.project unit ≡ Some u) (story : Story tells child first at old now still es given) (may : MayBegin (needs_of old.project) (states_in old.project es) unit)
+module _ (is_modelled : Bool) (child : Answers) (first old : UnitExecutor) (at now new : BuildState) (still : ℕ → Type 0) (es : List (Event BadUnit)) (given unit : ℕ) (u : Planned)
+    (order : IsInOrder old.project) (there : unit_at old.project unit ≡ Some u) (story : History is_modelled child first at old now still es given) (may : MayBegin (needs_of old.project) (states_in old.project es) unit)
     (done : List (Option (List Directive))) (same_done : done ≡ old.done.items) where
-  abbrev Of : Footing → World → Basis
+  abbrev Of : Premise → World → BuildContext
   Of footing sources = basis footing child old.setup old.project sources
 
   abbrev OnAny : CallBasis
   OnAny = call_basis_on_any child old.setup old.project old.done.items
 
   abbrev ByCommand : Command → Type 0
-  ByCommand c = IsTrue tells → FromFirst child first at old (λ b. c ≡ command_in b unit u)
+  ByCommand c = IsTrue is_modelled → FromFirst child first at old (λ b. c ≡ command_in b unit u)
 
   commanded : (c : Command) → c ≡ command_of old.setup old.project u done → ByCommand c
   commanded c is t f s k =
@@ -92,10 +92,10 @@ module _ (tells : Bool) (child : Answers) (first old : UnitCrew) (at now new : M
       (can_begin (Of f s) order (states_in old.project es) old.done.items old.store.next now.world h.keeps unit u there may) c (is ∙ ap (command_of old.setup old.project u) same_done)
 
   -- it has begun
-  module _ (begun : unit_begun) (asks : begun.command ≡ command_of old.setup old.project u done) (only : IsTrue tells → ChangesOnly (is_of (records_folder old.project) u.key) now.world new.world) (same : IsTrue tells → child_of begun ≡ None → new.world ≡ now.world)
-      (looks : IsTrue tells → child_of begun ≡ None → new.counts ≡ past_look old.project u begun.command now.world now.counts)
-      (launches : (launched : Launched) → child_of begun ≡ Some launched → IsTrue tells → Launches child begun.command launched.ticket (past_look old.project u begun.command now.world now.counts) new.counts) where
-    pub calls_begun : IsTrue tells → FromFirst child first at old (λ b. CallsOver (call_basis b) (Began unit (is_some (child_of begun)) ∷ es) at.world at.counts new.world new.counts)
+  module _ (begun : unit_begun) (asks : begun.command ≡ command_of old.setup old.project u done) (only : IsTrue is_modelled → ChangesOnly (is_of (records_folder old.project) u.key) now.world new.world) (same : IsTrue is_modelled → child_of begun ≡ None → new.world ≡ now.world)
+      (looks : IsTrue is_modelled → child_of begun ≡ None → new.counts ≡ past_look old.project u begun.command now.world now.counts)
+      (launches : (launched : SpawnedChild) → child_of begun ≡ Some launched → IsTrue is_modelled → Launches child begun.command launched.ticket (past_look old.project u begun.command now.world now.counts) new.counts) where
+    pub calls_begun : IsTrue is_modelled → FromFirst child first at old (λ b. CallsOver (call_basis b) (Began unit (is_some (child_of begun)) ∷ es) at.world at.counts new.world new.counts)
     calls_begun t f s k = (
       now.world,
       now.counts,
@@ -103,8 +103,8 @@ module _ (tells : Bool) (child : Answers) (first old : UnitCrew) (at now new : M
       begins_calling (call_basis (Of f s)) unit u there now.world new.world now.counts new.counts begun (commanded begun.command asks t f s k) (only t) (same t) (looks t) (λ launched is. launches launched is t),
     )
 
-    pub calls_begun_on_any : (IsTrue tells → CallsOnAny child old.setup old.project old.done.items es at.world at.counts now.world now.counts)
-        → IsTrue tells → CallsOnAny child old.setup old.project old.done.items (Began unit (is_some (child_of begun)) ∷ es) at.world at.counts new.world new.counts
+    pub calls_begun_on_any : (IsTrue is_modelled → CallsOnAny child old.setup old.project old.done.items es at.world at.counts now.world now.counts)
+        → IsTrue is_modelled → CallsOnAny child old.setup old.project old.done.items (Began unit (is_some (child_of begun)) ∷ es) at.world at.counts new.world new.counts
     calls_begun_on_any calls t = (
       now.world,
       now.counts,
@@ -113,12 +113,12 @@ module _ (tells : Bool) (child : Answers) (first old : UnitCrew) (at now new : M
     )
 
   -- it could not
-  module _ (spawned : Bool) (fault : BuildFault) (named : IsOfUnit u.key fault) (stops : IsTrue tells → StopsToBegin old.project u (command_of old.setup old.project u done) (fault_in fault) now.world now.counts new.counts)
-      (only : IsTrue tells → ChangesOnly (is_of (records_folder old.project) u.key) now.world new.world) where
-    stops_beginning : (c : Command) → command_of old.setup old.project u done ≡ c → IsTrue tells → StopsToBegin old.project u c (fault_in fault) now.world now.counts new.counts
+  module _ (spawned : Bool) (fault : BuildFault) (named : IsOfUnit u.key fault) (stops : IsTrue is_modelled → StopsToBegin old.project u (command_of old.setup old.project u done) (fault_in fault) now.world now.counts new.counts)
+      (only : IsTrue is_modelled → ChangesOnly (is_of (records_folder old.project) u.key) now.world new.world) where
+    stops_beginning : (c : Command) → command_of old.setup old.project u done ≡ c → IsTrue is_modelled → StopsToBegin old.project u c (fault_in fault) now.world now.counts new.counts
     stops_beginning c is t = subst (λ (d : Command). StopsToBegin old.project u d (fault_in fault) now.world now.counts new.counts) is (stops t)
 
-    pub calls_unbegun : IsTrue tells → FromFirst child first at old (λ b. CallsCut (call_basis b) fault None (Began unit spawned ∷ es) es at.world at.counts new.world new.counts)
+    pub calls_unbegun : IsTrue is_modelled → FromFirst child first at old (λ b. CallsCut (call_basis b) fault None (Began unit spawned ∷ es) es at.world at.counts new.world new.counts)
     calls_unbegun t f s k = (
       now.world,
       now.counts,
@@ -126,8 +126,8 @@ module _ (tells : Bool) (child : Answers) (first old : UnitCrew) (at now new : M
       inr (unit, spawned, refl, record { unit = u; there = there; only = only t; named = named; stops = stops_beginning (command_in (Of f s) unit u) (commanded (command_of old.setup old.project u done) refl t f s k) t }),
     )
 
-    pub calls_unbegun_on_any : (IsTrue tells → CallsOnAny child old.setup old.project old.done.items es at.world at.counts now.world now.counts)
-        → IsTrue tells → CallsCutOnAny child old.setup old.project old.done.items fault None (Began unit spawned ∷ es) es at.world at.counts new.world new.counts
+    pub calls_unbegun_on_any : (IsTrue is_modelled → CallsOnAny child old.setup old.project old.done.items es at.world at.counts now.world now.counts)
+        → IsTrue is_modelled → CallsCutOnAny child old.setup old.project old.done.items fault None (Began unit spawned ∷ es) es at.world at.counts new.world new.counts
     calls_unbegun_on_any calls t = (
       now.world,
       now.counts,
@@ -181,7 +181,7 @@ module _ (told : CallBasis) (place : ℕ) (u : Planned) (there : unit_at told.pr
   stood_still (awaited.Record again) answer well well' mid waits so ends = ends
 
   -- and so a child gave its reply
-  replied_landing : (launched : Launched) (ended : Ended) → IsInFlight told.child c (told.sees place u left) launched.ticket old.starts.flying still
+  replied_landing : (launched : SpawnedChild) (ended : Ended) → IsInFlight told.child c (told.sees place u left) launched.ticket old.starts.flying still
       → (still launched.ticket → IfSome (child_at launched.ticket old.starts.flying) (λ spawned. LandsAs spawned before ended left)) → EndsAsReplied (reply_by told place u left) u ended left
   replied_landing launched ended flight lands =
       let landed : LandsAs (child_spawned (told.child c) c flight.spawned launched.ticket) before ended left =
@@ -223,21 +223,21 @@ module _ (told : CallBasis) (place : ℕ) (u : Planned) (there : unit_at told.pr
   }
 
 -- over a basis it waits so
-waits_in : (b : Basis) (place : ℕ) (u : Planned) (c : Command) (next : Option ℕ) (before left : World) (flying : List ChildInFlight) (still : ℕ → Type 0) (by : Awaited) → WaitsBy b u c (view_in b place u) by next before flying still
+waits_in : (b : BuildContext) (place : ℕ) (u : Planned) (c : Command) (next : Option ℕ) (before left : World) (flying : List ChildInFlight) (still : ℕ → Type 0) (by : Awaited) → WaitsBy b u c (view_in b place u) by next before flying still
     → WaitsTold (call_basis b) place u c before left flying still by
 waits_in b place u c next before left flying still (awaited.Child launched) waits = waits.0
 waits_in b place u c next before left flying still (awaited.Record again) waits = waits.1
 
 -- In the story of a crew.
 
-module _ (tells : Bool) (child : Answers) (first old : UnitCrew) (at now new : Moment) (still : ℕ → Type 0) (es : List (Event BadUnit)) (given : ℕ) (story : Story tells child first at old now still es given) (order : IsInOrder old.project)
-    (index : ℕ) (a : Aloft) (at_index : slice_get old.aloft.items index ≡ Some a) (u : Planned) (there : unit_at old.project a.unit ≡ Some u) where
-  abbrev On : Footing → World → Basis
+module _ (is_modelled : Bool) (child : Answers) (first old : UnitExecutor) (at now new : BuildState) (still : ℕ → Type 0) (es : List (Event BadUnit)) (given : ℕ) (story : History is_modelled child first at old now still es given) (order : IsInOrder old.project)
+    (index : ℕ) (a : RunningUnit) (at_index : slice_get old.aloft.items index ≡ Some a) (u : Planned) (there : unit_at old.project a.unit ≡ Some u) where
+  abbrev On : Premise → World → BuildContext
   On footing sources = basis footing child old.setup old.project sources
 
   -- what a call says that takes its answer
   abbrev pub Lands : Result Ran StepFault → Type 0
-  Lands said = IsTrue tells → (answer : Result Ended StartFault) × (left : World) × (mid : Counts) × EndsBy a.begun.awaited answer (IsOk said) still now.world left now.counts mid
+  Lands said = IsTrue is_modelled → (answer : Result Ended StartFault) × (left : World) × (mid : Counts) × EndsBy a.begun.awaited answer (IsOk said) still now.world left now.counts mid
       × ChangesOnly (is_at_or_below (place_of (records_folder old.project) u.key)) left new.world
       × CallsBehind a.begun.awaited (answered_called old.project u a.begun.command left a.begun.awaited) answer said mid new.counts
 
@@ -246,7 +246,7 @@ module _ (tells : Bool) (child : Answers) (first old : UnitCrew) (at now new : M
   Behind result said = (by : Awaited) (names : Ended → List Call) (answer : Result Ended StartFault) (k k' : Counts) → (IsOk said → IsOk answer) → CallsBehind by names answer said k k' → CallsBehind by names answer (bare result) k k'
 
   answers : (result : Result (Unit {0}) BuildFault) (said : Result Ran StepFault) → (IsOk result → IsOk said) → IfErr result (IsOfUnit u.key) → Behind result said → Lands said
-      → IsTrue tells → FromFirst child first at old (λ b. AnswersCalling (call_basis b) a.unit (is_started es a.unit) result now.world now.counts new.world new.counts)
+      → IsTrue is_modelled → FromFirst child first at old (λ b. AnswersCalling (call_basis b) a.unit (is_started es a.unit) result now.world now.counts new.world new.counts)
   answers result said so named same_calls lands t f s k =
       let h = story.happened t f s k in
       let so_begun = all_get (FliesSo (On f s) es old.store.next now.world now.counts.starts.flying still) old.aloft.items index a h.begun at_index in
@@ -258,28 +258,28 @@ module _ (tells : Bool) (child : Answers) (first old : UnitCrew) (at now new : M
       (has_answered a.begun.awaited answer (IsOk said) still now.world left now.counts mid ends) behind)
 
   -- it has answered
-  pub calls_answered : (answer : Answer BadUnit) (ran : Ran) → Lands (Ok ran) → IsTrue tells → FromFirst child first at old (λ b. CallsOver (call_basis b) (Gave a.unit answer ∷ es) at.world at.counts new.world new.counts)
+  pub calls_answered : (answer : Answer BadUnit) (ran : Ran) → Lands (Ok ran) → IsTrue is_modelled → FromFirst child first at old (λ b. CallsOver (call_basis b) (Gave a.unit answer ∷ es) at.world at.counts new.world new.counts)
   calls_answered answer ran lands t f s k =
       (now.world, now.counts, story.calls t f s k, answers (Ok tt) (Ok ran) (λ ok. ok) tt (λ by names said old new answered. behind_well by names said ran old new) lands t f s k)
 
   -- a fault came in its place
-  cut : (fault : BuildFault) (unit : ℕ) → unit ≡ a.unit → IsTrue tells → FromFirst child first at old (λ b. AnswersCalling (call_basis b) a.unit (is_started es a.unit) (Err fault) now.world now.counts new.world new.counts)
+  cut : (fault : BuildFault) (unit : ℕ) → unit ≡ a.unit → IsTrue is_modelled → FromFirst child first at old (λ b. AnswersCalling (call_basis b) a.unit (is_started es a.unit) (Err fault) now.world now.counts new.world new.counts)
       → FromFirst child first at old (λ b. CallsCut (call_basis b) fault (Some unit) es es at.world at.counts new.world new.counts)
   cut fault unit its t so f s k =
       (now.world, now.counts, story.calls t f s k, subst (λ n. AnswersCalling (call_basis (On f s)) n (is_started es n) (Err fault) now.world now.counts new.world new.counts) (sym its) (so f s k))
 
-  pub calls_unanswered : (fault : BuildFault) → IsOfUnit u.key fault → (unit : ℕ) → unit ≡ a.unit → Lands (Err (fault_in fault)) → IsTrue tells → FromFirst child first at old (λ b. CallsCut (call_basis b) fault (Some unit) es es at.world at.counts new.world new.counts)
+  pub calls_unanswered : (fault : BuildFault) → IsOfUnit u.key fault → (unit : ℕ) → unit ≡ a.unit → Lands (Err (fault_in fault)) → IsTrue is_modelled → FromFirst child first at old (λ b. CallsCut (call_basis b) fault (Some unit) es es at.world at.counts new.world new.counts)
   calls_unanswered fault named unit its lands t = cut fault unit its t (answers (Err fault) (Err (fault_in fault)) (λ ok. ok) named (λ by names said old new answered. behind_badly by names said (fault_in fault) old new) lands t)
 
   -- memory is refused for its lines
-  pub calls_untold : (ran : Ran) (unit : ℕ) → unit ≡ a.unit → Lands (Ok ran) → IsTrue tells → FromFirst child first at old (λ b. CallsCut (call_basis b) OutOfMemory (Some unit) es es at.world at.counts new.world new.counts)
+  pub calls_untold : (ran : Ran) (unit : ℕ) → unit ≡ a.unit → Lands (Ok ran) → IsTrue is_modelled → FromFirst child first at old (λ b. CallsCut (call_basis b) OutOfMemory (Some unit) es es at.world at.counts new.world new.counts)
   calls_untold ran unit its lands t = cut OutOfMemory unit its t (answers (Err OutOfMemory) (Ok ran) (λ none. refl) tt (λ by names said old new answered. behind_untold by names said ran old new (answered refl)) lands t)
 
   -- The same over any records.
 
-  module _ (lawful : IsLawful (needs_of old.project) es) (calls : IsTrue tells → CallsOnAny child old.setup old.project old.done.items es at.world at.counts now.world now.counts)
-      (anew : IsTrue tells → FliesAnew child old.setup old.project old.done.items now.world now.counts.starts.flying still a) where
-    so_flies : IsTrue tells → FliesIn old.project es now.world now.counts.starts.flying a
+  module _ (lawful : IsLawful (needs_of old.project) es) (calls : IsTrue is_modelled → CallsOnAny child old.setup old.project old.done.items es at.world at.counts now.world now.counts)
+      (anew : IsTrue is_modelled → FliesAnew child old.setup old.project old.done.items now.world now.counts.starts.flying still a) where
+    so_flies : IsTrue is_modelled → FliesIn old.project es now.world now.counts.starts.flying a
     so_flies t = all_get (FliesIn old.project es now.world now.counts.starts.flying) old.aloft.items index a (story.changes t).flies at_index
 
     -- it reaches none that is in flight
@@ -289,10 +289,10 @@ module _ (tells : Bool) (child : Answers) (first old : UnitCrew) (at now new : M
         ∙ good_at (states_in old.project es) u.reaches p (all_reach old.project order es lawful a.unit u (Begun, begun, refl) there) among)
 
     answers_on_any : (done' : List (Option (List Directive))) → command_of old.setup old.project u old.done.items ≡ command_of old.setup old.project u done' → (result : Result (Unit {0}) BuildFault) (said : Result Ran StepFault) → (IsOk result → IsOk said) → IfErr result (IsOfUnit u.key) → Behind result said → Lands said
-        → IsTrue tells → AnswersCalling (call_basis_on_any child old.setup old.project done') a.unit (is_started es a.unit) result now.world now.counts new.world new.counts
+        → IsTrue is_modelled → AnswersCalling (call_basis_on_any child old.setup old.project done') a.unit (is_started es a.unit) result now.world now.counts new.world new.counts
     answers_on_any done' same result said so named same_calls lands t =
         let flies = so_flies t in
-        let carries = all_get (λ (x : Aloft). FliesAgain old.setup old.project old.done.items at.world now.world x) old.aloft.items index a ((story.again t).waits) at_index u there in
+        let carries = all_get (λ (x : RunningUnit). FliesAgain old.setup old.project old.done.items at.world now.world x) old.aloft.items index a ((story.again t).waits) at_index u there in
         let (answer, left, mid, ends, only, behind) = lands t in
         let asks = asks_now child old.setup old.project order a.unit u there old.done.items at.world now.world now.counts still a.begun.command a.begun.awaited carries (anew t u there) in
         answers_calling (call_basis_on_any child old.setup old.project done') a.unit u there a.begun.command (asks ∙ same)
@@ -303,7 +303,7 @@ module _ (tells : Bool) (child : Answers) (first old : UnitCrew) (at now new : M
 
     -- it has answered; what is noted of it changes no command of those that have begun
     pub calls_answered_on_any : (done' : List (Option (List Directive))) (d : Option (List Directive)) → done' ≡ slice_set old.done.items a.unit d → (answer : Answer BadUnit) (ran : Ran) → Lands (Ok ran)
-        → IsTrue tells → CallsOnAny child old.setup old.project done' (Gave a.unit answer ∷ es) at.world at.counts new.world new.counts
+        → IsTrue is_modelled → CallsOnAny child old.setup old.project done' (Gave a.unit answer ∷ es) at.world at.counts new.world new.counts
     calls_answered_on_any done' d set answer ran lands t =
         let flies = so_flies t in
         let same : (place : ℕ) → HasBegun (states_in old.project es) place → (v : Planned) → unit_at old.project place ≡ Some v → command_of old.setup old.project v old.done.items ≡ command_of old.setup old.project v done' =
@@ -315,7 +315,7 @@ module _ (tells : Bool) (child : Answers) (first old : UnitCrew) (at now new : M
         )
 
     -- a fault came in its place
-    cut_on_any : (fault : BuildFault) (unit : ℕ) → unit ≡ a.unit → IsTrue tells → (AnswersCalling (call_basis_on_any child old.setup old.project old.done.items) a.unit (is_started es a.unit) (Err fault) now.world now.counts new.world new.counts)
+    cut_on_any : (fault : BuildFault) (unit : ℕ) → unit ≡ a.unit → IsTrue is_modelled → (AnswersCalling (call_basis_on_any child old.setup old.project old.done.items) a.unit (is_started es a.unit) (Err fault) now.world now.counts new.world new.counts)
         → CallsCutOnAny child old.setup old.project old.done.items fault (Some unit) es es at.world at.counts new.world new.counts
     cut_on_any fault unit its t so = (
       now.world,
@@ -324,11 +324,11 @@ module _ (tells : Bool) (child : Answers) (first old : UnitCrew) (at now new : M
       subst (λ n. AnswersCalling (call_basis_on_any child old.setup old.project old.done.items) n (is_started es n) (Err fault) now.world now.counts new.world new.counts) (sym its) (so),
     )
 
-    pub calls_unanswered_on_any : (fault : BuildFault) → IsOfUnit u.key fault → (unit : ℕ) → unit ≡ a.unit → Lands (Err (fault_in fault)) → IsTrue tells → CallsCutOnAny child old.setup old.project old.done.items fault (Some unit) es es at.world at.counts new.world new.counts
+    pub calls_unanswered_on_any : (fault : BuildFault) → IsOfUnit u.key fault → (unit : ℕ) → unit ≡ a.unit → Lands (Err (fault_in fault)) → IsTrue is_modelled → CallsCutOnAny child old.setup old.project old.done.items fault (Some unit) es es at.world at.counts new.world new.counts
     calls_unanswered_on_any fault named unit its lands t =
         cut_on_any fault unit its t (answers_on_any old.done.items refl (Err fault) (Err (fault_in fault)) (λ ok. ok) named (λ by names said old new answered. behind_badly by names said (fault_in fault) old new) lands t)
 
     -- memory is refused for its lines
-    pub calls_untold_on_any : (ran : Ran) (unit : ℕ) → unit ≡ a.unit → Lands (Ok ran) → IsTrue tells → CallsCutOnAny child old.setup old.project old.done.items OutOfMemory (Some unit) es es at.world at.counts new.world new.counts
+    pub calls_untold_on_any : (ran : Ran) (unit : ℕ) → unit ≡ a.unit → Lands (Ok ran) → IsTrue is_modelled → CallsCutOnAny child old.setup old.project old.done.items OutOfMemory (Some unit) es es at.world at.counts new.world new.counts
     calls_untold_on_any ran unit its lands t =
         cut_on_any OutOfMemory unit its t (answers_on_any old.done.items refl (Err OutOfMemory) (Ok ran) (λ none. refl) tt (λ by names said old new answered. behind_untold by names said ran old new (answered refl)) lands t)

@@ -13,15 +13,15 @@ use Rattle.pb_place_types.specs.declared.child_in_flight.ChildInFlight.{ChildInF
 use Rattle.pb_command_types.specs.Targets.{unit_at}
 use Rattle.pb_build_result.specs.declared.bad_unit.BadUnit.{BadUnit}
 use Rattle.pb_command_types.specs.declared.project.Project.{Project}
-use Rattle.pb_run.specs.Halves.{WritesTo, child_of}
-use Rattle.pb_run.specs.Standing.{IsInOrder, records_folder}
-use Rattle.pb_run.specs.declared.begun.Launched.{Launched}
+use Rattle.pb_run.specs.UnitSteps.{WritesTo, child_of}
+use Rattle.pb_run.specs.Invariants.{IsInOrder, records_folder}
+use Rattle.pb_run.specs.declared.begun.SpawnedChild.{SpawnedChild}
 use Rattle.pb_run.proofs.Writes.{flying_at}
 use Rattle.pb_store_soundness.specs.Apart.{is_of}
-use Rattle.pb_build_turns.specs.Crew.{AreApart, WritesOwn, places_of, place_of_unit, tickets_of, ticket_in}
+use Rattle.pb_build_turns.specs.Executor.{AreApart, WritesOwn, places_of, place_of_unit, tickets_of, ticket_in}
 use Rattle.pb_build_turns.specs.Rows.{is_started}
-use Rattle.pb_build_turns.specs.Story.{states_in, Changes, FliesBeside, FliesIn, HasNoRecord, OnlyOf}
-use Rattle.pb_build_turns.specs.declared.crew.Aloft.{Aloft}
+use Rattle.pb_build_turns.specs.History.{states_in, Changes, FliesBeside, FliesIn, HasNoRecord, OnlyOf}
+use Rattle.pb_build_turns.specs.declared.executor.RunningUnit.{RunningUnit}
 use Rattle.pb_build_turns.proofs.Happening.{started_now, started_other}
 use Rattle.pb_build_turns.proofs.Unkept.{bad_begun, bad_given, bad_less, none_bad, none_still}
 use Rattle.pb_build_turns.proofs.Lists.{all_as, all_more, all_at_each, all_get, all_left, apart_places, flat_apart, get_map}
@@ -29,8 +29,8 @@ use Rattle.pb_build_turns.proofs.States.{another, begun_more, begun_now}
 use Rattle.pb_unit.specs.declared.plan.Planned.{Planned}
 
 -- the child of a unit in flight, where another call was made meanwhile
-pub writes_on : (out : List ℕ) (o : Option Launched) (flying flying' : List ChildInFlight) → IfSome o (λ l. is_flying l.ticket flying ≡ true)
-    → ((l : Launched) → o ≡ Some l → (its : ChildInFlight) → child_at l.ticket flying ≡ Some its → child_at l.ticket flying' ≡ Some its) → WritesTo out o flying → WritesTo out o flying'
+pub writes_on : (out : List ℕ) (o : Option SpawnedChild) (flying flying' : List ChildInFlight) → IfSome o (λ l. is_flying l.ticket flying ≡ true)
+    → ((l : SpawnedChild) → o ≡ Some l → (its : ChildInFlight) → child_at l.ticket flying ≡ Some its → child_at l.ticket flying' ≡ Some its) → WritesTo out o flying → WritesTo out o flying'
 writes_on out None flying flying' flies stay writes = tt
 writes_on out (Some l) flying flying' flies stay writes =
     let (f, at) = flying_at l.ticket flying flies in
@@ -38,11 +38,11 @@ writes_on out (Some l) flying flying' flies stay writes =
 
 -- The children of units in flight write into their units' folders.
 
-module _ (project : Project) (aloft : List Aloft) (flying flying' : List ChildInFlight) (flies : (index : ℕ) (a : Aloft) → slice_get aloft index ≡ Some a → IfSome (child_of a.begun) (λ l. is_flying l.ticket flying ≡ true))
+module _ (project : Project) (aloft : List RunningUnit) (flying flying' : List ChildInFlight) (flies : (index : ℕ) (a : RunningUnit) → slice_get aloft index ≡ Some a → IfSome (child_of a.begun) (λ l. is_flying l.ticket flying ≡ true))
     (own : AllByRecursion (WritesOwn project flying) aloft) where
   -- also with one more
-  pub owns_more : ((ticket : ℕ) (its : ChildInFlight) → child_at ticket flying ≡ Some its → child_at ticket flying' ≡ Some its) → (a : Aloft) (u : Planned) → unit_at project a.unit ≡ Some u → WritesTo u.out (child_of a.begun) flying'
-      → (aloft' : List Aloft) → aloft' ≡ aloft ++ a ∷ [] → AllByRecursion (WritesOwn project flying') aloft'
+  pub owns_more : ((ticket : ℕ) (its : ChildInFlight) → child_at ticket flying ≡ Some its → child_at ticket flying' ≡ Some its) → (a : RunningUnit) (u : Planned) → unit_at project a.unit ≡ Some u → WritesTo u.out (child_of a.begun) flying'
+      → (aloft' : List RunningUnit) → aloft' ≡ aloft ++ a ∷ [] → AllByRecursion (WritesOwn project flying') aloft'
   owns_more stay a u there writes aloft' is =
       subst (AllByRecursion (WritesOwn project flying')) (sym is)
       (all_more (WritesOwn project flying') aloft (a ∷ [])
@@ -50,17 +50,17 @@ module _ (project : Project) (aloft : List Aloft) (flying flying' : List ChildIn
       ((λ v at_v. subst (λ (x : Planned). WritesTo x.out (child_of a.begun) flying') (injective (sym there ∙ at_v)) writes), tt))
 
   -- also with one less
-  pub owns_less : (index : ℕ) (a : Aloft) → slice_get aloft index ≡ Some a → AreApart (tickets_of aloft)
+  pub owns_less : (index : ℕ) (a : RunningUnit) → slice_get aloft index ≡ Some a → AreApart (tickets_of aloft)
       → ((ticket : ℕ) (its : ChildInFlight) → IfSome (child_of a.begun) (λ l. ticket ≢ l.ticket) → child_at ticket flying ≡ Some its → child_at ticket flying' ≡ Some its)
-      → (aloft' : List Aloft) → aloft' ≡ remove aloft index → AllByRecursion (WritesOwn project flying') aloft'
+      → (aloft' : List RunningUnit) → aloft' ≡ remove aloft index → AllByRecursion (WritesOwn project flying') aloft'
   owns_less index a at tickets stay aloft' is =
       subst (AllByRecursion (WritesOwn project flying')) (sym is)
       (all_left (WritesOwn project flying) (WritesOwn project flying') aloft index
       (λ j y at_j ne its v at_v. writes_on v.out (child_of y.begun) flying flying' (flies j y at_j) (λ l theirs it. stay l.ticket it (other j y at_j ne l theirs (child_of a.begun) refl)) (its v at_v)) own)
     where
-      other : (j : ℕ) (y : Aloft) → slice_get aloft j ≡ Some y → j ≢ index → (l : Launched) → child_of y.begun ≡ Some l → (o : Option Launched) → child_of a.begun ≡ o → IfSome o (λ k. l.ticket ≢ k.ticket)
+      other : (j : ℕ) (y : RunningUnit) → slice_get aloft j ≡ Some y → j ≢ index → (l : SpawnedChild) → child_of y.begun ≡ Some l → (o : Option SpawnedChild) → child_of a.begun ≡ o → IfSome o (λ k. l.ticket ≢ k.ticket)
       other j y at_j ne l theirs None ours = tt
-      other j y at_j ne l theirs (Some k) ours = flat_apart (λ (x : Aloft). ticket_in (child_of x.begun)) aloft j index y a l.ticket k.ticket tickets at_j at (ap ticket_in theirs) (ap ticket_in ours) ne
+      other j y at_j ne l theirs (Some k) ours = flat_apart (λ (x : RunningUnit). ticket_in (child_of x.begun)) aloft j index y a l.ticket k.ticket tickets at_j at (ap ticket_in theirs) (ap ticket_in ours) ne
 
 -- only what is of these units was changed, also where one more has begun
 only_more : (project : Project) (es : List (Event BadUnit)) (e : Event BadUnit) (first w w' : World) (unit : ℕ) (u : Planned) → unit_at project unit ≡ Some u
@@ -73,14 +73,14 @@ only_more project es e first w w' unit u there now before only old = record {
 -- Whose answer was taken is none of those in flight.
 
 -- where none was
-pub beside_none : (project : Project) (first : World) (aloft : List Aloft) (es : List (Event BadUnit)) (w : World) (flying : List ChildInFlight) → Changes project first aloft es w flying → (aloft' : List Aloft) → aloft' ≡ aloft → AllByRecursion (FliesBeside project es None) aloft'
+pub beside_none : (project : Project) (first : World) (aloft : List RunningUnit) (es : List (Event BadUnit)) (w : World) (flying : List ChildInFlight) → Changes project first aloft es w flying → (aloft' : List RunningUnit) → aloft' ≡ aloft → AllByRecursion (FliesBeside project es None) aloft'
 beside_none project first aloft es w flying old aloft' is =
     subst (AllByRecursion (FliesBeside project es None)) (sym is)
     (all_as (FliesIn project es w flying) (FliesBeside project es None) aloft (λ a f. record { state = f.state; started = f.started; other = λ e. clash e }) old.flies)
 
 -- it flies no more
-pub beside_asked : (project : Project) (first : World) (aloft : List Aloft) (es : List (Event BadUnit)) (w : World) (flying : List ChildInFlight) → Changes project first aloft es w flying → (index : ℕ) (a : Aloft) → AreApart (places_of aloft) → slice_get aloft index ≡ Some a
-    → (aloft' : List Aloft) → aloft' ≡ remove aloft index → AllByRecursion (FliesBeside project es (Some a.unit)) aloft'
+pub beside_asked : (project : Project) (first : World) (aloft : List RunningUnit) (es : List (Event BadUnit)) (w : World) (flying : List ChildInFlight) → Changes project first aloft es w flying → (index : ℕ) (a : RunningUnit) → AreApart (places_of aloft) → slice_get aloft index ≡ Some a
+    → (aloft' : List RunningUnit) → aloft' ≡ remove aloft index → AllByRecursion (FliesBeside project es (Some a.unit)) aloft'
 beside_asked project first aloft es w flying old index a places at aloft' is =
     subst (AllByRecursion (FliesBeside project es (Some a.unit))) (sym is)
     (all_left (FliesIn project es w flying) (FliesBeside project es (Some a.unit)) aloft index (λ j y at_j ne f. record {
@@ -91,20 +91,20 @@ beside_asked project first aloft es w flying old index a places at aloft' is =
 
 -- Nothing has begun.
 
-pub changes_first : (project : Project) (w : World) (aloft : List Aloft) (flying : List ChildInFlight) → aloft ≡ [] → Changes project w aloft [] w flying
+pub changes_first : (project : Project) (w : World) (aloft : List RunningUnit) (flying : List ChildInFlight) → aloft ≡ [] → Changes project w aloft [] w flying
 changes_first project w aloft flying none = record {
   flies = subst (AllByRecursion (FliesIn project [] w flying)) (sym none) tt;
   only = record { variables = refl; files = λ q outside. refl };
   unkept = none_bad project w;
 }
 
-module _ (project : Project) (order : IsInOrder project) (first : World) (aloft : List Aloft) (es : List (Event BadUnit)) (w w' : World) (flying flying' : List ChildInFlight) (old : Changes project first aloft es w flying)
-    (flies : (index : ℕ) (a : Aloft) → slice_get aloft index ≡ Some a → IfSome (child_of a.begun) (λ l. is_flying l.ticket flying ≡ true)) where
+module _ (project : Project) (order : IsInOrder project) (first : World) (aloft : List RunningUnit) (es : List (Event BadUnit)) (w w' : World) (flying flying' : List ChildInFlight) (old : Changes project first aloft es w flying)
+    (flies : (index : ℕ) (a : RunningUnit) → slice_get aloft index ≡ Some a → IfSome (child_of a.begun) (λ l. is_flying l.ticket flying ≡ true)) where
   -- A unit begins.
 
   module _ (unit : ℕ) (u : Planned) (there : unit_at project unit ≡ Some u) (untouched : slice_get (states_in project es) unit ≡ Some Untouched) (only : ChangesOnly (is_of (records_folder project) u.key) w w')
       (stay : (ticket : ℕ) (its : ChildInFlight) → child_at ticket flying ≡ Some its → child_at ticket flying' ≡ Some its) (spawned : Bool) where
-    flies_on : (index : ℕ) (a : Aloft) → slice_get aloft index ≡ Some a → FliesIn project es w flying a → FliesIn project (Began unit spawned ∷ es) w' flying' a
+    flies_on : (index : ℕ) (a : RunningUnit) → slice_get aloft index ≡ Some a → FliesIn project es w flying a → FliesIn project (Began unit spawned ∷ es) w' flying' a
     flies_on index a at f = let ne = another (states_in project es) unit a.unit untouched (Begun, f.state, refl) in record {
       state = get_set_other (states_in project es) unit a.unit Begun ne ∙ f.state;
       started = started_other es unit a.unit spawned ne ∙ f.started;
@@ -120,11 +120,11 @@ module _ (project : Project) (order : IsInOrder project) (first : World) (aloft 
     }
 
     -- a fault came
-    pub changes_begun : (aloft' : List Aloft) → aloft' ≡ aloft → Changes project first aloft' (Began unit spawned ∷ es) w' flying'
-    changes_begun aloft' is = subst (λ (items : List Aloft). Changes project first items (Began unit spawned ∷ es) w' flying') (sym is) others_on
+    pub changes_begun : (aloft' : List RunningUnit) → aloft' ≡ aloft → Changes project first aloft' (Began unit spawned ∷ es) w' flying'
+    changes_begun aloft' is = subst (λ (items : List RunningUnit). Changes project first items (Began unit spawned ∷ es) w' flying') (sym is) others_on
 
     -- it is in flight
-    pub changes_more : (a : Aloft) (aloft' : List Aloft) → a.unit ≡ unit → aloft' ≡ aloft ++ a ∷ [] → WritesTo u.out (child_of a.begun) flying' → spawned ≡ is_some (child_of a.begun) → (IsSome (child_of a.begun) → HasNoRecord project u w') → Changes project first aloft' (Began unit spawned ∷ es) w' flying'
+    pub changes_more : (a : RunningUnit) (aloft' : List RunningUnit) → a.unit ≡ unit → aloft' ≡ aloft ++ a ∷ [] → WritesTo u.out (child_of a.begun) flying' → spawned ≡ is_some (child_of a.begun) → (IsSome (child_of a.begun) → HasNoRecord project u w') → Changes project first aloft' (Began unit spawned ∷ es) w' flying'
     changes_more a aloft' its is writes flag none = record {
       flies = subst (AllByRecursion (FliesIn project (Began unit spawned ∷ es) w' flying')) (sym is) (all_more (FliesIn project (Began unit spawned ∷ es) w' flying') aloft (a ∷ []) others_on.flies (own, tt));
       only = others_on.only;
@@ -141,7 +141,7 @@ module _ (project : Project) (order : IsInOrder project) (first : World) (aloft 
 
   -- A unit answers, or a fault comes in its place.
 
-  module _ (index : ℕ) (a : Aloft) (at : slice_get aloft index ≡ Some a) (u : Planned) (there : unit_at project a.unit ≡ Some u) where
+  module _ (index : ℕ) (a : RunningUnit) (at : slice_get aloft index ≡ Some a) (u : Planned) (there : unit_at project a.unit ≡ Some u) where
     so : FliesIn project es w flying a
     so = all_get (FliesIn project es w flying) aloft index a old.flies at
 
@@ -149,18 +149,18 @@ module _ (project : Project) (order : IsInOrder project) (first : World) (aloft 
     its_writes = so.writes u there
 
     module _ (places : AreApart (places_of aloft)) (tickets : AreApart (tickets_of aloft)) (only : ChangesOnly (is_of (records_folder project) u.key) w w')
-        (stay : (ticket : ℕ) (its : ChildInFlight) → IfSome (child_of a.begun) (λ l. ticket ≢ l.ticket) → child_at ticket flying ≡ Some its → child_at ticket flying' ≡ Some its) (aloft' : List Aloft) (is : aloft' ≡ remove aloft index) where
-      ne_unit : (j : ℕ) (y : Aloft) → slice_get aloft j ≡ Some y → j ≢ index → a.unit ≢ y.unit
+        (stay : (ticket : ℕ) (its : ChildInFlight) → IfSome (child_of a.begun) (λ l. ticket ≢ l.ticket) → child_at ticket flying ≡ Some its → child_at ticket flying' ≡ Some its) (aloft' : List RunningUnit) (is : aloft' ≡ remove aloft index) where
+      ne_unit : (j : ℕ) (y : RunningUnit) → slice_get aloft j ≡ Some y → j ≢ index → a.unit ≢ y.unit
       ne_unit j y at_j ne e = apart_places (places_of aloft) j index y.unit a.unit places (get_map place_of_unit aloft j y at_j) (get_map place_of_unit aloft index a at) ne (sym e)
 
-      other_ticket : (j : ℕ) (y : Aloft) → slice_get aloft j ≡ Some y → j ≢ index → (l : Launched) → (child_of y.begun) ≡ Some l → (o : Option Launched) → (child_of a.begun) ≡ o → IfSome o (λ k. l.ticket ≢ k.ticket)
+      other_ticket : (j : ℕ) (y : RunningUnit) → slice_get aloft j ≡ Some y → j ≢ index → (l : SpawnedChild) → (child_of y.begun) ≡ Some l → (o : Option SpawnedChild) → (child_of a.begun) ≡ o → IfSome o (λ k. l.ticket ≢ k.ticket)
       other_ticket j y at_j ne l theirs None ours = tt
-      other_ticket j y at_j ne l theirs (Some k) ours = flat_apart (λ (x : Aloft). ticket_in (child_of x.begun)) aloft j index y a l.ticket k.ticket tickets at_j at (ap ticket_in theirs) (ap ticket_in ours) ne
+      other_ticket j y at_j ne l theirs (Some k) ours = flat_apart (λ (x : RunningUnit). ticket_in (child_of x.begun)) aloft j index y a l.ticket k.ticket tickets at_j at (ap ticket_in theirs) (ap ticket_in ours) ne
 
-      writes_still : (j : ℕ) (y : Aloft) → slice_get aloft j ≡ Some y → j ≢ index → FliesIn project es w flying y → (v : Planned) → unit_at project y.unit ≡ Some v → WritesTo v.out (child_of y.begun) flying'
+      writes_still : (j : ℕ) (y : RunningUnit) → slice_get aloft j ≡ Some y → j ≢ index → FliesIn project es w flying y → (v : Planned) → unit_at project y.unit ≡ Some v → WritesTo v.out (child_of y.begun) flying'
       writes_still j y at_j ne f v at_v = writes_on v.out (child_of y.begun) flying flying' (flies j y at_j) (λ l theirs its. stay l.ticket its (other_ticket j y at_j ne l theirs (child_of a.begun) refl)) (f.writes v at_v)
 
-      gone_still : (j : ℕ) (y : Aloft) → slice_get aloft j ≡ Some y → j ≢ index → FliesIn project es w flying y → (v : Planned) → unit_at project y.unit ≡ Some v → IsSome (child_of y.begun) → HasNoRecord project v w'
+      gone_still : (j : ℕ) (y : RunningUnit) → slice_get aloft j ≡ Some y → j ≢ index → FliesIn project es w flying y → (v : Planned) → unit_at project y.unit ≡ Some v → IsSome (child_of y.begun) → HasNoRecord project v w'
       gone_still j y at_j ne f v at_v launched = none_still project order es w w' a.unit u there only y.unit v at_v (λ e. ne_unit j y at_j ne (sym e)) (f.gone v at_v launched)
 
       -- no answer is noted

@@ -17,18 +17,18 @@ use Rattle.pb_run_flight.proofs.Ending.{due_begun}
 use Rattle.pb_run_flight.proofs.Handing.{due_split}
 use Rattle.pb_run_flight.proofs.Lists.{injective, clash, get_set_same}
 use Rattle.pb_place_types.specs.Counts.{Counts, Starts, up, up_starts}
-use Rattle.pb_place_types.specs.Sinks.{Heard, TakesPart}
+use Rattle.pb_place_types.specs.Sinks.{SinkState, TakesPart}
 use Rattle.pb_place_types.specs.declared.place.StartFault.TheVariants as start
 use Rattle.pb_command_types.specs.Targets.{unit_at}
 use Rattle.pb_build_result.specs.declared.bad_unit.BadUnit.{BadUnit}
 use Rattle.pb_command_types.specs.declared.project.Project.{Project}
 use Rattle.pb_run.specs.Steps.{HasCause, is_of_start, BeginsBy, LandsBy}
 use Rattle.pb_run.proofs.Naming.{MayAnswerUnit, MayBeginUnit}
-use Rattle.pb_run.specs.Halves.{child_of, key_at, key_in}
-use Rattle.pb_run.specs.declared.begun.Launched.{Launched}
-use Rattle.pb_build_turns.specs.Crew.{AreApart, places_of, ticket_of_child, ticket_in, tickets_of, launched_of, Moment}
-use Rattle.pb_build_turns.specs.Story.{states_in, upped, CameAfter, NamesUnit, Goes, NoneWritesTo, NumbersGiven, Spends, Stops, StopsAt, StopsAtSink, StopsBy}
-use Rattle.pb_build_turns.specs.declared.crew.Aloft.{Aloft}
+use Rattle.pb_run.specs.UnitSteps.{child_of, key_at, key_in}
+use Rattle.pb_run.specs.declared.begun.SpawnedChild.{SpawnedChild}
+use Rattle.pb_build_turns.specs.Executor.{AreApart, places_of, ticket_of_child, ticket_in, tickets_of, launched_of, BuildState}
+use Rattle.pb_build_turns.specs.History.{states_in, upped, CameAfter, NamesUnit, CountersSoFar, NoneWritesTo, NumbersGiven, Spends, Stops, StopsAt, StopsAtSink, StopsBy}
+use Rattle.pb_build_turns.specs.declared.executor.RunningUnit.{RunningUnit}
 use Rattle.pb_build_turns.proofs.Lists.{all_get, flat_more, get_map, length_push, without_first, without_other}
 use Rattle.pb_build_turns.proofs.Manning.{answer_fault_lands}
 use Rattle.pb_build_turns.proofs.States.{due_first_begun, due_first_answered, due_all}
@@ -57,7 +57,7 @@ appends_part a b c xs ys first (n, less, then') =
 
 -- Units that have a child.
 
-without_none : (n : ℕ) (ns : List Aloft) → AllByRecursion (λ m. n ≢ m) (places_of ns) → launched_of ns ≡ events.without n (launched_of ns)
+without_none : (n : ℕ) (ns : List RunningUnit) → AllByRecursion (λ m. n ≢ m) (places_of ns) → launched_of ns ≡ events.without n (launched_of ns)
 without_none n [] all = refl
 without_none n (x ∷ ns) all = by (is_some (child_of x.begun)) (without_none n ns all.1)
   where
@@ -65,9 +65,9 @@ without_none n (x ∷ ns) all = by (is_some (child_of x.begun)) (without_none n 
     by true more = ap (λ l. x.unit ∷ l) more ∙ sym (without_other x.unit n (launched_of ns) (λ e. all.0 (sym e)))
     by false more = more
 
-pub launched_left : (aloft : List Aloft) (index : ℕ) (a : Aloft) → AreApart (places_of aloft) → slice_get aloft index ≡ Some a → launched_of (remove aloft index) ≡ events.without a.unit (launched_of aloft)
+pub launched_left : (aloft : List RunningUnit) (index : ℕ) (a : RunningUnit) → AreApart (places_of aloft) → slice_get aloft index ≡ Some a → launched_of (remove aloft index) ≡ events.without a.unit (launched_of aloft)
 launched_left [] index a apart at = absurd (clash at)
-launched_left (x ∷ aloft) zero a apart at = subst (λ (y : Aloft). launched_of aloft ≡ events.without y.unit (if_so (is_some (child_of x.begun)) x.unit ++ launched_of aloft)) (injective at) (by (is_some (child_of x.begun)))
+launched_left (x ∷ aloft) zero a apart at = subst (λ (y : RunningUnit). launched_of aloft ≡ events.without y.unit (if_so (is_some (child_of x.begun)) x.unit ++ launched_of aloft)) (injective at) (by (is_some (child_of x.begun)))
   where
     by : (b : Bool) → launched_of aloft ≡ events.without x.unit (if_so b x.unit ++ launched_of aloft)
     by true = sym (without_first x.unit (launched_of aloft))
@@ -75,22 +75,22 @@ launched_left (x ∷ aloft) zero a apart at = subst (λ (y : Aloft). launched_of
 launched_left (x ∷ aloft) (suc k) a apart at = by (is_some (child_of x.begun)) (launched_left aloft k a apart.1 at)
   where
     ne : x.unit ≢ a.unit
-    ne = all_get (λ m. x.unit ≢ m) (places_of aloft) k a.unit apart.0 (get_map (λ (y : Aloft). y.unit) aloft k a at)
+    ne = all_get (λ m. x.unit ≢ m) (places_of aloft) k a.unit apart.0 (get_map (λ (y : RunningUnit). y.unit) aloft k a at)
 
     by : (b : Bool) → launched_of (remove aloft k) ≡ events.without a.unit (launched_of aloft) → if_so b x.unit ++ launched_of (remove aloft k) ≡ events.without a.unit (if_so b x.unit ++ launched_of aloft)
     by true more = ap (λ l. x.unit ∷ l) more ∙ sym (without_other x.unit a.unit (launched_of aloft) ne)
     by false more = more
 
 -- as many children as tickets
-as_many : (aloft : List Aloft) → length (tickets_of aloft) ≡ length (launched_of aloft)
+as_many : (aloft : List RunningUnit) → length (tickets_of aloft) ≡ length (launched_of aloft)
 as_many [] = refl
 as_many (x ∷ aloft) = by (child_of x.begun) (as_many aloft)
   where
-    by : (o : Option Launched) → length (tickets_of aloft) ≡ length (launched_of aloft) → length (ticket_in o ++ tickets_of aloft) ≡ length (if_so (is_some o) x.unit ++ launched_of aloft)
+    by : (o : Option SpawnedChild) → length (tickets_of aloft) ≡ length (launched_of aloft) → length (ticket_in o ++ tickets_of aloft) ≡ length (if_so (is_some o) x.unit ++ launched_of aloft)
     by None more = more
     by (Some l) more = ap suc more
 
-pub children_are : (now : Counts) (aloft : List Aloft) → map ticket_of_child now.starts.flying ≡ tickets_of aloft → length now.starts.flying ≡ length (launched_of aloft)
+pub children_are : (now : Counts) (aloft : List RunningUnit) → map ticket_of_child now.starts.flying ≡ tickets_of aloft → length now.starts.flying ≡ length (launched_of aloft)
 children_are now aloft tickets = sym (length-map now.starts.flying ticket_of_child) ∙ ap length tickets ∙ as_many aloft
 
 -- The cause is that since the first.
@@ -117,11 +117,11 @@ tried_or_not old new (inr more) = elim (cases_eq (up old.count) old.count) [
 
 -- A unit begins.
 
-module _ (project : Project) (first now new : Moment) (started : List ℕ) (aloft : List Aloft) (es : List (Event BadUnit)) (given unit : ℕ) (goes : Goes project first now started aloft es given)
+module _ (project : Project) (first now new : BuildState) (started : List ℕ) (aloft : List RunningUnit) (es : List (Event BadUnit)) (given unit : ℕ) (goes : CountersSoFar project first now started aloft es given)
     (is_given : given ≡ count_due (states_in project es)) (untouched : slice_get (states_in project es) unit ≡ Some Untouched) (heard : new.heard ≡ now.heard) where
   lines_begun : Appends first.heard.taken new.heard.taken (due_first given (slice_set (states_in project es) unit Begun))
   lines_begun =
-      subst (λ (x : Heard). Appends first.heard.taken x.taken (due_first given (slice_set (states_in project es) unit Begun))) (sym heard)
+      subst (λ (x : SinkState). Appends first.heard.taken x.taken (due_first given (slice_set (states_in project es) unit Begun))) (sym heard)
       (subst (Appends first.heard.taken now.heard.taken) (sym (due_first_begun given (states_in project es) unit is_given untouched)) goes.lines)
 
   due_lines_begun : Appends first.heard.taken new.heard.taken (due (slice_set (states_in project es) unit Begun))
@@ -129,28 +129,28 @@ module _ (project : Project) (first now new : Moment) (started : List ℕ) (alof
       subst (Appends first.heard.taken new.heard.taken) (due_first_begun given (states_in project es) unit is_given untouched ∙ due_all given (states_in project es) is_given ∙ sym (due_begun (states_in project es) unit untouched).0) lines_begun
 
   faults_begun : new.heard.faults ≡ first.heard.faults
-  faults_begun = ap (λ (x : Heard). x.faults) heard ∙ goes.faults
+  faults_begun = ap (λ (x : SinkState). x.faults) heard ∙ goes.faults
 
-  starts_begun : (o : Option Launched) → BeginsBy o now.counts.starts new.counts.starts → new.counts.starts.count ≡ upped (length (started_by es ++ if_so (is_some o) unit)) first.counts.starts.count
+  starts_begun : (o : Option SpawnedChild) → BeginsBy o now.counts.starts new.counts.starts → new.counts.starts.count ≡ upped (length (started_by es ++ if_so (is_some o) unit)) first.counts.starts.count
   starts_begun None same = ap (λ (s : Starts). s.count) same ∙ goes.starts ∙ ap (λ xs. upped (length xs) first.counts.starts.count) (sym (append-nil (started_by es)))
   starts_begun (Some l) lifted = ap (λ (s : Starts). s.count) lifted.lifted ∙ upped_more now.counts.starts.count first.counts.starts.count (started_by es) unit goes.starts
 
-  settings_begun : (o : Option Launched) → BeginsBy o now.counts.starts new.counts.starts → new.counts.starts.settings ≡ first.counts.starts.settings
+  settings_begun : (o : Option SpawnedChild) → BeginsBy o now.counts.starts new.counts.starts → new.counts.starts.settings ≡ first.counts.starts.settings
   settings_begun None same = ap (λ (s : Starts). s.settings) same ∙ goes.settings
   settings_begun (Some l) lifted = ap (λ (s : Starts). s.settings) lifted.lifted ∙ goes.settings
 
-  most_begun : (o : Option Launched) → length now.counts.starts.flying ≡ length (launched_of aloft) → MatchOption o (new.most ≡ now.most) (λ l. new.most ≡ max now.most (length now.counts.starts.flying + 1)) → new.most ≡ max first.most (peak (Began unit (is_some o) ∷ es))
+  most_begun : (o : Option SpawnedChild) → length now.counts.starts.flying ≡ length (launched_of aloft) → MatchOption o (new.most ≡ now.most) (λ l. new.most ≡ max now.most (length now.counts.starts.flying + 1)) → new.most ≡ max first.most (peak (Began unit (is_some o) ∷ es))
   most_begun None long same = same ∙ goes.most
   most_begun (Some l) long more =
       let e : length now.counts.starts.flying ≡ length (launched_after es) = long ∙ ap length goes.launched_are in
       omega (arith, more, e, goes.most)
 
-  pub goes_begun : (a : Aloft) → a.unit ≡ unit → new.counts.failures ≡ now.counts.failures → BeginsBy (child_of a.begun) now.counts.starts new.counts.starts → length now.counts.starts.flying ≡ length (launched_of aloft)
+  pub goes_begun : (a : RunningUnit) → a.unit ≡ unit → new.counts.failures ≡ now.counts.failures → BeginsBy (child_of a.begun) now.counts.starts new.counts.starts → length now.counts.starts.flying ≡ length (launched_of aloft)
       → MatchOption (child_of a.begun) (new.most ≡ now.most) (λ l. new.most ≡ max now.most (length now.counts.starts.flying + 1))
-      → Goes project first new (started ++ if_so (is_some (child_of a.begun)) unit) (aloft ++ a ∷ []) (Began unit (is_some (child_of a.begun)) ∷ es) given
+      → CountersSoFar project first new (started ++ if_so (is_some (child_of a.begun)) unit) (aloft ++ a ∷ []) (Began unit (is_some (child_of a.begun)) ∷ es) given
   goes_begun a its failures begins long most = record {
     started_are = ap (λ l. l ++ if_so (is_some (child_of a.begun)) unit) goes.started_are;
-    launched_are = flat_more (λ (x : Aloft). if_so (is_some (child_of x.begun)) x.unit) aloft (a ∷ []) ∙ ap (λ l. launched_of aloft ++ l) (append-nil (if_so (is_some (child_of a.begun)) a.unit))
+    launched_are = flat_more (λ (x : RunningUnit). if_so (is_some (child_of x.begun)) x.unit) aloft (a ∷ []) ∙ ap (λ l. launched_of aloft ++ l) (append-nil (if_so (is_some (child_of a.begun)) a.unit))
         ∙ ap (λ n. launched_of aloft ++ if_so (is_some (child_of a.begun)) n) its ∙ ap (λ l. l ++ if_so (is_some (child_of a.begun)) unit) goes.launched_are;
     lines = lines_begun;
     faults = faults_begun;
@@ -161,8 +161,8 @@ module _ (project : Project) (first now new : Moment) (started : List ℕ) (alof
   }
 
   -- memory is refused before
-  pub stops_refused_begun : (tells : Bool) → new.counts ≡ now.counts → Stops tells OutOfMemory project first new (Began unit false ∷ es)
-  stops_refused_begun tells counts = record {
+  pub stops_refused_begun : (is_modelled : Bool) → new.counts ≡ now.counts → Stops is_modelled OutOfMemory project first new (Began unit false ∷ es)
+  stops_refused_begun is_modelled counts = record {
     by = ((given, lines_begun), faults_begun);
     cause = ap (λ (c : Counts). c.failures) counts ∙ goes.failures;
     starts = starts_begun None (ap (λ (c : Counts). c.starts) counts);
@@ -170,11 +170,11 @@ module _ (project : Project) (first now new : Moment) (started : List ℕ) (alof
   }
 
   -- a fault ends it
-  module _ (u : Planned) (there : unit_at project unit ≡ Some u) (tells : Bool) (alone : IsTrue tells → NoneWritesTo u.out new.counts.starts.flying) where
+  module _ (u : Planned) (there : unit_at project unit ≡ Some u) (is_modelled : Bool) (alone : IsTrue is_modelled → NoneWritesTo u.out new.counts.starts.flying) where
     its_key : (key : List ℕ) → key ≡ u.key → key_at project unit ≡ key ∷ []
     its_key key named = ap key_in there ∙ ap (λ (k : List ℕ). k ∷ []) (sym named)
 
-    stops_at : (key : List ℕ) (spawned : Bool) → key ≡ u.key → StopsAt tells project first new key (Began unit spawned ∷ es)
+    stops_at : (key : List ℕ) (spawned : Bool) → key ≡ u.key → StopsAt is_modelled project first new key (Began unit spawned ∷ es)
     stops_at key spawned named = record {
       place = unit;
       unit = u;
@@ -196,7 +196,7 @@ module _ (project : Project) (first now new : Moment) (started : List ℕ) (alof
     set_no_more starts as_before same = ap (λ (s : Starts). s.settings) same ∙ as_before ∙ goes.settings
 
     pub stops_begun : (next : Option ℕ) (e : BuildFault) → MayBeginUnit next u.key e now.counts.starts new.counts.starts → HasCause e now.counts new.counts
-        → (spawned : Bool) × Stops tells e project first new (Began unit spawned ∷ es) × (spawned ≡ true → (is_of_start e ≡ true) ⊎ (new.counts.starts ≢ now.counts.starts)) × ((Lacks : ℕ → Bool → Type 0) (at_first : Option ℕ) → NumbersGiven Lacks es at_first next → Spends Lacks e at_first (Began unit spawned ∷ es))
+        → (spawned : Bool) × Stops is_modelled e project first new (Began unit spawned ∷ es) × (spawned ≡ true → (is_of_start e ≡ true) ⊎ (new.counts.starts ≢ now.counts.starts)) × ((Lacks : ℕ → Bool → Type 0) (at_first : Option ℕ) → NumbersGiven Lacks es at_first next → Spends Lacks e at_first (Began unit spawned ∷ es))
         × CameAfter project e es (Began unit spawned ∷ es) × NamesUnit project e None es (Began unit spawned ∷ es)
     stops_begun next (Plan why) may cause = absurd may
     stops_begun next Toolchain may cause = absurd may
@@ -247,7 +247,7 @@ module _ (project : Project) (first now new : Moment) (started : List ℕ) (alof
 -- A unit answers.
 
 -- a fault in place of an answer came after all events
-pub came_answering : (project : Project) (next : Option ℕ) (key : List ℕ) (launched : Option Launched) (e : BuildFault) (old new : Starts) → MayAnswerUnit next key launched e old new → (es : List (Event BadUnit)) → CameAfter project e es es
+pub came_answering : (project : Project) (next : Option ℕ) (key : List ℕ) (launched : Option SpawnedChild) (e : BuildFault) (old new : Starts) → MayAnswerUnit next key launched e old new → (es : List (Event BadUnit)) → CameAfter project e es es
 came_answering project next key launched (Plan why) old new may es = refl
 came_answering project next key launched Toolchain old new may es = refl
 came_answering project next key launched (Child unit fault) old new may es = by may.2
@@ -260,7 +260,7 @@ came_answering project next key launched Sink old new may es = refl
 came_answering project next key launched OutOfMemory old new may es = inl refl
 
 -- it names the unit
-pub names_answering : (project : Project) (next : Option ℕ) (unit : ℕ) (u : Planned) (launched : Option Launched) (e : BuildFault) (old new : Starts) → unit_at project unit ≡ Some u → MayAnswerUnit next u.key launched e old new → (es : List (Event BadUnit))
+pub names_answering : (project : Project) (next : Option ℕ) (unit : ℕ) (u : Planned) (launched : Option SpawnedChild) (e : BuildFault) (old new : Starts) → unit_at project unit ≡ Some u → MayAnswerUnit next u.key launched e old new → (es : List (Event BadUnit))
     → NamesUnit project e (Some unit) es es
 names_answering project next unit u launched (Plan why) old new there may es = tt
 names_answering project next unit u launched Toolchain old new there may es = tt
@@ -270,24 +270,24 @@ names_answering project next unit u launched (Device key NumbersSpent) old new t
 names_answering project next unit u launched Sink old new there may es = tt
 names_answering project next unit u launched OutOfMemory old new there may es = tt
 
-module _ (project : Project) (first now new : Moment) (started : List ℕ) (aloft : List Aloft) (es : List (Event BadUnit)) (given : ℕ) (goes : Goes project first now started aloft es given)
-    (is_given : given ≡ count_due (states_in project es)) (index : ℕ) (a : Aloft) (at : slice_get aloft index ≡ Some a) (begun : slice_get (states_in project es) a.unit ≡ Some Begun) (heard : new.heard ≡ now.heard) where
+module _ (project : Project) (first now new : BuildState) (started : List ℕ) (aloft : List RunningUnit) (es : List (Event BadUnit)) (given : ℕ) (goes : CountersSoFar project first now started aloft es given)
+    (is_given : given ≡ count_due (states_in project es)) (index : ℕ) (a : RunningUnit) (at : slice_get aloft index ≡ Some a) (begun : slice_get (states_in project es) a.unit ≡ Some Begun) (heard : new.heard ≡ now.heard) where
   lines_same : (n : ℕ) → Appends first.heard.taken now.heard.taken (due_first n (states_in project es)) → Appends first.heard.taken new.heard.taken (due_first n (states_in project es))
-  lines_same n lines = subst (λ (x : Heard). Appends first.heard.taken x.taken (due_first n (states_in project es))) (sym heard) lines
+  lines_same n lines = subst (λ (x : SinkState). Appends first.heard.taken x.taken (due_first n (states_in project es))) (sym heard) lines
 
   faults_same : new.heard.faults ≡ first.heard.faults
-  faults_same = ap (λ (x : Heard). x.faults) heard ∙ goes.faults
+  faults_same = ap (λ (x : SinkState). x.faults) heard ∙ goes.faults
 
-  starts_same : (o : Option Launched) → LandsBy o now.counts.starts new.counts.starts → new.counts.starts.count ≡ upped (length (started_by es)) first.counts.starts.count
+  starts_same : (o : Option SpawnedChild) → LandsBy o now.counts.starts new.counts.starts → new.counts.starts.count ≡ upped (length (started_by es)) first.counts.starts.count
   starts_same None same = ap (λ (s : Starts). s.count) same ∙ goes.starts
   starts_same (Some l) landed = ap (λ (s : Starts). s.count) landed ∙ goes.starts
 
-  settings_same : (o : Option Launched) → LandsBy o now.counts.starts new.counts.starts → new.counts.starts.settings ≡ first.counts.starts.settings
+  settings_same : (o : Option SpawnedChild) → LandsBy o now.counts.starts new.counts.starts → new.counts.starts.settings ≡ first.counts.starts.settings
   settings_same None same = ap (λ (s : Starts). s.settings) same ∙ goes.settings
   settings_same (Some l) landed = ap (λ (s : Starts). s.settings) landed ∙ goes.settings
 
   pub goes_answered : AreApart (places_of aloft) → (answer : Answer BadUnit) → new.counts.failures ≡ now.counts.failures → LandsBy (child_of a.begun) now.counts.starts new.counts.starts → new.most ≡ now.most
-      → Goes project first new started (remove aloft index) (Gave a.unit answer ∷ es) given
+      → CountersSoFar project first new started (remove aloft index) (Gave a.unit answer ∷ es) given
   goes_answered apart answer failures lands most = record {
     started_are = goes.started_are;
     launched_are = launched_left aloft index a apart at ∙ ap (events.without a.unit) goes.launched_are;
@@ -299,8 +299,8 @@ module _ (project : Project) (first now new : Moment) (started : List ℕ) (alof
     most = most ∙ goes.most;
   }
 
-  module _ (u : Planned) (there : unit_at project a.unit ≡ Some u) (tells : Bool) (alone : IsTrue tells → NoneWritesTo u.out new.counts.starts.flying) where
-    stops_there : (key : List ℕ) → key ≡ u.key → StopsAt tells project first new key es
+  module _ (u : Planned) (there : unit_at project a.unit ≡ Some u) (is_modelled : Bool) (alone : IsTrue is_modelled → NoneWritesTo u.out new.counts.starts.flying) where
+    stops_there : (key : List ℕ) → key ≡ u.key → StopsAt is_modelled project first new key es
     stops_there key named = record {
       place = a.unit;
       unit = u;
@@ -312,7 +312,7 @@ module _ (project : Project) (first now new : Moment) (started : List ℕ) (alof
       faults = faults_same;
     }
 
-    by_fault : (next : Option ℕ) (e : BuildFault) → MayAnswerUnit next u.key (child_of a.begun) e now.counts.starts new.counts.starts → StopsBy tells e project first new es
+    by_fault : (next : Option ℕ) (e : BuildFault) → MayAnswerUnit next u.key (child_of a.begun) e now.counts.starts new.counts.starts → StopsBy is_modelled e project first new es
     by_fault next (Plan why) may = absurd may
     by_fault next Toolchain may = absurd may
     by_fault next (Child key fault) may = stops_there key may.0
@@ -321,7 +321,7 @@ module _ (project : Project) (first now new : Moment) (started : List ℕ) (alof
     by_fault next Sink may = absurd may
     by_fault next OutOfMemory may = ((given, lines_same given goes.lines), faults_same)
 
-    pub stops_answered : (next : Option ℕ) (e : BuildFault) → MayAnswerUnit next u.key (child_of a.begun) e now.counts.starts new.counts.starts → HasCause e now.counts new.counts → Stops tells e project first new es
+    pub stops_answered : (next : Option ℕ) (e : BuildFault) → MayAnswerUnit next u.key (child_of a.begun) e now.counts.starts new.counts.starts → HasCause e now.counts new.counts → Stops is_modelled e project first new es
     stops_answered next e may cause = record {
       by = by_fault next e may;
       cause = cause_from e first.counts now.counts new.counts goes.failures cause;
@@ -330,14 +330,14 @@ module _ (project : Project) (first now new : Moment) (started : List ℕ) (alof
     }
 
   -- memory is refused for its lines
-  pub stops_untold : (tells : Bool) → LandsBy (child_of a.begun) now.counts.starts new.counts.starts → new.counts.failures ≡ now.counts.failures → Stops tells OutOfMemory project first new es
-  stops_untold tells lands failures = record { by = ((given, lines_same given goes.lines), faults_same); cause = failures ∙ goes.failures; starts = starts_same (child_of a.begun) lands; settings = settings_same (child_of a.begun) lands }
+  pub stops_untold : (is_modelled : Bool) → LandsBy (child_of a.begun) now.counts.starts new.counts.starts → new.counts.failures ≡ now.counts.failures → Stops is_modelled OutOfMemory project first new es
+  stops_untold is_modelled lands failures = record { by = ((given, lines_same given goes.lines), faults_same); cause = failures ∙ goes.failures; starts = starts_same (child_of a.begun) lands; settings = settings_same (child_of a.begun) lands }
 
 -- Lines are handed out.
 
-module _ (project : Project) (first now new : Moment) (started : List ℕ) (aloft : List Aloft) (es : List (Event BadUnit)) (given : ℕ) (goes : Goes project first now started aloft es given)
+module _ (project : Project) (first now new : BuildState) (started : List ℕ) (aloft : List RunningUnit) (es : List (Event BadUnit)) (given : ℕ) (goes : CountersSoFar project first now started aloft es given)
     (counts : new.counts ≡ now.counts) (most : new.most ≡ now.most) where
-  pub goes_told : Appends now.heard.taken new.heard.taken (due_after given (states_in project es)) → new.heard.faults ≡ now.heard.faults → Goes project first new started aloft es (count_due (states_in project es))
+  pub goes_told : Appends now.heard.taken new.heard.taken (due_after given (states_in project es)) → new.heard.faults ≡ now.heard.faults → CountersSoFar project first new started aloft es (count_due (states_in project es))
   goes_told lines faults = record {
     started_are = goes.started_are;
     launched_are = goes.launched_are;
@@ -351,9 +351,9 @@ module _ (project : Project) (first now new : Moment) (started : List ℕ) (alof
   }
 
   -- the sink fails behind an answer, before which all lines that were due had been handed out
-  pub stops_sink : (tells : Bool) (before : List (Event BadUnit)) (unit : ℕ) (answer : Answer BadUnit) → es ≡ Gave unit answer ∷ before → given ≡ count_due (states_in project before) → TakesPart (due_after given (states_in project es)) now.heard.taken new.heard.taken
-      → new.heard.faults ≡ up now.heard.faults → Stops tells Sink project first new es
-  stops_sink tells before unit answer last was lines faults =
+  pub stops_sink : (is_modelled : Bool) (before : List (Event BadUnit)) (unit : ℕ) (answer : Answer BadUnit) → es ≡ Gave unit answer ∷ before → given ≡ count_due (states_in project before) → TakesPart (due_after given (states_in project es)) now.heard.taken new.heard.taken
+      → new.heard.faults ≡ up now.heard.faults → Stops is_modelled Sink project first new es
+  stops_sink is_modelled before unit answer last was lines faults =
       let (n, whole, part, taken) = appends_part first.heard.taken now.heard.taken new.heard.taken (due_first given (states_in project es)) (due_after given (states_in project es)) goes.lines lines in
       let at_sink : StopsAtSink project first new es = record {
         before = before;
@@ -374,9 +374,9 @@ module _ (project : Project) (first now new : Moment) (started : List ℕ) (alof
       }
 
   -- memory is refused
-  pub stops_refused : (tells : Bool) → new.heard ≡ now.heard → Stops tells OutOfMemory project first new es
-  stops_refused tells heard = record {
-    by = ((given, subst (λ (x : Heard). Appends first.heard.taken x.taken (due_first given (states_in project es))) (sym heard) goes.lines), ap (λ (x : Heard). x.faults) heard ∙ goes.faults);
+  pub stops_refused : (is_modelled : Bool) → new.heard ≡ now.heard → Stops is_modelled OutOfMemory project first new es
+  stops_refused is_modelled heard = record {
+    by = ((given, subst (λ (x : SinkState). Appends first.heard.taken x.taken (due_first given (states_in project es))) (sym heard) goes.lines), ap (λ (x : SinkState). x.faults) heard ∙ goes.faults);
     cause = ap (λ (c : Counts). c.failures) counts ∙ goes.failures;
     starts = ap (λ (c : Counts). c.starts.count) counts ∙ goes.starts;
     settings = ap (λ (c : Counts). c.starts.settings) counts ∙ goes.settings;

@@ -21,8 +21,8 @@ use Rattle.pb_place_types.specs.declared.command.Command.{Command}
 use Rattle.pb_command_types.specs.Targets.{unit_at}
 use Rattle.pb_command_types.specs.declared.project.Project.{Project}
 use Rattle.pb_run.specs.Steps.{is_of_start}
-use Rattle.pb_run.specs.Halves.{Basis, Keeps, child_of, command_in}
-use Rattle.pb_run.specs.Standing.{IsInOrder, records_folder}
+use Rattle.pb_run.specs.UnitSteps.{BuildContext, BuildInvariant, child_of, command_in}
+use Rattle.pb_run.specs.Invariants.{IsInOrder, records_folder}
 use Rattle.pb_run.specs.declared.begun.Begun.{Begun as unit_begun}
 use Rattle.pb_run.proofs.Answering.{reached_stand}
 use Rattle.pb_run.proofs.Shown.{commanded}
@@ -31,11 +31,11 @@ use Rattle.pb_store_soundness.specs.Records.{place_of, records}
 use Rattle.pb_store.specs.Differences.{FirstDifference}
 use Rattle.pb_store.specs.Folder.{lacks_number}
 use Rattle.pb_store.specs.declared.difference.Difference.{Difference}
-use Rattle.pb_build_turns.specs.Crew.{needs_of, Moment}
+use Rattle.pb_build_turns.specs.Executor.{needs_of, BuildState}
 use Rattle.pb_build_turns.specs.Rows.{Reasons}
-use Rattle.pb_build_turns.specs.Story.{states_in, AllBegan, AllBeganFor, AllBeganOnAny, BeganFor, FliesIn, HadDiffered, IsQuiet, KeepsChildless, KeepsNoneInFlight, OnlyOf, StartedFor, StartedOnAny, Story}
-use Rattle.pb_build_turns.specs.declared.crew.Aloft.{Aloft}
-use Rattle.pb_build_turns.specs.declared.crew.UnitCrew.{UnitCrew}
+use Rattle.pb_build_turns.specs.History.{states_in, AllBegan, AllBeganFor, AllBeganOnAny, BeganFor, FliesIn, HadDiffered, IsQuiet, KeepsChildless, KeepsNoneInFlight, OnlyOf, StartedFor, StartedOnAny, History}
+use Rattle.pb_build_turns.specs.declared.executor.RunningUnit.{RunningUnit}
+use Rattle.pb_build_turns.specs.declared.executor.UnitExecutor.{UnitExecutor}
 use Rattle.pb_build_turns.proofs.Again.{command_stays, sources_first}
 use Rattle.pb_build_turns.proofs.Happening.{before_now, before_other, none_of, started_now, started_other}
 use Rattle.pb_build_turns.proofs.Lists.{all_get, get_put}
@@ -188,7 +188,7 @@ good_later project before es lawful (inr (unit, spawned, is)) places good =
     let (earlier, may) = began_lawful (needs_of project) _ before unit spawned (subst (IsLawful (needs_of project)) is lawful) in
     subst (λ (x : List (Event BadUnit)). are_good (states_in project x) places ≡ true) (sym is) (good_set (states_in project before) unit Untouched Begun places may.untouched refl good)
 
-module _ (b : Basis) (order : IsInOrder b.project) (es : List (Event BadUnit)) (done : List (Option (List Directive))) (next : Option ℕ) (w : World) (keeps : Keeps b (states_in b.project es) done next w) (first : World) (sources : from_nothing b.project.workspace.target first ≡ b.sources) where
+module _ (b : BuildContext) (order : IsInOrder b.project) (es : List (Event BadUnit)) (done : List (Option (List Directive))) (next : Option ℕ) (w : World) (keeps : BuildInvariant b (states_in b.project es) done next w) (first : World) (sources : from_nothing b.project.workspace.target first ≡ b.sources) where
   commanded_so : (place : ℕ) (u : Planned) → unit_at b.project place ≡ Some u → are_good (states_in b.project es) u.reaches ≡ true → command_of b.setup b.project u done ≡ command_in b place u
   commanded_so place u at good = commanded b done w place u order at (reached_stand b order place u at (states_in b.project es) done next w keeps good)
 
@@ -221,16 +221,16 @@ differed_tried old new D spawned fault so cause tried (inr was) = elim (so was) 
 
 -- The story of a crew.
 
-module _ (tells : Bool) (child : Answers) (first old : UnitCrew) (at now new : Moment) (still : ℕ → Type 0) (es : List (Event BadUnit)) (given : ℕ) (story : Story tells child first at old now still es given) (order : IsInOrder old.project) (lawful : IsLawful (needs_of old.project) es) where
+module _ (is_modelled : Bool) (child : Answers) (first old : UnitExecutor) (at now new : BuildState) (still : ℕ → Type 0) (es : List (Event BadUnit)) (given : ℕ) (story : History is_modelled child first at old now still es given) (order : IsInOrder old.project) (lawful : IsLawful (needs_of old.project) es) where
   abbrev commands_of : List (Option (List Directive)) → ℕ → Planned → Command
   commands_of done place u = command_of old.setup old.project u done
 
-  stay_first : IsTrue tells → from_nothing old.project.workspace.target now.world ≡ from_nothing old.project.workspace.target at.world
+  stay_first : IsTrue is_modelled → from_nothing old.project.workspace.target now.world ≡ from_nothing old.project.workspace.target at.world
   stay_first t = sources_first old.project order es at.world now.world (story.changes t).only
 
   -- A unit begins.
 
-  module _ (unit : ℕ) (u : Planned) (there : unit_at old.project unit ≡ Some u) (may : MayBegin (needs_of old.project) (states_in old.project es) unit) (only : IsTrue tells → ChangesOnly (is_of (records_folder old.project) u.key) now.world new.world)
+  module _ (unit : ℕ) (u : Planned) (there : unit_at old.project unit ≡ Some u) (may : MayBegin (needs_of old.project) (states_in old.project es) unit) (only : IsTrue is_modelled → ChangesOnly (is_of (records_folder old.project) u.key) now.world new.world)
       (done : List (Option (List Directive))) (same_done : done ≡ old.done.items) where
     by_done : (c : Command) (difference : Option Difference) → c ≡ command_of old.setup old.project u done → FirstDifference (records_folder old.project) u.key c now.world difference
         → FirstDifference (records_folder old.project) u.key (commands_of old.done.items unit u) now.world difference
@@ -238,9 +238,9 @@ module _ (tells : Bool) (child : Answers) (first old : UnitCrew) (at now new : M
 
     -- it has
     pub begun_began : (begun : unit_begun) → begun.command ≡ command_of old.setup old.project u done → (difference : Option Difference) (reasons' : Reasons)
-        → (IsTrue tells → FirstDifference (records_folder old.project) u.key begun.command now.world difference) → is_some (child_of begun) ≡ is_some difference → unit < length old.reasons.items
-        → (IsTrue tells → child_of begun ≡ None → new.world ≡ now.world) → reasons' ≡ slice_set old.reasons.items unit (Some difference)
-        → IsTrue tells → AllBeganOnAny old.setup old.project old.done.items (Began unit (is_some (child_of begun)) ∷ es) reasons' at.world new.world
+        → (IsTrue is_modelled → FirstDifference (records_folder old.project) u.key begun.command now.world difference) → is_some (child_of begun) ≡ is_some difference → unit < length old.reasons.items
+        → (IsTrue is_modelled → child_of begun ≡ None → new.world ≡ now.world) → reasons' ≡ slice_set old.reasons.items unit (Some difference)
+        → IsTrue is_modelled → AllBeganOnAny old.setup old.project old.done.items (Began unit (is_some (child_of begun)) ∷ es) reasons' at.world new.world
     begun_began begun asks difference reasons' differs spawned within same noted t =
         subst (λ (items : Reasons). AllBegan old.project (from_nothing old.project.workspace.target at.world) (commands_of old.done.items) (Began unit (is_some (child_of begun)) ∷ es) items at.world new.world) (sym noted)
         (began_more old.project (from_nothing old.project.workspace.target at.world) (commands_of old.done.items) order es lawful old.reasons.items at.world now.world new.world (story.changes t).only (stay_first t) (story.quiet t) (story.unrecorded t) (story.childless t) (story.began t) unit u there may (only t)
@@ -248,13 +248,13 @@ module _ (tells : Bool) (child : Answers) (first old : UnitCrew) (at now new : M
         (λ none. same t (none_of (child_of begun) (spawned ∙ ap (λ (o : Option Difference). is_some o) none))))
 
     -- it could not
-    pub unbegun_began : IsTrue tells → AllBeganOnAny old.setup old.project old.done.items es old.reasons.items at.world new.world
+    pub unbegun_began : IsTrue is_modelled → AllBeganOnAny old.setup old.project old.done.items es old.reasons.items at.world new.world
     unbegun_began t =
         began_beside old.project (from_nothing old.project.workspace.target at.world) (commands_of old.done.items) order es old.reasons.items at.world now.world new.world unit u there may.untouched (only t) (story.began t)
 
     pub unbegun_started : (spawned : Bool) (fault : BuildFault) → unit < length old.reasons.items
-        → (IsTrue tells → (is_of_start fault ≡ true) ⊎ (spawned ≡ true) → (difference : Difference) × FirstDifference (records_folder old.project) u.key (command_of old.setup old.project u done) now.world (Some difference))
-        → IsTrue tells → StartedOnAny old.setup old.project old.done.items fault es (Began unit spawned ∷ es) at.world new.world
+        → (IsTrue is_modelled → (is_of_start fault ≡ true) ⊎ (spawned ≡ true) → (difference : Difference) × FirstDifference (records_folder old.project) u.key (command_of old.setup old.project u done) now.world (Some difference))
+        → IsTrue is_modelled → StartedOnAny old.setup old.project old.done.items fault es (Began unit spawned ∷ es) at.world new.world
     unbegun_started spawned fault within cause t =
         start_told old.project (from_nothing old.project.workspace.target at.world) (commands_of old.done.items) fault es at.world new.world unit spawned (λ so.
         let (difference, named) = cause t so in (
@@ -265,21 +265,21 @@ module _ (tells : Bool) (child : Answers) (first old : UnitCrew) (at now new : M
 
   -- A unit answers.
 
-  module _ (index : ℕ) (a : Aloft) (u : Planned) (there : unit_at old.project a.unit ≡ Some u) (at_index : slice_get old.aloft.items index ≡ Some a) (only : IsTrue tells → ChangesOnly (is_of (records_folder old.project) u.key) now.world new.world)
-      (same : IsTrue tells → child_of a.begun ≡ None → lacks_number (records (records_folder old.project) now.world u.key) ≡ false → new.world ≡ now.world)
-      (folder : IsTrue tells → child_of a.begun ≡ None → (q : List ℕ) → is_at_or_below u.out q ≡ true → finite.get new.world.files q ≡ finite.get now.world.files q) where
-    so : IsTrue tells → FliesIn old.project es now.world now.counts.starts.flying a
+  module _ (index : ℕ) (a : RunningUnit) (u : Planned) (there : unit_at old.project a.unit ≡ Some u) (at_index : slice_get old.aloft.items index ≡ Some a) (only : IsTrue is_modelled → ChangesOnly (is_of (records_folder old.project) u.key) now.world new.world)
+      (same : IsTrue is_modelled → child_of a.begun ≡ None → lacks_number (records (records_folder old.project) now.world u.key) ≡ false → new.world ≡ now.world)
+      (folder : IsTrue is_modelled → child_of a.begun ≡ None → (q : List ℕ) → is_at_or_below u.out q ≡ true → finite.get new.world.files q ≡ finite.get now.world.files q) where
+    so : IsTrue is_modelled → FliesIn old.project es now.world now.counts.starts.flying a
     so t = all_get (FliesIn old.project es now.world now.counts.starts.flying) old.aloft.items index a (story.changes t).flies at_index
 
     -- a fault came in its place
-    pub unanswered_began : IsTrue tells → AllBeganOnAny old.setup old.project old.done.items es old.reasons.items at.world new.world
+    pub unanswered_began : IsTrue is_modelled → AllBeganOnAny old.setup old.project old.done.items es old.reasons.items at.world new.world
     unanswered_began t =
         answered_beside old.project (from_nothing old.project.workspace.target at.world) (commands_of old.done.items) order es old.reasons.items at.world now.world new.world a.unit u there (so t).state (child_of a.begun) (so t).started (only t) (same t) (folder t)
         (story.began t)
 
     -- what is noted of it changes no command of those that have begun
     pub answered_began : (done' : List (Option (List Directive))) (d : Option (List Directive)) (answer : Answer BadUnit) → done' ≡ slice_set old.done.items a.unit d
-        → IsTrue tells → AllBeganOnAny old.setup old.project done' (Gave a.unit answer ∷ es) old.reasons.items at.world new.world
+        → IsTrue is_modelled → AllBeganOnAny old.setup old.project done' (Gave a.unit answer ∷ es) old.reasons.items at.world new.world
     answered_began done' d answer set t =
         began_after old.project (from_nothing old.project.workspace.target at.world) (commands_of done') es lawful old.reasons.items at.world new.world a.unit answer (so t).state
         (λ place has. began_so old.project (from_nothing old.project.workspace.target at.world) (from_nothing old.project.workspace.target at.world) refl (commands_of old.done.items) (commands_of done') es old.reasons.items at.world new.world place

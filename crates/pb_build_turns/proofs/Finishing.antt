@@ -28,18 +28,18 @@ use Rattle.pb_command_types.specs.Targets.{unit_at}
 use Rattle.pb_build_result.specs.declared.bad_unit.BadUnit.{BadUnit}
 use Rattle.pb_command_types.specs.declared.project.Project.{Project}
 use Rattle.pb_command_types.specs.declared.project.Setup.{Setup}
-use Rattle.pb_run.specs.Halves.{Footing, Basis, basis, Keeps, outcomes_in}
-use Rattle.pb_run.specs.Standing.{IsInOrder}
+use Rattle.pb_run.specs.UnitSteps.{Premise, BuildContext, basis, BuildInvariant, outcomes_in}
+use Rattle.pb_run.specs.Invariants.{IsInOrder}
 use Rattle.pb_message_units.specs.Telling.{unit_lines}
 use Rattle.pb_run.proofs.Shown.{each_of}
 use Rattle.pb_build_turns.specs.Calling.{CallsCut, CallsCutOnAny, CallsOver, CallsOnAny, call_basis}
-use Rattle.pb_build_turns.specs.Crew.{needs_of, launched_of, ticket_of_child, Moment}
-use Rattle.pb_build_turns.specs.Ends.{rows_in, nothing_said, Stands, StandsWhole, StandsCut, EndsWhole, EndsCut, Grounding, Dropped, Drained, SaysFirstRows, StaysTold}
-use Rattle.pb_place_types.specs.Sinks.{Heard}
+use Rattle.pb_build_turns.specs.Executor.{needs_of, launched_of, ticket_of_child, BuildState}
+use Rattle.pb_build_turns.specs.Ends.{rows_in, nothing_said, OutcomeHolds, StandsWhole, StandsCut, EndsWhole, EndsCut, Grounding, Dropped, Drained, SaysFirstRows, StaysTold}
+use Rattle.pb_place_types.specs.Sinks.{SinkState}
 use Rattle.pb_build_turns.specs.Rows.{summary_of, started_keys, is_started, messages_in, bad_of, directives_told, Reasons, key_told, said_told, bad_told, differences_of, kept_of, is_success, noted_of, count_told, noted_told, summary_by, keys_at, differences_at}
-use Rattle.pb_build_turns.specs.Story.{states_in, untouched, AllAnswerAgain, Stops, Changes, Happened, AllBegan, AllBeganFor, AllBeganOnAny, CameAfter, ChangesInFlight, LacksNumber, NamesUnit, NumbersGiven, Spends, StartedOnAny, KeepsNoneOfBad, KeepsNoneInFlight, KeepsChildless, HasGiven, Story, StoryEnds, OnlyOf, NotesStarted, AllAnswerAnew, AllLeaveRecords}
-use Rattle.pb_build_turns.specs.declared.crew.Aloft.{Aloft}
-use Rattle.pb_build_turns.specs.declared.crew.UnitCrew.{UnitCrew}
+use Rattle.pb_build_turns.specs.History.{states_in, untouched, AllAnswerAgain, Stops, Changes, HistoryHolds, AllBegan, AllBeganFor, AllBeganOnAny, CameAfter, ChangesInFlight, LacksNumber, NamesUnit, NumbersGiven, Spends, StartedOnAny, KeepsNoneOfBad, KeepsNoneInFlight, KeepsChildless, HasGiven, History, StoryEnds, OnlyOf, NotesStarted, AllAnswerAnew, AllLeaveRecords}
+use Rattle.pb_build_turns.specs.declared.executor.RunningUnit.{RunningUnit}
+use Rattle.pb_build_turns.specs.declared.executor.UnitExecutor.{UnitExecutor}
 use Rattle.pb_build_turns.proofs.Again.{replays_first}
 use Rattle.pb_build_turns.proofs.Anew.{replies_first}
 use Rattle.pb_build_turns.proofs.Changing.{beside_none, changes_first}
@@ -86,8 +86,8 @@ no_answer answer e = cc
 none_begun : (project : Project) (place : ℕ) → HasBegun (untouched project) place → ⊥
 none_begun project place (s, at, begun) = false≢true (sym begun ∙ ap is_untouched (untouched_at (needs_of project) place s at))
 
-pub story_first : (tells : Bool) (child : Answers) (c : UnitCrew) (at : Moment) (still : ℕ → Type 0) → c.aloft.items ≡ [] → c.started.items ≡ [] → Story tells child c at c at still [] 0
-story_first tells child c at still aloft started = record {
+pub story_first : (is_modelled : Bool) (child : Answers) (c : UnitExecutor) (at : BuildState) (still : ℕ → Type 0) → c.aloft.items ≡ [] → c.started.items ≡ [] → History is_modelled child c at c at still [] 0
+story_first is_modelled child c at still aloft started = record {
   setup = refl;
   project = refl;
   goes = record {
@@ -123,7 +123,7 @@ story_first tells child c at still aloft started = record {
 
 -- What stands.
 
-all_given : (b : Basis) (done : List (Option (List Directive))) (es : List (Event BadUnit)) → ((place : ℕ) (answer : Answer BadUnit) → slice_get (states_in b.project es) place ≡ Some (Answered answer) → HasGiven b es done place answer)
+all_given : (b : BuildContext) (done : List (Option (List Directive))) (es : List (Event BadUnit)) → ((place : ℕ) (answer : Answer BadUnit) → slice_get (states_in b.project es) place ≡ Some (Answered answer) → HasGiven b es done place answer)
     → AllTold b.project es 0 b.project.plan.planned (outcomes_in b) done (states_in b.project es)
 all_given b done es gave k answer at =
     let g = gave k answer at in
@@ -137,11 +137,11 @@ all_given b done es gave k answer at =
       noted = g.noted;
     }
 
-module _ (b : Basis) (done : List (Option (List Directive))) (aloft : List Aloft) (next : Option ℕ) (es : List (Event BadUnit)) (w : World) (flying : List ChildInFlight) (still : ℕ → Type 0) (h : Happened b done aloft next es w flying still) where
+module _ (b : BuildContext) (done : List (Option (List Directive))) (aloft : List RunningUnit) (next : Option ℕ) (es : List (Event BadUnit)) (w : World) (flying : List ChildInFlight) (still : ℕ → Type 0) (h : HistoryHolds b done aloft next es w flying still) where
   all_told : AllTold b.project es 0 b.project.plan.planned (outcomes_in b) done (states_in b.project es)
   all_told = all_given b done es h.gave
 
-  pub stands : Stands b es w
+  pub stands : OutcomeHolds b es w
   stands = record {
     done = done;
     next = next;
@@ -205,21 +205,21 @@ says_first_rows b es done gave = (
 
 -- The ends.
 
-module _ {S : Type 0} (tells : Bool) (child : Answers) (Turns : S → List ℕ → List ℕ → Step → S → Type 0) (first c d : UnitCrew) (from last : S) (at mid new : Moment) (still still' : ℕ → Type 0) (es : List (Event BadUnit))
+module _ {S : Type 0} (is_modelled : Bool) (child : Answers) (Turns : S → List ℕ → List ℕ → Step → S → Type 0) (first c d : UnitExecutor) (from last : S) (at mid new : BuildState) (still still' : ℕ → Type 0) (es : List (Event BadUnit))
     (said : first.done.items ≡ nothing_said first.project) (drained : Drained mid.counts new.counts) (landed : new.counts.starts.flying ≡ []) (heard : new.heard ≡ mid.heard) (same : d ≡ record c { aloft = d.aloft })
-    (told : (fw : World) (events : List (Event BadUnit)) → IsTrue tells → Changes c.project fw c.aloft.items events mid.world mid.counts.starts.flying
+    (told : (fw : World) (events : List (Event BadUnit)) → IsTrue is_modelled → Changes c.project fw c.aloft.items events mid.world mid.counts.starts.flying
     → StaysTold child c.project fw events c.aloft.items d.aloft.items mid.world new.world new.counts.starts.flying)
-    (happened : (b : Basis) (events : List (Event BadUnit)) → IsTrue tells → b.project ≡ c.project → Happened b c.done.items c.aloft.items c.store.next events mid.world mid.counts.starts.flying still
-    → Happened b d.done.items d.aloft.items d.store.next events new.world new.counts.starts.flying still')
+    (happened : (b : BuildContext) (events : List (Event BadUnit)) → IsTrue is_modelled → b.project ≡ c.project → HistoryHolds b c.done.items c.aloft.items c.store.next events mid.world mid.counts.starts.flying still
+    → HistoryHolds b d.done.items d.aloft.items d.store.next events new.world new.counts.starts.flying still')
     (order : IsInOrder first.project) where
   -- what a basis keeps at first
-  abbrev Since : (Basis → Type 0) → Setup → Project → Type 0
-  Since Stand setup project = IsTrue tells → (f : Footing) (sources : World) → Keeps (basis f child setup project sources) (untouched project) first.done.items first.store.next at.world → Stand (basis f child setup project sources)
+  abbrev Since : (BuildContext → Type 0) → Setup → Project → Type 0
+  Since Stand setup project = IsTrue is_modelled → (f : Premise) (sources : World) → BuildInvariant (basis f child setup project sources) (untouched project) first.done.items first.store.next at.world → Stand (basis f child setup project sources)
 
-  since_first : (Stand : Basis → Type 0) → c.setup ≡ first.setup → c.project ≡ first.project → Since Stand c.setup c.project → IsTrue tells → Grounding child first.setup first.project first.store.next at.world Stand
+  since_first : (Stand : BuildContext → Type 0) → c.setup ≡ first.setup → c.project ≡ first.project → Since Stand c.setup c.project → IsTrue is_modelled → Grounding child first.setup first.project first.store.next at.world Stand
   since_first Stand setup project since t f sources keeps =
       subst (λ (s : Setup). Since Stand s first.project) setup (subst (λ (p : Project). Since Stand c.setup p) project since) t f sources
-      (subst (λ ds. Keeps (basis f child first.setup first.project sources) (untouched first.project) ds first.store.next at.world) (sym said) keeps)
+      (subst (λ ds. BuildInvariant (basis f child first.setup first.project sources) (untouched first.project) ds first.store.next at.world) (sym said) keeps)
 
   lawful : c.project ≡ first.project → Flies Turns (needs_of first.project) Anyhow Anything from es last → IsLawful (needs_of c.project) es
   lawful project flies = subst (λ (p : Project). IsLawful (needs_of p) es) (sym project) (steps_are_lawful Turns (needs_of first.project) Anyhow Anything from es last flies)
@@ -228,14 +228,14 @@ module _ {S : Type 0} (tells : Bool) (child : Answers) (Turns : S → List ℕ �
   abbrev commands : ℕ → Planned → Command
   commands place u = command_of c.setup c.project u c.done.items
 
-  began_new : (fault : BuildFault) (before : List (Event BadUnit)) (reasons : Reasons) → reasons ≡ c.reasons.items → IsLawful (needs_of c.project) es → CameAfter c.project fault before es → (IsTrue tells → Changes c.project at.world c.aloft.items es mid.world mid.counts.starts.flying)
-      → (IsTrue tells → AllBeganOnAny c.setup c.project c.done.items before c.reasons.items at.world mid.world) → IsTrue tells → AllBeganOnAny c.setup c.project c.done.items before reasons at.world new.world
+  began_new : (fault : BuildFault) (before : List (Event BadUnit)) (reasons : Reasons) → reasons ≡ c.reasons.items → IsLawful (needs_of c.project) es → CameAfter c.project fault before es → (IsTrue is_modelled → Changes c.project at.world c.aloft.items es mid.world mid.counts.starts.flying)
+      → (IsTrue is_modelled → AllBeganOnAny c.setup c.project c.done.items before c.reasons.items at.world mid.world) → IsTrue is_modelled → AllBeganOnAny c.setup c.project c.done.items before reasons at.world new.world
   began_new fault before reasons is flies came changed began t =
       subst (λ (items : Reasons). AllBegan c.project (from_nothing c.project.workspace.target at.world) commands before items at.world new.world) (sym is)
       ((told at.world es t (changed t)).began (from_nothing c.project.workspace.target at.world) commands fault before c.reasons.items flies came (began t))
 
-  started_new : (fault : BuildFault) (before : List (Event BadUnit)) → (IsTrue tells → Changes c.project at.world c.aloft.items es mid.world mid.counts.starts.flying)
-      → (IsTrue tells → StartedOnAny c.setup c.project c.done.items fault before es at.world mid.world) → IsTrue tells → StartedOnAny c.setup c.project c.done.items fault before es at.world new.world
+  started_new : (fault : BuildFault) (before : List (Event BadUnit)) → (IsTrue is_modelled → Changes c.project at.world c.aloft.items es mid.world mid.counts.starts.flying)
+      → (IsTrue is_modelled → StartedOnAny c.setup c.project c.done.items fault before es at.world mid.world) → IsTrue is_modelled → StartedOnAny c.setup c.project c.done.items fault before es at.world new.world
   started_new fault before changed had t = (told at.world es t (changed t)).started (from_nothing c.project.workspace.target at.world) commands fault before (had t)
 
   on_first : (B : Setup → Project → Type 0) → c.setup ≡ first.setup → c.project ≡ first.project → B c.setup c.project → B first.setup first.project
@@ -244,8 +244,8 @@ module _ {S : Type 0} (tells : Bool) (child : Answers) (Turns : S → List ℕ �
   ordered : c.project ≡ first.project → IsInOrder c.project
   ordered project = subst IsInOrder (sym project) order
 
-  pub ends_cut : new.most ≡ mid.most → (fault : BuildFault) (asked : Option ℕ) (back : S) → Flies Turns (needs_of first.project) Anyhow Anything from es last → HandsBack Turns (needs_of first.project) es last asked back → StoryEnds tells child fault asked first at c mid still es
-      → EndsCut tells child Turns first.setup first.project first.store.next from back fault at new
+  pub ends_cut : new.most ≡ mid.most → (fault : BuildFault) (asked : Option ℕ) (back : S) → Flies Turns (needs_of first.project) Anyhow Anything from es last → HandsBack Turns (needs_of first.project) es last asked back → StoryEnds is_modelled child fault asked first at c mid still es
+      → EndsCut is_modelled child Turns first.setup first.project first.store.next from back fault at new
   ends_cut most fault asked back flies hands ends = record {
     es = es;
     last = last;
@@ -254,7 +254,7 @@ module _ {S : Type 0} (tells : Bool) (child : Answers) (Turns : S → List ℕ �
     hands = hands;
     mid = mid;
     heard = heard;
-    stops = subst (λ (p : Project). Stops tells fault p at mid es) ends.project ends.stops;
+    stops = subst (λ (p : Project). Stops is_modelled fault p at mid es) ends.project ends.stops;
     spent = ends.spent;
     caused = λ t. subst (λ (p : Project). Spends (LacksNumber p at.world) fault first.store.next es) ends.project (ends.caused t);
     drained = drained;
@@ -291,11 +291,11 @@ module _ {S : Type 0} (tells : Bool) (child : Answers) (Turns : S → List ℕ �
   }
 
   -- memory is refused for the summary
-  pub untold : (given : ℕ) → Story tells child first at c mid still es given → StoryEnds tells child OutOfMemory None first at c mid still es
+  pub untold : (given : ℕ) → History is_modelled child first at c mid still es given → StoryEnds is_modelled child OutOfMemory None first at c mid still es
   untold given s = record {
     setup = s.setup;
     project = s.project;
-    stops = stops_refused c.project at mid mid c.started.items c.aloft.items es given s.goes refl refl tells refl;
+    stops = stops_refused c.project at mid mid c.started.items c.aloft.items es given s.goes refl refl is_modelled refl;
     spent = tt;
     before = es;
     came = inl refl;
@@ -316,16 +316,16 @@ module _ {S : Type 0} (tells : Bool) (child : Answers) (Turns : S → List ℕ �
     calls_on_any = λ t. (mid.world, mid.counts, s.calls_on_any t, inl (inr refl, refl, refl));
   }
 
-  module _ (table : Table BadUnit) (flying : List ℕ) (flown : IsFlown Turns (needs_of first.project) from es last table flying) (story : Story tells child first at c mid still es table.given) (finished : is_finished table.states ≡ true)
+  module _ (table : Table BadUnit) (flying : List ℕ) (flown : IsFlown Turns (needs_of first.project) from es last table flying) (story : History is_modelled child first at c mid still es table.given) (finished : is_finished table.states ≡ true)
       (most : new.most ≡ mid.most) (summary : Summary) (is : summary ≡ summary_by d.project.plan.planned table.states d.done.items d.started.items d.reasons.items (first_bad table.states)) where
     states_are : table.states ≡ states_in c.project es
     states_are = flown.states_are ∙ ap (λ (p : Project). states_in p es) (sym story.project)
 
     project_is : d.project ≡ c.project
-    project_is = ap (λ (x : UnitCrew). x.project) same
+    project_is = ap (λ (x : UnitExecutor). x.project) same
 
     started_is : d.started.items ≡ started_by es
-    started_is = ap (λ (x : UnitCrew). x.started.items) same ∙ story.goes.started_are
+    started_is = ap (λ (x : UnitExecutor). x.started.items) same ∙ story.goes.started_are
 
     now_is : summary ≡ summary_by c.project.plan.planned (states_in c.project es) d.done.items d.started.items d.reasons.items (first_bad (states_in c.project es))
     now_is = is ∙ ap (λ (p : Project). summary_by p.plan.planned table.states d.done.items d.started.items d.reasons.items (first_bad table.states)) project_is
@@ -336,13 +336,13 @@ module _ {S : Type 0} (tells : Bool) (child : Answers) (Turns : S → List ℕ �
 
     lines_are : Appends at.heard.taken new.heard.taken (due (states_in first.project es))
     lines_are =
-        subst (λ (x : Heard). Appends at.heard.taken x.taken (due (states_in first.project es))) (sym heard)
+        subst (λ (x : SinkState). Appends at.heard.taken x.taken (due (states_in first.project es))) (sym heard)
         (subst (Appends at.heard.taken mid.heard.taken) (due_all table.given (states_in c.project es) (flown.given_are ∙ ap count_due states_are) ∙ ap (λ (p : Project). due (states_in p es)) story.project) story.goes.lines)
 
-    began_whole : IsTrue tells → AllBeganOnAny c.setup c.project c.done.items es d.reasons.items at.world new.world
-    began_whole = began_new OutOfMemory es d.reasons.items (ap (λ (x : UnitCrew). x.reasons.items) same) (lawful story.project flown.flies) (inl refl) story.changes story.began
+    began_whole : IsTrue is_modelled → AllBeganOnAny c.setup c.project c.done.items es d.reasons.items at.world new.world
+    began_whole = began_new OutOfMemory es d.reasons.items (ap (λ (x : UnitExecutor). x.reasons.items) same) (lawful story.project flown.flies) (inl refl) story.changes story.began
 
-    pub ends_whole : first.reasons.items ≡ map (λ (u : Planned). None) first.project.plan.planned → EndsWhole tells child Turns first.setup first.project first.store.next from last summary at new
+    pub ends_whole : first.reasons.items ≡ map (λ (u : Planned). None) first.project.plan.planned → EndsWhole is_modelled child Turns first.setup first.project first.store.next from last summary at new
     ends_whole empty = record {
       es = es;
       flies = flown.flies;
@@ -360,15 +360,15 @@ module _ {S : Type 0} (tells : Bool) (child : Answers) (Turns : S → List ℕ �
       kept = ap (λ (s : Summary). s.kept) now_is ∙ ap (λ (p : Project). kept_of p.plan.planned d.reasons.items) story.project;
       done = c.done.items;
       directives = ap (λ (s : Summary). s.directives) now_is
-          ∙ ap (λ ds. noted_told c.project.plan.planned ds (first_bad (states_in c.project es))) (ap (λ (x : UnitCrew). x.done.items) same)
+          ∙ ap (λ ds. noted_told c.project.plan.planned ds (first_bad (states_in c.project es))) (ap (λ (x : UnitExecutor). x.done.items) same)
           ∙ ap (λ (p : Project). noted_told p.plan.planned c.done.items (first_bad (states_in p es))) story.project;
       unnoted = λ place at_place.
           let less : place < length first.project.plan.planned = subst (λ (n : ℕ). place < n) (length_states (needs_of first.project) es ∙ length-map first.project.plan.planned (λ (u : Planned). u.needs)) (slice_get_within (states_in first.project es) place Untouched at_place) in
-          ap (λ (items : Reasons). slice_get items place) (ap (λ (x : UnitCrew). x.reasons.items) same)
+          ap (λ (items : Reasons). slice_get items place) (ap (λ (x : UnitExecutor). x.reasons.items) same)
           ∙ (story.unnoted place (ap (λ (p : Project). slice_get (states_in p es) place) story.project ∙ at_place) ∙ (ap (λ (items : Reasons). slice_get items place) empty ∙ none_noted first.project.plan.planned place less));
-      noted = subst (λ (p : Project). NotesStarted p es d.reasons.items) story.project (subst (NotesStarted c.project es) (sym (ap (λ (x : UnitCrew). x.reasons.items) same)) story.noted);
+      noted = subst (λ (p : Project). NotesStarted p es d.reasons.items) story.project (subst (NotesStarted c.project es) (sym (ap (λ (x : UnitExecutor). x.reasons.items) same)) story.noted);
       lines = lines_are;
-      faults = ap (λ (x : Heard). x.faults) heard ∙ story.goes.faults;
+      faults = ap (λ (x : SinkState). x.faults) heard ∙ story.goes.faults;
       mid = mid.counts;
       failures = story.goes.failures;
       starts = story.goes.starts;
@@ -392,7 +392,7 @@ module _ {S : Type 0} (tells : Bool) (child : Answers) (Turns : S → List ℕ �
       left = λ t. on_first (λ s p. AllLeaveRecords child s p es c.done.items first.store.next at.world new.world) story.setup story.project ((told at.world es t (story.changes t)).left c.setup c.done.items first.store.next (lawful story.project flown.flies) (story.left t).gave);
       told = since_first (λ b. StandsWhole b es d.reasons.items summary c.store.next at.world new.world) story.setup story.project (λ t f sources keeps.
           let h = story.happened t f sources keeps in
-          subst (λ (n : Option ℕ). StandsWhole (basis f child c.setup c.project sources) es d.reasons.items summary n at.world new.world) (ap (λ (x : UnitCrew). x.store.next) same)
+          subst (λ (n : Option ℕ). StandsWhole (basis f child c.setup c.project sources) es d.reasons.items summary n at.world new.world) (ap (λ (x : UnitExecutor). x.store.next) same)
           (stands_whole (basis f child c.setup c.project sources) d.done.items d.aloft.items d.store.next es new.world new.counts.starts.flying still' (happened (basis f child c.setup c.project sources) es t refl h)
           (ap is_finished (sym states_are) ∙ finished) (length_states (needs_of c.project) es ∙ length-map c.project.plan.planned (λ (u : Planned). u.needs)) d.reasons.items at.world
           (began_from_nothing (basis f child c.setup c.project sources) (ordered story.project) es c.done.items c.store.next mid.world h.keeps at.world keeps.sources_stay es d.reasons.items new.world (lawful story.project flown.flies) (inl refl) (began_whole t)) d.started.items started_is summary now_is));
@@ -401,9 +401,9 @@ module _ {S : Type 0} (tells : Bool) (child : Answers) (Turns : S → List ℕ �
     }
 
 -- memory is refused before a unit begins
-pub ends_before : {S : Type 0} (tells : Bool) (child : Answers) (Turns : S → List ℕ → List ℕ → Step → S → Type 0) (setup : Setup) (project : Project) (next : Option ℕ) (from : S) (at : Moment) → at.counts.starts.flying ≡ []
-    → EndsCut tells child Turns setup project next from from OutOfMemory at at
-ends_before tells child Turns setup project next from at none = record {
+pub ends_before : {S : Type 0} (is_modelled : Bool) (child : Answers) (Turns : S → List ℕ → List ℕ → Step → S → Type 0) (setup : Setup) (project : Project) (next : Option ℕ) (from : S) (at : BuildState) → at.counts.starts.flying ≡ []
+    → EndsCut is_modelled child Turns setup project next from from OutOfMemory at at
+ends_before is_modelled child Turns setup project next from at none = record {
   es = [];
   last = from;
   flies = nothing;
@@ -446,7 +446,7 @@ ends_before tells child Turns setup project next from at none = record {
   calls_on_any = λ t. (at.world, at.counts, (refl, refl), inl (inr refl, refl, refl));
 }
 
-pub states_long : {S : Type 0} (Turns : S → List ℕ → List ℕ → Step → S → Type 0) (first c d : UnitCrew) (from last : S) (es : List (Event BadUnit)) (table : Table BadUnit) (flying : List ℕ) → IsFlown Turns (needs_of first.project) from es last table flying
+pub states_long : {S : Type 0} (Turns : S → List ℕ → List ℕ → Step → S → Type 0) (first c d : UnitExecutor) (from last : S) (es : List (Event BadUnit)) (table : Table BadUnit) (flying : List ℕ) → IsFlown Turns (needs_of first.project) from es last table flying
     → needs_of c.project ≡ needs_of first.project → d ≡ record c { aloft = d.aloft } → length table.states ≡ length d.project.plan.planned
 states_long Turns first c d from last es table flying flown needs same =
-    ap length flown.states_are ∙ length_states (needs_of first.project) es ∙ ap length (sym needs) ∙ length-map c.project.plan.planned (λ (u : Planned). u.needs) ∙ ap (λ (x : UnitCrew). length x.project.plan.planned) (sym same)
+    ap length flown.states_are ∙ length_states (needs_of first.project) es ∙ ap length (sym needs) ∙ length-map c.project.plan.planned (λ (u : Planned). u.needs) ∙ ap (λ (x : UnitExecutor). length x.project.plan.planned) (sym same)

@@ -12,14 +12,14 @@ use Rattle.pb_place_types.specs.declared.child_in_flight.ChildInFlight.{ChildInF
 use Rattle.pb_command_types.specs.Targets.{unit_at}
 use Rattle.pb_build_result.specs.declared.bad_unit.BadUnit.{BadUnit}
 use Rattle.pb_command_types.specs.declared.project.Project.{Project}
-use Rattle.pb_run.specs.Halves.{Basis, Keeps, IsBegun, CanBegin, BeginsApart, child_of}
-use Rattle.pb_run.specs.Standing.{IsInOrder}
+use Rattle.pb_run.specs.UnitSteps.{BuildContext, BuildInvariant, IsBegun, CanBegin, BeginsApart, child_of}
+use Rattle.pb_run.specs.Invariants.{IsInOrder}
 use Rattle.pb_message_units.specs.Telling.{unit_lines}
 use Rattle.pb_run.specs.declared.begun.Begun.{Begun as unit_begun}
-use Rattle.pb_build_turns.specs.Crew.{needs_of}
+use Rattle.pb_build_turns.specs.Executor.{needs_of}
 use Rattle.pb_build_turns.specs.Rows.{is_started, messages_in}
-use Rattle.pb_build_turns.specs.Story.{states_in, Happened, HasGiven, FliesSo, events_before}
-use Rattle.pb_build_turns.specs.declared.crew.Aloft.{Aloft}
+use Rattle.pb_build_turns.specs.History.{states_in, HistoryHolds, HasGiven, FliesSo, events_before}
+use Rattle.pb_build_turns.specs.declared.executor.RunningUnit.{RunningUnit}
 use Rattle.pb_build_turns.proofs.Lists.{all_more, all_as}
 use Rattle.pb_build_turns.proofs.Reaching.{can_begin}
 use Rattle.pb_build_turns.proofs.States.{good_set, another, answered_before}
@@ -51,14 +51,14 @@ none_of (Some x) is = absurd (false≢true (sym is))
 
 -- A unit begins.
 
-module _ (b : Basis) (order : IsInOrder b.project) (done : List (Option (List Directive))) (aloft : List Aloft) (next next' : Option ℕ) (es : List (Event BadUnit)) (w w' : World)
-    (flying flying' : List ChildInFlight) (still still' : ℕ → Type 0) (h : Happened b done aloft next es w flying still)
+module _ (b : BuildContext) (order : IsInOrder b.project) (done : List (Option (List Directive))) (aloft : List RunningUnit) (next next' : Option ℕ) (es : List (Event BadUnit)) (w w' : World)
+    (flying flying' : List ChildInFlight) (still still' : ℕ → Type 0) (h : HistoryHolds b done aloft next es w flying still)
     (unit : ℕ) (u : Planned) (there : unit_at b.project unit ≡ Some u) (may : MayBegin (needs_of b.project) (states_in b.project es) unit) where
   pub can : CanBegin b (states_in b.project es) done unit u next w
   can = can_begin b order (states_in b.project es) done next w h.keeps unit u there may
 
   -- another unit in flight
-  apart_from : (a : Aloft) → FliesSo b es next w flying still a → BeginsApart b (states_in b.project es) unit None a.unit a.begun next w flying still
+  apart_from : (a : RunningUnit) → FliesSo b es next w flying still a → BeginsApart b (states_in b.project es) unit None a.unit a.begun next w flying still
   apart_from a so = record {
     another = λ e. another (states_in b.project es) unit a.unit may.untouched (Begun, so.state, refl) (sym e);
     unit = so.begun_so.unit;
@@ -69,12 +69,12 @@ module _ (b : Basis) (order : IsInOrder b.project) (done : List (Option (List Di
     begun_so = so.begun_so;
   }
 
-  module _ (spawned : Bool) (keeps : Keeps b (slice_set (states_in b.project es) unit Begun) done next' w')
+  module _ (spawned : Bool) (keeps : BuildInvariant b (slice_set (states_in b.project es) unit Begun) done next' w')
       (others : (other : ℕ) (its : unit_begun) → BeginsApart b (states_in b.project es) unit None other its next w flying still → IsBegun b other its next' w' flying' still') where
-    ne_flying : (a : Aloft) → FliesSo b es next w flying still a → unit ≢ a.unit
+    ne_flying : (a : RunningUnit) → FliesSo b es next w flying still a → unit ≢ a.unit
     ne_flying a so = another (states_in b.project es) unit a.unit may.untouched (Begun, so.state, refl)
 
-    flies_on : (a : Aloft) → FliesSo b es next w flying still a → FliesSo b (Began unit spawned ∷ es) next' w' flying' still' a
+    flies_on : (a : RunningUnit) → FliesSo b es next w flying still a → FliesSo b (Began unit spawned ∷ es) next' w' flying' still' a
     flies_on a so = record {
       state = get_set_other (states_in b.project es) unit a.unit Begun (ne_flying a so) ∙ so.state;
       begun_so = others a.unit a.begun (apart_from a so);
@@ -94,14 +94,14 @@ module _ (b : Basis) (order : IsInOrder b.project) (done : List (Option (List Di
     }
 
     -- the units that were in flight
-    pub happened_begun : Happened b done aloft next' (Began unit spawned ∷ es) w' flying' still'
+    pub happened_begun : HistoryHolds b done aloft next' (Began unit spawned ∷ es) w' flying' still'
     happened_begun = record {
       keeps = keeps;
       begun = all_as (FliesSo b es next w flying still) (FliesSo b (Began unit spawned ∷ es) next' w' flying' still') aloft flies_on h.begun;
       gave = λ place answer at. let (ne, before) = answered_before (states_in b.project es) unit place answer Untouched may.untouched at in given_on place answer ne (h.gave place answer before);
     }
 
-    module _ (a : Aloft) (its : a.unit ≡ unit) (flag : spawned ≡ is_some (child_of a.begun)) (begun_so : IsBegun b unit a.begun next' w' flying' still') where
+    module _ (a : RunningUnit) (its : a.unit ≡ unit) (flag : spawned ≡ is_some (child_of a.begun)) (begun_so : IsBegun b unit a.begun next' w' flying' still') where
       own : FliesSo b (Began unit spawned ∷ es) next' w' flying' still' a
       own = subst (λ n. (slice_get (slice_set (states_in b.project es) unit Begun) n ≡ Some Begun) → IsBegun b n a.begun next' w' flying' still'
           → ((v : Planned) → unit_at b.project n ≡ Some v → are_good (slice_set (states_in b.project es) unit Begun) v.reaches ≡ true) → is_started (Began unit spawned ∷ es) n ≡ is_some (child_of a.begun)
@@ -113,7 +113,7 @@ module _ (b : Basis) (order : IsInOrder b.project) (done : List (Option (List Di
           (started_now es unit spawned ∙ flag)
 
       -- and this one
-      pub happened_more : Happened b done (aloft ++ a ∷ []) next' (Began unit spawned ∷ es) w' flying' still'
+      pub happened_more : HistoryHolds b done (aloft ++ a ∷ []) next' (Began unit spawned ∷ es) w' flying' still'
       happened_more = record {
         keeps = keeps;
         begun = all_more (FliesSo b (Began unit spawned ∷ es) next' w' flying' still') aloft (a ∷ []) happened_begun.begun (own, tt);

@@ -24,19 +24,19 @@ use Rattle.pb_build_result.specs.declared.fault.BuildFault.{BuildFault}
 use Rattle.pb_command_types.specs.declared.project.Project.{Project}
 use Rattle.pb_command_types.specs.declared.project.Setup.{Setup}
 use Rattle.pb_run.specs.Steps.{Drops, LandsBy}
-use Rattle.pb_run.specs.Halves.{Basis, Keeps, IsBegun, CanAnswer, BeginsApart, WritesTo, child_of}
-use Rattle.pb_run.specs.Standing.{IsInOrder, records_folder}
+use Rattle.pb_run.specs.UnitSteps.{BuildContext, BuildInvariant, IsBegun, CanAnswer, BeginsApart, WritesTo, child_of}
+use Rattle.pb_run.specs.Invariants.{IsInOrder, records_folder}
 use Rattle.pb_run.specs.declared.begun.Begun.{Begun as unit_begun}
-use Rattle.pb_run.specs.declared.begun.Launched.{Launched}
+use Rattle.pb_run.specs.declared.begun.SpawnedChild.{SpawnedChild}
 use Rattle.pb_run.proofs.Spawning.{launched_gone, out_within, widen}
 use Rattle.pb_store_soundness.specs.Apart.{is_of}
 use Rattle.pb_store_soundness.specs.Records.{out_of, reading}
 use Rattle.pb_build_turns.specs.Ends.{StaysTold}
-use Rattle.pb_build_turns.specs.Crew.{needs_of, IsManned, IsOfPlan}
+use Rattle.pb_build_turns.specs.Executor.{needs_of, IsConsistent, IsOfPlan}
 use Rattle.pb_build_turns.specs.Rows.{Reasons, is_started}
-use Rattle.pb_build_turns.specs.Story.{states_in, AllAnswerAnew, AllBegan, AllLeaveRecords, Changes, FliesBeside, FliesIn, Happened, HasNoRecord, CameAfter, ChangesInFlight, HadDiffered}
-use Rattle.pb_build_turns.specs.declared.crew.Aloft.{Aloft}
-use Rattle.pb_build_turns.specs.declared.crew.UnitCrew.{UnitCrew}
+use Rattle.pb_build_turns.specs.History.{states_in, AllAnswerAnew, AllBegan, AllLeaveRecords, Changes, FliesBeside, FliesIn, HistoryHolds, HasNoRecord, CameAfter, ChangesInFlight, HadDiffered}
+use Rattle.pb_build_turns.specs.declared.executor.RunningUnit.{RunningUnit}
+use Rattle.pb_build_turns.specs.declared.executor.UnitExecutor.{UnitExecutor}
 use Rattle.pb_build_turns.proofs.Anew.{gave_on}
 use Rattle.pb_build_turns.proofs.Answered as answered
 use Rattle.pb_build_turns.proofs.Changing.{its_writes, changes_less}
@@ -59,42 +59,42 @@ starts_of ticket (Err start.Died) old = refl
 starts_of ticket (Err start.Capture) old = refl
 
 -- a child that was dropped has landed
-pub drops_land : (o : Option Launched) (old new : Counts) → Drops o old new → LandsBy o old.starts new.starts
+pub drops_land : (o : Option SpawnedChild) (old new : Counts) → Drops o old new → LandsBy o old.starts new.starts
 drops_land None old new same = ap (λ (c : Counts). c.starts) same
 drops_land (Some l) old new (result, is, fault) = ap (λ (c : Counts). c.starts) is ∙ starts_of l.ticket result old
 
-pub happened_dropped : (b : Basis) (c : UnitCrew) (counts : Counts) (manned : IsManned c counts) (project : b.project ≡ c.project) (es : List (Event BadUnit)) (w w' : World) (still : ℕ → Type 0) (flying' : List ChildInFlight) (still' : ℕ → Type 0)
-    (index : ℕ) (a : Aloft) (at : slice_get c.aloft.items index ≡ Some a) (aloft' : List Aloft) (is : aloft' ≡ remove c.aloft.items index) (h : Happened b c.done.items c.aloft.items c.store.next es w counts.starts.flying still)
-    → ((index : ℕ) (unit : Planned) (next : Option ℕ) → IsInOrder b.project → unit_at b.project index ≡ Some unit → CanAnswer b (states_in b.project es) c.done.items index unit a.begun next w counts.starts.flying still → Keeps b (states_in b.project es) c.done.items next w')
+pub happened_dropped : (b : BuildContext) (c : UnitExecutor) (counts : Counts) (manned : IsConsistent c counts) (project : b.project ≡ c.project) (es : List (Event BadUnit)) (w w' : World) (still : ℕ → Type 0) (flying' : List ChildInFlight) (still' : ℕ → Type 0)
+    (index : ℕ) (a : RunningUnit) (at : slice_get c.aloft.items index ≡ Some a) (aloft' : List RunningUnit) (is : aloft' ≡ remove c.aloft.items index) (h : HistoryHolds b c.done.items c.aloft.items c.store.next es w counts.starts.flying still)
+    → ((index : ℕ) (unit : Planned) (next : Option ℕ) → IsInOrder b.project → unit_at b.project index ≡ Some unit → CanAnswer b (states_in b.project es) c.done.items index unit a.begun next w counts.starts.flying still → BuildInvariant b (states_in b.project es) c.done.items next w')
     → ((states : List (State BadUnit)) (done : List (Option (List Directive))) (index : ℕ) (unit : Planned) (next : Option ℕ) (other : ℕ) (its : unit_begun) → IsInOrder b.project → unit_at b.project index ≡ Some unit → CanAnswer b states done index unit a.begun next w counts.starts.flying still
     → BeginsApart b states index (child_of a.begun) other its next w counts.starts.flying still → IsBegun b other its next w' flying' still')
-    → Happened b c.done.items aloft' c.store.next es w' flying' still'
+    → HistoryHolds b c.done.items aloft' c.store.next es w' flying' still'
 happened_dropped b c counts manned project es w w' still flying' still' index a at aloft' is h keeps others =
     let of_plan : IsOfPlan c.project a = all_get (IsOfPlan c.project) c.aloft.items index a manned.units at in
     let there : unit_at b.project a.unit ≡ Some of_plan.unit = ap (λ (p : Project). unit_at p a.unit) project ∙ of_plan.there in
     let order : IsInOrder b.project = subst IsInOrder (sym project) manned.order in
     let can : CanAnswer b (states_in b.project es) c.done.items a.unit of_plan.unit a.begun c.store.next w counts.starts.flying still =
     answered.can_answer b c.done.items c.aloft.items c.store.next c.store.next es w w' counts.starts.flying flying' still still' h index a at of_plan.unit there in
-    subst (λ (items : List Aloft). Happened b c.done.items items c.store.next es w' flying' still') (sym is)
+    subst (λ (items : List RunningUnit). HistoryHolds b c.done.items items c.store.next es w' flying' still') (sym is)
     (answered.happened_less b c.done.items c.aloft.items c.store.next c.store.next es w w' counts.starts.flying flying' still still' h index a at of_plan.unit there
     manned.units_apart manned.tickets_apart manned.numbers_apart (λ other its apart. others (states_in b.project es) c.done.items a.unit of_plan.unit c.store.next other its order there can apart)
     (keeps a.unit of_plan.unit c.store.next order there can))
 
-pub changes_dropped : (c : UnitCrew) (counts : Counts) (manned : IsManned c counts) (first : World) (es : List (Event BadUnit)) (w w' : World) (flying' : List ChildInFlight) (index : ℕ) (a : Aloft) (at : slice_get c.aloft.items index ≡ Some a)
-    (aloft' : List Aloft) (is : aloft' ≡ remove c.aloft.items index) (old : Changes c.project first c.aloft.items es w counts.starts.flying)
+pub changes_dropped : (c : UnitExecutor) (counts : Counts) (manned : IsConsistent c counts) (first : World) (es : List (Event BadUnit)) (w w' : World) (flying' : List ChildInFlight) (index : ℕ) (a : RunningUnit) (at : slice_get c.aloft.items index ≡ Some a)
+    (aloft' : List RunningUnit) (is : aloft' ≡ remove c.aloft.items index) (old : Changes c.project first c.aloft.items es w counts.starts.flying)
     → ((out : List ℕ) → WritesTo out (child_of a.begun) counts.starts.flying → ChangesOnly (is_at_or_below out) w w')
     → ((ticket : ℕ) (its : ChildInFlight) → IfSome (child_of a.begun) (λ l. ticket ≢ l.ticket) → child_at ticket counts.starts.flying ≡ Some its → child_at ticket flying' ≡ Some its)
     → Changes c.project first aloft' es w' flying'
 changes_dropped c counts manned first es w w' flying' index a at aloft' is old only stay =
     let of_plan : IsOfPlan c.project a = all_get (IsOfPlan c.project) c.aloft.items index a manned.units at in
-    let flies = λ (j : ℕ) (y : Aloft) (at_j : slice_get c.aloft.items j ≡ Some y). flying_of c counts j y manned at_j in
+    let flies = λ (j : ℕ) (y : RunningUnit) (at_j : slice_get c.aloft.items j ≡ Some y). flying_of c counts j y manned at_j in
     let writes : WritesTo of_plan.unit.out (child_of a.begun) counts.starts.flying = its_writes c.project manned.order first c.aloft.items es w w' counts.starts.flying flying' old flies index a at of_plan.unit of_plan.there in
     changes_less c.project manned.order first c.aloft.items es w w' counts.starts.flying flying' old flies index a at of_plan.unit of_plan.there manned.units_apart manned.tickets_apart
     (widen (is_at_or_below (out_of (records_folder c.project) of_plan.unit.key)) (is_of (records_folder c.project) of_plan.unit.key) w w' (out_within (records_folder c.project) of_plan.unit.key)
     (subst (λ o. ChangesOnly (is_at_or_below o) w w') (manned.order.folders a.unit of_plan.unit of_plan.there) (only of_plan.unit.out writes))) stay aloft' is
 
 -- where a unit had no record it has none
-pub unrecorded_dropped : (c : UnitCrew) (counts : Counts) (manned : IsManned c counts) (first : World) (es : List (Event BadUnit)) (w w' : World) (index : ℕ) (a : Aloft) (at : slice_get c.aloft.items index ≡ Some a) (old : Changes c.project first c.aloft.items es w counts.starts.flying)
+pub unrecorded_dropped : (c : UnitExecutor) (counts : Counts) (manned : IsConsistent c counts) (first : World) (es : List (Event BadUnit)) (w w' : World) (index : ℕ) (a : RunningUnit) (at : slice_get c.aloft.items index ≡ Some a) (old : Changes c.project first c.aloft.items es w counts.starts.flying)
     → ((out : List ℕ) → WritesTo out (child_of a.begun) counts.starts.flying → ChangesOnly (is_at_or_below out) w w') → (place : ℕ) (v : Planned) → unit_at c.project place ≡ Some v → HasNoRecord c.project v w → HasNoRecord c.project v w'
 unrecorded_dropped c counts manned first es w w' index a at old only place v there none =
     let of_plan : IsOfPlan c.project a = all_get (IsOfPlan c.project) c.aloft.items index a manned.units at in
@@ -111,14 +111,14 @@ unrecorded_dropped c counts manned first es w w' index a at old only place v the
 
 -- why units have begun stays so
 
-only_its : (c : UnitCrew) (counts : Counts) (manned : IsManned c counts) (es : List (Event BadUnit)) (w w' : World) (a : Aloft) (u : Planned) → unit_at c.project a.unit ≡ Some u → FliesIn c.project es w counts.starts.flying a
+only_its : (c : UnitExecutor) (counts : Counts) (manned : IsConsistent c counts) (es : List (Event BadUnit)) (w w' : World) (a : RunningUnit) (u : Planned) → unit_at c.project a.unit ≡ Some u → FliesIn c.project es w counts.starts.flying a
     → ((out : List ℕ) → WritesTo out (child_of a.begun) counts.starts.flying → ChangesOnly (is_at_or_below out) w w') → ChangesOnly (is_of (records_folder c.project) u.key) w w'
 only_its c counts manned es w w' a u there so only =
     widen (is_at_or_below (out_of (records_folder c.project) u.key)) (is_of (records_folder c.project) u.key) w w' (out_within (records_folder c.project) u.key)
     (subst (λ o. ChangesOnly (is_at_or_below o) w w') (manned.order.folders a.unit u there) (only u.out (so.writes u there)))
 
-pub began_dropped : (c : UnitCrew) (counts : Counts) (manned : IsManned c counts) (sources : World) (command : ℕ → Planned → Command) (fault : BuildFault) (es before : List (Event BadUnit)) (reasons : Reasons) (first w w' : World)
-    (index : ℕ) (a : Aloft) (at : slice_get c.aloft.items index ≡ Some a) (lawful : IsLawful (needs_of c.project) es) (came : CameAfter c.project fault before es) (old : Changes c.project first c.aloft.items es w counts.starts.flying)
+pub began_dropped : (c : UnitExecutor) (counts : Counts) (manned : IsConsistent c counts) (sources : World) (command : ℕ → Planned → Command) (fault : BuildFault) (es before : List (Event BadUnit)) (reasons : Reasons) (first w w' : World)
+    (index : ℕ) (a : RunningUnit) (at : slice_get c.aloft.items index ≡ Some a) (lawful : IsLawful (needs_of c.project) es) (came : CameAfter c.project fault before es) (old : Changes c.project first c.aloft.items es w counts.starts.flying)
     → ((out : List ℕ) → WritesTo out (child_of a.begun) counts.starts.flying → ChangesOnly (is_at_or_below out) w w') → AllBegan c.project sources command before reasons first w → AllBegan c.project sources command before reasons first w'
 began_dropped c counts manned sources command fault es before reasons first w w' index a at lawful came old only began =
     let of_plan : IsOfPlan c.project a = all_get (IsOfPlan c.project) c.aloft.items index a manned.units at in
@@ -126,8 +126,8 @@ began_dropped c counts manned sources command fault es before reasons first w w'
     dropped_beside c.project sources command manned.order fault before es reasons first w w' a.unit of_plan.unit of_plan.there lawful came so.state (child_of a.begun) so.started
     (only_its c counts manned es w w' a of_plan.unit of_plan.there so only) (λ none. none_dropped (child_of a.begun) counts.starts.flying w w' none only) began
 
-pub started_dropped : (c : UnitCrew) (counts : Counts) (manned : IsManned c counts) (sources : World) (command : ℕ → Planned → Command) (fault : BuildFault) (es before : List (Event BadUnit)) (first w w' : World)
-    (index : ℕ) (a : Aloft) (at : slice_get c.aloft.items index ≡ Some a) (old : Changes c.project first c.aloft.items es w counts.starts.flying)
+pub started_dropped : (c : UnitExecutor) (counts : Counts) (manned : IsConsistent c counts) (sources : World) (command : ℕ → Planned → Command) (fault : BuildFault) (es before : List (Event BadUnit)) (first w w' : World)
+    (index : ℕ) (a : RunningUnit) (at : slice_get c.aloft.items index ≡ Some a) (old : Changes c.project first c.aloft.items es w counts.starts.flying)
     → ((out : List ℕ) → WritesTo out (child_of a.begun) counts.starts.flying → ChangesOnly (is_at_or_below out) w w')
     → HadDiffered c.project sources command fault before es first w → HadDiffered c.project sources command fault before es first w'
 started_dropped c counts manned sources command fault es before first w w' index a at old only started =
@@ -136,8 +136,8 @@ started_dropped c counts manned sources command fault es before first w w' index
     start_beside c.project sources command manned.order fault before es first w w' a.unit of_plan.unit of_plan.there so.state (only_its c counts manned es w w' a of_plan.unit of_plan.there so only) started
 
 -- and so does what those with a child have answered
-pub anew_dropped : (c : UnitCrew) (counts : Counts) (manned : IsManned c counts) (child : Answers) (setup : Setup) (done : List (Option (List Directive))) (es : List (Event BadUnit)) (first w w' : World)
-    (index : ℕ) (a : Aloft) (at : slice_get c.aloft.items index ≡ Some a) (lawful : IsLawful (needs_of c.project) es) (old : Changes c.project first c.aloft.items es w counts.starts.flying)
+pub anew_dropped : (c : UnitExecutor) (counts : Counts) (manned : IsConsistent c counts) (child : Answers) (setup : Setup) (done : List (Option (List Directive))) (es : List (Event BadUnit)) (first w w' : World)
+    (index : ℕ) (a : RunningUnit) (at : slice_get c.aloft.items index ≡ Some a) (lawful : IsLawful (needs_of c.project) es) (old : Changes c.project first c.aloft.items es w counts.starts.flying)
     → ((out : List ℕ) → WritesTo out (child_of a.begun) counts.starts.flying → ChangesOnly (is_at_or_below out) w w') → AllAnswerAnew child setup c.project es done w → AllAnswerAnew child setup c.project es done w'
 anew_dropped c counts manned child setup done es first w w' index a at lawful old only gave =
     let of_plan : IsOfPlan c.project a = all_get (IsOfPlan c.project) c.aloft.items index a manned.units at in
@@ -145,8 +145,8 @@ anew_dropped c counts manned child setup done es first w w' index a at lawful ol
     gave_on c.project manned.order es lawful a.unit of_plan.unit of_plan.there (ap is_good_at so.state) setup child w w' (only_its c counts manned es w w' a of_plan.unit of_plan.there so only) (λ b is. begun_apart b (sym so.state ∙ is)) done gave
 
 -- and which records those have left that have answered
-pub left_dropped : (c : UnitCrew) (counts : Counts) (manned : IsManned c counts) (child : Answers) (setup : Setup) (done : List (Option (List Directive))) (es : List (Event BadUnit)) (next : Option ℕ) (first w w' : World)
-    (index : ℕ) (a : Aloft) (at : slice_get c.aloft.items index ≡ Some a) (lawful : IsLawful (needs_of c.project) es) (old : Changes c.project first c.aloft.items es w counts.starts.flying)
+pub left_dropped : (c : UnitExecutor) (counts : Counts) (manned : IsConsistent c counts) (child : Answers) (setup : Setup) (done : List (Option (List Directive))) (es : List (Event BadUnit)) (next : Option ℕ) (first w w' : World)
+    (index : ℕ) (a : RunningUnit) (at : slice_get c.aloft.items index ≡ Some a) (lawful : IsLawful (needs_of c.project) es) (old : Changes c.project first c.aloft.items es w counts.starts.flying)
     → ((out : List ℕ) → WritesTo out (child_of a.begun) counts.starts.flying → ChangesOnly (is_at_or_below out) w w') → AllLeaveRecords child setup c.project es done next first w → AllLeaveRecords child setup c.project es done next first w'
 left_dropped c counts manned child setup done es next first w w' index a at lawful old only gave =
     let of_plan : IsOfPlan c.project a = all_get (IsOfPlan c.project) c.aloft.items index a manned.units at in
@@ -154,7 +154,7 @@ left_dropped c counts manned child setup done es next first w w' index a at lawf
     all_left_on c.project manned.order es lawful a.unit of_plan.unit of_plan.there (ap is_good_at so.state) setup child w w' (only_its c counts manned es w w' a of_plan.unit of_plan.there so only) (λ b is. begun_apart b (sym so.state ∙ is)) done next first gave
 
 -- of files only those in its folder change, where it has a child, and it is not the one whose answer was taken
-pub alone_dropped : (c : UnitCrew) (counts : Counts) (manned : IsManned c counts) (first : World) (es before : List (Event BadUnit)) (asked : Option ℕ) (w w' : World) (index : ℕ) (a : Aloft) (at : slice_get c.aloft.items index ≡ Some a)
+pub alone_dropped : (c : UnitExecutor) (counts : Counts) (manned : IsConsistent c counts) (first : World) (es before : List (Event BadUnit)) (asked : Option ℕ) (w w' : World) (index : ℕ) (a : RunningUnit) (at : slice_get c.aloft.items index ≡ Some a)
     (old : Changes c.project first c.aloft.items es w counts.starts.flying) (beside : AllByRecursion (FliesBeside c.project before asked) c.aloft.items)
     → ((out : List ℕ) → WritesTo out (child_of a.begun) counts.starts.flying → ChangesOnly (is_at_or_below out) w w') → ChangesInFlight c.project before asked w w'
 alone_dropped c counts manned first es before asked w w' index a at old beside only =
@@ -176,7 +176,7 @@ in_flight_twice project es asked u v w first then' = record {
 }
 
 -- nothing changes of one for which no child was started
-pub childless_dropped : (c : UnitCrew) (counts : Counts) (manned : IsManned c counts) (first : World) (es : List (Event BadUnit)) (w w' : World) (index : ℕ) (a : Aloft) (at : slice_get c.aloft.items index ≡ Some a) (old : Changes c.project first c.aloft.items es w counts.starts.flying)
+pub childless_dropped : (c : UnitExecutor) (counts : Counts) (manned : IsConsistent c counts) (first : World) (es : List (Event BadUnit)) (w w' : World) (index : ℕ) (a : RunningUnit) (at : slice_get c.aloft.items index ≡ Some a) (old : Changes c.project first c.aloft.items es w counts.starts.flying)
     → ((out : List ℕ) → WritesTo out (child_of a.begun) counts.starts.flying → ChangesOnly (is_at_or_below out) w w') → (place : ℕ) (v : Planned) (q : List ℕ) → unit_at c.project place ≡ Some v → is_started es place ≡ false → is_of (records_folder c.project) v.key q ≡ true
     → finite.get w'.files q ≡ finite.get w.files q
 childless_dropped c counts manned first es w w' index a at old only place v q there started inside =
@@ -189,7 +189,7 @@ childless_dropped c counts manned first es w w' index a at old only place v q th
     ]
 
 -- all that is still so after one of them was dropped, and after the next
-pub told_twice : (child : Answers) (project now : Project) (same : now ≡ project) (first : World) (es : List (Event BadUnit)) (before mid after : List Aloft) (u v w : World) (flying flying' : List ChildInFlight)
+pub told_twice : (child : Answers) (project now : Project) (same : now ≡ project) (first : World) (es : List (Event BadUnit)) (before mid after : List RunningUnit) (u v w : World) (flying flying' : List ChildInFlight)
     → StaysTold child project first es before mid u v flying → (Changes now first mid es v flying → StaysTold child now first es mid after v w flying') → StaysTold child project first es before after u w flying'
 told_twice child project now same first es before mid after u v w flying flying' one step =
     let two : StaysTold child project first es mid after v w flying' =
@@ -207,7 +207,7 @@ told_twice child project now same first es before mid after u v w flying flying'
     }
 
 -- where none was dropped yet
-pub told_first : (child : Answers) (project : Project) (first : World) (es : List (Event BadUnit)) (aloft : List Aloft) (w : World) (flying : List ChildInFlight) → Changes project first aloft es w flying → StaysTold child project first es aloft aloft w w flying
+pub told_first : (child : Answers) (project : Project) (first : World) (es : List (Event BadUnit)) (aloft : List RunningUnit) (w : World) (flying : List ChildInFlight) → Changes project first aloft es w flying → StaysTold child project first es aloft aloft w w flying
 told_first child project first es aloft w flying old = record {
   changes = old;
   beside = λ came asked all. all;

@@ -24,13 +24,13 @@ use Rattle.pb_command_types.specs.Targets.{unit_at}
 use Rattle.pb_command_types.specs.declared.project.Project.{Project}
 use Rattle.pb_command_types.specs.declared.project.Setup.{Setup}
 use Rattle.pb_record.specs.declared.record.Record.{Record}
-use Rattle.pb_run.specs.Halves.{child_in, child_of, needed_keys}
+use Rattle.pb_run.specs.UnitSteps.{child_in, child_of, needed_keys}
 use Rattle.pb_run.specs.Running.{EndsBy, record_left, record_of}
-use Rattle.pb_run.specs.Standing.{IsInOrder, records_folder}
+use Rattle.pb_run.specs.Invariants.{IsInOrder, records_folder}
 use Rattle.pb_run.specs.declared.begun.Awaited.{Awaited}
 use Rattle.pb_run.specs.declared.begun.Awaited.TheVariants as awaited
 use Rattle.pb_run.specs.declared.begun.Begun.{Begun as unit_begun}
-use Rattle.pb_run.specs.declared.begun.Launched.{Launched}
+use Rattle.pb_run.specs.declared.begun.SpawnedChild.{SpawnedChild}
 use Rattle.pb_run.specs.declared.ran.Ran.{Ran}
 use Rattle.pb_run.proofs.Answering.{files_kept}
 use Rattle.pb_run.proofs.Recorded.{files_still, record_still}
@@ -45,11 +45,11 @@ use Rattle.pb_store_soundness.proofs.Places.{place_outside, record_same}
 use Rattle.pb_store.specs.Folder.{numbered, TakesNext, lacks_number, migrated}
 use Rattle.pb_store.specs.declared.replaying.Replayed.{Replayed}
 use Rattle.pb_build_turns.specs.Calling.{CarriesAgain, FliesAgain, CarriesAnew, FliesAnew}
-use Rattle.pb_build_turns.specs.Crew.{needs_of, Moment}
+use Rattle.pb_build_turns.specs.Executor.{needs_of, BuildState}
 use Rattle.pb_build_turns.specs.Rows.{is_started}
-use Rattle.pb_build_turns.specs.Story.{states_in, events_before, events_until, record_anew, AllLeaveRecords, CarriesNumber, FliesIn, LacksNumber, LeavesRecord, NumbersGiven, Recordings, Story}
-use Rattle.pb_build_turns.specs.declared.crew.Aloft.{Aloft}
-use Rattle.pb_build_turns.specs.declared.crew.UnitCrew.{UnitCrew}
+use Rattle.pb_build_turns.specs.History.{states_in, events_before, events_until, record_anew, AllLeaveRecords, CarriesNumber, FliesIn, LacksNumber, LeavesRecord, NumbersGiven, Recordings, History}
+use Rattle.pb_build_turns.specs.declared.executor.RunningUnit.{RunningUnit}
+use Rattle.pb_build_turns.specs.declared.executor.UnitExecutor.{UnitExecutor}
 use Rattle.pb_build_turns.proofs.Again.{command_stays}
 use Rattle.pb_build_turns.proofs.Anew.{well_of, landed, reaches_others, sees_on}
 use Rattle.pb_build_turns.proofs.Happening.{before_now, before_other, started_other}
@@ -122,12 +122,12 @@ events_same child setup project done started started' before before' until until
 module _ (child : Answers) (setup : Setup) (project : Project) (order : IsInOrder project) (place : ℕ) (u : Planned) (there : unit_at project place ≡ Some u) (far : (p : ℕ) → Contains u.reaches p → p ≢ place)
     (done done' : List (Option (List Directive))) (same : command_of setup project u done ≡ command_of setup project u done') (c : Command) (w new : World) (old : Counts) (still : ℕ → Type 0) (sees : c ≡ command_of setup project u done → seen_by c new ≡ seen_by c w)
     (only : ChangesOnly (is_of (records_folder project) u.key) w new) (next : Option ℕ) where
-  abbrev Stands : Awaited → Ended → World → Type 0
-  Stands by ended left = records (records_folder project) new u.key ≡ record_left project u c by ended next left
+  abbrev OutcomeHolds : Awaited → Ended → World → Type 0
+  OutcomeHolds by ended left = records (records_folder project) new u.key ≡ record_left project u c by ended next left
 
   -- its child gave the answer
-  anew_child : (launched : Launched) → CarriesAnew child setup project done w old.starts.flying still u c (awaited.Child launched)
-      → (well : Type 0) (left : World) (mid : Counts) (ended : Ended) → EndsBy (awaited.Child launched) (Ok ended) well still w left old mid → Stands (awaited.Child launched) ended left
+  anew_child : (launched : SpawnedChild) → CarriesAnew child setup project done w old.starts.flying still u c (awaited.Child launched)
+      → (well : Type 0) (left : World) (mid : Counts) (ended : Ended) → EndsBy (awaited.Child launched) (Ok ended) well still w left old mid → OutcomeHolds (awaited.Child launched) ended left
       → (well' : Type 0) (left' : World) (mid' : Counts) (ended' : Ended) → EndsBy (awaited.Child launched) (Ok ended') well' still w left' old mid' → ChangesOnly (is_at_or_below (place_of (records_folder project) u.key)) left' new
       → records (records_folder project) new u.key ≡ Some (record_anew child setup project done' new u launched.number)
   anew_child launched carries well left mid ended ends stands well' left' mid' ended' ends' behind =
@@ -146,7 +146,7 @@ module _ (child : Answers) (setup : Setup) (project : Project) (order : IsInOrde
 
   -- its record gave it
   again_record : (first : World) (again : Replayed) → CarriesAgain setup project done first w u c (awaited.Record again) → (well : Type 0) (left : World) (mid : Counts) (ended : Ended) → EndsBy (awaited.Record again) (Ok ended) well still w left old mid
-      → Stands (awaited.Record again) ended left
+      → OutcomeHolds (awaited.Record again) ended left
       → records (records_folder project) new u.key ≡ migrated next (numbered (records (records_folder project) new) (needed_keys project u)) (records (records_folder project) first u.key)
   again_record first again carries well left mid ended ends stands =
       let (unchanged, counted, is) = ends in
@@ -161,7 +161,7 @@ module _ (child : Answers) (setup : Setup) (project : Project) (order : IsInOrde
 
   -- whichever gave it, where it is good
   anew_by : (by : Awaited) → is_some (child_in by) ≡ true → CarriesAnew child setup project done w old.starts.flying still u c by → (Taken : ℕ → Type 0) → IfSome (child_in by) (λ launched. Taken launched.number)
-      → (well : Type 0) (left : World) (mid : Counts) (ended : Ended) → EndsBy by (Ok ended) well still w left old mid → Stands by ended left
+      → (well : Type 0) (left : World) (mid : Counts) (ended : Ended) → EndsBy by (Ok ended) well still w left old mid → OutcomeHolds by ended left
       → (well' : Type 0) (left' : World) (mid' : Counts) (answer : Result Ended StartFault) → EndsBy by answer well' still w left' old mid' → well' → ChangesOnly (is_at_or_below (place_of (records_folder project) u.key)) left' new
       → (number : ℕ) × Taken number × (records (records_folder project) new u.key ≡ Some (record_anew child setup project done' new u number))
   anew_by (awaited.Record again) has carries Taken taken well left mid ended ends stands well' left' mid' answer ends' so behind = absurd (false≢true has)
@@ -169,7 +169,7 @@ module _ (child : Answers) (setup : Setup) (project : Project) (order : IsInOrde
   anew_by (awaited.Child launched) has carries Taken taken well left mid ended ends stands well' left' mid' (Ok ended') ends' so behind =
       (launched.number, taken, anew_child launched carries well left mid ended ends stands well' left' mid' ended' ends' behind)
 
-  again_by : (first : World) (by : Awaited) → is_some (child_in by) ≡ false → CarriesAgain setup project done first w u c by → (well : Type 0) (left : World) (mid : Counts) (ended : Ended) → EndsBy by (Ok ended) well still w left old mid → Stands by ended left
+  again_by : (first : World) (by : Awaited) → is_some (child_in by) ≡ false → CarriesAgain setup project done first w u c by → (well : Type 0) (left : World) (mid : Counts) (ended : Ended) → EndsBy by (Ok ended) well still w left old mid → OutcomeHolds by ended left
       → records (records_folder project) new u.key ≡ migrated next (numbered (records (records_folder project) new) (needed_keys project u)) (records (records_folder project) first u.key)
   again_by first (awaited.Child launched) none carries well left mid ended ends stands = absurd (false≢true (sym none))
   again_by first (awaited.Record again) none carries well left mid ended ends stands = again_record first again carries well left mid ended ends stands
@@ -185,26 +185,26 @@ module _ (child : Answers) (setup : Setup) (project : Project) (order : IsInOrde
 -- A unit in flight.
 
 -- its child was launched with the run number that was the next after these events
-abbrev LaunchedAfter : Project → Option ℕ → World → List (Event BadUnit) → Option Launched → Type 0
+abbrev LaunchedAfter : Project → Option ℕ → World → List (Event BadUnit) → Option SpawnedChild → Type 0
 LaunchedAfter project next first before o = IfSome o (λ launched. NumbersGiven (LacksNumber project first) before next (Some launched.number))
 
 -- Nothing has begun.
 
-pub recordings_first : (child : Answers) (setup : Setup) (project : Project) (done : List (Option (List Directive))) (aloft : List Aloft) (next : Option ℕ) (w : World) → aloft ≡ [] → Recordings child setup project done aloft [] next w w
+pub recordings_first : (child : Answers) (setup : Setup) (project : Project) (done : List (Option (List Directive))) (aloft : List RunningUnit) (next : Option ℕ) (w : World) → aloft ≡ [] → Recordings child setup project done aloft [] next w w
 recordings_first child setup project done aloft next w none = record {
   carries = subst (AllByRecursion (CarriesNumber project [] next w)) (sym none) tt;
   gave = λ place answer state. absurd (no_answer (needs_of project) place answer state);
 }
 
-module _ (tells : Bool) (child : Answers) (first old : UnitCrew) (at now new : Moment) (still : ℕ → Type 0) (es : List (Event BadUnit)) (given : ℕ) (story : Story tells child first at old now still es given) (order : IsInOrder old.project) (lawful : IsLawful (needs_of old.project) es) where
-  flown : IsTrue tells → (k : ℕ) (a : Aloft) → slice_get old.aloft.items k ≡ Some a → FliesIn old.project es now.world now.counts.starts.flying a
+module _ (is_modelled : Bool) (child : Answers) (first old : UnitExecutor) (at now new : BuildState) (still : ℕ → Type 0) (es : List (Event BadUnit)) (given : ℕ) (story : History is_modelled child first at old now still es given) (order : IsInOrder old.project) (lawful : IsLawful (needs_of old.project) es) where
+  flown : IsTrue is_modelled → (k : ℕ) (a : RunningUnit) → slice_get old.aloft.items k ≡ Some a → FliesIn old.project es now.world now.counts.starts.flying a
   flown t k a at_k = all_get (FliesIn old.project es now.world now.counts.starts.flying) old.aloft.items k a (story.changes t).flies at_k
 
   -- A unit begins.
 
-  module _ (unit : ℕ) (u : Planned) (there : unit_at old.project unit ≡ Some u) (may : MayBegin (needs_of old.project) (states_in old.project es) unit) (only : IsTrue tells → ChangesOnly (is_of (records_folder old.project) u.key) now.world new.world) where
+  module _ (unit : ℕ) (u : Planned) (there : unit_at old.project unit ≡ Some u) (may : MayBegin (needs_of old.project) (states_in old.project es) unit) (only : IsTrue is_modelled → ChangesOnly (is_of (records_folder old.project) u.key) now.world new.world) where
     -- those that had answered, also where it could not
-    pub unbegun_left : (spawned : Bool) → IsTrue tells → AllLeaveRecords child old.setup old.project (Began unit spawned ∷ es) old.done.items first.store.next at.world new.world
+    pub unbegun_left : (spawned : Bool) → IsTrue is_modelled → AllLeaveRecords child old.setup old.project (Began unit spawned ∷ es) old.done.items first.store.next at.world new.world
     unbegun_left spawned t place answer state =
         let (ne, before) = answered_before (states_in old.project es) unit place answer Untouched may.untouched state in
         events_same child old.setup old.project old.done.items (is_started es place) (is_started (Began unit spawned ∷ es) place) (events_before es place) (events_before (Began unit spawned ∷ es) place) (events_until es place) (events_until es place) first.store.next at.world new.world place answer
@@ -214,8 +214,8 @@ module _ (tells : Bool) (child : Answers) (first old : UnitCrew) (at now new : M
 
     -- it has
     pub begun_left : (next : Option ℕ) (begun : unit_begun) → MatchOption (child_of begun) (next ≡ old.store.next) (λ launched. (old.store.next ≡ Some launched.number) × (next ≡ after launched.number))
-        → (aloft' : List Aloft) → aloft' ≡ old.aloft.items ++ record { unit = unit; begun = begun } ∷ []
-        → IsTrue tells → Recordings child old.setup old.project old.done.items aloft' (Began unit (is_some (child_of begun)) ∷ es) first.store.next at.world new.world
+        → (aloft' : List RunningUnit) → aloft' ≡ old.aloft.items ++ record { unit = unit; begun = begun } ∷ []
+        → IsTrue is_modelled → Recordings child old.setup old.project old.done.items aloft' (Began unit (is_some (child_of begun)) ∷ es) first.store.next at.world new.world
     begun_left next begun number aloft' more t = record {
       carries =
           subst (AllByRecursion (CarriesNumber old.project (Began unit (is_some (child_of begun)) ∷ es) first.store.next at.world)) (sym more)
@@ -229,10 +229,10 @@ module _ (tells : Bool) (child : Answers) (first old : UnitCrew) (at now new : M
       gave = unbegun_left (is_some (child_of begun)) t;
     }
       where
-        number_on : (o : Option Launched) (before before' : List (Event BadUnit)) → before' ≡ before → LaunchedAfter old.project first.store.next at.world before o → LaunchedAfter old.project first.store.next at.world before' o
+        number_on : (o : Option SpawnedChild) (before before' : List (Event BadUnit)) → before' ≡ before → LaunchedAfter old.project first.store.next at.world before o → LaunchedAfter old.project first.store.next at.world before' o
         number_on o before before' same takes = subst (λ (x : List (Event BadUnit)). LaunchedAfter old.project first.store.next at.world x o) (sym same) takes
 
-        own : (o : Option Launched) → MatchOption o (next ≡ old.store.next) (λ launched. (old.store.next ≡ Some launched.number) × (next ≡ after launched.number)) → LaunchedAfter old.project first.store.next at.world (events_before (Began unit (is_some (child_of begun)) ∷ es) unit) o
+        own : (o : Option SpawnedChild) → MatchOption o (next ≡ old.store.next) (λ launched. (old.store.next ≡ Some launched.number) × (next ≡ after launched.number)) → LaunchedAfter old.project first.store.next at.world (events_before (Began unit (is_some (child_of begun)) ∷ es) unit) o
         own None number = tt
         own (Some launched) number =
             number_on (Some launched) es (events_before (Began unit (is_some (child_of begun)) ∷ es) unit) (before_now es unit (is_some (child_of begun)))
@@ -240,22 +240,22 @@ module _ (tells : Bool) (child : Answers) (first old : UnitCrew) (at now new : M
 
   -- A unit answers.
 
-  module _ (index : ℕ) (a : Aloft) (u : Planned) (there : unit_at old.project a.unit ≡ Some u) (at_index : slice_get old.aloft.items index ≡ Some a) (only : IsTrue tells → ChangesOnly (is_of (records_folder old.project) u.key) now.world new.world) where
+  module _ (index : ℕ) (a : RunningUnit) (u : Planned) (there : unit_at old.project a.unit ≡ Some u) (at_index : slice_get old.aloft.items index ≡ Some a) (only : IsTrue is_modelled → ChangesOnly (is_of (records_folder old.project) u.key) now.world new.world) where
     -- a fault came in its place
-    pub unanswered_left : IsTrue tells → AllLeaveRecords child old.setup old.project es old.done.items first.store.next at.world new.world
+    pub unanswered_left : IsTrue is_modelled → AllLeaveRecords child old.setup old.project es old.done.items first.store.next at.world new.world
     unanswered_left t =
         let state = (flown t index a at_index).state in
         all_left_on old.project order es lawful a.unit u there (ap is_good_at state) old.setup child now.world new.world (only t) (λ b is. begun_apart b (sym state ∙ is)) old.done.items first.store.next at.world (story.left t).gave
 
     -- it has
     pub answered_left : (ran : Ran) (lines : List ℕ)
-        → (IsTrue tells → is_some ran.bad ≡ false → (ended : Ended) × (left : World) × (mid : Counts) × EndsBy a.begun.awaited (Ok ended) (IsTrue true) still now.world left now.counts mid
+        → (IsTrue is_modelled → is_some ran.bad ≡ false → (ended : Ended) × (left : World) × (mid : Counts) × EndsBy a.begun.awaited (Ok ended) (IsTrue true) still now.world left now.counts mid
         × (records (records_folder old.project) new.world u.key ≡ record_left old.project u a.begun.command a.begun.awaited ended old.store.next left))
-        → (next : Option ℕ) → (IsTrue tells → is_started es a.unit ≡ false → ran.bad ≡ None → lacks_number (records (records_folder old.project) at.world u.key) ≡ true → TakesNext old.store.next next)
-        → (IsTrue tells → (answer : Result Ended StartFault) × (left : World) × (mid : Counts) × EndsBy a.begun.awaited answer (IsOk (well_of ran)) still now.world left now.counts mid × ChangesOnly (is_at_or_below (place_of (records_folder old.project) u.key)) left new.world)
-        → (IsTrue tells → IsSome ran.bad → ChangesOnly (is_at_or_below u.out) now.world new.world)
-        → (aloft' : List Aloft) (done' : List (Option (List Directive))) → aloft' ≡ remove old.aloft.items index → done' ≡ slice_set old.done.items a.unit ran.directives
-        → IsTrue tells → Recordings child old.setup old.project done' aloft' (Gave a.unit record { fault = ran.bad; lines = lines } ∷ es) first.store.next at.world new.world
+        → (next : Option ℕ) → (IsTrue is_modelled → is_started es a.unit ≡ false → ran.bad ≡ None → lacks_number (records (records_folder old.project) at.world u.key) ≡ true → TakesNext old.store.next next)
+        → (IsTrue is_modelled → (answer : Result Ended StartFault) × (left : World) × (mid : Counts) × EndsBy a.begun.awaited answer (IsOk (well_of ran)) still now.world left now.counts mid × ChangesOnly (is_at_or_below (place_of (records_folder old.project) u.key)) left new.world)
+        → (IsTrue is_modelled → IsSome ran.bad → ChangesOnly (is_at_or_below u.out) now.world new.world)
+        → (aloft' : List RunningUnit) (done' : List (Option (List Directive))) → aloft' ≡ remove old.aloft.items index → done' ≡ slice_set old.done.items a.unit ran.directives
+        → IsTrue is_modelled → Recordings child old.setup old.project done' aloft' (Gave a.unit record { fault = ran.bad; lines = lines } ∷ es) first.store.next at.world new.world
     answered_left ran lines kept next lacked lands unkept aloft' done' is set t = record {
       carries = subst (AllByRecursion (CarriesNumber old.project es first.store.next at.world)) (sym is)
           (all_left (CarriesNumber old.project es first.store.next at.world) (CarriesNumber old.project es first.store.next at.world) old.aloft.items index (λ j y at_j ne carries. carries) ((story.left t).carries));
@@ -296,7 +296,7 @@ module _ (tells : Bool) (child : Answers) (first old : UnitCrew) (at now new : M
         waits = all_get (FliesAnew child old.setup old.project old.done.items now.world now.counts.starts.flying still) old.aloft.items index a (story.anew t).waits at_index u there
 
         replays : CarriesAgain old.setup old.project old.done.items at.world now.world u a.begun.command a.begun.awaited
-        replays = all_get (λ (x : Aloft). FliesAgain old.setup old.project old.done.items at.world now.world x) old.aloft.items index a ((story.again t).waits) at_index u there
+        replays = all_get (λ (x : RunningUnit). FliesAgain old.setup old.project old.done.items at.world now.world x) old.aloft.items index a ((story.again t).waits) at_index u there
 
         own : LeavesRecord child old.setup old.project done' (is_started es a.unit) (events_before es a.unit) (events_until (Gave a.unit its_answer ∷ es) a.unit) first.store.next at.world new.world a.unit its_answer
         own =

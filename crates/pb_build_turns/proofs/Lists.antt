@@ -5,7 +5,7 @@ use Rattle.std.specs.List.{AllByRecursion, flat_map, remove}
 use Rattle.std.specs.Prelude.{slice_set}
 use Rattle.pb_run_flight.specs.Events.{without}
 use Rattle.pb_run_flight.proofs.Lists.{injective, clash, contains_none, contains_head, contains_tail, contains_cases}
-use Rattle.pb_build_turns.specs.Crew.{AreApart}
+use Rattle.pb_build_turns.specs.Executor.{AreApart}
 
 -- What is said of each item.
 

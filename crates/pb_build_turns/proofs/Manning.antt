@@ -15,14 +15,14 @@ use Rattle.pb_place_types.specs.declared.child_in_flight.ChildInFlight.{ChildInF
 use Rattle.pb_command_types.specs.declared.project.Project.{Project}
 use Rattle.pb_run.specs.Steps.{BeginsBy, LandsBy}
 use Rattle.pb_run.proofs.Naming.{MayAnswerUnit, MayBeginUnit}
-use Rattle.pb_run.specs.Halves.{child_of}
-use Rattle.pb_run.specs.Standing.{IsInOrder, records_folder}
-use Rattle.pb_run.specs.declared.begun.Launched.{Launched}
+use Rattle.pb_run.specs.UnitSteps.{child_of}
+use Rattle.pb_run.specs.Invariants.{IsInOrder, records_folder}
+use Rattle.pb_run.specs.declared.begun.SpawnedChild.{SpawnedChild}
 use Rattle.pb_store_soundness.specs.Numbers.{after, IsBefore}
 use Rattle.pb_store.specs.Folder.{TakesNumber}
-use Rattle.pb_build_turns.specs.Crew.{AreApart, IsManned, IsOfPlan, place_of_unit, places_of, ticket_in, number_in, tickets_of, numbers_of, ticket_of_child}
-use Rattle.pb_build_turns.specs.declared.crew.Aloft.{Aloft}
-use Rattle.pb_build_turns.specs.declared.crew.UnitCrew.{UnitCrew}
+use Rattle.pb_build_turns.specs.Executor.{AreApart, IsConsistent, IsOfPlan, place_of_unit, places_of, ticket_in, number_in, tickets_of, numbers_of, ticket_of_child}
+use Rattle.pb_build_turns.specs.declared.executor.RunningUnit.{RunningUnit}
+use Rattle.pb_build_turns.specs.declared.executor.UnitExecutor.{UnitExecutor}
 use Rattle.pb_build_turns.proofs.Lists.{has_given, all_more, all_as, all_removed, all_flat, flat_more, flat_stays, flat_without, flat_ones, apart_more, apart_flat, map_removed}
 
 -- the next number grows
@@ -52,7 +52,7 @@ begin_fault_flies next key Sink old new may = absurd may
 begin_fault_flies next key OutOfMemory old new (inl same) = ap (λ (s : Starts). s.flying) same
 begin_fault_flies next key OutOfMemory old new (inr more) = ap (λ (s : Starts). s.flying) more
 
-pub answer_fault_lands : (next : Option ℕ) (key : List ℕ) (launched : Option Launched) (e : BuildFault) (old new : Starts) → MayAnswerUnit next key launched e old new → LandsBy launched old new
+pub answer_fault_lands : (next : Option ℕ) (key : List ℕ) (launched : Option SpawnedChild) (e : BuildFault) (old new : Starts) → MayAnswerUnit next key launched e old new → LandsBy launched old new
 answer_fault_lands next key launched (Plan why) old new may = absurd may
 answer_fault_lands next key launched Toolchain old new may = absurd may
 answer_fault_lands next key launched (Child unit fault) old new may = may.3
@@ -105,66 +105,66 @@ flies_by ticket (f ∷ fs) has = elim (contains_cases f.ticket (map ticket_of_ch
     either true h = refl
     either false h = h
 
-pub flying_of : (c : UnitCrew) (counts : Counts) (index : ℕ) (a : Aloft) → IsManned c counts → slice_get c.aloft.items index ≡ Some a → IfSome (child_of a.begun) (λ l. is_flying l.ticket counts.starts.flying ≡ true)
+pub flying_of : (c : UnitExecutor) (counts : Counts) (index : ℕ) (a : RunningUnit) → IsConsistent c counts → slice_get c.aloft.items index ≡ Some a → IfSome (child_of a.begun) (λ l. is_flying l.ticket counts.starts.flying ≡ true)
 flying_of c counts index a manned at = by (child_of a.begun) refl
   where
-    by : (o : Option Launched) → (child_of a.begun) ≡ o → IfSome o (λ l. is_flying l.ticket counts.starts.flying ≡ true)
+    by : (o : Option SpawnedChild) → (child_of a.begun) ≡ o → IfSome o (λ l. is_flying l.ticket counts.starts.flying ≡ true)
     by None is = tt
     by (Some l) is =
-        flies_by l.ticket counts.starts.flying (subst (λ ts. Contains ts l.ticket) (sym manned.tickets) (has_given (λ (x : Aloft). ticket_in (child_of x.begun)) c.aloft.items index a l.ticket at (ap ticket_in is)))
+        flies_by l.ticket counts.starts.flying (subst (λ ts. Contains ts l.ticket) (sym manned.tickets) (has_given (λ (x : RunningUnit). ticket_in (child_of x.begun)) c.aloft.items index a l.ticket at (ap ticket_in is)))
 
 -- after a fault: the same units, and a next number that may have grown
-pub manned_same : (old new : UnitCrew) (before now : Counts) → IsManned old before → new.project ≡ old.project → new.store.folder ≡ old.store.folder → new.done.items ≡ old.done.items → length new.reasons.items ≡ length old.reasons.items → new.aloft.items ≡ old.aloft.items → TakesNumber old.store.next new.store.next
-    → now.starts.flying ≡ before.starts.flying → IsManned new now
+pub manned_same : (old new : UnitExecutor) (before now : Counts) → IsConsistent old before → new.project ≡ old.project → new.store.folder ≡ old.store.folder → new.done.items ≡ old.done.items → length new.reasons.items ≡ length old.reasons.items → new.aloft.items ≡ old.aloft.items → TakesNumber old.store.next new.store.next
+    → now.starts.flying ≡ before.starts.flying → IsConsistent new now
 manned_same old new before now manned project folder done reasons aloft next flying = record {
   order = subst IsInOrder (sym project) manned.order;
   folder = folder ∙ manned.folder ∙ ap records_folder (sym project);
   long = ap length done ∙ manned.long ∙ ap (λ (p : Project). length p.plan.planned) (sym project);
   reasoned = reasons ∙ manned.reasoned ∙ ap (λ (p : Project). length p.plan.planned) (sym project);
   units = subst (λ (p : Project). AllByRecursion (IsOfPlan p) new.aloft.items) (sym project) (subst (AllByRecursion (IsOfPlan old.project)) (sym aloft) manned.units);
-  units_apart = subst (λ (items : List Aloft). AreApart (places_of items)) (sym aloft) manned.units_apart;
+  units_apart = subst (λ (items : List RunningUnit). AreApart (places_of items)) (sym aloft) manned.units_apart;
   tickets = ap (map ticket_of_child) flying ∙ manned.tickets ∙ ap tickets_of (sym aloft);
-  tickets_apart = subst (λ (items : List Aloft). AreApart (tickets_of items)) (sym aloft) manned.tickets_apart;
-  numbers_apart = subst (λ (items : List Aloft). AreApart (numbers_of items)) (sym aloft) manned.numbers_apart;
-  before = subst (λ (items : List Aloft). AllByRecursion (IsBefore new.store.next) (numbers_of items)) (sym aloft)
+  tickets_apart = subst (λ (items : List RunningUnit). AreApart (tickets_of items)) (sym aloft) manned.tickets_apart;
+  numbers_apart = subst (λ (items : List RunningUnit). AreApart (numbers_of items)) (sym aloft) manned.numbers_apart;
+  before = subst (λ (items : List RunningUnit). AllByRecursion (IsBefore new.store.next) (numbers_of items)) (sym aloft)
       (all_as (IsBefore old.store.next) (IsBefore new.store.next) (numbers_of old.aloft.items) (λ n. before_next old.store.next new.store.next n next) manned.before);
 }
 
 -- a unit more in flight
-module _ (old new : UnitCrew) (before now : Counts) (a : Aloft) (manned : IsManned old before) (free : Contains (places_of old.aloft.items) a.unit → ⊥) (of_plan : IsOfPlan old.project a)
+module _ (old new : UnitExecutor) (before now : Counts) (a : RunningUnit) (manned : IsConsistent old before) (free : Contains (places_of old.aloft.items) a.unit → ⊥) (of_plan : IsOfPlan old.project a)
     (project : new.project ≡ old.project) (folder : new.store.folder ≡ old.store.folder) (done : new.done.items ≡ old.done.items) (reasons : length new.reasons.items ≡ length old.reasons.items) (aloft : new.aloft.items ≡ old.aloft.items ++ a ∷ [])
     (next : TakesNumber old.store.next new.store.next) (begins : BeginsBy (child_of a.begun) before.starts now.starts)
-    (number : (l : Launched) → (child_of a.begun) ≡ Some l → (old.store.next ≡ Some l.number) × (new.store.next ≡ after l.number)) where
+    (number : (l : SpawnedChild) → (child_of a.begun) ≡ Some l → (old.store.next ≡ Some l.number) × (new.store.next ≡ after l.number)) where
   tickets_are : tickets_of new.aloft.items ≡ tickets_of old.aloft.items ++ ticket_in (child_of a.begun)
-  tickets_are = ap tickets_of aloft ∙ flat_more (λ (x : Aloft). ticket_in (child_of x.begun)) old.aloft.items (a ∷ []) ∙ ap (λ ts. tickets_of old.aloft.items ++ ts) (append-nil (ticket_in (child_of a.begun)))
+  tickets_are = ap tickets_of aloft ∙ flat_more (λ (x : RunningUnit). ticket_in (child_of x.begun)) old.aloft.items (a ∷ []) ∙ ap (λ ts. tickets_of old.aloft.items ++ ts) (append-nil (ticket_in (child_of a.begun)))
 
   numbers_are : numbers_of new.aloft.items ≡ numbers_of old.aloft.items ++ number_in (child_of a.begun)
-  numbers_are = ap numbers_of aloft ∙ flat_more (λ (x : Aloft). number_in (child_of x.begun)) old.aloft.items (a ∷ []) ∙ ap (λ ns. numbers_of old.aloft.items ++ ns) (append-nil (number_in (child_of a.begun)))
+  numbers_are = ap numbers_of aloft ∙ flat_more (λ (x : RunningUnit). number_in (child_of x.begun)) old.aloft.items (a ∷ []) ∙ ap (λ ns. numbers_of old.aloft.items ++ ns) (append-nil (number_in (child_of a.begun)))
 
   places_are : places_of new.aloft.items ≡ places_of old.aloft.items ++ a.unit ∷ []
   places_are = ap places_of aloft ∙ map-append place_of_unit old.aloft.items (a ∷ [])
 
-  flies : (o : Option Launched) → BeginsBy o before.starts now.starts → map ticket_of_child now.starts.flying ≡ tickets_of old.aloft.items ++ ticket_in o
+  flies : (o : Option SpawnedChild) → BeginsBy o before.starts now.starts → map ticket_of_child now.starts.flying ≡ tickets_of old.aloft.items ++ ticket_in o
   flies None same = ap (λ (s : Starts). map ticket_of_child s.flying) same ∙ manned.tickets ∙ sym (append-nil (tickets_of old.aloft.items))
   flies (Some l) lifted =
       ap (λ (s : Starts). map ticket_of_child s.flying) lifted.lifted ∙ map-append ticket_of_child before.starts.flying (lifted.child ∷ []) ∙ ap (λ ts. ts ++ ticket_of_child lifted.child ∷ []) manned.tickets ∙ ap (λ t. tickets_of old.aloft.items ++ t ∷ []) lifted.its
 
-  tickets_so : (o : Option Launched) → BeginsBy o before.starts now.starts → AreApart (tickets_of old.aloft.items ++ ticket_in o)
+  tickets_so : (o : Option SpawnedChild) → BeginsBy o before.starts now.starts → AreApart (tickets_of old.aloft.items ++ ticket_in o)
   tickets_so None same = subst AreApart (sym (append-nil (tickets_of old.aloft.items))) manned.tickets_apart
   tickets_so (Some l) lifted = apart_more (tickets_of old.aloft.items) l.ticket manned.tickets_apart (subst (AllByRecursion (λ t. t ≢ l.ticket)) manned.tickets (free_ticket l.ticket before.starts.flying lifted.free))
 
-  numbers_so : (o : Option Launched) → (child_of a.begun) ≡ o → AreApart (numbers_of old.aloft.items ++ number_in o)
+  numbers_so : (o : Option SpawnedChild) → (child_of a.begun) ≡ o → AreApart (numbers_of old.aloft.items ++ number_in o)
   numbers_so None is = subst AreApart (sym (append-nil (numbers_of old.aloft.items))) manned.numbers_apart
   numbers_so (Some l) is = apart_more (numbers_of old.aloft.items) l.number manned.numbers_apart (below_apart l.number (numbers_of old.aloft.items) (subst (λ o. AllByRecursion (IsBefore o) (numbers_of old.aloft.items)) (number l is).0 manned.before))
 
   before_old : AllByRecursion (IsBefore new.store.next) (numbers_of old.aloft.items)
   before_old = all_as (IsBefore old.store.next) (IsBefore new.store.next) (numbers_of old.aloft.items) (λ n. before_next old.store.next new.store.next n next) manned.before
 
-  before_so : (o : Option Launched) → (child_of a.begun) ≡ o → AllByRecursion (IsBefore new.store.next) (numbers_of old.aloft.items ++ number_in o)
+  before_so : (o : Option SpawnedChild) → (child_of a.begun) ≡ o → AllByRecursion (IsBefore new.store.next) (numbers_of old.aloft.items ++ number_in o)
   before_so None is = all_more (IsBefore new.store.next) (numbers_of old.aloft.items) [] before_old tt
   before_so (Some l) is = all_more (IsBefore new.store.next) (numbers_of old.aloft.items) (l.number ∷ []) before_old (subst (λ o. IsBefore o l.number) (sym (number l is).1) (own_before l.number), tt)
 
-  pub manned_begun : IsManned new now
+  pub manned_begun : IsConsistent new now
   manned_begun = record {
     order = subst IsInOrder (sym project) manned.order;
     folder = folder ∙ manned.folder ∙ ap records_folder (sym project);
@@ -179,32 +179,32 @@ module _ (old new : UnitCrew) (before now : Counts) (a : Aloft) (manned : IsMann
   }
 
 -- a unit less
-module _ (old new : UnitCrew) (before now : Counts) (index : ℕ) (a : Aloft) (manned : IsManned old before) (at : slice_get old.aloft.items index ≡ Some a)
+module _ (old new : UnitExecutor) (before now : Counts) (index : ℕ) (a : RunningUnit) (manned : IsConsistent old before) (at : slice_get old.aloft.items index ≡ Some a)
     (project : new.project ≡ old.project) (folder : new.store.folder ≡ old.store.folder) (done : length new.done.items ≡ length old.done.items) (reasons : length new.reasons.items ≡ length old.reasons.items) (aloft : new.aloft.items ≡ remove old.aloft.items index)
     (next : TakesNumber old.store.next new.store.next) (lands : LandsBy (child_of a.begun) before.starts now.starts) where
-  flies_less : (o : Option Launched) → (child_of a.begun) ≡ o → LandsBy o before.starts now.starts → map ticket_of_child now.starts.flying ≡ tickets_of (remove old.aloft.items index)
-  flies_less None is same = ap (λ (s : Starts). map ticket_of_child s.flying) same ∙ manned.tickets ∙ sym (flat_stays (λ (x : Aloft). ticket_in (child_of x.begun)) old.aloft.items index a at (ap ticket_in is))
+  flies_less : (o : Option SpawnedChild) → (child_of a.begun) ≡ o → LandsBy o before.starts now.starts → map ticket_of_child now.starts.flying ≡ tickets_of (remove old.aloft.items index)
+  flies_less None is same = ap (λ (s : Starts). map ticket_of_child s.flying) same ∙ manned.tickets ∙ sym (flat_stays (λ (x : RunningUnit). ticket_in (child_of x.begun)) old.aloft.items index a at (ap ticket_in is))
   flies_less (Some l) is landed =
       ap (λ (s : Starts). map ticket_of_child s.flying) landed ∙ tickets_without l.ticket before.starts.flying ∙ ap (events.without l.ticket) manned.tickets
-      ∙ sym (flat_without (λ (x : Aloft). ticket_in (child_of x.begun)) old.aloft.items index a l.ticket manned.tickets_apart at (ap ticket_in is))
+      ∙ sym (flat_without (λ (x : RunningUnit). ticket_in (child_of x.begun)) old.aloft.items index a l.ticket manned.tickets_apart at (ap ticket_in is))
 
   places_apart : AreApart (places_of (remove old.aloft.items index))
   places_apart =
-      subst AreApart (flat_ones place_of_unit (remove old.aloft.items index)) (apart_flat (λ (x : Aloft). x.unit ∷ []) old.aloft.items index (subst AreApart (sym (flat_ones place_of_unit old.aloft.items)) manned.units_apart))
+      subst AreApart (flat_ones place_of_unit (remove old.aloft.items index)) (apart_flat (λ (x : RunningUnit). x.unit ∷ []) old.aloft.items index (subst AreApart (sym (flat_ones place_of_unit old.aloft.items)) manned.units_apart))
 
-  pub manned_answered : IsManned new now
+  pub manned_answered : IsConsistent new now
   manned_answered = record {
     order = subst IsInOrder (sym project) manned.order;
     folder = folder ∙ manned.folder ∙ ap records_folder (sym project);
     long = done ∙ manned.long ∙ ap (λ (p : Project). length p.plan.planned) (sym project);
     reasoned = reasons ∙ manned.reasoned ∙ ap (λ (p : Project). length p.plan.planned) (sym project);
     units = subst (λ (p : Project). AllByRecursion (IsOfPlan p) new.aloft.items) (sym project) (subst (AllByRecursion (IsOfPlan old.project)) (sym aloft) (all_removed (IsOfPlan old.project) old.aloft.items index manned.units));
-    units_apart = subst (λ (items : List Aloft). AreApart (places_of items)) (sym aloft) places_apart;
+    units_apart = subst (λ (items : List RunningUnit). AreApart (places_of items)) (sym aloft) places_apart;
     tickets = flies_less (child_of a.begun) refl lands ∙ ap tickets_of (sym aloft);
-    tickets_apart = subst (λ (items : List Aloft). AreApart (tickets_of items)) (sym aloft) (apart_flat (λ (x : Aloft). ticket_in (child_of x.begun)) old.aloft.items index manned.tickets_apart);
-    numbers_apart = subst (λ (items : List Aloft). AreApart (numbers_of items)) (sym aloft) (apart_flat (λ (x : Aloft). number_in (child_of x.begun)) old.aloft.items index manned.numbers_apart);
-    before = subst (λ (items : List Aloft). AllByRecursion (IsBefore new.store.next) (numbers_of items)) (sym aloft)
-        (all_flat (IsBefore new.store.next) (λ (x : Aloft). number_in (child_of x.begun)) old.aloft.items index
+    tickets_apart = subst (λ (items : List RunningUnit). AreApart (tickets_of items)) (sym aloft) (apart_flat (λ (x : RunningUnit). ticket_in (child_of x.begun)) old.aloft.items index manned.tickets_apart);
+    numbers_apart = subst (λ (items : List RunningUnit). AreApart (numbers_of items)) (sym aloft) (apart_flat (λ (x : RunningUnit). number_in (child_of x.begun)) old.aloft.items index manned.numbers_apart);
+    before = subst (λ (items : List RunningUnit). AllByRecursion (IsBefore new.store.next) (numbers_of items)) (sym aloft)
+        (all_flat (IsBefore new.store.next) (λ (x : RunningUnit). number_in (child_of x.begun)) old.aloft.items index
         (all_as (IsBefore old.store.next) (IsBefore new.store.next) (numbers_of old.aloft.items) (λ n. before_next old.store.next new.store.next n next) manned.before));
   }
 

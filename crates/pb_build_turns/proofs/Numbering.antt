@@ -17,9 +17,9 @@ use Rattle.pb_place_types.specs.Counts.{Starts}
 use Rattle.pb_place_types.specs.World.{Answers}
 use Rattle.pb_command_types.specs.Targets.{unit_at}
 use Rattle.pb_run.proofs.Naming.{MayAnswerUnit}
-use Rattle.pb_run.specs.Halves.{awaits_number, child_of}
-use Rattle.pb_run.specs.Standing.{records_folder}
-use Rattle.pb_run.specs.declared.begun.Launched.{Launched}
+use Rattle.pb_run.specs.UnitSteps.{awaits_number, child_of}
+use Rattle.pb_run.specs.Invariants.{records_folder}
+use Rattle.pb_run.specs.declared.begun.SpawnedChild.{SpawnedChild}
 use Rattle.pb_run.specs.declared.ran.Ran.{Ran}
 use Rattle.pb_store_soundness.specs.Numbers.{after}
 use Rattle.pb_store_soundness.specs.Records.{records}
@@ -27,29 +27,29 @@ use Rattle.pb_store.specs.Folder.{TakesNext, TakesNumber, lacks_number}
 use Rattle.pb_build_turns.proofs.Lists.{all_get, differs, get_map}
 use Rattle.pb_build_turns.proofs.Waiting.{carries_none, carries_number}
 use Rattle.pb_build_turns.specs.Calling.{CarriesAgain, FliesAgain}
-use Rattle.pb_build_turns.specs.Crew.{AreApart, launched_of, place_of_unit, places_of, Moment}
+use Rattle.pb_build_turns.specs.Executor.{AreApart, launched_of, place_of_unit, places_of, BuildState}
 use Rattle.pb_build_turns.specs.Rows.{is_started}
-use Rattle.pb_build_turns.specs.Story.{LacksNumber, NumbersGiven, Spends, Story}
-use Rattle.pb_build_turns.specs.declared.crew.Aloft.{Aloft}
-use Rattle.pb_build_turns.specs.declared.crew.UnitCrew.{UnitCrew}
+use Rattle.pb_build_turns.specs.History.{LacksNumber, NumbersGiven, Spends, History}
+use Rattle.pb_build_turns.specs.declared.executor.RunningUnit.{RunningUnit}
+use Rattle.pb_build_turns.specs.declared.executor.UnitExecutor.{UnitExecutor}
 use Rattle.pb_unit.specs.declared.plan.Planned.{Planned}
 
 -- a unit has begun
-pub numbers_begun : (Lacks : ℕ → Bool → Type 0) (es : List (Event BadUnit)) (first now next : Option ℕ) (unit : ℕ) (o : Option Launched) → MatchOption o (next ≡ now) (λ launched. (now ≡ Some launched.number) × (next ≡ after launched.number))
+pub numbers_begun : (Lacks : ℕ → Bool → Type 0) (es : List (Event BadUnit)) (first now next : Option ℕ) (unit : ℕ) (o : Option SpawnedChild) → MatchOption o (next ≡ now) (λ launched. (now ≡ Some launched.number) × (next ≡ after launched.number))
     → NumbersGiven Lacks es first now → NumbersGiven Lacks (Began unit (is_some o) ∷ es) first next
 numbers_begun Lacks es first now next unit None same numbers = subst (NumbersGiven Lacks es first) (sym same) numbers
 numbers_begun Lacks es first now next unit (Some l) taken numbers = (now, numbers, (l.number, taken.0, taken.1))
 
-pub some_or_none : (o : Option Launched) → IsSome o ⊎ (o ≡ None)
+pub some_or_none : (o : Option SpawnedChild) → IsSome o ⊎ (o ≡ None)
 some_or_none None = inr refl
 some_or_none (Some l) = inl refl
 
 -- a unit whose child flies is in flight
-launched_flies : (aloft : List Aloft) (n : ℕ) → Contains (launched_of aloft) n → Contains (places_of aloft) n
+launched_flies : (aloft : List RunningUnit) (n : ℕ) → Contains (launched_of aloft) n → Contains (places_of aloft) n
 launched_flies [] n has = has
 launched_flies (x ∷ aloft) n has = by (child_of x.begun) (λ more. launched_flies aloft n more) has
   where
-    by : (o : Option Launched) → (Contains (launched_of aloft) n → Contains (places_of aloft) n) → Contains (if_so (is_some o) x.unit ++ launched_of aloft) n → Contains (x.unit ∷ places_of aloft) n
+    by : (o : Option SpawnedChild) → (Contains (launched_of aloft) n → Contains (places_of aloft) n) → Contains (if_so (is_some o) x.unit ++ launched_of aloft) n → Contains (x.unit ∷ places_of aloft) n
     by None flies more = contains_tail x.unit (places_of aloft) n (flies more)
     by (Some l) flies more = elim (contains_cases x.unit (launched_of aloft) n more) [
       | inl same ↦ subst (λ m. Contains (m ∷ places_of aloft) n) (sym same) (contains_head n (places_of aloft))
@@ -57,24 +57,24 @@ launched_flies (x ∷ aloft) n has = by (child_of x.begun) (λ more. launched_fl
     ]
 
 -- one in flight that is among those whose children fly has a child
-pub has_child : (aloft : List Aloft) (index : ℕ) (a : Aloft) → AreApart (places_of aloft) → slice_get aloft index ≡ Some a → Contains (launched_of aloft) a.unit → IsSome (child_of a.begun)
+pub has_child : (aloft : List RunningUnit) (index : ℕ) (a : RunningUnit) → AreApart (places_of aloft) → slice_get aloft index ≡ Some a → Contains (launched_of aloft) a.unit → IsSome (child_of a.begun)
 has_child [] index a apart at has = absurd (clash at)
 has_child (x ∷ aloft) zero a apart at has = elim (some_or_none (child_of a.begun)) [
   | inl some ↦ some
-  | inr none ↦ absurd (differs a.unit a.unit (places_of aloft) (subst (λ (y : Aloft). AllByRecursion (λ m. y.unit ≢ m) (places_of aloft)) same apart.0) (launched_flies aloft a.unit (left none)) refl)
+  | inr none ↦ absurd (differs a.unit a.unit (places_of aloft) (subst (λ (y : RunningUnit). AllByRecursion (λ m. y.unit ≢ m) (places_of aloft)) same apart.0) (launched_flies aloft a.unit (left none)) refl)
 ]
   where
     same : x ≡ a
     same = injective at
 
     left : child_of a.begun ≡ None → Contains (launched_of aloft) a.unit
-    left none = subst (λ (o : Option Launched). Contains (if_so (is_some o) x.unit ++ launched_of aloft) a.unit) (ap (λ (y : Aloft). child_of y.begun) same ∙ none) has
+    left none = subst (λ (o : Option SpawnedChild). Contains (if_so (is_some o) x.unit ++ launched_of aloft) a.unit) (ap (λ (y : RunningUnit). child_of y.begun) same ∙ none) has
 has_child (x ∷ aloft) (suc index) a apart at has = has_child aloft index a apart.1 at (by (child_of x.begun) has)
   where
     other : x.unit ≢ a.unit
     other = differs x.unit a.unit (places_of aloft) apart.0 (at_contains (places_of aloft) index a.unit (get_map place_of_unit aloft index a at))
 
-    by : (o : Option Launched) → Contains (if_so (is_some o) x.unit ++ launched_of aloft) a.unit → Contains (launched_of aloft) a.unit
+    by : (o : Option SpawnedChild) → Contains (if_so (is_some o) x.unit ++ launched_of aloft) a.unit → Contains (launched_of aloft) a.unit
     by None more = more
     by (Some l) more = elim (contains_cases x.unit (launched_of aloft) a.unit more) [
       | inl same ↦ absurd (other same)
@@ -121,7 +121,7 @@ started_flies needs _ unit (lawful.answer es u given before flying gives) begun 
     no_answer given e = cc
 
 -- a fault came in place of an answer
-pub spends_answered : (Lacks : ℕ → Bool → Type 0) (es : List (Event BadUnit)) (first now : Option ℕ) (key : List ℕ) (launched : Option Launched) (e : BuildFault) (old new : Starts) → MayAnswerUnit now key launched e old new → NumbersGiven Lacks es first now → Spends Lacks e first es
+pub spends_answered : (Lacks : ℕ → Bool → Type 0) (es : List (Event BadUnit)) (first now : Option ℕ) (key : List ℕ) (launched : Option SpawnedChild) (e : BuildFault) (old new : Starts) → MayAnswerUnit now key launched e old new → NumbersGiven Lacks es first now → Spends Lacks e first es
 spends_answered Lacks es first now key launched (Plan why) old new may numbers = tt
 spends_answered Lacks es first now key launched Toolchain old new may numbers = tt
 spends_answered Lacks es first now key launched (Child unit fault) old new may numbers = tt
@@ -132,28 +132,28 @@ spends_answered Lacks es first now key launched OutOfMemory old new may numbers 
 
 -- The numbers along a story, over a place that tells its maps.
 
-pub begun_taken : (tells : Bool) (child : Answers) (first old : UnitCrew) (at now : Moment) (still : ℕ → Type 0) (es : List (Event BadUnit)) (given unit : ℕ) → Story tells child first at old now still es given
-    → (next : Option ℕ) (o : Option Launched) → MatchOption o (next ≡ old.store.next) (λ launched. (old.store.next ≡ Some launched.number) × (next ≡ after launched.number))
-    → IsTrue tells → NumbersGiven (LacksNumber old.project at.world) (Began unit (is_some o) ∷ es) first.store.next next
-begun_taken tells child first old at now still es given unit story next o number t =
+pub begun_taken : (is_modelled : Bool) (child : Answers) (first old : UnitExecutor) (at now : BuildState) (still : ℕ → Type 0) (es : List (Event BadUnit)) (given unit : ℕ) → History is_modelled child first at old now still es given
+    → (next : Option ℕ) (o : Option SpawnedChild) → MatchOption o (next ≡ old.store.next) (λ launched. (old.store.next ≡ Some launched.number) × (next ≡ after launched.number))
+    → IsTrue is_modelled → NumbersGiven (LacksNumber old.project at.world) (Began unit (is_some o) ∷ es) first.store.next next
+begun_taken is_modelled child first old at now still es given unit story next o number t =
     numbers_begun (LacksNumber old.project at.world) es first.store.next old.store.next next unit o number (story.taken t)
 
-module _ (tells : Bool) (child : Answers) (first old : UnitCrew) (at now : Moment) (still : ℕ → Type 0) (es : List (Event BadUnit)) (given : ℕ) (story : Story tells child first at old now still es given)
-    (index : ℕ) (a : Aloft) (u : Planned) (at_index : slice_get old.aloft.items index ≡ Some a) (there : unit_at old.project a.unit ≡ Some u) (started : is_started es a.unit ≡ is_some (child_of a.begun)) where
-  carries_its : IsTrue tells → CarriesAgain old.setup old.project old.done.items at.world now.world u a.begun.command a.begun.awaited
-  carries_its t = all_get (λ (x : Aloft). FliesAgain old.setup old.project old.done.items at.world now.world x) old.aloft.items index a ((story.again t).waits) at_index u there
+module _ (is_modelled : Bool) (child : Answers) (first old : UnitExecutor) (at now : BuildState) (still : ℕ → Type 0) (es : List (Event BadUnit)) (given : ℕ) (story : History is_modelled child first at old now still es given)
+    (index : ℕ) (a : RunningUnit) (u : Planned) (at_index : slice_get old.aloft.items index ≡ Some a) (there : unit_at old.project a.unit ≡ Some u) (started : is_started es a.unit ≡ is_some (child_of a.begun)) where
+  carries_its : IsTrue is_modelled → CarriesAgain old.setup old.project old.done.items at.world now.world u a.begun.command a.begun.awaited
+  carries_its t = all_get (λ (x : RunningUnit). FliesAgain old.setup old.project old.done.items at.world now.world x) old.aloft.items index a ((story.again t).waits) at_index u there
 
   -- one that has no child, and whose record lacked a number, takes the next
-  pub lacked_taken : (ran : Ran) (next : Option ℕ) → (IsTrue tells → awaits_number a.begun.awaited ≡ true → lacks_number (records (records_folder old.project) now.world u.key) ≡ true → is_some ran.bad ≡ false → TakesNext old.store.next next)
-      → IsTrue tells → is_started es a.unit ≡ false → ran.bad ≡ None → lacks_number (records (records_folder old.project) at.world u.key) ≡ true → TakesNext old.store.next next
+  pub lacked_taken : (ran : Ran) (next : Option ℕ) → (IsTrue is_modelled → awaits_number a.begun.awaited ≡ true → lacks_number (records (records_folder old.project) now.world u.key) ≡ true → is_some ran.bad ≡ false → TakesNext old.store.next next)
+      → IsTrue is_modelled → is_started es a.unit ≡ false → ran.bad ≡ None → lacks_number (records (records_folder old.project) at.world u.key) ≡ true → TakesNext old.store.next next
   lacked_taken ran next taken t none good lacks =
       let (waits, lacks_now) = carries_none old.setup old.project old.done.items at.world now.world u a.begun.command a.begun.awaited (sym started ∙ none) (carries_its t) lacks in
       taken t waits lacks_now (ap is_some good)
 
   pub answered_taken : (ran : Ran) (lines : List ℕ) (next : Option ℕ) → TakesNumber old.store.next next
       → (is_started es a.unit ≡ true → next ≡ old.store.next) → (IsSome ran.bad → next ≡ old.store.next) → (awaits_number a.begun.awaited ≡ false → next ≡ old.store.next)
-      → (IsTrue tells → awaits_number a.begun.awaited ≡ true → lacks_number (records (records_folder old.project) now.world u.key) ≡ true → is_some ran.bad ≡ false → TakesNext old.store.next next)
-      → IsTrue tells → NumbersGiven (LacksNumber old.project at.world) (Gave a.unit record { fault = ran.bad; lines = lines } ∷ es) first.store.next next
+      → (IsTrue is_modelled → awaits_number a.begun.awaited ≡ true → lacks_number (records (records_folder old.project) now.world u.key) ≡ true → is_some ran.bad ≡ false → TakesNext old.store.next next)
+      → IsTrue is_modelled → NumbersGiven (LacksNumber old.project at.world) (Gave a.unit record { fault = ran.bad; lines = lines } ∷ es) first.store.next next
   answered_taken ran lines next takes none bad untaken taken t = (
     old.store.next,
     story.taken t,

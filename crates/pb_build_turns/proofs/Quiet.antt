@@ -7,17 +7,17 @@ use Rattle.pb_place_types.specs.World.{World, Answers}
 use Rattle.pb_command_types.specs.Targets.{unit_at}
 use Rattle.pb_build_result.specs.declared.bad_unit.BadUnit.{BadUnit}
 use Rattle.pb_command_types.specs.declared.project.Project.{Project}
-use Rattle.pb_run.specs.Halves.{child_of}
-use Rattle.pb_run.specs.Standing.{records_folder}
+use Rattle.pb_run.specs.UnitSteps.{child_of}
+use Rattle.pb_run.specs.Invariants.{records_folder}
 use Rattle.pb_run.specs.declared.begun.Begun.{Begun as unit_begun}
-use Rattle.pb_run.specs.declared.begun.Launched.{Launched}
+use Rattle.pb_run.specs.declared.begun.SpawnedChild.{SpawnedChild}
 use Rattle.pb_store_soundness.specs.Records.{records}
 use Rattle.pb_store.specs.Folder.{lacks_number}
-use Rattle.pb_build_turns.specs.Crew.{Moment}
+use Rattle.pb_build_turns.specs.Executor.{BuildState}
 use Rattle.pb_build_turns.specs.Rows.{is_started}
-use Rattle.pb_build_turns.specs.Story.{FliesIn, IsQuiet, Story}
-use Rattle.pb_build_turns.specs.declared.crew.Aloft.{Aloft}
-use Rattle.pb_build_turns.specs.declared.crew.UnitCrew.{UnitCrew}
+use Rattle.pb_build_turns.specs.History.{FliesIn, IsQuiet, History}
+use Rattle.pb_build_turns.specs.declared.executor.RunningUnit.{RunningUnit}
+use Rattle.pb_build_turns.specs.declared.executor.UnitExecutor.{UnitExecutor}
 use Rattle.pb_build_turns.proofs.Lists.{all_get}
 use Rattle.pb_unit.specs.declared.plan.Planned.{Planned}
 
@@ -44,27 +44,27 @@ none_started (Gave unit answer ∷ es) place none = none_started es place none
 
 -- A unit begins.
 
-quiet_begun : (project : Project) (es : List (Event BadUnit)) (first w w' : World) (unit : ℕ) (o : Option Launched) → (o ≡ None → w' ≡ w) → IsQuiet project es first w → IsQuiet project (Began unit (is_some o) ∷ es) first w'
+quiet_begun : (project : Project) (es : List (Event BadUnit)) (first w w' : World) (unit : ℕ) (o : Option SpawnedChild) → (o ≡ None → w' ≡ w) → IsQuiet project es first w → IsQuiet project (Began unit (is_some o) ∷ es) first w'
 quiet_begun project es first w w' unit None same quiet = λ none numbered. same refl ∙ quiet (left_none (started_by es) [] none) numbered
 quiet_begun project es first w w' unit (Some l) same quiet = λ none numbered. absurd (some_last (started_by es) unit none)
 
-pub begun_quiet : (tells : Bool) (child : Answers) (first old : UnitCrew) (at now new : Moment) (still : ℕ → Type 0) (es : List (Event BadUnit)) (given unit : ℕ) → Story tells child first at old now still es given
-    → (begun : unit_begun) → (IsTrue tells → (child_of begun) ≡ None → new.world ≡ now.world) → IsTrue tells → IsQuiet old.project (Began unit (is_some (child_of begun)) ∷ es) at.world new.world
-begun_quiet tells child first old at now new still es given unit story begun same t = quiet_begun old.project es at.world now.world new.world unit (child_of begun) (same t) (story.quiet t)
+pub begun_quiet : (is_modelled : Bool) (child : Answers) (first old : UnitExecutor) (at now new : BuildState) (still : ℕ → Type 0) (es : List (Event BadUnit)) (given unit : ℕ) → History is_modelled child first at old now still es given
+    → (begun : unit_begun) → (IsTrue is_modelled → (child_of begun) ≡ None → new.world ≡ now.world) → IsTrue is_modelled → IsQuiet old.project (Began unit (is_some (child_of begun)) ∷ es) at.world new.world
+begun_quiet is_modelled child first old at now new still es given unit story begun same t = quiet_begun old.project es at.world now.world new.world unit (child_of begun) (same t) (story.quiet t)
 
 -- A unit answers.
 
 module _ (project : Project) (es : List (Event BadUnit)) (first w w' : World) (place : ℕ) (u : Planned) (there : unit_at project place ≡ Some u) where
-  quiet_answered : (o : Option Launched) → is_started es place ≡ is_some o → (o ≡ None → lacks_number (records (records_folder project) w u.key) ≡ false → w' ≡ w) → IsQuiet project es first w → IsQuiet project es first w'
+  quiet_answered : (o : Option SpawnedChild) → is_started es place ≡ is_some o → (o ≡ None → lacks_number (records (records_folder project) w u.key) ≡ false → w' ≡ w) → IsQuiet project es first w → IsQuiet project es first w'
   quiet_answered None started same quiet = λ none numbered.
       let as_first = quiet none numbered in
       same refl (ap (λ (v : World). lacks_number (records (records_folder project) v u.key)) as_first ∙ numbered place u there) ∙ as_first
   quiet_answered (Some l) started same quiet = λ none numbered. absurd (false≢true (sym (none_started es place none) ∙ started))
 
-pub answered_quiet : (tells : Bool) (child : Answers) (first old : UnitCrew) (at now new : Moment) (still : ℕ → Type 0) (es : List (Event BadUnit)) (given : ℕ) → Story tells child first at old now still es given
-    → (index : ℕ) (a : Aloft) (u : Planned) → unit_at old.project a.unit ≡ Some u → slice_get old.aloft.items index ≡ Some a → (answer : Answer BadUnit)
-    → (IsTrue tells → (child_of a.begun) ≡ None → lacks_number (records (records_folder old.project) now.world u.key) ≡ false → new.world ≡ now.world)
-    → IsTrue tells → IsQuiet old.project (Gave a.unit answer ∷ es) at.world new.world
-answered_quiet tells child first old at now new still es given story index a u there at_index answer same t =
+pub answered_quiet : (is_modelled : Bool) (child : Answers) (first old : UnitExecutor) (at now new : BuildState) (still : ℕ → Type 0) (es : List (Event BadUnit)) (given : ℕ) → History is_modelled child first at old now still es given
+    → (index : ℕ) (a : RunningUnit) (u : Planned) → unit_at old.project a.unit ≡ Some u → slice_get old.aloft.items index ≡ Some a → (answer : Answer BadUnit)
+    → (IsTrue is_modelled → (child_of a.begun) ≡ None → lacks_number (records (records_folder old.project) now.world u.key) ≡ false → new.world ≡ now.world)
+    → IsTrue is_modelled → IsQuiet old.project (Gave a.unit answer ∷ es) at.world new.world
+answered_quiet is_modelled child first old at now new still es given story index a u there at_index answer same t =
     let so = all_get (FliesIn old.project es now.world now.counts.starts.flying) old.aloft.items index a (story.changes t).flies at_index in
     quiet_answered old.project es at.world now.world new.world a.unit u there (child_of a.begun) so.started (same t) (story.quiet t)

@@ -19,18 +19,18 @@ use Rattle.pb_place_types.proofs.Within.{share_no_path}
 use Rattle.pb_command_types.specs.Targets.{unit_at}
 use Rattle.pb_build_result.specs.declared.bad_unit.BadUnit.{BadUnit}
 use Rattle.pb_command_types.specs.declared.project.Project.{Project}
-use Rattle.pb_run.specs.Halves.{Basis, Keeps, CanBegin}
-use Rattle.pb_run.specs.Standing.{IsInOrder, IsReadByNeed, records_folder}
+use Rattle.pb_run.specs.UnitSteps.{BuildContext, BuildInvariant, CanBegin}
+use Rattle.pb_run.specs.Invariants.{IsInOrder, IsReadByNeed, records_folder}
 use Rattle.pb_run.proofs.Recorded.{read_reached, reached_read, keys_differ, places_same}
 use Rattle.pb_run.proofs.Shown.{each_of}
 use Rattle.pb_store_soundness.specs.Apart.{is_of}
 use Rattle.pb_store_soundness.specs.Records.{out_of, place_of}
 use Rattle.pb_store_soundness.proofs.Places.{one_key, place_outside, places_differ, outs_apart, out_place_apart}
-use Rattle.pb_build_turns.specs.Crew.{needs_of}
-use Rattle.pb_build_turns.specs.Story.{states_in}
+use Rattle.pb_build_turns.specs.Executor.{needs_of}
+use Rattle.pb_build_turns.specs.History.{states_in}
 use Rattle.pb_build_turns.proofs.States.{begun_cases, good_set}
 use Rattle.pb_unit.specs.declared.plan.Planned.{Planned}
-use Rattle.pb_build_turns.specs.declared.crew.UnitCrew.{UnitCrew}
+use Rattle.pb_build_turns.specs.declared.executor.UnitExecutor.{UnitExecutor}
 
 -- a unit at a place before another of the list is there
 unit_before : (us : List Planned) (i j : ℕ) (u : Planned) → slice_get us i ≡ Some u → j < i → (v : Planned) × (slice_get us j ≡ Some v)
@@ -55,7 +55,7 @@ there_some (u ∷ us) zero less = (u, refl)
 there_some (u ∷ us) (suc place) less = there_some us place (omega (arith, less))
 
 -- a unit of the plan has its place among the reasons
-pub within_reasons : (c : UnitCrew) (unit : ℕ) → length c.reasons.items ≡ length c.project.plan.planned → unit < length (needs_of c.project) → unit < length c.reasons.items
+pub within_reasons : (c : UnitExecutor) (unit : ℕ) → length c.reasons.items ≡ length c.project.plan.planned → unit < length (needs_of c.project) → unit < length c.reasons.items
 within_reasons c unit reasoned less = subst (λ n. unit < n) (length-map c.project.plan.planned (λ (u : Planned). u.needs) ∙ sym reasoned) less
 
 -- a unit that is there and is
@@ -128,7 +128,7 @@ module _ (project : Project) (order : IsInOrder project) (states : List (State B
       let (x, at) = unit_before project.plan.planned place p u there (each_of (λ q. q < place) u.reaches p (order.reaches place u there) has) in
       reached_at p x at ((order.reads_are place u there x.out).0 (reached_read project order u x p has at)))
 
-pub can_begin : (b : Basis) (order : IsInOrder b.project) (states : List (State BadUnit)) (done : List (Option (List Directive))) (next : Option ℕ) (w : World) (keeps : Keeps b states done next w)
+pub can_begin : (b : BuildContext) (order : IsInOrder b.project) (states : List (State BadUnit)) (done : List (Option (List Directive))) (next : Option ℕ) (w : World) (keeps : BuildInvariant b states done next w)
     (place : ℕ) (u : Planned) (there : unit_at b.project place ≡ Some u) (may : MayBegin (needs_of b.project) states place) → CanBegin b states done place u next w
 can_begin b order states done next w keeps place u there may = record { keeps = keeps; untouched = may.untouched; reaches = reached_good b.project order states keeps.closed place u there may }
 

@@ -20,9 +20,9 @@ use Rattle.pb_build_result.specs.declared.bad_unit.BadUnit.{BadUnit}
 use Rattle.pb_record.specs.declared.record.Needed.{Needed}
 use Rattle.pb_record.specs.declared.record.Needed.TheVariants.{Copies, Numbers}
 use Rattle.pb_record.specs.declared.record.Record.{Record}
-use Rattle.pb_run.specs.Halves.{OnRecords, Basis, basis, HasRecord, HoldsRecords, command_in, key_in, records_in}
-use Rattle.pb_run.specs.Standing.{records_folder}
-use Rattle.pb_store_soundness.specs.Grounded.{Standing}
+use Rattle.pb_run.specs.UnitSteps.{TrustedRecords, BuildContext, basis, HasRecord, HoldsRecords, command_in, key_in, records_in}
+use Rattle.pb_run.specs.Invariants.{records_folder}
+use Rattle.pb_store_soundness.specs.Grounded.{RecordMap}
 use Rattle.pb_store_soundness.specs.Records.{number_in, number_of, reading, records}
 use Rattle.pb_store_soundness.specs.Reuse.{IsSame, NeededNow, number_if}
 use Rattle.pb_store_soundness.proofs.Becoming.{none_some}
@@ -30,21 +30,21 @@ use Rattle.pb_store.specs.Differences.{AreNeeded, FirstDifference, FirstOf, HasN
 use Rattle.pb_store.specs.Folder.{lacks_number}
 use Rattle.pb_store.specs.declared.difference.Difference.{Difference}
 use Rattle.pb_store.proofs.Once.{one_difference}
-use Rattle.pb_build_turns.specs.Crew.{needs_of, ticket_of_child}
+use Rattle.pb_build_turns.specs.Executor.{needs_of, ticket_of_child}
 use Rattle.pb_build_turns.specs.Ends.{Dropped, EachHasRecord, LeavesRecords, StartsNothing, StartsNoneAgain}
 use Rattle.pb_build_turns.specs.Rows.{is_started}
-use Rattle.pb_build_turns.specs.Story.{LacksNumber, events_before, states_in, upped}
+use Rattle.pb_build_turns.specs.History.{LacksNumber, events_before, states_in, upped}
 use Rattle.pb_build_turns.proofs.Happening.{before_now, before_other, started_now, started_other}
 use Rattle.pb_build_turns.proofs.States.{another, begun_more, begun_now}
 use Rattle.pb_unit.specs.declared.plan.Planned.{Planned}
 
 -- Nothing differs from a record of format 2 that stands for what it says.
 
-all_numbers : (at : Standing) (needs : List (List ℕ × ℕ)) → ((need : List ℕ) (n : ℕ) → Contains needs (need, n) → number_if (at need) ≡ Some n) → AllByRecursion (HasNumber at) needs
+all_numbers : (at : RecordMap) (needs : List (List ℕ × ℕ)) → ((need : List ℕ) (n : ℕ) → Contains needs (need, n) → number_if (at need) ≡ Some n) → AllByRecursion (HasNumber at) needs
 all_numbers at [] now = tt
 all_numbers at (x ∷ needs) now = (now x.0 x.1 (contains_head x needs), all_numbers at needs (λ need n has. now need n (contains_tail x needs (need, n) has)))
 
-are_needed : (folder : List ℕ) (at : Standing) (files : Map) (needed : Needed) (n : ℕ) → number_in needed ≡ Some n → NeededNow folder at files needed → AreNeeded folder at files needed
+are_needed : (folder : List ℕ) (at : RecordMap) (files : Map) (needed : Needed) (n : ℕ) → number_in needed ≡ Some n → NeededNow folder at files needed → AreNeeded folder at files needed
 are_needed folder at files (Copies copies) n is now = absurd (none_some n is)
 are_needed folder at files (Numbers number needs) n is now = all_numbers at needs now
 
@@ -57,14 +57,14 @@ none_first folder key c w r n is same =
     }
 
 -- no record lacks a number
-numbered_all : (b : Basis) (w : World) → EachHasRecord b w → (place : ℕ) → LacksNumber b.project w place false
+numbered_all : (b : BuildContext) (w : World) → EachHasRecord b w → (place : ℕ) → LacksNumber b.project w place false
 numbered_all b w each place u there =
     let h = each place u there in
     let is : h.unit ≡ u = injective (sym h.there ∙ there) in
     sym (ap (λ (x : Planned). lacks_number (records_in b w x.key)) is) ∙ ap lacks_number h.here ∙ ap (λ (o : Option ℕ). not (is_some o)) h.numbered
 
 -- so none does from that of a unit
-none_differs : (b : Basis) (w : World) (place : ℕ) (u : Planned) → unit_at b.project place ≡ Some u → HasRecord b w place → FirstDifference (records_folder b.project) u.key (command_in b place u) w None
+none_differs : (b : BuildContext) (w : World) (place : ℕ) (u : Planned) → unit_at b.project place ≡ Some u → HasRecord b w place → FirstDifference (records_folder b.project) u.key (command_in b place u) w None
 none_differs b w place u there h =
     subst (λ (x : Planned). FirstDifference (records_folder b.project) x.key (command_in b place x) w None) (injective (sym h.there ∙ there))
     (none_first (records_folder b.project) h.unit.key (command_in b place h.unit) w h.kept h.number h.numbered h.same)
@@ -136,8 +136,8 @@ dropped_count (ticket ∷ tickets) old new (result, may, more) = dropped_count t
 
 pub leaves_records : {S : Type 0} (Turns : S → List ℕ → List ℕ → Step → S → Type 0) → LeavesRecords Turns
 leaves_records Turns child setup project next from last summary old new ends success sources keeps place u there =
-    let b = basis OnRecords child setup project sources in
-    let whole = ends.told refl OnRecords sources keeps in
+    let b = basis TrustedRecords child setup project sources in
+    let whole = ends.told refl TrustedRecords sources keeps in
     let holds : HoldsRecords b (states_in project ends.es) whole.stands.next new.world = whole.stands.keeps.records in
     holds.recorded place (ends.good success place u there)
 

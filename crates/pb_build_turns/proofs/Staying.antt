@@ -22,17 +22,17 @@ use Rattle.pb_build_result.specs.declared.fault.BuildFault.{BuildFault}
 use Rattle.pb_build_result.specs.declared.fault.BuildFault.TheVariants.{Plan, Toolchain, Child, Device, Sink, OutOfMemory}
 use Rattle.pb_command_types.specs.declared.project.Project.{Project}
 use Rattle.pb_run.specs.Steps.{is_of_start}
-use Rattle.pb_run.specs.Halves.{WritesTo}
-use Rattle.pb_run.specs.Standing.{IsInOrder, records_folder}
-use Rattle.pb_run.specs.declared.begun.Launched.{Launched}
+use Rattle.pb_run.specs.UnitSteps.{WritesTo}
+use Rattle.pb_run.specs.Invariants.{IsInOrder, records_folder}
+use Rattle.pb_run.specs.declared.begun.SpawnedChild.{SpawnedChild}
 use Rattle.pb_store_soundness.specs.Apart.{is_of}
 use Rattle.pb_store_soundness.specs.Records.{out_of, place_of, reading, records}
 use Rattle.pb_store_soundness.proofs.Places.{record_same}
 use Rattle.pb_store.specs.Folder.{lacks_number}
 use Rattle.pb_store.specs.declared.difference.Difference.{Difference}
-use Rattle.pb_build_turns.specs.Crew.{needs_of}
+use Rattle.pb_build_turns.specs.Executor.{needs_of}
 use Rattle.pb_build_turns.specs.Rows.{Reasons, is_started}
-use Rattle.pb_build_turns.specs.Story.{states_in, AllBegan, BeganFor, CameAfter, HadDiffered, events_before}
+use Rattle.pb_build_turns.specs.History.{states_in, AllBegan, BeganFor, CameAfter, HadDiffered, events_before}
 use Rattle.pb_build_turns.proofs.Happening.{before_now, before_other, none_of, started_now, started_other}
 use Rattle.pb_build_turns.proofs.Reaching.{not_of_two}
 use Rattle.pb_build_turns.proofs.States.{another}
@@ -48,7 +48,7 @@ not_below_more q = elim (cases_Bool (is_at_or_below (below q (0 ∷ [])) q)) [
 ]
 
 -- where no child is there to be dropped, each file stays
-pub none_dropped : (o : Option Launched) (flying : List ChildInFlight) (w w' : World) → o ≡ None → ((out : List ℕ) → WritesTo out o flying → ChangesOnly (is_at_or_below out) w w') → (q : List ℕ) → finite.get w'.files q ≡ finite.get w.files q
+pub none_dropped : (o : Option SpawnedChild) (flying : List ChildInFlight) (w w' : World) → o ≡ None → ((out : List ℕ) → WritesTo out o flying → ChangesOnly (is_at_or_below out) w w') → (q : List ℕ) → finite.get w'.files q ≡ finite.get w.files q
 none_dropped None flying w w' none only q = (only (below q (0 ∷ [])) tt).files q (not_below_more q)
 none_dropped (Some l) flying w w' none only q = cc
 
@@ -248,7 +248,7 @@ module _ (project : Project) (sources : World) (command : ℕ → Planned → Co
         began_on es reasons first w w' i u there only (ap is_good_at untouched) (λ a at. untouched_apart a (sym untouched ∙ at)) (λ has f. absurd (another (states_in project es) i i untouched has refl)) (λ has. absurd (another (states_in project es) i i untouched has refl))
 
     -- an answer, or a fault in its place
-    pub answered_beside : (es : List (Event BadUnit)) (reasons : Reasons) (first w w' : World) (i : ℕ) (u : Planned) → unit_at project i ≡ Some u → slice_get (states_in project es) i ≡ Some Begun → (o : Option Launched) → is_started es i ≡ is_some o
+    pub answered_beside : (es : List (Event BadUnit)) (reasons : Reasons) (first w w' : World) (i : ℕ) (u : Planned) → unit_at project i ≡ Some u → slice_get (states_in project es) i ≡ Some Begun → (o : Option SpawnedChild) → is_started es i ≡ is_some o
         → ChangesOnly (is_of (records_folder project) u.key) w w' → (o ≡ None → lacks_number (records (records_folder project) w u.key) ≡ false → w' ≡ w) → (o ≡ None → (q : List ℕ) → is_at_or_below u.out q ≡ true → finite.get w'.files q ≡ finite.get w.files q)
         → AllBegan project sources command es reasons first w → AllBegan project sources command es reasons first w'
     answered_beside es reasons first w w' i u there state o started only same folder =
@@ -258,7 +258,7 @@ module _ (project : Project) (sources : World) (command : ℕ → Planned → Co
 
     -- a child dropped
     pub dropped_beside : (fault : BuildFault) (before es : List (Event BadUnit)) (reasons : Reasons) (first w w' : World) (i : ℕ) (u : Planned) → unit_at project i ≡ Some u → IsLawful (needs_of project) es → CameAfter project fault before es
-        → slice_get (states_in project es) i ≡ Some Begun → (o : Option Launched) → is_started es i ≡ is_some o → ChangesOnly (is_of (records_folder project) u.key) w w' → (o ≡ None → (q : List ℕ) → finite.get w'.files q ≡ finite.get w.files q)
+        → slice_get (states_in project es) i ≡ Some Begun → (o : Option SpawnedChild) → is_started es i ≡ is_some o → ChangesOnly (is_of (records_folder project) u.key) w w' → (o ≡ None → (q : List ℕ) → finite.get w'.files q ≡ finite.get w.files q)
         → AllBegan project sources command before reasons first w → AllBegan project sources command before reasons first w'
     dropped_beside fault before es reasons first w w' i u there lawful came state o started only same =
         let flew = flew_before project before es i (is_some o) lawful (or_before project fault before es came) state started in

@@ -11,7 +11,7 @@ use Rattle.pb_run_flight.proofs.Lists.{get_set_other}
 use Rattle.pb_command_types.specs.declared.project.Project.{Project}
 use Rattle.pb_store.specs.declared.difference.Difference.{Difference}
 use Rattle.pb_build_turns.specs.Rows.{Reasons, is_started}
-use Rattle.pb_build_turns.specs.Story.{states_in, NotesUnbegun, NotesStarted}
+use Rattle.pb_build_turns.specs.History.{states_in, NotesUnbegun, NotesStarted}
 use Rattle.pb_build_turns.proofs.Happening.{started_now, started_other}
 use Rattle.pb_build_turns.proofs.Lists.{get_set_within}
 use Rattle.pb_build_turns.proofs.States.{untouched_cases}

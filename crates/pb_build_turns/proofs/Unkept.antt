@@ -10,13 +10,13 @@ use Rattle.pb_run_flight.proofs.Lists.{injective, clash, get_set_same, get_set_o
 use Rattle.pb_place_types.specs.World.{World, ChangesOnly}
 use Rattle.pb_command_types.specs.Targets.{unit_at}
 use Rattle.pb_command_types.specs.declared.project.Project.{Project}
-use Rattle.pb_run.specs.Standing.{IsInOrder, records_folder}
+use Rattle.pb_run.specs.Invariants.{IsInOrder, records_folder}
 use Rattle.pb_store_soundness.specs.Apart.{is_of}
 use Rattle.pb_store_soundness.specs.Records.{place_of, reading}
 use Rattle.pb_store_soundness.proofs.Places.{record_same}
-use Rattle.pb_build_turns.specs.Crew.{needs_of}
+use Rattle.pb_build_turns.specs.Executor.{needs_of}
 use Rattle.pb_build_turns.specs.Rows.{is_started}
-use Rattle.pb_build_turns.specs.Story.{states_in, HasNoRecord, KeepsNoneOfBad, KeepsNoneInFlight}
+use Rattle.pb_build_turns.specs.History.{states_in, HasNoRecord, KeepsNoneOfBad, KeepsNoneInFlight}
 use Rattle.pb_build_turns.proofs.Happening.{started_now, started_other}
 use Rattle.pb_build_turns.proofs.Reaching.{not_of_two}
 use Rattle.pb_build_turns.proofs.States.{answered_before, answered_cases}

@@ -18,12 +18,12 @@ use Rattle.pb_place_types.proofs.Within.{share_no_path}
 use Rattle.pb_command_types.specs.declared.project.Project.{Project}
 use Rattle.pb_command_types.specs.declared.project.Setup.{Setup}
 use Rattle.pb_command_types.specs.Targets.{unit_at}
-use Rattle.pb_run.specs.Halves.{awaits_number, child_in}
+use Rattle.pb_run.specs.UnitSteps.{awaits_number, child_in}
 use Rattle.pb_run.specs.Running.{EndsBy}
-use Rattle.pb_run.specs.Standing.{IsInOrder, records_folder}
+use Rattle.pb_run.specs.Invariants.{IsInOrder, records_folder}
 use Rattle.pb_run.specs.declared.begun.Awaited.{Awaited}
 use Rattle.pb_run.specs.declared.begun.Awaited.TheVariants as awaited
-use Rattle.pb_run.specs.declared.begun.Launched.{Launched}
+use Rattle.pb_run.specs.declared.begun.SpawnedChild.{SpawnedChild}
 use Rattle.pb_store_soundness.specs.Apart.{is_of}
 use Rattle.pb_store_soundness.specs.Records.{out_of, place_of, reading, records}
 use Rattle.pb_store_soundness.proofs.Places.{out_place_apart, record_same}
@@ -31,14 +31,14 @@ use Rattle.pb_store.specs.Folder.{lacks_number}
 use Rattle.pb_store.specs.declared.replaying.Replayed.{Replayed}
 use Rattle.pb_build_turns.specs.Calling.{CarriesAgain}
 use Rattle.pb_build_turns.specs.Rows.{is_started}
-use Rattle.pb_build_turns.specs.Story.{states_in, KeepsChildless, OnlyOf}
+use Rattle.pb_build_turns.specs.History.{states_in, KeepsChildless, OnlyOf}
 use Rattle.pb_build_turns.proofs.Happening.{started_now, started_other}
 use Rattle.pb_build_turns.proofs.Reaching.{not_of_two}
 use Rattle.pb_build_turns.proofs.States.{another}
 use Rattle.pb_build_turns.proofs.Staying.{place_its_own}
 use Rattle.pb_unit.specs.declared.plan.Planned.{Planned}
 
-no_child : (l : Launched) → Some l ≡ None → ⊥
+no_child : (l : SpawnedChild) → Some l ≡ None → ⊥
 no_child l e = cc
 
 -- it answers: only its record's place may change

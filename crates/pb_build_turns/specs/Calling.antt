@@ -24,14 +24,14 @@ use Rattle.pb_command_types.specs.declared.project.Project.{Project}
 use Rattle.pb_command_types.specs.declared.project.Setup.{Setup}
 use Rattle.pb_record.specs.Commands.{command_of as asked_command}
 use Rattle.pb_record.specs.declared.record.Record.{Record}
-use Rattle.pb_run.specs.Halves.{IsInFlight, Basis, child_in, command_in, view_in}
+use Rattle.pb_run.specs.UnitSteps.{IsInFlight, BuildContext, child_in, command_in, view_in}
 use Rattle.pb_run.specs.Outcome.{ran_of, unstarted}
 use Rattle.pb_run.specs.Running.{CallsBehind, EndsBy, GivesRecord, answered_called, Launches, StopsToBegin, past_look}
-use Rattle.pb_run.specs.Standing.{records_folder}
+use Rattle.pb_run.specs.Invariants.{records_folder}
 use Rattle.pb_run.specs.Steps.{IsOfUnit, bare, fault_in}
 use Rattle.pb_run.specs.declared.begun.Awaited.{Awaited}
 use Rattle.pb_run.specs.declared.begun.Awaited.TheVariants as awaited
-use Rattle.pb_run.specs.declared.begun.Launched.{Launched}
+use Rattle.pb_run.specs.declared.begun.SpawnedChild.{SpawnedChild}
 use Rattle.pb_run.specs.declared.ran.Ran.{Ran}
 use Rattle.pb_store_soundness.specs.Apart.{is_of}
 use Rattle.pb_store_soundness.specs.Inputs.{Agrees, reply_in}
@@ -39,7 +39,7 @@ use Rattle.pb_store_soundness.specs.Records.{records, place_of}
 use Rattle.pb_store.specs.Differences.{replayed}
 use Rattle.pb_store.specs.declared.replaying.Replayed.{Replayed}
 use Rattle.pb_build_turns.specs.Rows.{is_started}
-use Rattle.pb_build_turns.specs.declared.crew.Aloft.{Aloft}
+use Rattle.pb_build_turns.specs.declared.executor.RunningUnit.{RunningUnit}
 use Rattle.pb_unit.specs.declared.plan.Planned.{Planned}
 use Rattle.pb_message_units.specs.Telling.{unit_lines}
 
@@ -80,7 +80,7 @@ CarriesAgain setup project done first now u c (awaited.Child launched) = Unit {0
 CarriesAgain setup project done first now u c (awaited.Record again) = WaitsAgain setup project done first now u c again
 
 -- the same for a unit in flight
-abbrev pub FliesAgain : Setup → Project → List (Option (List Directive)) → World → World → Aloft → Type 0
+abbrev pub FliesAgain : Setup → Project → List (Option (List Directive)) → World → World → RunningUnit → Type 0
 FliesAgain setup project done first now a = (u : Planned) → unit_at project a.unit ≡ Some u → CarriesAgain setup project done first now u a.begun.command a.begun.awaited
 
 -- what comes of a unit by this reply
@@ -107,7 +107,7 @@ abbrev pub CarriesAnew : Answers → Setup → Project → List (Option (List Di
 CarriesAnew child setup project done now flying still u c (awaited.Child launched) = (c ≡ command_of setup project u done) × IsInFlight child c (seen_by c now) launched.ticket flying still
 CarriesAnew child setup project done now flying still u c (awaited.Record again) = Unit {0}
 
-abbrev pub FliesAnew : Answers → Setup → Project → List (Option (List Directive)) → World → List ChildInFlight → (ℕ → Type 0) → Aloft → Type 0
+abbrev pub FliesAnew : Answers → Setup → Project → List (Option (List Directive)) → World → List ChildInFlight → (ℕ → Type 0) → RunningUnit → Type 0
 FliesAnew child setup project done now flying still a = (u : Planned) → unit_at project a.unit ≡ Some u → CarriesAnew child setup project done now flying still u a.begun.command a.begun.awaited
 
 -- what determines the calls of a build: the child, the project, the command of each unit, and what its child sees of a
@@ -119,7 +119,7 @@ pub record CallBasis : Type 0 where
   pub sees : ℕ → Planned → World → World
 
 -- for a basis: the command and the view of each unit in a clean build, whatever the world is
-abbrev pub call_basis : Basis → CallBasis
+abbrev pub call_basis : BuildContext → CallBasis
 call_basis b = record { child = b.child; project = b.project; command = command_in b; sees = λ place u w. view_in b place u }
 
 -- for any records, true or not: the command of a unit after the directives that are noted, and what that command sees
@@ -167,7 +167,7 @@ pub record EndsAsReplied (reply : Reply) (u : Planned) (ended : Ended) (left : W
   pub files : files_in u.out left.files ≡ replied_files u.out reply
 
 -- the child that was launched is in flight, and was spawned for this command
-abbrev pub FliesFor : Command → List ChildInFlight → Launched → Type 0
+abbrev pub FliesFor : Command → List ChildInFlight → SpawnedChild → Type 0
 FliesFor c flying launched = (spawned : ChildInFlight) × (child_at launched.ticket flying ≡ Some spawned) × (spawned.command ≡ c)
 
 -- the answer of the unit at an index was taken: the end of its child was awaited, if it has one, and then exactly the

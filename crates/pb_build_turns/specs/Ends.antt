@@ -23,18 +23,18 @@ use Rattle.pb_place_types.specs.declared.place.StartFault.TheVariants as start
 use Rattle.pb_command_types.specs.Targets.{unit_at}
 use Rattle.pb_command_types.specs.declared.project.Project.{Project}
 use Rattle.pb_command_types.specs.declared.project.Setup.{Setup}
-use Rattle.pb_run.specs.Halves.{Footing, Basis, basis, Keeps, OnRecords, HasRecord}
-use Rattle.pb_run.specs.Standing.{records_folder}
+use Rattle.pb_run.specs.UnitSteps.{Premise, BuildContext, basis, BuildInvariant, TrustedRecords, HasRecord}
+use Rattle.pb_run.specs.Invariants.{records_folder}
 use Rattle.pb_store_soundness.specs.Apart.{is_of}
 use Rattle.pb_build_turns.specs.Calling.{CallsCut, CallsCutOnAny, CallsOver, CallsOnAny, call_basis}
-use Rattle.pb_build_turns.specs.Crew.{needs_of, ticket_of_child, Moment}
+use Rattle.pb_build_turns.specs.Executor.{needs_of, ticket_of_child, BuildState}
 use Rattle.pb_build_turns.specs.Rows.{Reasons, is_started, Row, rows_of, said_from, started_keys, is_success, key_told, said_told, bad_told, differences_of, kept_of, noted_told, summary_of}
-use Rattle.pb_build_turns.specs.Story.{AllAnswerAnew, AllBegan, AllLeaveRecords, CameAfter, Changes, ChangesInFlight, FliesBeside, HadDiffered, HasNoRecord, states_in, untouched, upped, AllAnswerAgain, Stops, Spends, IsUntold, LacksNumber, OnlyOf, AllBeganFor, AllBeganOnAny, StartedFor, StartedOnAny, HasGiven, NamesUnit, NumbersGiven, KeepsNoneOfBad, KeepsNoneInFlight, KeepsChildless, NotesStarted}
-use Rattle.pb_build_turns.specs.declared.crew.Aloft.{Aloft}
+use Rattle.pb_build_turns.specs.History.{AllAnswerAnew, AllBegan, AllLeaveRecords, CameAfter, Changes, ChangesInFlight, FliesBeside, HadDiffered, HasNoRecord, states_in, untouched, upped, AllAnswerAgain, Stops, Spends, IsUntold, LacksNumber, OnlyOf, AllBeganFor, AllBeganOnAny, StartedFor, StartedOnAny, HasGiven, NamesUnit, NumbersGiven, KeepsNoneOfBad, KeepsNoneInFlight, KeepsChildless, NotesStarted}
+use Rattle.pb_build_turns.specs.declared.executor.RunningUnit.{RunningUnit}
 use Rattle.pb_unit.specs.declared.plan.Planned.{Planned}
 
 -- The units in flight were these before and are those after; all that the events imply about the worlds is still true.
-pub record StaysTold (child : Answers) (project : Project) (first : World) (es : List (Event BadUnit)) (before after : List Aloft) (old new : World) (flying : List ChildInFlight) : Type 0 where
+pub record StaysTold (child : Answers) (project : Project) (first : World) (es : List (Event BadUnit)) (before after : List RunningUnit) (old new : World) (flying : List ChildInFlight) : Type 0 where
   pub changes : Changes project first after es new flying
   -- those after are among those before
   pub beside : (came : List (Event BadUnit)) (asked : Option ℕ) → AllByRecursion (FliesBeside project came asked) before → AllByRecursion (FliesBeside project came asked) after
@@ -69,32 +69,32 @@ abbrev pub Drained : Counts → Counts → Type 0
 Drained old new = Dropped (map ticket_of_child old.starts.flying) old new
 
 -- the rows of a basis: the units and their outcomes in a clean build, up to and including the first bad one
-abbrev pub rows_in : Basis → List Row
+abbrev pub rows_in : BuildContext → List Row
 rows_in b = rows_of b.child b.setup b.project b.sources
 
 -- no run has printed a directive yet
 abbrev pub nothing_said : Project → List (Option (List Directive))
 nothing_said project = map (λ (u : Planned). None) project.plan.planned
 
--- for each basis that satisfies `Keeps` before a unit has begun, this is true
-abbrev pub Grounding : Answers → Setup → Project → Option ℕ → World → (Basis → Type 0) → Type 0
-Grounding child setup project next w Since = (footing : Footing) (sources : World)
-    → Keeps (basis footing child setup project sources) (untouched project) (nothing_said project) next w → Since (basis footing child setup project sources)
+-- for each basis that satisfies `BuildInvariant` before a unit has begun, this is true
+abbrev pub Grounding : Answers → Setup → Project → Option ℕ → World → (BuildContext → Type 0) → Type 0
+Grounding child setup project next w Since = (footing : Premise) (sources : World)
+    → BuildInvariant (basis footing child setup project sources) (untouched project) (nothing_said project) next w → Since (basis footing child setup project sources)
 
--- what is true after some events: what `Keeps` requires; each unit that has answered has its outcome of a clean build;
+-- what is true after some events: what `BuildInvariant` requires; each unit that has answered has its outcome of a clean build;
 -- and the lines that are due, and the first n of them, are those of the first rows
-pub record Stands (b : Basis) (es : List (Event BadUnit)) (new : World) : Type 0 where
+pub record OutcomeHolds (b : BuildContext) (es : List (Event BadUnit)) (new : World) : Type 0 where
   pub done : List (Option (List Directive))
   pub next : Option ℕ
-  pub keeps : Keeps b (states_in b.project es) done next new
+  pub keeps : BuildInvariant b (states_in b.project es) done next new
   pub gave : (place : ℕ) (answer : Answer BadUnit) → slice_get (states_in b.project es) place ≡ Some (Answered answer) → HasGiven b es done place answer
   pub lines : due (states_in b.project es) ≡ said_from b.project es 0 (take (count_due (states_in b.project es)) (rows_in b))
   pub first_lines : (n : ℕ) → due_first n (states_in b.project es) ≡ said_from b.project es 0 (take n (take (count_due (states_in b.project es)) (rows_in b)))
 
 -- all units have answered, or all up to and including the first bad one, and this is the next run number: the lines of
 -- all rows are due, the summary is that of the rows, and each unit began for its first difference
-pub record StandsWhole (b : Basis) (es : List (Event BadUnit)) (reasons : Reasons) (summary : Summary) (next : Option ℕ) (old new : World) : Type 0 where
-  pub stands : Stands b es new
+pub record StandsWhole (b : BuildContext) (es : List (Event BadUnit)) (reasons : Reasons) (summary : Summary) (next : Option ℕ) (old new : World) : Type 0 where
+  pub stands : OutcomeHolds b es new
   pub next_is : stands.next ≡ next
   pub all : count_due (states_in b.project es) ≡ length (rows_in b)
   pub answer : summary ≡ summary_of b.project es reasons (rows_in b)
@@ -102,17 +102,17 @@ pub record StandsWhole (b : Basis) (es : List (Event BadUnit)) (reasons : Reason
 
 -- a fault ended the build after these events: if a unit could not begin because of its start, or because memory ran out
 -- as its child was tried, something had differed for it
-pub record StandsCut (b : Basis) (fault : BuildFault) (es before : List (Event BadUnit)) (old new : World) : Type 0 where
-  pub stands : Stands b es new
+pub record StandsCut (b : BuildContext) (fault : BuildFault) (es before : List (Event BadUnit)) (old new : World) : Type 0 where
+  pub stands : OutcomeHolds b es new
   pub reasons : Reasons
   pub began : AllBeganFor b before reasons old new
   pub started : StartedFor b fault before es old new
 
--- the units ended without a fault, and no failure was injected. The fields without `tells` are true over every place:
+-- the units ended without a fault, and no failure was injected. The fields without `is_modelled` are true over every place:
 -- the report, what was written, and the counters.
 -- The others are true over a place that tells its maps, whether the records are true or not: why each unit began, what
 -- it answered, which record it left, which numbers were taken, and which calls were made
-pub record EndsWhole {S : Type 0} (tells : Bool) (child : Answers) (Turns : S → List ℕ → List ℕ → Step → S → Type 0) (setup : Setup) (project : Project) (next : Option ℕ) (from last : S) (summary : Summary) (old new : Moment) : Type 0 where
+pub record EndsWhole {S : Type 0} (is_modelled : Bool) (child : Answers) (Turns : S → List ℕ → List ℕ → Step → S → Type 0) (setup : Setup) (project : Project) (next : Option ℕ) (from last : S) (summary : Summary) (old new : BuildState) : Type 0 where
   pub es : List (Event BadUnit)
   pub flies : Flies Turns (needs_of project) Anyhow Anything from es last
   pub finished : is_finished (states_in project es) ≡ true
@@ -137,87 +137,87 @@ pub record EndsWhole {S : Type 0} (tells : Bool) (child : Answers) (Turns : S �
   pub drained : Drained mid new.counts
   pub landed : new.counts.starts.flying ≡ []
   pub most : new.most ≡ max old.most (peak es)
-  pub only : IsTrue tells → OnlyOf project es old.world new.world
+  pub only : IsTrue is_modelled → OnlyOf project es old.world new.world
   pub last_world : World
-  pub dropping : IsTrue tells → ChangesInFlight project es None last_world new.world
+  pub dropping : IsTrue is_modelled → ChangesInFlight project es None last_world new.world
   pub numbers : (after : Option ℕ) × NumbersGiven IsUntold es next after
-  pub taken : IsTrue tells → NumbersGiven (LacksNumber project old.world) es next numbers.0
-  pub unkept : IsTrue tells → KeepsNoneOfBad project es new.world
-  pub dropped : IsTrue tells → KeepsNoneInFlight project es None new.world
-  pub childless : IsTrue tells → KeepsChildless project es None old.world new.world
-  pub began : IsTrue tells → AllBeganOnAny setup project done es reasons old.world new.world
-  pub again : IsTrue tells → AllAnswerAgain setup project es done old.world
-  pub anew : IsTrue tells → AllAnswerAnew child setup project es done new.world
-  pub left : IsTrue tells → AllLeaveRecords child setup project es done next old.world new.world
-  pub told : IsTrue tells → Grounding child setup project next old.world (λ b. StandsWhole b es reasons summary numbers.0 old.world new.world)
-  pub calls : IsTrue tells → Grounding child setup project next old.world (λ b. CallsOver (call_basis b) es old.world old.counts last_world mid)
-  pub calls_on_any : IsTrue tells → CallsOnAny child setup project done es old.world old.counts last_world mid
+  pub taken : IsTrue is_modelled → NumbersGiven (LacksNumber project old.world) es next numbers.0
+  pub unkept : IsTrue is_modelled → KeepsNoneOfBad project es new.world
+  pub dropped : IsTrue is_modelled → KeepsNoneInFlight project es None new.world
+  pub childless : IsTrue is_modelled → KeepsChildless project es None old.world new.world
+  pub began : IsTrue is_modelled → AllBeganOnAny setup project done es reasons old.world new.world
+  pub again : IsTrue is_modelled → AllAnswerAgain setup project es done old.world
+  pub anew : IsTrue is_modelled → AllAnswerAnew child setup project es done new.world
+  pub left : IsTrue is_modelled → AllLeaveRecords child setup project es done next old.world new.world
+  pub told : IsTrue is_modelled → Grounding child setup project next old.world (λ b. StandsWhole b es reasons summary numbers.0 old.world new.world)
+  pub calls : IsTrue is_modelled → Grounding child setup project next old.world (λ b. CallsOver (call_basis b) es old.world old.counts last_world mid)
+  pub calls_on_any : IsTrue is_modelled → CallsOnAny child setup project done es old.world old.counts last_world mid
 
 -- a fault ended the units. Its cause, and what the sink received, are those of the moment before the children in flight
 -- were dropped; after it no unit began, and the turn was not asked again (`HandsBack`, `Flies`).
 -- Over a place that tells its maps, the units that have begun and those that have answered satisfy the same as in
 -- `EndsWhole`. If a unit could not begin because of a fault of its start, something had differed for it
-pub record EndsCut {S : Type 0} (tells : Bool) (child : Answers) (Turns : S → List ℕ → List ℕ → Step → S → Type 0) (setup : Setup) (project : Project) (next : Option ℕ) (from back : S) (fault : BuildFault) (old new : Moment) : Type 0 where
+pub record EndsCut {S : Type 0} (is_modelled : Bool) (child : Answers) (Turns : S → List ℕ → List ℕ → Step → S → Type 0) (setup : Setup) (project : Project) (next : Option ℕ) (from back : S) (fault : BuildFault) (old new : BuildState) : Type 0 where
   pub es : List (Event BadUnit)
   pub last : S
   pub flies : Flies Turns (needs_of project) Anyhow Anything from es last
   pub asked : Option ℕ
   pub hands : HandsBack Turns (needs_of project) es last asked back
-  pub mid : Moment
+  pub mid : BuildState
   pub heard : new.heard ≡ mid.heard
-  pub stops : Stops tells fault project old mid es
+  pub stops : Stops is_modelled fault project old mid es
   pub spent : Spends IsUntold fault next es
-  pub caused : IsTrue tells → Spends (LacksNumber project old.world) fault next es
+  pub caused : IsTrue is_modelled → Spends (LacksNumber project old.world) fault next es
   pub drained : Drained mid.counts new.counts
   pub landed : new.counts.starts.flying ≡ []
   pub before : List (Event BadUnit)
   pub came : CameAfter project fault before es
   pub names : NamesUnit project fault asked before es
   pub most : new.most ≡ max old.most (peak before)
-  pub only : IsTrue tells → OnlyOf project es old.world new.world
-  pub dropping : IsTrue tells → ChangesInFlight project before asked mid.world new.world
-  pub unkept : IsTrue tells → KeepsNoneOfBad project es new.world
-  pub dropped : IsTrue tells → KeepsNoneInFlight project before asked new.world
-  pub childless : IsTrue tells → KeepsChildless project before asked old.world new.world
+  pub only : IsTrue is_modelled → OnlyOf project es old.world new.world
+  pub dropping : IsTrue is_modelled → ChangesInFlight project before asked mid.world new.world
+  pub unkept : IsTrue is_modelled → KeepsNoneOfBad project es new.world
+  pub dropped : IsTrue is_modelled → KeepsNoneInFlight project before asked new.world
+  pub childless : IsTrue is_modelled → KeepsChildless project before asked old.world new.world
   pub reasons : Reasons
   pub done : List (Option (List Directive))
-  pub began : IsTrue tells → AllBeganOnAny setup project done before reasons old.world new.world
-  pub started : IsTrue tells → StartedOnAny setup project done fault before es old.world new.world
-  pub again : IsTrue tells → AllAnswerAgain setup project es done old.world
-  pub anew : IsTrue tells → AllAnswerAnew child setup project es done new.world
-  pub left : IsTrue tells → AllLeaveRecords child setup project es done next old.world new.world
-  pub told : IsTrue tells → Grounding child setup project next old.world (λ b. StandsCut b fault es before old.world new.world)
-  pub calls : IsTrue tells → Grounding child setup project next old.world (λ b. CallsCut (call_basis b) fault asked es before old.world old.counts mid.world mid.counts)
-  pub calls_on_any : IsTrue tells → CallsCutOnAny child setup project done fault asked es before old.world old.counts mid.world mid.counts
+  pub began : IsTrue is_modelled → AllBeganOnAny setup project done before reasons old.world new.world
+  pub started : IsTrue is_modelled → StartedOnAny setup project done fault before es old.world new.world
+  pub again : IsTrue is_modelled → AllAnswerAgain setup project es done old.world
+  pub anew : IsTrue is_modelled → AllAnswerAnew child setup project es done new.world
+  pub left : IsTrue is_modelled → AllLeaveRecords child setup project es done next old.world new.world
+  pub told : IsTrue is_modelled → Grounding child setup project next old.world (λ b. StandsCut b fault es before old.world new.world)
+  pub calls : IsTrue is_modelled → Grounding child setup project next old.world (λ b. CallsCut (call_basis b) fault asked es before old.world old.counts mid.world mid.counts)
+  pub calls_on_any : IsTrue is_modelled → CallsCutOnAny child setup project done fault asked es before old.world old.counts mid.world mid.counts
 
 -- how the units end, by the result
-abbrev pub TurnsEnd : {S : Type 0} → Bool → Answers → (S → List ℕ → List ℕ → Step → S → Type 0) → Setup → Project → Option ℕ → S → S → Result Summary BuildFault → Moment → Moment → Type 0
-TurnsEnd tells child Turns setup project next from last (Ok summary) old new = EndsWhole tells child Turns setup project next from last summary old new
-TurnsEnd tells child Turns setup project next from last (Err fault) old new = EndsCut tells child Turns setup project next from last fault old new
+abbrev pub TurnsEnd : {S : Type 0} → Bool → Answers → (S → List ℕ → List ℕ → Step → S → Type 0) → Setup → Project → Option ℕ → S → S → Result Summary BuildFault → BuildState → BuildState → Type 0
+TurnsEnd is_modelled child Turns setup project next from last (Ok summary) old new = EndsWhole is_modelled child Turns setup project next from last summary old new
+TurnsEnd is_modelled child Turns setup project next from last (Err fault) old new = EndsCut is_modelled child Turns setup project next from last fault old new
 
 -- in whatever order units begin and answer: if each that has answered has its outcome of a clean build, the lines that
 -- are due are those of the first rows. Once all have answered, up to and including the first bad one, they are those of
 -- all rows
 abbrev pub SaysFirstRows : Type 0
-SaysFirstRows = (b : Basis) (es : List (Event BadUnit)) (done : List (Option (List Directive))) → ((place : ℕ) (answer : Answer BadUnit) → slice_get (states_in b.project es) place ≡ Some (Answered answer) → HasGiven b es done place answer)
+SaysFirstRows = (b : BuildContext) (es : List (Event BadUnit)) (done : List (Option (List Directive))) → ((place : ℕ) (answer : Answer BadUnit) → slice_get (states_in b.project es) place ≡ Some (Answered answer) → HasGiven b es done place answer)
     → (due (states_in b.project es) ≡ said_from b.project es 0 (take (count_due (states_in b.project es)) (rows_in b))) × (is_finished (states_in b.project es) ≡ true → count_due (states_in b.project es) ≡ length (rows_in b))
 
 -- each unit has its record, and nothing differs from it
-abbrev pub EachHasRecord : Basis → World → Type 0
+abbrev pub EachHasRecord : BuildContext → World → Type 0
 EachHasRecord b w = (place : ℕ) (u : Planned) → unit_at b.project place ≡ Some u → HasRecord b w place
 
 -- if each unit has its record at first, no child is started
 abbrev pub StartsNothing : Type 0
-StartsNothing = (b : Basis) (es : List (Event BadUnit)) (reasons : Reasons) (first now : World) → IsLawful (needs_of b.project) es → AllBeganFor b es reasons first now → EachHasRecord b first → started_by es ≡ []
+StartsNothing = (b : BuildContext) (es : List (Event BadUnit)) (reasons : Reasons) (first now : World) → IsLawful (needs_of b.project) es → AllBeganFor b es reasons first now → EachHasRecord b first → started_by es ≡ []
 
 -- if a build over true records succeeds, each unit has its record afterwards
 abbrev pub LeavesRecords : {S : Type 0} → (S → List ℕ → List ℕ → Step → S → Type 0) → Type 0
-LeavesRecords {S} Turns = (child : Answers) (setup : Setup) (project : Project) (next : Option ℕ) (from last : S) (summary : Summary) (old new : Moment) → EndsWhole true child Turns setup project next from last summary old new
-    → summary.success ≡ true → (sources : World) → Keeps (basis OnRecords child setup project sources) (untouched project) (nothing_said project) next old.world
-    → EachHasRecord (basis OnRecords child setup project sources) new.world
+LeavesRecords {S} Turns = (child : Answers) (setup : Setup) (project : Project) (next : Option ℕ) (from last : S) (summary : Summary) (old new : BuildState) → EndsWhole true child Turns setup project next from last summary old new
+    → summary.success ≡ true → (sources : World) → BuildInvariant (basis TrustedRecords child setup project sources) (untouched project) (nothing_said project) next old.world
+    → EachHasRecord (basis TrustedRecords child setup project sources) new.world
 
 -- and if each unit has its record at first, no child is started, and none is reported as started
 abbrev pub StartsNoneAgain : {S : Type 0} → (S → List ℕ → List ℕ → Step → S → Type 0) → Type 0
-StartsNoneAgain {S} Turns = (child : Answers) (setup : Setup) (project : Project) (next : Option ℕ) (from last : S) (summary : Summary) (old new : Moment) → EndsWhole true child Turns setup project next from last summary old new
-    → (footing : Footing) (sources : World) → Keeps (basis footing child setup project sources) (untouched project) (nothing_said project) next old.world
+StartsNoneAgain {S} Turns = (child : Answers) (setup : Setup) (project : Project) (next : Option ℕ) (from last : S) (summary : Summary) (old new : BuildState) → EndsWhole true child Turns setup project next from last summary old new
+    → (footing : Premise) (sources : World) → BuildInvariant (basis footing child setup project sources) (untouched project) (nothing_said project) next old.world
     → EachHasRecord (basis footing child setup project sources) old.world → (new.counts.starts.count ≡ old.counts.starts.count) × (summary.started ≡ [])

@@ -1,5 +1,5 @@
-pub mod Crew
+pub mod Executor
 pub mod Rows
 pub mod Calling
-pub mod Story
+pub mod History
 pub mod Ends

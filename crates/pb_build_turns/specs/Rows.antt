@@ -13,7 +13,7 @@ use Rattle.pb_command_types.specs.Targets.{unit_at}
 use Rattle.pb_command_types.specs.declared.fault.UnitFault.{UnitFault}
 use Rattle.pb_command_types.specs.declared.project.Project.{Project}
 use Rattle.pb_command_types.specs.declared.project.Setup.{Setup}
-use Rattle.pb_run.specs.Halves.{key_in}
+use Rattle.pb_run.specs.UnitSteps.{key_in}
 use Rattle.pb_run.specs.Outcome.{Outcome, Waiting, Good, Bad, outcomes, directives_in}
 use Rattle.pb_store.specs.declared.difference.Difference.{Difference}
 use Rattle.pb_unit.specs.declared.plan.Planned.{Planned}

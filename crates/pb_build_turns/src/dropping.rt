@@ -6,21 +6,21 @@ ghost use Rattle.pb_build_result.specs.declared.bad_unit.BadUnit.{BadUnit};
 ghost use Rattle.pb_run_flight.specs.Events.{Event};
 ghost use Rattle.pb_place_types.specs.Counts.{Counts};
 ghost use Rattle.pb_place_types.specs.World.{World};
-ghost use Rattle.pb_run.specs.Halves.{Basis};
-ghost use Rattle.pb_build_turns.specs.Crew.{tickets_of, IsManned};
+ghost use Rattle.pb_run.specs.UnitSteps.{BuildContext};
+ghost use Rattle.pb_build_turns.specs.Executor.{tickets_of, IsConsistent};
 ghost use Rattle.pb_build_turns.specs.Ends.{StaysTold, Dropped, Drained};
-ghost use Rattle.pb_build_turns.specs.Story.{Changes, Happened};
+ghost use Rattle.pb_build_turns.specs.History.{Changes, HistoryHolds};
 
-use crate::crew::UnitCrew;
+use crate::executor::UnitExecutor;
 use pb_place_types::Place;
 use pb_run::drop_unit;
 use std::alloc::Global;
 
 /// Drops the unit in flight that began first.
-fn drop_first<P: Place>(alloc: Global, crew: &mut UnitCrew, place: &mut P)
-    requires manned { IsManned crew.old (P.at place.old).counts }
+fn drop_first<P: Place>(alloc: Global, crew: &mut UnitExecutor, place: &mut P)
+    requires manned { IsConsistent crew.old (P.at place.old).counts }
     requires some { 0 < length crew.old.aloft.items }
-    ensures manned { IsManned crew.new (P.at place.new).counts }
+    ensures manned { IsConsistent crew.new (P.at place.new).counts }
 
     // The first unit is no longer in flight; nothing else of the crew has changed.
     ensures less { length crew.new.aloft.items < length crew.old.aloft.items }
@@ -34,17 +34,17 @@ fn drop_first<P: Place>(alloc: Global, crew: &mut UnitCrew, place: &mut P)
     ensures most { (P.at place.new).most ≡ (P.at place.old).most }
 
     // What has happened so far is still true.
-    ensures told { (first : World) (es : List (Event BadUnit)) → IsTrue P.tells
+    ensures told { (first : World) (es : List (Event BadUnit)) → IsTrue P.is_modelled
         → Changes crew.old.project first crew.old.aloft.items es
         (P.at place.old).world (P.at place.old).counts.starts.flying
         → StaysTold P.child crew.old.project first es
         crew.old.aloft.items crew.new.aloft.items
         (P.at place.old).world (P.at place.new).world (P.at place.new).counts.starts.flying }
-    ensures happened { (b : Basis) (es : List (Event BadUnit)) → IsTrue P.tells
+    ensures happened { (b : BuildContext) (es : List (Event BadUnit)) → IsTrue P.is_modelled
         → b.project ≡ crew.old.project
-        → Happened b crew.old.done.items crew.old.aloft.items crew.old.store.next es
+        → HistoryHolds b crew.old.done.items crew.old.aloft.items crew.old.store.next es
         (P.at place.old).world (P.at place.old).counts.starts.flying (P.at place.old).still
-        → Happened b crew.new.done.items crew.new.aloft.items crew.new.store.next es
+        → HistoryHolds b crew.new.done.items crew.new.aloft.items crew.new.store.next es
         (P.at place.new).world (P.at place.new).counts.starts.flying (P.at place.new).still }
 {
     let aloft = crew.aloft.remove(0);
@@ -53,8 +53,8 @@ fn drop_first<P: Place>(alloc: Global, crew: &mut UnitCrew, place: &mut P)
 
 /// Drops all units in flight, in the order in which they began. Then no child is in flight. It
 /// makes no other call of the place.
-pub(crate) fn drain<P: Place>(alloc: Global, crew: &mut UnitCrew, place: &mut P)
-    requires manned { IsManned crew.old (P.at place.old).counts }
+pub(crate) fn drain<P: Place>(alloc: Global, crew: &mut UnitExecutor, place: &mut P)
+    requires manned { IsConsistent crew.old (P.at place.old).counts }
 
     // No unit is in flight; nothing else of the crew has changed.
     ensures same { crew.new ≡ record crew.old { aloft = crew.new.aloft } }
@@ -65,17 +65,17 @@ pub(crate) fn drain<P: Place>(alloc: Global, crew: &mut UnitCrew, place: &mut P)
     ensures most { (P.at place.new).most ≡ (P.at place.old).most }
 
     // What has happened so far is still true.
-    ensures told { (first : World) (es : List (Event BadUnit)) → IsTrue P.tells
+    ensures told { (first : World) (es : List (Event BadUnit)) → IsTrue P.is_modelled
         → Changes crew.old.project first crew.old.aloft.items es
         (P.at place.old).world (P.at place.old).counts.starts.flying
         → StaysTold P.child crew.old.project first es
         crew.old.aloft.items crew.new.aloft.items
         (P.at place.old).world (P.at place.new).world (P.at place.new).counts.starts.flying }
-    ensures happened { (b : Basis) (es : List (Event BadUnit)) → IsTrue P.tells
+    ensures happened { (b : BuildContext) (es : List (Event BadUnit)) → IsTrue P.is_modelled
         → b.project ≡ crew.old.project
-        → Happened b crew.old.done.items crew.old.aloft.items crew.old.store.next es
+        → HistoryHolds b crew.old.done.items crew.old.aloft.items crew.old.store.next es
         (P.at place.old).world (P.at place.old).counts.starts.flying (P.at place.old).still
-        → Happened b crew.new.done.items crew.new.aloft.items crew.new.store.next es
+        → HistoryHolds b crew.new.done.items crew.new.aloft.items crew.new.store.next es
         (P.at place.new).world (P.at place.new).counts.starts.flying (P.at place.new).still }
 {
     while !crew.aloft.is_empty() {

@@ -1,11 +1,11 @@
 //! The units of a build begin and answer in turns.
 #![tactic(auto)]
 
-mod crew;
 mod dropping;
+mod executor;
 mod laws;
 mod summing;
 mod turns;
 
-pub use crew::{Aloft, UnitCrew};
+pub use executor::{RunningUnit, UnitExecutor};
 pub use turns::run_turns;

@@ -1,14 +1,14 @@
 //! The summary of a build's units.
 
 ghost use Rattle.std.specs.Prelude.{◌≡◌, ◌++◌, ◌≤◌, ◌<◌, ℕ, List, length, take, IfOk, IfSome, OnOk, Some, None, slice_get};
-ghost use Rattle.pb_run.specs.Halves.{key_in};
+ghost use Rattle.pb_run.specs.UnitSteps.{key_in};
 ghost use Rattle.pb_build_turns.specs.Rows.{keyed, key_told, said_told, difference_in, kept_key, kept_of, fault_of, with_key, bad_told, noted_of, count_told, keys_at, differences_at, summary_by};
 
 use pb_build_result::{BadUnit, Summary};
+use pb_command_types::UnitFault;
 use pb_data::{Bytes, Items, Text, TryCopy};
 use pb_directive::Directives;
 use pb_run_flight::State;
-use pb_command_types::UnitFault;
 use pb_store::Difference;
 use pb_unit::Planned;
 use std::alloc::{AllocError, Global};

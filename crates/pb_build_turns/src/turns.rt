@@ -2,23 +2,23 @@
 
 ghost use Rattle.std.specs.Prelude.{◌≡◌, [], ℕ, List, IfOk, IsTrue, length, map, true, None};
 ghost use Rattle.pb_run_flight.specs.Table.{fresh, first_bad};
-ghost use Rattle.pb_run.specs.Standing.{records_folder};
+ghost use Rattle.pb_run.specs.Invariants.{records_folder};
 ghost use Rattle.pb_store_soundness.specs.Records.{records};
 ghost use Rattle.pb_store.specs.Folder.{HasNumbers};
-ghost use Rattle.pb_build_turns.specs.Crew.{needs_of, moment};
+ghost use Rattle.pb_build_turns.specs.Executor.{needs_of, moment};
 ghost use Rattle.pb_build_turns.specs.Ends.{TurnsEnd, nothing_said};
 ghost use Rattle.pb_build_turns.specs.Rows.{summary_by};
 
-use crate::crew::UnitCrew;
 use crate::dropping::drain;
+use crate::executor::UnitExecutor;
 use crate::summing::summary_of;
 use pb_build_result::{BadUnit, BuildFault, Summary};
+use pb_command_types::Setup;
 use pb_data::Items;
 use pb_directive::Directives;
-use pb_run_flight::{Flight, Turn, drive};
 use pb_place_types::{Out, Place};
-use pb_command_types::Setup;
 use pb_run::OrderedProject;
+use pb_run_flight::{Flight, Turn, drive};
 use pb_store::Store;
 use pb_unit::Planned;
 use std::alloc::{AllocError, Global};
@@ -67,7 +67,11 @@ fn flight_of(alloc: Global, project: &OrderedProject) -> Result<Flight<BadUnit>,
 /// Returns the summary of the units of a crew that have ended, by the flight.
 ///
 /// Errors: only out of memory.
-fn sum_up(alloc: Global, crew: &UnitCrew, flight: Flight<BadUnit>) -> Result<Summary, AllocError>
+fn sum_up(
+    alloc: Global,
+    crew: &UnitExecutor,
+    flight: Flight<BadUnit>,
+) -> Result<Summary, AllocError>
     requires long { length flight.states ≡ length crew.now.project.plan.planned }
     requires noted { length crew.now.done.items ≡ length crew.now.project.plan.planned }
     requires reasoned { length crew.now.reasons.items ≡ length crew.now.project.plan.planned }
@@ -112,10 +116,10 @@ pub fn run_turns<P: Place, O: Out, T: Turn>(
     turn: &mut T,
 ) -> Result<Summary, BuildFault>
     requires folder { store.folder ≡ records_folder project }
-    requires numbers { IsTrue P.tells →
+    requires numbers { IsTrue P.is_modelled →
         HasNumbers (records (records_folder project) (P.at place.old).world) store.numbers }
     requires none { (P.at place.old).counts.starts.flying ≡ [] }
-    ensures { TurnsEnd P.tells P.child T.turns setup project store.next turn.old turn.new result
+    ensures { TurnsEnd P.is_modelled P.child T.turns setup project store.next turn.old turn.new result
         (moment (P.at place.old) (O.heard out.old)) (moment (P.at place.new) (O.heard out.new)) }
 {
     project.is_in_order();
@@ -140,7 +144,7 @@ pub fn run_turns<P: Place, O: Out, T: Turn>(
             return Err(BuildFault::OutOfMemory);
         }
     };
-    let mut crew = UnitCrew {
+    let mut crew = UnitExecutor {
         setup,
         project,
         store,

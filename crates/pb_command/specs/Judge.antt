@@ -15,7 +15,7 @@ use Rattle.pb_unit.specs.Laws.{last_word}
 use Rattle.pb_unit.specs.Plan.{IsPlan}
 use Rattle.pb_unit.specs.declared.plan.Planned.{Planned}
 use Rattle.pb_command_types.specs.Targets.{dep_info_of, file_in}
-use Rattle.pb_command_types.specs.declared.answer.Answered.{Answered}
+use Rattle.pb_command_types.specs.declared.checked_reply.CheckedReply.{CheckedReply}
 use Rattle.pb_record.specs.declared.record.InputName.{InputName}
 use Rattle.pb_command_types.specs.declared.fault.UnitFault.{UnitFault}
 use Rattle.pb_command_types.specs.declared.project.Project.{Project}
@@ -51,11 +51,11 @@ abbrev pub dep_info_in : Command → List ℕ → Map → Option (List ℕ)
 dep_info_in c out files = file_at (file_in out (crate_in c.words ++ codes ".d")) files
 
 -- the judged answer of a child with these files; a script is run in its package's folder
-abbrev pub answered_in : Command → List ℕ → Ended → Map → Result Answered UnitFault
+abbrev pub answered_in : Command → List ℕ → Ended → Map → Result CheckedReply UnitFault
 answered_in c out e files = unless_fault (ended_fault e) (if is_of_run out then run_answered c c.folder e else compile_answered c (dep_info_in c out files))
 
 -- the inputs that were found, if there is no fault
-abbrev pub inputs_if : Result Answered UnitFault → Option (List InputName)
+abbrev pub inputs_if : Result CheckedReply UnitFault → Option (List InputName)
 inputs_if (Ok answered) = Some answered.inputs
 inputs_if (Err fault) = None
 

@@ -6,17 +6,16 @@ ghost use Rattle.pb_command_arguments.specs.Externs.{reads_of};
 ghost use Rattle.pb_command_environment.specs.Pairs.{pairs_of};
 ghost use Rattle.pb_command.specs.Command.{query_of, crate_part, asked_part, words_of, compile_of, script_path, run_program, run_words, run_of, command_by, nothing_of, command_of};
 
-use pb_data::{Bytes, Items, Text, TryCopy, with_next};
-use pb_directive::Directives;
-use pb_workspace_types::{Package, Workspace};
-use pb_place_types::{Command, PathText};
-use pb_command_types::{Project, Setup, package_of, script_file};
-use pb_unit::{Planned, What};
-use pb_command_environment::pairs_of;
 use pb_command_arguments::{
     push_copies, push_crate, push_features, push_libraries, push_output, push_said, push_settings,
     push_word, reads_of,
 };
+use pb_command_environment::pairs_of;
+use pb_command_types::{Done, Project, Setup, package_of, script_file};
+use pb_data::{Bytes, Items, Text, TryCopy, with_next};
+use pb_place_types::{Command, PathText};
+use pb_unit::{Planned, What};
+use pb_workspace_types::{Package, Workspace};
 use std::alloc::{AllocError, Global};
 
 /// Returns the query of a compiler's version, `-vV`. It starts in the workspace's
@@ -64,7 +63,7 @@ fn push_asked_part(
     setup: &Setup,
     project: &Project,
     unit: &Planned,
-    done: &[Option<Directives>],
+    done: Done<'_>,
     owner: &Package,
 ) -> Result<(), AllocError>
     ensures { OnOk result (words.new ≡ words.old ++ asked_part setup.now project.now unit.now done.now owner.now) }
@@ -81,7 +80,7 @@ fn words_of(
     setup: &Setup,
     project: &Project,
     unit: &Planned,
-    done: &[Option<Directives>],
+    done: Done<'_>,
     owner: &Package,
 ) -> Result<Items<Text>, AllocError>
     ensures { IfOk result (λ words. words ≡ words_of setup.now project.now unit.now done.now owner.now) }
@@ -153,7 +152,7 @@ fn compile_asking(
     setup: &Setup,
     project: &Project,
     unit: &Planned,
-    done: &[Option<Directives>],
+    done: Done<'_>,
     owner: &Package,
 ) -> Result<Asking, AllocError>
     ensures { IfOk result (λ asking. asking ≡ record { program = setup.now.rustc; words = words_of setup.now project.now unit.now done.now owner.now; folder = project.now.workspace.root; pairs = pairs_of setup.now project.now unit.now done.now owner.now }) }
@@ -176,7 +175,7 @@ fn compile_of(
     setup: &Setup,
     project: &Project,
     unit: &Planned,
-    done: &[Option<Directives>],
+    done: Done<'_>,
     owner: &Package,
 ) -> Result<Command, AllocError>
     ensures { IfOk result (λ command. command ≡ compile_of setup.now project.now unit.now done.now owner.now) }
@@ -228,7 +227,7 @@ fn run_asking(
     setup: &Setup,
     project: &Project,
     unit: &Planned,
-    done: &[Option<Directives>],
+    done: Done<'_>,
     owner: &Package,
     script: &Text,
 ) -> Result<Asking, AllocError>
@@ -252,7 +251,7 @@ fn run_of(
     setup: &Setup,
     project: &Project,
     unit: &Planned,
-    done: &[Option<Directives>],
+    done: Done<'_>,
     owner: &Package,
 ) -> Result<Command, AllocError>
     ensures { IfOk result (λ command. command ≡ run_of setup.now project.now unit.now done.now owner.now) }
@@ -270,7 +269,7 @@ fn command_by(
     setup: &Setup,
     project: &Project,
     unit: &Planned,
-    done: &[Option<Directives>],
+    done: Done<'_>,
     owner: &Package,
 ) -> Result<Command, AllocError>
     ensures { IfOk result (λ command. command ≡ command_by unit.now.unit.what setup.now project.now unit.now done.now owner.now) }
@@ -319,7 +318,7 @@ pub fn command(
     setup: &Setup,
     project: &Project,
     unit: &Planned,
-    done: &[Option<Directives>],
+    done: Done<'_>,
 ) -> Result<Command, AllocError>
     ensures { IfOk result (λ command. command ≡ command_of setup.now project.now unit.now done.now) }
 {

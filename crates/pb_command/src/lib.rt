@@ -11,6 +11,6 @@ pub use laws::{
 };
 pub use pb_command_reply::{answered, answered_at, ended_fault, inputs};
 pub use pb_command_types::{
-    Answered, Project, Setup, UnitFault, crate_name_of, dep_info_path, made_file,
+    CheckedReply, Done, Project, Setup, UnitFault, crate_name_of, dep_info_path, made_file,
 };
 pub use pb_record::InputName;

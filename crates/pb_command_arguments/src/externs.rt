@@ -9,12 +9,12 @@ ghost use Rattle.pb_command_types.specs.NamedTexts.{all_set, in_order};
 ghost use Rattle.pb_command_arguments.specs.Externs.{read_at, reads_of, folder_words, folder_words_at, dependency_words, leads, entry_name, extern, entry_extern, own_extern, externs, extern_key, extern_text, extern_word, extern_words, library_words};
 
 use crate::words::{joined, push_option};
+use pb_command_types::{Project, is_library, library_file, library_name, unit_at};
 use pb_data::{Items, Text, TryCopy};
 use pb_manifest_types::crate_name;
-use pb_workspace_types::{DependencyKind, Entry, Package};
 use pb_place_types::{PathText, TextMap};
-use pb_command_types::{Project, is_library, library_file, library_name, unit_at};
 use pb_unit::{Planned, What};
+use pb_workspace_types::{DependencyKind, Entry, Package};
 use std::alloc::{AllocError, Global};
 
 /// Adds the output folder of the unit at an index.

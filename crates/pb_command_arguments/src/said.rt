@@ -7,11 +7,11 @@ ghost use Rattle.pb_command_arguments.specs.Said.{search_word, link_word, condit
 
 use crate::settings::push_setting;
 use crate::words::push_option;
+use pb_command_types::{Project, own_said, said_at};
 use pb_data::{Items, Text};
 use pb_directive::{Directive, Directives};
-use pb_workspace_types::{Library, Package};
-use pb_command_types::{Project, own_said, said_at};
 use pb_unit::{Planned, What};
+use pb_workspace_types::{Library, Package};
 use std::alloc::{AllocError, Global};
 
 /// Adds a directive's search folder, if it has one.

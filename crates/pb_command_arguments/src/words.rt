@@ -6,11 +6,11 @@ ghost use Rattle.pb_manifest_types.specs.declared.feature.Feature.{Feature};
 ghost use Rattle.pb_command_types.specs.Targets.{crate_name_of, crate_types, source_by};
 ghost use Rattle.pb_command_arguments.specs.Words.{option, name_words, edition_word, format_words, crate_words, type_word, type_words, emit_words, out_words, output_words, quoted, feature_text, feature_word, expected_text, active_words, expected_words, feature_words};
 
+use pb_command_types::{Project, crate_name_of, source_by};
 use pb_data::{Items, Text, TryCopy};
 use pb_manifest_types::{CrateType, Edition, Feature};
-use pb_workspace_types::{Library, Package};
-use pb_command_types::{Project, crate_name_of, source_by};
 use pb_unit::{Planned, What};
+use pb_workspace_types::{Library, Package};
 use std::alloc::{AllocError, Global};
 
 /// Adds an argument.

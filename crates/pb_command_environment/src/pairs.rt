@@ -8,13 +8,13 @@ ghost use Rattle.pb_command_types.specs.NamedTexts.{all_set};
 ghost use Rattle.pb_command_environment.specs.Pairs.{package_pairs, about_pairs, version_numbers, version_texts, version_pairs, crate_pairs, binary_pairs, env_pair, out_pairs, run_at, own_run_pairs, own_pairs, pairs_of};
 
 use crate::run_pairs::set_run;
+use pb_command_types::{Project, Setup, crate_name_of, own_run, said_at, unit_at};
 use pb_data::{Items, Text};
 use pb_directive::{Directive, Directives};
 use pb_manifest_types::Version;
-use pb_workspace_types::{About, Package};
 use pb_place_types::TextMap;
-use pb_command_types::{Project, Setup, crate_name_of, own_run, said_at, unit_at};
 use pb_unit::{Planned, What};
+use pb_workspace_types::{About, Package};
 use std::alloc::{AllocError, Global};
 
 /// Sets the variables of the builder and of the package.

@@ -7,10 +7,10 @@ ghost use Rattle.std.specs.Str.{bytes_eq};
 ghost use Rattle.pb_profile.specs.Line.{seen};
 ghost use Rattle.pb_command_environment.specs.Pairs.{unless_empty, host_in, triple_of, is_released, released_text, profile_word};
 
+use pb_command_types::Project;
 use pb_directive::lines::lines_of;
 use pb_directive::texts::{after_prefix, text_of};
 use pb_profile::{Ancestor, ProfileFault, line_of};
-use pb_command_types::Project;
 use std::alloc::{AllocError, Global};
 
 /// Returns a text, unless it is absent or empty.

@@ -9,14 +9,14 @@ ghost use Rattle.pb_command_types.specs.NamedTexts.{all_set};
 ghost use Rattle.pb_command_environment.specs.Pairs.{links_pairs, feature_name, feature_pair, described_pairs, triple_of, is_debugged, truth_text, profile_word, platform_pairs, settings_pairs, encoded, compiler_pairs, out_pairs, building_pairs, linked_pairs, links_in, passed_by, passed_at, passed_pairs, run_pairs};
 
 use crate::platform::{profile_word, triple_of};
+use pb_command_types::{Project, Setup, is_run, package_of, unit_at};
 use pb_data::{Items, Text};
 use pb_directive::{Directives, dep_pairs, underscored};
 use pb_manifest_types::DebugInfo;
-use pb_workspace_types::Package;
 use pb_place_types::TextMap;
 use pb_profile::{Settings, opt_level_text};
-use pb_command_types::{Project, Setup, is_run, package_of, unit_at};
 use pb_unit::Planned;
+use pb_workspace_types::Package;
 use std::alloc::{AllocError, Global};
 
 /// Sets the native library that a package links.

@@ -9,8 +9,8 @@ use Rattle.std.specs.Ordering.{int_eq}
 use Rattle.std.specs.Result.{result_ok}
 use Rattle.pb_command.proofs.Ordered.{first_off, second_off}
 use Rattle.pb_command_reply.specs.Answers.{answered_by, compile_answered, ended_fault, info_in, info_inputs, inherited, inputs_of, is_covered, is_error, is_foreign, is_source, is_too_long, path_or_none, path_said, paths_from, read_info, read_or_none, rerun_inputs, run_answered, said_in, said_inputs, unless_error, unless_fault, unless_foreign}
-use Rattle.pb_data.specs.Gives.{◌>>=◌, lifted}
-use Rattle.pb_data.specs.Mentions.{once}
+use Rattle.pb_data.specs.UnlessOom.{◌>>=◌, lifted}
+use Rattle.pb_data.specs.OrderedSet.{once}
 use Rattle.pb_directive.specs.DepInfo.{dep_info_of}
 use Rattle.pb_directive.specs.Directives.{directives_of}
 use Rattle.pb_directive.specs.declared.dep_info.DepInfo.{DepInfo}
@@ -21,7 +21,7 @@ use Rattle.pb_place_types.specs.declared.command.Command.{Command}
 use Rattle.pb_place_types.specs.declared.command.Ended.{Ended}
 use Rattle.pb_place_types.specs.declared.path.PathFault.{PathFault}
 use Rattle.pb_command_types.specs.Targets.{folder_of, is_run}
-use Rattle.pb_command_types.specs.declared.answer.Answered.{Answered}
+use Rattle.pb_command_types.specs.declared.checked_reply.CheckedReply.{CheckedReply}
 use Rattle.pb_command_types.specs.declared.fault.UnitFault.{UnitFault}
 use Rattle.pb_command_types.specs.declared.fault.UnitFault.TheVariants as unit_fault
 use Rattle.pb_record.specs.declared.record.InputName.{InputName}
@@ -78,7 +78,7 @@ pub paths_are : (folder : List ℕ) (texts : List (List ℕ)) → paths_from fol
 paths_are folder texts = ap once (each_is folder texts)
 
 abbrev pub Answer : Type 0
-Answer = Result Answered UnitFault
+Answer = Result CheckedReply UnitFault
 
 module _ (what : What) (c : Command) (folder : List ℕ) (e : Ended) (dep_info : Option (List ℕ)) where
   abbrev pub answer : Answer

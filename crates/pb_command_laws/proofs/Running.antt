@@ -7,7 +7,7 @@ use Rattle.std.specs.Str.{bytes_eq}
 use Rattle.std.proofs.lemmas.Slice.Eq.{bytes_eq-Decides}
 use Rattle.pb_data.proofs.MentionLemmas.{once-IsDistinct}
 use Rattle.pb_data.proofs.TableLemmas.{names-table_of, value-table_of}
-use Rattle.pb_data.specs.Mentions.{is_mentioned}
+use Rattle.pb_data.specs.OrderedSet.{is_mentioned}
 use Rattle.pb_data.specs.Table.{value_at, names_of, last_value}
 use Rattle.pb_directive.specs.Metadata.{in_capitals, passed, dep_pairs}
 use Rattle.pb_directive.specs.declared.directive.Directive.{Directive}

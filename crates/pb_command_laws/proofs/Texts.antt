@@ -2,7 +2,7 @@
 use Rattle.std.proofs.Common.{◌≡◌, ◌<◌, ◌+◌, ◌∙◌, ℕ, zero, suc, true, List, [], ◌∷◌, ◌++◌, Result, Ok, Err, Some, refl, sym, ap, subst, slice_get, arith}
 use Rattle.std.specs.Prelude.{is_ok}
 use Rattle.std.specs.List.{AllZip, flat_map}
-use Rattle.pb_data.specs.Gives.{◌>>=◌, lifted}
+use Rattle.pb_data.specs.UnlessOom.{◌>>=◌, lifted}
 use Rattle.pb_directive.specs.DepInfo.{each_once, info_from, joined, line_info, nothing}
 use Rattle.pb_directive.specs.Directives.{directives_from, directives_of, line_directives}
 use Rattle.pb_directive.specs.Faults.{fault_at}

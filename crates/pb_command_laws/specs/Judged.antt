@@ -5,7 +5,7 @@ use Rattle.std.specs.List.{find, flat_map, list_any}
 use Rattle.std.specs.Option.{option_to_list}
 use Rattle.std.specs.Result.{result_ok}
 use Rattle.pb_command_reply.specs.Answers.{answered_of, inherited}
-use Rattle.pb_data.specs.Mentions.{once}
+use Rattle.pb_data.specs.OrderedSet.{once}
 use Rattle.pb_directive.specs.DepInfo.{dep_info_of}
 use Rattle.pb_directive.specs.Directives.{directives_of}
 use Rattle.pb_directive.specs.declared.dep_info.DepInfo.{DepInfo}
@@ -15,7 +15,7 @@ use Rattle.pb_place_types.specs.Paths.{is_at_or_below, joined}
 use Rattle.pb_place_types.specs.declared.command.Command.{Command}
 use Rattle.pb_place_types.specs.declared.command.Ended.{Ended}
 use Rattle.pb_command_types.specs.Targets.{folder_of, is_run}
-use Rattle.pb_command_types.specs.declared.answer.Answered.{Answered}
+use Rattle.pb_command_types.specs.declared.checked_reply.CheckedReply.{CheckedReply}
 use Rattle.pb_command_types.specs.declared.fault.UnitFault.{UnitFault}
 use Rattle.pb_command_types.specs.declared.fault.UnitFault.TheVariants as unit_fault
 use Rattle.pb_command_types.specs.declared.project.Project.{Project}
@@ -58,7 +58,7 @@ pub data IsTold (what : What) (c : Command) (folder : List ℕ) (e : Ended) (dep
 
 -- the answer of a child: first it is checked how the child ended, then a run's lines or a compile's dep-info;
 -- then come the inputs: the paths outside the target folder, and the variables, if no path is foreign
-pub data IsAnswer (what : What) (c : Command) (folder : List ℕ) (e : Ended) (dep_info : Option (List ℕ)) : Result Answered UnitFault → Type 0 where
+pub data IsAnswer (what : What) (c : Command) (folder : List ℕ) (e : Ended) (dep_info : Option (List ℕ)) : Result CheckedReply UnitFault → Type 0 where
   too_long : (is : IsShort e.stdout × IsShort e.stderr → ⊥) → IsAnswer what c folder e dep_info (Err unit_fault.OutputTooLong)
   status : (short : IsShort e.stdout × IsShort e.stderr) (is : e.status ≢ pos 0) → IsAnswer what c folder e dep_info (Err (unit_fault.Status e.status))
   no_dep_info : (well : EndedWell e) (is : is_run what ≡ false) (none : (info : DepInfo) → IsInfo dep_info info → ⊥) → IsAnswer what c folder e dep_info (Err unit_fault.NoDepInfo)
@@ -66,9 +66,9 @@ pub data IsAnswer (what : What) (c : Command) (folder : List ℕ) (e : Ended) (d
   script_error : (well : EndedWell e) (is : is_run what ≡ true) (said : List Directive) (read : directives_of e.stdout ≡ Ok said) (some : asked (codes "error") said ≢ []) → IsAnswer what c folder e dep_info (Err unit_fault.ScriptError)
   refused : (well : EndedWell e) (said : Option (List Directive)) (paths variables : List (List ℕ)) (told : IsTold what c folder e dep_info said paths variables) (path : List ℕ) (foreign : find (is_foreign c) paths ≡ Some path)
       → IsAnswer what c folder e dep_info (Err (unit_fault.ForeignInput path))
-  good : (well : EndedWell e) (paths variables : List (List ℕ)) (answered : Answered) (told : IsTold what c folder e dep_info answered.directives paths variables) (none : find (is_foreign c) paths ≡ None)
+  good : (well : EndedWell e) (paths variables : List (List ℕ)) (answered : CheckedReply) (told : IsTold what c folder e dep_info answered.directives paths variables) (none : find (is_foreign c) paths ≡ None)
       (inputs : answered.inputs ≡ map Path (filter (λ path. not (is_at_or_below c.target path)) paths) ++ map Variable variables) → IsAnswer what c folder e dep_info (Ok answered)
 
 abbrev pub AnswersSay : Type 0
-AnswersSay = (project : Project) (u : Planned) (c : Command) (e : Ended) (dep_info : Option (List ℕ)) (answer : Result Answered UnitFault)
+AnswersSay = (project : Project) (u : Planned) (c : Command) (e : Ended) (dep_info : Option (List ℕ)) (answer : Result CheckedReply UnitFault)
     → (answered_of project u c e dep_info ≡ answer) ↔ IsAnswer u.unit.what c (folder_of project u) e dep_info answer

@@ -1,7 +1,7 @@
 -- What a whole text says, line by line: the output of a script, and dep-info (The Cargo Book, Build Scripts, Build Cache).
 use Rattle.std.specs.Prelude.{◌≡◌, ◌<◌, ◌+◌, ◌-◌, ℕ, true, is_ok, drop, length, List, Result, Ok, Err, Some, slice_get, take}
 use Rattle.std.specs.List.{AllZip, flat_map, prefix_len, suffix_len}
-use Rattle.pb_data.specs.Mentions.{once}
+use Rattle.pb_data.specs.OrderedSet.{once}
 use Rattle.pb_directive.specs.DepInfo.{dep_info_of, line_info}
 use Rattle.pb_directive.specs.Directives.{directives_of, line_directives}
 use Rattle.pb_directive.specs.Faults.{fault_at}

@@ -2,7 +2,7 @@
 use Rattle.std.proofs.Common.{◌≡◌, ℕ, List, [], ◌∷◌, ◌+◌, ◌<◌, length, get_or, drop, add-one, sym, refl, ap, ◌∙◌, not, Bool, cond, filter}
 use Rattle.std.proofs.Math.Seq.{drop-cons}
 use Rattle.std.specs.List.{flat_map}
-use Rattle.pb_data.specs.Mentions.{is_mentioned, mentioned_all}
+use Rattle.pb_data.specs.OrderedSet.{is_mentioned, mentioned_all}
 use Rattle.pb_data.proofs.MentionLemmas.{mentioned_all-append, mentioned_all-once, is_mentioned-once}
 
 pub ruleset naming_laws = (mentioned_all-append, mentioned_all-once)

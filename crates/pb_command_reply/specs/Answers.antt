@@ -2,8 +2,8 @@
 use Rattle.std.specs.Prelude.{ℕ, Bool, true, false, not, ◌||◌, ◌&&◌, nat_lt, if◌then◌else◌, List, [], ◌∷◌, ◌++◌, map, filter, length, Option, Some, None, pos, Result, Ok, Err}
 use Rattle.std.specs.List.{flat_map, find, list_any}
 use Rattle.std.specs.Ordering.{int_eq}
-use Rattle.pb_data.specs.Gives.{◌>>=◌, lifted}
-use Rattle.pb_data.specs.Mentions.{is_mentioned, once}
+use Rattle.pb_data.specs.UnlessOom.{◌>>=◌, lifted}
+use Rattle.pb_data.specs.OrderedSet.{is_mentioned, once}
 use Rattle.pb_directive.specs.DepInfo.{dep_info_of}
 use Rattle.pb_directive.specs.Directives.{directives_of}
 use Rattle.pb_directive.specs.declared.dep_info.DepInfo.{DepInfo}
@@ -17,7 +17,7 @@ use Rattle.pb_place_types.specs.declared.path.PathFault.{PathFault}
 use Rattle.pb_unit.specs.declared.plan.Planned.{Planned}
 use Rattle.pb_unit.specs.declared.unit.What.{What}
 use Rattle.pb_unit.specs.declared.unit.What.TheVariants.{Lib, Bin, Script, Run}
-use Rattle.pb_command_types.specs.declared.answer.Answered.{Answered}
+use Rattle.pb_command_types.specs.declared.checked_reply.CheckedReply.{CheckedReply}
 use Rattle.pb_record.specs.declared.record.InputName.{InputName}
 use Rattle.pb_record.specs.declared.record.InputName.TheVariants.{Path, Variable}
 use Rattle.pb_command_types.specs.declared.fault.UnitFault.{UnitFault}
@@ -98,7 +98,7 @@ inherited command names = filter (λ name. not (is_mentioned (map (λ (pair : Li
 abbrev pub info_inputs : Command → DepInfo → Result (List InputName) UnitFault
 info_inputs command info = inputs_of command (paths_from command.folder info.words) (inherited command info.variables)
 
-abbrev pub compile_answered : Command → Option (List ℕ) → Result Answered UnitFault
+abbrev pub compile_answered : Command → Option (List ℕ) → Result CheckedReply UnitFault
 compile_answered command dep_info = read_info dep_info >>= (λ info. info_inputs command info >>= (λ inputs. Ok record { directives = None; inputs = inputs }))
 
 -- Runs.
@@ -136,28 +136,28 @@ unless_error said = if list_any is_error said then Err unit_fault.ScriptError el
 abbrev pub said_in : Ended → Result (List Directive) UnitFault
 said_in ended = lifted unit_fault.Directive (directives_of ended.stdout) >>= unless_error
 
-abbrev pub run_answered : Command → List ℕ → Ended → Result Answered UnitFault
+abbrev pub run_answered : Command → List ℕ → Ended → Result CheckedReply UnitFault
 run_answered command folder ended =
     said_in ended >>= (λ said. said_inputs command folder said >>= (λ inputs. Ok record { directives = Some said; inputs = inputs }))
 
 -- Replies.
 
-abbrev pub answered_by : What → Command → List ℕ → Ended → Option (List ℕ) → Result Answered UnitFault
+abbrev pub answered_by : What → Command → List ℕ → Ended → Option (List ℕ) → Result CheckedReply UnitFault
 answered_by Lib command folder ended dep_info = compile_answered command dep_info
 answered_by (Bin name) command folder ended dep_info = compile_answered command dep_info
 answered_by Script command folder ended dep_info = compile_answered command dep_info
 answered_by Run command folder ended dep_info = run_answered command folder ended
 
-abbrev pub unless_fault : Option UnitFault → Result Answered UnitFault → Result Answered UnitFault
+abbrev pub unless_fault : Option UnitFault → Result CheckedReply UnitFault → Result CheckedReply UnitFault
 unless_fault None answered = answered
 unless_fault (Some fault) answered = Err fault
 
 -- what a reply yields: how the child ended is checked first,
 -- then a run's lines or a compile's dep-info, then the inputs
-abbrev pub answered_of : Project → Planned → Command → Ended → Option (List ℕ) → Result Answered UnitFault
+abbrev pub answered_of : Project → Planned → Command → Ended → Option (List ℕ) → Result CheckedReply UnitFault
 answered_of project unit command ended dep_info = unless_fault (ended_fault ended) (answered_by unit.unit.what command (folder_of project unit) ended dep_info)
 
 -- only the names of the inputs
-abbrev pub named_in : Result Answered UnitFault → Result (List InputName) UnitFault
+abbrev pub named_in : Result CheckedReply UnitFault → Result (List InputName) UnitFault
 named_in (Ok answered) = Ok answered.inputs
 named_in (Err fault) = Err fault

@@ -2,16 +2,16 @@
 
 ghost use Rattle.std.specs.Prelude.{◌≡◌, ◌++◌, ◌∷◌, [], not, IsTrue, IfOk, OnOk, map, filter, option_map, List, ℕ};
 ghost use Rattle.std.specs.List.{flat_map, find};
-ghost use Rattle.pb_data.specs.Gives.{Gives};
-ghost use Rattle.pb_data.specs.Mentions.{is_mentioned, mentioned, mentioned_all, once};
+ghost use Rattle.pb_data.specs.UnlessOom.{UnlessOom};
+ghost use Rattle.pb_data.specs.OrderedSet.{is_mentioned, mentioned, mentioned_all, once};
 ghost use Rattle.pb_command_reply.specs.Answers.{path_said, paths_from, is_covered, is_foreign, is_source, inputs_of, inherited};
 ghost use Rattle.pb_record.specs.declared.record.InputName.TheVariants.{Path, Variable};
 ghost use Rattle.pb_command_types.specs.declared.fault.UnitFault.TheVariants as unit_fault;
 
 use crate::meaning::Meaning;
-use pb_data::{Items, Mentions, Text, TryCopy};
-use pb_place_types::{Command, PathFault, PathText};
 use pb_command_types::UnitFault;
+use pb_data::{Items, OrderedSet, Text, TryCopy};
+use pb_place_types::{Command, PathFault, PathText};
 use pb_record::InputName;
 use std::alloc::{AllocError, Global};
 
@@ -19,7 +19,7 @@ use std::alloc::{AllocError, Global};
 fn mention(
     alloc: Global,
     paths: &mut Items<PathText>,
-    seen: &mut Mentions,
+    seen: &mut OrderedSet,
     path: PathText,
 ) -> Result<(), AllocError>
     requires { seen.old ≡ paths.old }
@@ -39,7 +39,7 @@ fn mention(
 fn mention_all(
     alloc: Global,
     paths: &mut Items<PathText>,
-    seen: &mut Mentions,
+    seen: &mut OrderedSet,
     said: Items<PathText>,
 ) -> Result<(), AllocError>
     requires { seen.old ≡ paths.old }
@@ -57,7 +57,7 @@ fn paths_once(alloc: Global, said: Items<PathText>) -> Result<Items<PathText>, A
     ensures { IfOk result (λ paths. paths ≡ once said) }
 {
     let mut paths = Items::new(alloc);
-    let mut seen = Mentions::new(alloc);
+    let mut seen = OrderedSet::new(alloc);
     mention_all(alloc, &mut paths, &mut seen, said)?;
     Ok(paths)
 }
@@ -116,10 +116,10 @@ pub(crate) fn paths_from<M: Meaning>(
 }
 
 /// Returns names as mentioned one after another.
-fn all_mentioned(alloc: Global, names: &[Text]) -> Result<Mentions, AllocError>
+fn all_mentioned(alloc: Global, names: &[Text]) -> Result<OrderedSet, AllocError>
     ensures { IfOk result (λ made. made ≡ mentioned_all [] names.now) }
 {
-    let mut made = Mentions::new(alloc);
+    let mut made = OrderedSet::new(alloc);
     for name in names {
         made.insert(name.copy(alloc)?)?;
     }
@@ -208,7 +208,7 @@ pub(crate) fn inputs_of(
     paths: Items<PathText>,
     names: Items<Text>,
 ) -> Result<Items<InputName>, UnitFault>
-    ensures { Gives unit_fault.OutOfMemory (λ inputs. inputs) result (inputs_of command.now paths names) }
+    ensures { UnlessOom unit_fault.OutOfMemory (λ inputs. inputs) result (inputs_of command.now paths names) }
 {
     if let Some(path) = first_foreign(command, paths.as_slice()) {
         return Err(UnitFault::ForeignInput(path.copy(alloc)?));
@@ -220,10 +220,10 @@ pub(crate) fn inputs_of(
 }
 
 /// Returns the names that pairs set.
-fn names_set(alloc: Global, pairs: &[(Text, Text)]) -> Result<Mentions, AllocError>
+fn names_set(alloc: Global, pairs: &[(Text, Text)]) -> Result<OrderedSet, AllocError>
     ensures { IfOk result (λ names. names ≡ mentioned_all [] (map (λ pair. pair.0) pairs.now)) }
 {
-    let mut names = Mentions::new(alloc);
+    let mut names = OrderedSet::new(alloc);
     for pair in pairs {
         names.insert(pair.0.copy(alloc)?)?;
     }
@@ -231,14 +231,14 @@ fn names_set(alloc: Global, pairs: &[(Text, Text)]) -> Result<Mentions, AllocErr
 }
 
 /// Returns the names that a command sets.
-fn names_of(alloc: Global, command: &Command) -> Result<Mentions, AllocError>
+fn names_of(alloc: Global, command: &Command) -> Result<OrderedSet, AllocError>
     ensures { IfOk result (λ names. names ≡ mentioned_all [] (map (λ (pair : List ℕ × List ℕ). pair.0) command.now.pairs)) }
 {
     names_set(alloc, command.pairs.as_slice())
 }
 
 /// Returns the names that are not among the others.
-fn names_but(alloc: Global, names: &[Text], others: &Mentions) -> Result<Items<Text>, AllocError>
+fn names_but(alloc: Global, names: &[Text], others: &OrderedSet) -> Result<Items<Text>, AllocError>
     ensures { IfOk result (λ left. left ≡ filter (λ name. not (is_mentioned others.now name)) names.now) }
 {
     let mut left = Items::new(alloc);

@@ -2,7 +2,7 @@
 
 ghost use Rattle.std.specs.Prelude.{◌≡◌, ◌++◌, ◌∷◌, [], IsTrue, IfOk, OnOk, option_map};
 ghost use Rattle.std.specs.List.{flat_map, list_any};
-ghost use Rattle.pb_data.specs.Gives.{Gives, lifted};
+ghost use Rattle.pb_data.specs.UnlessOom.{UnlessOom, lifted};
 ghost use Rattle.pb_directive.specs.Directives.{directives_of};
 ghost use Rattle.pb_command_types.specs.Targets.{folder_of};
 ghost use Rattle.pb_command_reply.specs.Answers.{is_too_long, greatest_length, ended_fault, info_in, read_info, inputs_of, info_inputs, compile_answered, changed_path, changed_variable, is_error, unless_error, said_in, marked_inputs, rerun_inputs, said_inputs, run_answered, answered_by, answered_of, named_in};
@@ -10,22 +10,22 @@ ghost use Rattle.pb_command_types.specs.declared.fault.UnitFault.TheVariants as 
 
 use crate::input_names::{inherited, inputs_of, once, paths_from};
 use crate::meaning::{ByPlace, ByText, Meaning};
+use pb_command_types::{CheckedReply, Project, UnitFault, folder_of};
 use pb_data::{Bytes, Items, Text, TryCopy};
 use pb_directive::{DepInfo, Directive, LineFault, read_dep_info, read_directives};
 use pb_place_types::{Command, Ended, PathText, Place};
-use pb_command_types::{Answered, Project, UnitFault, folder_of};
 use pb_record::InputName;
 use pb_unit::{Planned, What};
 use std::alloc::{AllocError, Global};
 
 /// The greatest length of a child's stream, or of dep-info, in bytes (our own choice).
-const GREATEST_LENGTH: usize = 4_194_304;
+const MAX_STREAM_BYTES: usize = 4_194_304;
 
 /// Returns whether bytes are too long for a stream or dep-info.
 fn is_too_long(bytes: &Bytes) -> bool
     ensures { result ≡ is_too_long bytes.now }
 {
-    bytes.as_slice().len() > GREATEST_LENGTH
+    bytes.as_slice().len() > MAX_STREAM_BYTES
 }
 
 /// Returns the first fault of how a child ended, or none: `OutputTooLong`, if a stream has more
@@ -44,7 +44,7 @@ pub fn ended_fault(ended: &Ended) -> Option<UnitFault>
 
 /// Returns the dep-info in some bytes.
 fn info_in(alloc: Global, bytes: &Bytes) -> Result<DepInfo, UnitFault>
-    ensures { Gives unit_fault.OutOfMemory (λ info. info) result (info_in bytes.now) }
+    ensures { UnlessOom unit_fault.OutOfMemory (λ info. info) result (info_in bytes.now) }
 {
     match read_dep_info(alloc, bytes.as_slice()) {
         Ok(info) => Ok(info),
@@ -57,7 +57,7 @@ fn info_in(alloc: Global, bytes: &Bytes) -> Result<DepInfo, UnitFault>
 ///
 /// Errors: `NoDepInfo`, if there is none, it is too long, or it cannot be read; `OutOfMemory`.
 fn read_info(alloc: Global, dep_info: Option<&Bytes>) -> Result<DepInfo, UnitFault>
-    ensures { Gives unit_fault.OutOfMemory (λ info. info) result (read_info (option_map (λ bytes. bytes.now) dep_info.entry)) }
+    ensures { UnlessOom unit_fault.OutOfMemory (λ info. info) result (read_info (option_map (λ bytes. bytes.now) dep_info.entry)) }
 {
     match dep_info {
         Some(bytes) => {
@@ -77,7 +77,7 @@ fn info_inputs<M: Meaning>(
     command: &Command,
     info: &DepInfo,
 ) -> Result<Items<InputName>, UnitFault>
-    ensures { IsTrue M.joins → Gives unit_fault.OutOfMemory (λ inputs. inputs) result (info_inputs command.now info.now) }
+    ensures { IsTrue M.joins → UnlessOom unit_fault.OutOfMemory (λ inputs. inputs) result (info_inputs command.now info.now) }
 {
     let paths = paths_from(alloc, meaning, &command.folder, info.words.as_slice())?;
     let names = inherited(alloc, command, info.variables.as_slice())?;
@@ -90,13 +90,13 @@ fn compile_answered<M: Meaning>(
     meaning: &M,
     command: &Command,
     dep_info: Option<&Bytes>,
-) -> Result<Answered, UnitFault>
-    ensures { IsTrue M.joins → Gives unit_fault.OutOfMemory (λ a. a) result (compile_answered command.now (option_map (λ bytes. bytes.now) dep_info.entry)) }
+) -> Result<CheckedReply, UnitFault>
+    ensures { IsTrue M.joins → UnlessOom unit_fault.OutOfMemory (λ a. a) result (compile_answered command.now (option_map (λ bytes. bytes.now) dep_info.entry)) }
 {
     let info = read_info(alloc, dep_info)?;
     let inputs = info_inputs(alloc, meaning, command, &info);
     drop(info);
-    Ok(Answered {
+    Ok(CheckedReply {
         directives: None,
         inputs: inputs?,
     })
@@ -167,7 +167,7 @@ fn marked_inputs<M: Meaning>(
     paths: &[Text],
     names: &[Text],
 ) -> Result<Items<InputName>, UnitFault>
-    ensures { IsTrue M.joins → Gives unit_fault.OutOfMemory (λ inputs. inputs) result (marked_inputs command.now folder.now paths.now names.now) }
+    ensures { IsTrue M.joins → UnlessOom unit_fault.OutOfMemory (λ inputs. inputs) result (marked_inputs command.now folder.now paths.now names.now) }
 {
     let paths = paths_from(alloc, meaning, folder, paths)?;
     let names = once(alloc, names)?;
@@ -180,7 +180,7 @@ fn folder_inputs(
     command: &Command,
     folder: &PathText,
 ) -> Result<Items<InputName>, UnitFault>
-    ensures { Gives unit_fault.OutOfMemory (λ inputs. inputs) result (inputs_of command.now (folder.now ∷ []) []) }
+    ensures { UnlessOom unit_fault.OutOfMemory (λ inputs. inputs) result (inputs_of command.now (folder.now ∷ []) []) }
 {
     let mut paths = Items::new(alloc);
     paths.push(folder.copy(alloc)?)?;
@@ -197,7 +197,7 @@ fn rerun_inputs<M: Meaning>(
     paths: &[Text],
     names: &[Text],
 ) -> Result<Items<InputName>, UnitFault>
-    ensures { IsTrue M.joins → Gives unit_fault.OutOfMemory (λ inputs. inputs) result (rerun_inputs command.now folder.now paths.now names.now) }
+    ensures { IsTrue M.joins → UnlessOom unit_fault.OutOfMemory (λ inputs. inputs) result (rerun_inputs command.now folder.now paths.now names.now) }
 {
     match paths {
         [] => match names {
@@ -216,7 +216,7 @@ fn said_inputs<M: Meaning>(
     folder: &PathText,
     said: &[Directive],
 ) -> Result<Items<InputName>, UnitFault>
-    ensures { IsTrue M.joins → Gives unit_fault.OutOfMemory (λ inputs. inputs) result (said_inputs command.now folder.now said.now) }
+    ensures { IsTrue M.joins → UnlessOom unit_fault.OutOfMemory (λ inputs. inputs) result (said_inputs command.now folder.now said.now) }
 {
     let paths = changed_paths(alloc, said)?;
     let names = changed_variables(alloc, said)?;
@@ -239,7 +239,7 @@ fn is_error(directive: &Directive) -> bool
 
 /// Returns the directives in the lines of a run.
 fn lines_in(alloc: Global, ended: &Ended) -> Result<Items<Directive>, UnitFault>
-    ensures { Gives unit_fault.OutOfMemory (λ said. said) result (lifted unit_fault.Directive (directives_of ended.now.stdout)) }
+    ensures { UnlessOom unit_fault.OutOfMemory (λ said. said) result (lifted unit_fault.Directive (directives_of ended.now.stdout)) }
 {
     match read_directives(alloc, ended.stdout.as_slice()) {
         Ok(said) => Ok(said),
@@ -267,7 +267,7 @@ fn unless_error(said: Items<Directive>) -> Result<Items<Directive>, UnitFault>
 
 /// Returns the directives of a run, unless one of them reports an error.
 fn said_in(alloc: Global, ended: &Ended) -> Result<Items<Directive>, UnitFault>
-    ensures { Gives unit_fault.OutOfMemory (λ said. said) result (said_in ended.now) }
+    ensures { UnlessOom unit_fault.OutOfMemory (λ said. said) result (said_in ended.now) }
 {
     let said = lines_in(alloc, ended)?;
     unless_error(said)
@@ -280,12 +280,12 @@ fn run_answered<M: Meaning>(
     command: &Command,
     folder: &PathText,
     ended: &Ended,
-) -> Result<Answered, UnitFault>
-    ensures { IsTrue M.joins → Gives unit_fault.OutOfMemory (λ a. a) result (run_answered command.now folder.now ended.now) }
+) -> Result<CheckedReply, UnitFault>
+    ensures { IsTrue M.joins → UnlessOom unit_fault.OutOfMemory (λ a. a) result (run_answered command.now folder.now ended.now) }
 {
     let said = said_in(alloc, ended)?;
     let inputs = said_inputs(alloc, meaning, command, folder, said.as_slice())?;
-    Ok(Answered {
+    Ok(CheckedReply {
         directives: Some(said),
         inputs,
     })
@@ -300,8 +300,8 @@ fn answered_by<M: Meaning>(
     folder: &PathText,
     ended: &Ended,
     dep_info: Option<&Bytes>,
-) -> Result<Answered, UnitFault>
-    ensures { IsTrue M.joins → Gives unit_fault.OutOfMemory (λ a. a) result (answered_by what.now command.now folder.now ended.now (option_map (λ bytes. bytes.now) dep_info.entry)) }
+) -> Result<CheckedReply, UnitFault>
+    ensures { IsTrue M.joins → UnlessOom unit_fault.OutOfMemory (λ a. a) result (answered_by what.now command.now folder.now ended.now (option_map (λ bytes. bytes.now) dep_info.entry)) }
 {
     match what {
         What::Run => run_answered(alloc, meaning, command, folder, ended),
@@ -318,9 +318,9 @@ fn answered_with<M: Meaning>(
     command: &Command,
     ended: &Ended,
     dep_info: Option<&Bytes>,
-) -> Result<Answered, UnitFault>
+) -> Result<CheckedReply, UnitFault>
     ensures { IsTrue M.joins →
-        Gives unit_fault.OutOfMemory (λ a. a) result (answered_of project.now unit.now command.now
+        UnlessOom unit_fault.OutOfMemory (λ a. a) result (answered_of project.now unit.now command.now
         ended.now (option_map (λ bytes. bytes.now) dep_info.entry)) }
 {
     match ended_fault(ended) {
@@ -359,8 +359,8 @@ pub fn answered(
     command: &Command,
     ended: &Ended,
     dep_info: Option<&Bytes>,
-) -> Result<Answered, UnitFault>
-    ensures { Gives unit_fault.OutOfMemory (λ a. a) result (answered_of project.now unit.now command.now ended.now (option_map (λ bytes. bytes.now) dep_info.entry)) }
+) -> Result<CheckedReply, UnitFault>
+    ensures { UnlessOom unit_fault.OutOfMemory (λ a. a) result (answered_of project.now unit.now command.now ended.now (option_map (λ bytes. bytes.now) dep_info.entry)) }
 {
     answered_with(alloc, &ByText {}, project, unit, command, ended, dep_info)
 }
@@ -376,9 +376,9 @@ pub fn answered_at<P: Place>(
     command: &Command,
     ended: &Ended,
     dep_info: Option<&Bytes>,
-) -> Result<Answered, UnitFault>
-    ensures { IsTrue P.tells →
-        Gives unit_fault.OutOfMemory (λ a. a) result (answered_of project.now unit.now command.now
+) -> Result<CheckedReply, UnitFault>
+    ensures { IsTrue P.is_modelled →
+        UnlessOom unit_fault.OutOfMemory (λ a. a) result (answered_of project.now unit.now command.now
         ended.now (option_map (λ bytes. bytes.now) dep_info.entry)) }
 {
     answered_with(
@@ -403,7 +403,7 @@ pub fn inputs(
     ended: &Ended,
     dep_info: Option<&Bytes>,
 ) -> Result<Items<InputName>, UnitFault>
-    ensures { Gives unit_fault.OutOfMemory (λ names. names) result (named_in (answered_of project.now unit.now command.now ended.now (option_map (λ bytes. bytes.now) dep_info.entry))) }
+    ensures { UnlessOom unit_fault.OutOfMemory (λ names. names) result (named_in (answered_of project.now unit.now command.now ended.now (option_map (λ bytes. bytes.now) dep_info.entry))) }
 {
     match answered(alloc, project, unit, command, ended, dep_info) {
         Ok(found) => Ok(found.inputs),

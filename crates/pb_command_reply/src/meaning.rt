@@ -1,7 +1,7 @@
 //! The path of a text relative to a folder.
 
 ghost use Rattle.std.specs.Prelude.{Bool, IsTrue};
-ghost use Rattle.pb_data.specs.Gives.{Gives};
+ghost use Rattle.pb_data.specs.UnlessOom.{UnlessOom};
 ghost use Rattle.pb_place_types.specs.Paths.{joined};
 ghost use Rattle.pb_place_types.specs.declared.path.PathFault.TheVariants as path_fault;
 
@@ -19,7 +19,7 @@ pub(crate) trait Meaning {
     /// Errors: those of `PathText::join`.
     fn path_from(&self, alloc: Global, folder: &PathText, text: &str) -> Result<PathText, PathFault>
         ensures { IsTrue joins →
-            Gives path_fault.OutOfMemory (λ path. path) result (joined folder.now text.now) };
+            UnlessOom path_fault.OutOfMemory (λ path. path) result (joined folder.now text.now) };
 }
 
 /// The path is determined by the text alone.
@@ -49,7 +49,7 @@ pub(crate) struct ByPlace<'a, P> {
 }
 
 impl<'a, P: Place> Meaning for ByPlace<'a, P> {
-    ghost joins = { P.tells };
+    ghost joins = { P.is_modelled };
 
     fn path_from(
         &self,

@@ -18,10 +18,6 @@ pub enum UnitFault {
     /// A line of a build script's output has a fault.
     #[error("a line of the script's output is refused: {}", .0)]
     Directive(LineFault),
-    /// A build script ended with status 0 and printed a line `cargo::error` (The Cargo Book, Build
-    /// Scripts).
-    #[error("the script told of an error")]
-    ScriptError,
     /// The compiler left no dep-info, one that cannot be read, or one over 4,194,304 bytes.
     #[error("no dep-info that can be read")]
     NoDepInfo,
@@ -32,6 +28,10 @@ pub enum UnitFault {
     /// A stream of the child is over 4,194,304 bytes (our own choice).
     #[error("a stream is too long")]
     OutputTooLong,
+    /// A build script ended with status 0 and printed a line `cargo::error` (The Cargo Book, Build
+    /// Scripts).
+    #[error("the script told of an error")]
+    ScriptError,
     /// Memory ran out.
     #[error("out of memory")]
     OutOfMemory,
@@ -58,10 +58,10 @@ impl TryCopy for UnitFault {
         Ok(match self {
             UnitFault::Status(status) => UnitFault::Status(*status),
             UnitFault::Directive(fault) => UnitFault::Directive(*fault),
-            UnitFault::ScriptError => UnitFault::ScriptError,
             UnitFault::NoDepInfo => UnitFault::NoDepInfo,
             UnitFault::ForeignInput(path) => UnitFault::ForeignInput(path.copy(alloc)?),
             UnitFault::OutputTooLong => UnitFault::OutputTooLong,
+            UnitFault::ScriptError => UnitFault::ScriptError,
             UnitFault::OutOfMemory => UnitFault::OutOfMemory,
         })
     }

@@ -4,18 +4,18 @@
 //! units but makes no commands.
 #![tactic(auto)]
 
-pub mod answer;
+pub mod checked_reply;
 pub mod fault;
 mod needed;
 pub mod project;
 mod targets;
 
-pub use answer::Answered;
+pub use checked_reply::CheckedReply;
 pub use fault::UnitFault;
 pub use needed::{
     is_library, is_run, library_file, own_run, own_said, said_at, script_file, unit_at,
 };
-pub use project::{Project, Setup};
+pub use project::{Done, Project, Setup};
 pub use targets::{
     crate_name_of, dep_info_path, folder_of, library_name, made_file, package_of, source_by,
 };

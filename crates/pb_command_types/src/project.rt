@@ -1,9 +1,10 @@
 //! What a build knows when it makes commands.
 
 use pb_data::{Bytes, Items, Text};
-use pb_workspace_types::Workspace;
+use pb_directive::Directives;
 use pb_feature_types::Features;
 use pb_unit::Plan;
+use pb_workspace_types::Workspace;
 
 /// All that a build knows about its workspace once it is planned.
 #[derive(Drop)]
@@ -33,3 +34,7 @@ pub struct Setup {
     /// The compiler's output about its version: the standard output of `-vV`.
     pub toolchain: Bytes,
 }
+
+/// What the runs of build scripts have said, each by the index of its unit in the plan: the directives of a run that
+/// ended well, and nothing for any other unit.
+pub type Done<'a> = &'a [Option<Directives>];

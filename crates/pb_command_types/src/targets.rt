@@ -6,9 +6,9 @@ ghost use Rattle.pb_command_types.specs.Targets.{package_of, folder_of, library_
 use crate::project::Project;
 use pb_data::{Text, TryCopy};
 use pb_manifest_types::crate_name;
-use pb_workspace_types::Package;
 use pb_place_types::{PathText, RelativePath};
 use pb_unit::{Planned, What};
+use pb_workspace_types::Package;
 use std::alloc::{AllocError, Global};
 
 /// Returns the package of a unit.

@@ -5,7 +5,7 @@ use Rattle.std.proofs.lemmas.List.Folds.{list_any-append}
 use Rattle.std.proofs.lemmas.Slice.Eq.{bytes_eq-Decides}
 use Rattle.std.specs.List.{IsDistinct, AllByRecursion}
 use Rattle.std.specs.Str.{bytes_eq}
-use Rattle.pb_data.specs.Mentions.{is_mentioned, mentioned, mentioned_all, without, once, EachOnce}
+use Rattle.pb_data.specs.OrderedSet.{is_mentioned, mentioned, mentioned_all, without, once, EachOnce}
 
 -- more texts, and more after them
 pub mentioned_all-append : (seen xs ys : List (List ℕ)) → mentioned_all seen (xs ++ ys) ≡ mentioned_all (mentioned_all seen xs) ys

@@ -2,7 +2,7 @@
 use Rattle.std.proofs.Common.{◌≡◌, ℕ, ◌||◌, Bool, true, false, List, [], ◌∷◌, ◌++◌, Option, Some, None, unwrap_or, refl, sym, ◌∙◌, ap, if◌then◌else◌, cond}
 use Rattle.std.proofs.lemmas.Slice.Eq.{bytes_eq-Decides}
 use Rattle.std.specs.Str.{bytes_eq}
-use Rattle.pb_data.specs.Mentions.{is_mentioned, mentioned, mentioned_all, once}
+use Rattle.pb_data.specs.OrderedSet.{is_mentioned, mentioned, mentioned_all, once}
 use Rattle.pb_data.specs.Table.{value_at, with_entry, with_entries, table_of, names_of, last_value}
 use Rattle.pb_data.proofs.MentionLemmas.{mentioned_all-once, bytes_eq_comm}
 

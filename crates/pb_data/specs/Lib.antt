@@ -1,3 +1,3 @@
-pub mod Gives
-pub mod Mentions
+pub mod UnlessOom
+pub mod OrderedSet
 pub mod Table

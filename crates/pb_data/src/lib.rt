@@ -7,15 +7,15 @@ mod bytes;
 mod copying;
 mod hashing;
 mod items;
-mod mentions;
 mod next;
+mod ordered_set;
 pub mod table;
 mod text;
 
 pub use bytes::Bytes;
 pub use copying::TryCopy;
 pub use items::Items;
-pub use mentions::Mentions;
 pub use next::with_next;
+pub use ordered_set::OrderedSet;
 pub use table::Table;
 pub use text::Text;

@@ -3,7 +3,7 @@
 ghost use Rattle.std.specs.Prelude.{◌≡◌, ℕ, List, [], ◌++◌, ◌<◌, ◌^◌, OnOk, OnErr, IfOk, length};
 ghost use Rattle.std.specs.Option.{option_copied, is_some};
 ghost use Rattle.std.specs.Map.Iter.{ShowsInOrder, deref_pair};
-ghost use Rattle.pb_data.specs.Mentions.{once};
+ghost use Rattle.pb_data.specs.OrderedSet.{once};
 ghost use Rattle.pb_data.specs.Table.{value_at, with_entry, with_entries, table_of, names_of, last_value};
 
 use crate::items::Items;

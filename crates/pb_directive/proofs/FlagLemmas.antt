@@ -1,7 +1,7 @@
 -- Lemmas on the flags of `rustc-flags`.
 use Rattle.std.proofs.Common.{◌≡◌, ℕ, false, List, [], ◌∷◌, ◌++◌, Ok, Err, Result, refl, sym, ◌∙◌, ap, if◌then◌else◌, codes}
 use Rattle.std.specs.Str.{bytes_eq}
-use Rattle.pb_data.specs.Gives.{◌>>=◌}
+use Rattle.pb_data.specs.UnlessOom.{◌>>=◌}
 use Rattle.pb_directive.proofs.ThenLemmas.{then_push, then_err}
 use Rattle.pb_directive.specs.Directives.{flag_of, flags_of}
 use Rattle.pb_directive.specs.declared.directive.Directive.{Directive}

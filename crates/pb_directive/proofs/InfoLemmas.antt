@@ -1,6 +1,6 @@
 -- Lemmas on what dep-info names.
 use Rattle.std.proofs.Common.{◌≡◌, ℕ, ◌+◌, List, ◌∷◌, Ok, Err, Result, refl, sym, ◌∙◌, ap}
-use Rattle.pb_data.specs.Gives.{◌>>=◌, lifted}
+use Rattle.pb_data.specs.UnlessOom.{◌>>=◌, lifted}
 use Rattle.pb_data.proofs.MentionLemmas.{mentioned_all-append, mentioned_all-once}
 use Rattle.pb_directive.specs.Faults.{fault_at}
 use Rattle.pb_directive.specs.DepInfo.{nothing, joined, line_info, info_from, each_once, with_info}

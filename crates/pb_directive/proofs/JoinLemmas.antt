@@ -2,8 +2,8 @@
 use Rattle.std.proofs.Common.{◌≡◌, ℕ, ◌+◌, Bool, true, false, cond, List, [], ◌∷◌, ◌++◌, Ok, Err, Result, None, Some, refl, sym, ◌∙◌, ap, subst, append_assoc, arith, length, eqb, if◌then◌else◌, codes}
 use Rattle.std.specs.List.{onto_first}
 use Rattle.std.specs.Str.{is_utf8}
-use Rattle.pb_data.specs.Gives.{◌>>=◌, lifted}
-use Rattle.pb_data.specs.Mentions.{EachOnce}
+use Rattle.pb_data.specs.UnlessOom.{◌>>=◌, lifted}
+use Rattle.pb_data.specs.OrderedSet.{EachOnce}
 use Rattle.pb_data.proofs.MentionLemmas.{once-IsDistinct}
 use Rattle.pb_directive.specs.DepInfo.{nothing, joined, line_info, info_from, each_once, dep_info_of, all_names_of}
 use Rattle.pb_directive.specs.Directives.{line_directives, directives_from, directives_of, text_directives, new_line, old_line}

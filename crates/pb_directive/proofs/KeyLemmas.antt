@@ -2,7 +2,7 @@
 use Rattle.std.proofs.Common.{inl, inr, ◌≡◌, ◌≢◌, ◌⊎◌, ℕ, not, Bool, true, false, List, [], ◌∷◌, Option, None, Some, Ok, Err, Result, refl, sym, ◌∙◌, ap, subst, if◌then◌else◌, codes}
 use Rattle.std.proofs.lemmas.Slice.Eq.{bytes_eq-Decides}
 use Rattle.std.specs.Str.{bytes_eq}
-use Rattle.pb_data.specs.Gives.{◌>>=◌}
+use Rattle.pb_data.specs.UnlessOom.{◌>>=◌}
 use Rattle.pb_directive.proofs.SettingLemmas.{plain_so, plain_view, filled_so, filled_view, variable_so, variable_view, halves_so, halves_view, named_so, named_view, flags_so, flags_view}
 use Rattle.pb_directive.specs.Directives.{plain, filled, variable, named_value, words_of, flags_of, key_of, new_key_of, one, directives_at}
 use Rattle.pb_directive.specs.LineWords as words

@@ -3,7 +3,7 @@ use Rattle.std.proofs.Common.{inl, inr, ◌≡◌, ◌⊎◌, ℕ, not, ◌&&◌
 use Rattle.std.proofs.lemmas.Bool.Decides.{Decides-eqb}
 use Rattle.std.proofs.lemmas.Slice.Eq.{bytes_eq-Decides}
 use Rattle.std.specs.Str.{bytes_eq, is_utf8}
-use Rattle.pb_data.specs.Gives.{◌>>=◌}
+use Rattle.pb_data.specs.UnlessOom.{◌>>=◌}
 use Rattle.pb_directive.proofs.KeyLemmas.{name_of, said_at, new_said_at, common, View, key_view, sample, old_named, new_named}
 use Rattle.pb_directive.proofs.RuleLemmas.{around_of, absent_of}
 use Rattle.pb_directive.proofs.SettingLemmas.{plain_view, plain_so, filled_view, filled_so, cut_there, cut_nowhere, prefix_there}

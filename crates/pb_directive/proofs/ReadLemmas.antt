@@ -1,6 +1,6 @@
 -- Lemmas on the directives of a text.
 use Rattle.std.proofs.Common.{◌≡◌, ℕ, ◌+◌, List, ◌∷◌, ◌++◌, Ok, Result, sym, ◌∙◌, ap}
-use Rattle.pb_data.specs.Gives.{◌>>=◌}
+use Rattle.pb_data.specs.UnlessOom.{◌>>=◌}
 use Rattle.pb_directive.specs.Faults.{fault_at}
 use Rattle.pb_directive.specs.Directives.{line_directives, directives_from}
 use Rattle.pb_directive.specs.declared.directive.Directive.{Directive}

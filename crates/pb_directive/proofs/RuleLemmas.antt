@@ -9,7 +9,7 @@ use Rattle.std.specs.Option.{MatchOption}
 use Rattle.std.specs.Str.Pattern.{FindsCharSuffix, StripsSuffix}
 use Rattle.std.specs.List.{position_or_len, before_first, after_first, list_any, onto_first}
 use Rattle.pb_directive.specs.Lines.{split_first}
-use Rattle.pb_data.specs.Mentions.{mentioned_all}
+use Rattle.pb_data.specs.OrderedSet.{mentioned_all}
 use Rattle.pb_directive.specs.Directives.{is_empty, some_word}
 use Rattle.pb_directive.specs.DepInfo.{ends_outputs, after_outputs, parts_of, rule_words, onto_part}
 use Rattle.pb_directive.proofs.WordLemmas.{cut_of, split_first-shorter, words_cons}

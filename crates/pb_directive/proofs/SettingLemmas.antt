@@ -3,7 +3,7 @@ use Rattle.std.proofs.Common.{inl, inr, ◌≡◌, ◌≢◌, ◌⊎◌, ℕ, �
 use Rattle.std.proofs.lemmas.Bool.Decides.{Decides-eqb}
 use Rattle.std.proofs.lemmas.Slice.Eq.{bytes_eq-Decides}
 use Rattle.std.specs.Str.{bytes_eq}
-use Rattle.pb_data.specs.Gives.{◌>>=◌}
+use Rattle.pb_data.specs.UnlessOom.{◌>>=◌}
 use Rattle.pb_directive.proofs.RuleLemmas.{around_of, absent_of}
 use Rattle.pb_directive.specs.Directives.{is_empty, plain, filled, variable, halves_of, halves, named_value, flag_name, search_flag, library_flag, flag_of, flags_of}
 use Rattle.pb_directive.specs.LineWords as words

@@ -1,6 +1,6 @@
 -- Lemmas on lists that are added to, unless there was a fault.
 use Rattle.std.proofs.Common.{◌≡◌, List, [], ◌∷◌, ◌++◌, Ok, Err, Result, refl, sym, ◌∙◌, ap, append_assoc}
-use Rattle.pb_data.specs.Gives.{◌>>=◌, lifted}
+use Rattle.pb_data.specs.UnlessOom.{◌>>=◌, lifted}
 
 -- one item put in front of the rest is one added behind what is done
 pub then_push : {A E : Type 0} (r : Result (List A) E) (done new : List A) (x : A) → new ≡ done ++ x ∷ []

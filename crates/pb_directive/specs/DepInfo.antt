@@ -2,8 +2,8 @@
 use Rattle.std.specs.Prelude.{◌≡◌, ◌≢◌, ℕ, ◌+◌, ◌==◌, ◌&&◌, not, Bool, true, List, [], ◌∷◌, ◌++◌, if◌then◌else◌, codes, filter, is_some, Option, Some, None, Result, Ok, Err, MatchResult}
 use Rattle.std.specs.List.{onto_first, before_first}
 use Rattle.std.specs.Str.Lines.{strip_carriage_return}
-use Rattle.pb_data.specs.Gives.{◌>>=◌, lifted}
-use Rattle.pb_data.specs.Mentions.{mentioned_all, once}
+use Rattle.pb_data.specs.UnlessOom.{◌>>=◌, lifted}
+use Rattle.pb_data.specs.OrderedSet.{mentioned_all, once}
 use Rattle.pb_directive.specs.Directives.{is_empty}
 use Rattle.pb_directive.specs.Faults.{fault_at}
 use Rattle.pb_directive.specs.Lines.{lines_of, text_of, has_byte, after_prefix}

@@ -2,7 +2,7 @@
 use Rattle.std.specs.Prelude.{◌≡◌, ◌≢◌, ℕ, ◌+◌, ◌==◌, not, Bool, List, [], ◌∷◌, ◌++◌, if◌then◌else◌, codes, length, filter, Option, Some, None, Result, Ok, Err, MatchResult}
 use Rattle.std.specs.List.{slice_split}
 use Rattle.std.specs.Str.{bytes_eq}
-use Rattle.pb_data.specs.Gives.{◌>>=◌, lifted}
+use Rattle.pb_data.specs.UnlessOom.{◌>>=◌, lifted}
 use Rattle.pb_directive.specs.Faults.{fault_at}
 use Rattle.pb_directive.specs.Lines.{lines_of, trimmed, text_of, has_byte, after_prefix, split_first}
 use Rattle.pb_directive.specs.declared.directive.Directive.{Directive}

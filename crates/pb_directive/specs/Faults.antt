@@ -1,6 +1,6 @@
 -- What can be wrong with a line, and with a text.
 use Rattle.std.specs.Prelude.{ℕ, Result}
-use Rattle.pb_data.specs.Gives.{Gives as GivesUnless}
+use Rattle.pb_data.specs.UnlessOom.{UnlessOom as GivesUnless}
 use Rattle.pb_directive.specs.declared.fault.Problem.{Problem}
 use Rattle.pb_directive.specs.declared.fault.Problem.TheVariants as problem
 use Rattle.pb_directive.specs.declared.fault.LineFault.{LineFault}

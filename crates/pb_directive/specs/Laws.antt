@@ -1,6 +1,6 @@
 -- Words for the laws of texts that follow one another.
 use Rattle.std.specs.Prelude.{ℕ, ◌+◌, List, ◌∷◌, ◌++◌, length, Result, Ok}
-use Rattle.pb_data.specs.Gives.{◌>>=◌, lifted}
+use Rattle.pb_data.specs.UnlessOom.{◌>>=◌, lifted}
 use Rattle.pb_directive.specs.DepInfo.{joined}
 use Rattle.pb_directive.specs.Lines.{lines_of}
 use Rattle.pb_directive.specs.declared.dep_info.DepInfo.{DepInfo}

@@ -3,7 +3,7 @@
 ghost use Rattle.std.specs.Prelude.{◌≡◌};
 ghost use Rattle.pb_directive.specs.DepInfo.{nothing};
 
-use pb_data::Mentions;
+use pb_data::OrderedSet;
 use std::alloc::Global;
 
 /// What the dep-info of a compiler names (The Cargo Book, "Build Cache"), each name once, in order
@@ -11,9 +11,9 @@ use std::alloc::Global;
 #[derive(Drop)]
 pub struct DepInfo {
     /// The words of its rules: paths; a relative one starts at the compiler's folder.
-    pub words: Mentions,
+    pub words: OrderedSet,
     /// The names of the variables that were read.
-    pub variables: Mentions,
+    pub variables: OrderedSet,
 }
 
 impl DepInfo {
@@ -22,8 +22,8 @@ impl DepInfo {
         ensures { result ≡ nothing }
     {
         DepInfo {
-            words: Mentions::new(alloc),
-            variables: Mentions::new(alloc),
+            words: OrderedSet::new(alloc),
+            variables: OrderedSet::new(alloc),
         }
     }
 }

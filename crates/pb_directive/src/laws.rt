@@ -1,7 +1,7 @@
 //! Laws of what is read, above the definitions. Nothing runs here.
 
 ghost use Rattle.std.specs.Prelude.{◌≡◌, ℕ, List, ◌∷◌, ◌++◌, [], codes, None, Ok};
-ghost use Rattle.pb_data.specs.Mentions.{once, EachOnce};
+ghost use Rattle.pb_data.specs.OrderedSet.{once, EachOnce};
 ghost use Rattle.pb_data.specs.Table.{value_at, names_of, last_value};
 ghost use Rattle.pb_directive.specs.DepInfo.{dep_info_of, all_names_of};
 ghost use Rattle.pb_directive.specs.Directives.{directives_of, directives_from};

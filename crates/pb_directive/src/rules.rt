@@ -5,10 +5,10 @@ ghost use Rattle.std.specs.Option.{option_copied, option_map, option_map_or};
 ghost use Rattle.pb_directive.specs.Directives.{some_word};
 ghost use Rattle.pb_directive.specs.Lines.{split_first};
 ghost use Rattle.pb_directive.specs.DepInfo.{ends_outputs, after_outputs, parts_of, rule_words};
-ghost use Rattle.pb_data.specs.Mentions.{mentioned_all};
+ghost use Rattle.pb_data.specs.OrderedSet.{mentioned_all};
 
 use crate::words::split_at_space;
-use pb_data::{Mentions, Text};
+use pb_data::{OrderedSet, Text};
 use std::alloc::{AllocError, Global};
 
 /// Returns whether a colon before this text ends the outputs of a rule.
@@ -75,7 +75,7 @@ fn first_part(alloc: Global, text: &str) -> Result<(String, Option<&str>), Alloc
 }
 
 /// Mentions a part, unless it is empty.
-fn add_part(part: String, words: &mut Mentions) -> Result<(), AllocError>
+fn add_part(part: String, words: &mut OrderedSet) -> Result<(), AllocError>
     ensures { OnOk result (words.new ≡ mentioned_all words.old (some_word (string_bytes part) [])) }
 {
     if part.is_empty() {
@@ -86,7 +86,7 @@ fn add_part(part: String, words: &mut Mentions) -> Result<(), AllocError>
 }
 
 /// Mentions the words of a rule, which follow its outputs.
-pub fn add_words(alloc: Global, text: &str, words: &mut Mentions) -> Result<(), AllocError>
+pub fn add_words(alloc: Global, text: &str, words: &mut OrderedSet) -> Result<(), AllocError>
     ensures { OnOk result (words.new ≡ mentioned_all words.old (rule_words text.now)) }
 {
     let mut left = text;

@@ -21,9 +21,9 @@ use crate::numbers::{Ground, bases_of};
 use crate::resolved::features_marked;
 use crate::rules::rules_of;
 use crate::seeds::seeds_of;
+use pb_feature_types::{Features, is_marked};
 use pb_graph::derived;
 use pb_workspace_types::{Package, SelectedWorkspace, Side};
-use pb_feature_types::{Features, is_marked};
 use std::alloc::{AllocError, Global};
 
 /// Returns the packages of the workspace from which packages are selected.

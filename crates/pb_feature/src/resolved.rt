@@ -8,9 +8,9 @@ ghost use Rattle.pb_feature.specs.Numbers.{enabled as enabled_at};
 
 use crate::numbers::Ground;
 use pb_data::{Items, Text, TryCopy};
+use pb_feature_types::{Features, Part, Sides, is_marked};
 use pb_manifest_types::Feature;
 use pb_workspace_types::{Entry, Package, Side};
-use pb_feature_types::{Features, Part, Sides, is_marked};
 use std::alloc::{AllocError, Global};
 
 /// Adds the name of a feature that is marked.

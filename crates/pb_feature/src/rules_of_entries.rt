@@ -6,8 +6,8 @@ ghost use Rattle.pb_graph.specs.Placed.{placed};
 ghost use Rattle.pb_feature.specs.Rules.{alone, there_rules, given_rules, enabled_rules, entry_rules, both_entry_rules};
 
 use crate::numbers::Ground;
-use pb_graph::Rule;
 use pb_data::Text;
+use pb_graph::Rule;
 use pb_workspace_types::{DependencyKind, Entry, Package, Side};
 use std::alloc::AllocError;
 

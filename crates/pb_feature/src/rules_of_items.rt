@@ -11,8 +11,8 @@ ghost use Rattle.pb_feature.specs.Rules.{alone, pair, of_rules, both_item_rules,
 
 use crate::numbers::{Ground, slot};
 use crate::rules_of_entries::{add_alone, add_there, side_made};
-use pb_graph::Rule;
 use pb_data::Text;
+use pb_graph::Rule;
 use pb_manifest_types::FeatureItem;
 use pb_workspace_types::{DependencyKind, Entry, FeaturesByName, Package, Side};
 use std::alloc::AllocError;

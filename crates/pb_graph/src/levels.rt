@@ -4,8 +4,8 @@ ghost use Rattle.std.specs.Prelude.{◌≡◌, ◌⊎◌, ℕ, ◌<◌, ◌^◌,
 ghost use Rattle.pb_graph.specs.Graph.{IsGraph, needs_at, above};
 ghost use Rattle.pb_graph.specs.Working.{AreClear, AreLevels, AreRising, IsExtent, node_of};
 
-use crate::reach::{needs_at, reached_from};
 use crate::graph::Node;
+use crate::reach::{needs_at, reached_from};
 use std::alloc::{AllocError, Global};
 
 /// How many nodes a node reaches.

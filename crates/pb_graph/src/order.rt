@@ -7,10 +7,10 @@ ghost use Rattle.pb_graph.specs.Order.{IsOrder, IsWhy};
 ghost use Rattle.pb_graph.specs.Working.{AreRising, node_of, AreClear, AreRanked, rank_node, AreByKey, IsCrowded, ArePlacesBy, AreSteps, AreSurveyed, IsOrdered, IsPlaced, PlacesTell};
 ghost use Rattle.pb_graph.specs.declared.graph.OrderFault.TheVariants.{OutOfMemory, TooMany};
 
-use crate::reach::{needs_at, no_marks, reached_from};
 use crate::graph::{Node, OrderFault, Step};
 use crate::levels::{Extent, extents_of, levels_of, turning, zeros};
 use crate::ranks::{Rank, ranked, sort_once};
+use crate::reach::{needs_at, no_marks, reached_from};
 use pb_data::{Items, TryCopy};
 use std::alloc::{AllocError, Global};
 

@@ -1,7 +1,7 @@
 -- What follows from an answer of a definition.
 use Rattle.std.proofs.Common.{◌≡◌, List, [], ◌∷◌, ap, sym, ◌∙◌, refl, subst, Ok, Err, None}
 use Rattle.toml.specs.Data.{Data, Items, no_items, item, Members}
-use Rattle.pb_data.specs.Gives.{◌>>=◌}
+use Rattle.pb_data.specs.UnlessOom.{◌>>=◌}
 use Rattle.pb_manifest_types.specs.Values.{Read}
 use Rattle.pb_manifest.specs.Values.{value_at, each}
 use Rattle.pb_manifest.specs.Laws.{AreReadInOrder}

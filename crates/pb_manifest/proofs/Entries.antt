@@ -7,7 +7,7 @@ use Rattle.std.specs.List.{AllByRecursion}
 use Rattle.std.specs.List.Sorted.{IsStrictlySortedBy}
 use Rattle.std.specs.Ordering.{ordering_reverse}
 use Rattle.toml.specs.Data.{Data, Members, no_members, member}
-use Rattle.pb_data.specs.Gives.{◌>>=◌}
+use Rattle.pb_data.specs.UnlessOom.{◌>>=◌}
 use Rattle.pb_manifest.specs.FirstFaults.{told, HasEntry, here, further, IsOfLowestEntry, TellsLowestEntry}
 use Rattle.pb_manifest.specs.Promises.{Ascend}
 use Rattle.pb_manifest_types.specs.Values.{Text, Read}

@@ -1,7 +1,7 @@
 -- The name of a package that was read passes the test of a package's letters.
 use Rattle.std.proofs.Common.{◌≡◌, ℕ, List, Bool, true, false, refl, subst, if◌then◌else◌, nat_lt, length, Option, Some, None, Ok, Err, IfSome}
 use Rattle.toml.specs.Data.{Members}
-use Rattle.pb_data.specs.Gives.{◌>>=◌}
+use Rattle.pb_data.specs.UnlessOom.{◌>>=◌}
 use Rattle.pb_manifest.specs.Binaries.{binaries_at}
 use Rattle.pb_manifest.specs.Document.{supported, not_old, package_in, package_at, library_at, targets_of, tables_of, document_of, document_in, manifest_of, greatest_length}
 use Rattle.pb_manifest_types.specs.Letters.{is_name}

@@ -7,7 +7,7 @@ use Rattle.std.specs.Cmp.Lexicographic.{slice_cmp}
 use Rattle.std.specs.Ordering.{match_ordering, ordering_reverse}
 use Rattle.std.specs.Str.{is_utf8}
 use Rattle.std.proofs.Common.{Ok, Err}
-use Rattle.pb_data.specs.Gives.{some_or}
+use Rattle.pb_data.specs.UnlessOom.{some_or}
 use Rattle.pb_manifest.specs.Document.{document_in}
 use Rattle.pb_manifest_types.specs.declared.fault.ManifestFault.TheVariants.{NotToml}
 use Rattle.toml_parser.specs.Lexical.{Read, skip_blank, skip_ws, first, right_bracket, right_brace}

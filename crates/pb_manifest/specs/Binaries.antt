@@ -1,7 +1,7 @@
 -- The tables `[[bin]]` (The Cargo Book, Cargo Targets).
 use Rattle.std.specs.Prelude.{List, [], Option, Some, None, Ok}
 use Rattle.toml.specs.Data.{Data, Members}
-use Rattle.pb_data.specs.Gives.{◌>>=◌}
+use Rattle.pb_data.specs.UnlessOom.{◌>>=◌}
 use Rattle.pb_manifest.specs.Package.{name_at}
 use Rattle.pb_manifest_types.specs.Values.{Read}
 use Rattle.pb_manifest.specs.Values.{array_of, table_of, each, value_at, path_at, listed_texts_at}

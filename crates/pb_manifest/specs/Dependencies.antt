@@ -1,7 +1,7 @@
 -- The tables of dependencies (The Cargo Book, Specifying Dependencies and Workspaces).
 use Rattle.std.specs.Prelude.{List, [], Bool, true, false, not, ◌&&◌, ◌||◌, if◌then◌else◌, Option, Some, None, Ok, Err, unwrap_or}
 use Rattle.toml.specs.Data.{Data, Members, as_str, as_table}
-use Rattle.pb_data.specs.Gives.{◌>>=◌}
+use Rattle.pb_data.specs.UnlessOom.{◌>>=◌}
 use Rattle.pb_manifest_types.specs.Letters.{is_name}
 use Rattle.pb_manifest_types.specs.Values.{Text, Read}
 use Rattle.pb_manifest.specs.Values.{has, value_at, text_at, truth_at, path_at, listed_texts_at, is_true, takes_workspace, entries_at}

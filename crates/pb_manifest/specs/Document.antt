@@ -3,7 +3,7 @@ use Rattle.std.specs.Prelude.{ℕ, List, Bool, false, ◌||◌, if◌then◌else
 use Rattle.std.specs.Str.{bytes_eq, is_utf8}
 use Rattle.toml.specs.Data.{Data, Members, as_str}
 use Rattle.toml.specs.Parse.{parse_document}
-use Rattle.pb_data.specs.Gives.{◌>>=◌, some_or}
+use Rattle.pb_data.specs.UnlessOom.{◌>>=◌, some_or}
 use Rattle.pb_manifest.specs.Binaries.{binaries_at}
 use Rattle.pb_manifest.specs.Dependencies.{dependencies_at}
 use Rattle.pb_manifest.specs.Features.{features_at}

@@ -2,7 +2,7 @@
 use Rattle.std.specs.Prelude.{List, ◌&&◌, ◌==◌, if◌then◌else◌, Option, Some, None, Ok, Err, codes, length}
 use Rattle.std.specs.Str.{bytes_eq}
 use Rattle.toml.specs.Data.{Data, Members}
-use Rattle.pb_data.specs.Gives.{◌>>=◌}
+use Rattle.pb_data.specs.UnlessOom.{◌>>=◌}
 use Rattle.pb_manifest_types.specs.Features.{parted}
 use Rattle.pb_manifest_types.specs.Letters.{is_name, is_feature_name}
 use Rattle.pb_manifest_types.specs.Values.{Text, Read}

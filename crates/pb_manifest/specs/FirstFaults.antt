@@ -6,7 +6,7 @@ use Rattle.std.specs.Option.{option_or}
 use Rattle.std.specs.Ordering.{nat_cmp, is_lt}
 use Rattle.std.specs.Cmp.Lexicographic.{slice_cmp}
 use Rattle.toml.specs.Data.{Data, Members, member}
-use Rattle.pb_data.specs.Gives.{◌>>=◌}
+use Rattle.pb_data.specs.UnlessOom.{◌>>=◌}
 use Rattle.pb_manifest_types.specs.Keys.{spelled}
 use Rattle.pb_manifest_types.specs.Values.{Text, Read}
 use Rattle.pb_manifest.specs.Values.{has, each_entry, keys_of, text_at, truth_at, path_at, paths_at, texts_at, listed_texts_at, takes_workspace, inheritable_text_at, inheritable_texts_at}

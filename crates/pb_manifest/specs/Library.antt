@@ -2,7 +2,7 @@
 use Rattle.std.specs.Prelude.{List, Bool, if◌then◌else◌, Option, Some, None, Ok, Err, codes}
 use Rattle.std.specs.Str.{bytes_eq}
 use Rattle.toml.specs.Data.{Data, Members}
-use Rattle.pb_data.specs.Gives.{◌>>=◌}
+use Rattle.pb_data.specs.UnlessOom.{◌>>=◌}
 use Rattle.pb_manifest_types.specs.Letters.{is_crate_name}
 use Rattle.pb_manifest_types.specs.Values.{Text, Read}
 use Rattle.pb_manifest.specs.Values.{text_of, array_of, optional, each, value_at, text_at, path_at, truth_at, listed, is_true}

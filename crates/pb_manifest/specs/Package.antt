@@ -2,7 +2,7 @@
 use Rattle.std.specs.Prelude.{Bool, true, false, ◌||◌, if◌then◌else◌, Option, Some, None, Ok, Err, codes, unwrap_or}
 use Rattle.std.specs.Str.{bytes_eq}
 use Rattle.toml.specs.Data.{Data, Members, as_str, as_bool}
-use Rattle.pb_data.specs.Gives.{◌>>=◌}
+use Rattle.pb_data.specs.UnlessOom.{◌>>=◌}
 use Rattle.pb_manifest_types.specs.Letters.{is_name}
 use Rattle.pb_manifest_types.specs.Values.{Text, Read}
 use Rattle.pb_manifest.specs.Values.{text_of, optional, value_at, zero_free, text_at, truth_at, inheritable_at, inheritable_text_at, inheritable_texts_at, or_default}

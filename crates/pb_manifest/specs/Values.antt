@@ -3,8 +3,8 @@
 -- A definition that reads returns the value, or the first fault.
 use Rattle.std.specs.Prelude.{List, [], ◌∷◌, Bool, true, false, if◌then◌else◌, Option, Some, None, Ok, Err, is_some, unwrap_or}
 use Rattle.toml.specs.Data.{Data, Items, no_items, item, Members, no_members, member, get_member, as_str, as_bool, as_table, as_array}
-use Rattle.pb_data.specs.Gives as answers
-use Rattle.pb_data.specs.Gives.{◌>>=◌, some_or}
+use Rattle.pb_data.specs.UnlessOom as answers
+use Rattle.pb_data.specs.UnlessOom.{◌>>=◌, some_or}
 use Rattle.pb_manifest_types.specs.Keys.{spelled}
 use Rattle.pb_manifest_types.specs.Letters.{has_zero}
 use Rattle.pb_manifest_types.specs.Values.{Text, Read}
@@ -18,7 +18,7 @@ use Rattle.pb_manifest_types.specs.declared.inherited.Inherited.TheVariants as i
 
 -- the result shows this answer, unless memory ran out
 abbrev pub GivesAs : {T A : Type 0} → (T → A) → Read T → Read A → Type 0
-GivesAs shows result answer = answers.Gives OutOfMemory shows result answer
+GivesAs shows result answer = answers.UnlessOom OutOfMemory shows result answer
 
 -- the value at a key
 abbrev pub value_at : Key → Members → Option Data

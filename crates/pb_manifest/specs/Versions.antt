@@ -1,7 +1,7 @@
 -- The values of the key `version` of a package, of a workspace, and of a dependency.
 use Rattle.std.specs.Prelude.{Option, Ok, codes}
 use Rattle.toml.specs.Data.{Data, Members}
-use Rattle.pb_data.specs.Gives.{◌>>=◌}
+use Rattle.pb_data.specs.UnlessOom.{◌>>=◌}
 use Rattle.pb_manifest_types.specs.Values.{Text, Read}
 use Rattle.pb_manifest_types.specs.Versions.{version_in, requirement_in}
 use Rattle.pb_manifest.specs.Values.{text_of, optional, value_at, inheritable_at, or_default}

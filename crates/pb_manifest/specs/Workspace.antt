@@ -1,7 +1,7 @@
 -- The table `[workspace]` (The Cargo Book, Workspaces).
 use Rattle.std.specs.Prelude.{List, Option, Some, None, Ok}
 use Rattle.toml.specs.Data.{Members}
-use Rattle.pb_data.specs.Gives.{◌>>=◌}
+use Rattle.pb_data.specs.UnlessOom.{◌>>=◌}
 use Rattle.pb_manifest.specs.Dependencies.{shared_dependencies_at}
 use Rattle.pb_manifest.specs.Package.{edition_at, readme_at, resolver_at}
 use Rattle.pb_manifest_types.specs.Values.{Text, Read}

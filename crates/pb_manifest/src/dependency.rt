@@ -2,7 +2,7 @@
 
 ghost use Rattle.std.specs.Prelude.{◌≡◌, false};
 ghost use Rattle.toml.specs.View.{view, table_view};
-ghost use Rattle.pb_manifest_types.specs.Values.{Gives};
+ghost use Rattle.pb_manifest_types.specs.Values.{UnlessOom};
 ghost use Rattle.pb_manifest.specs.Values.{each_entry};
 ghost use Rattle.pb_manifest.specs.Dependencies.{own_path, last_keys, source_of, dependency_keys, dependency_of, dependencies_at};
 
@@ -31,7 +31,7 @@ fn own_path(taken: bool, path: Option<WrittenPath>) -> Result<Option<WrittenPath
 
 /// Returns the keys of an entry from `path` to `workspace`.
 fn last_keys(alloc: Global, table: &Table) -> Result<LastKeys, ManifestFault>
-    ensures { Gives result (last_keys (table_view table.now)) }
+    ensures { UnlessOom result (last_keys (table_view table.now)) }
 {
     let path = own_path(takes_workspace(table), path_at(alloc, table, Key::Path)?)?;
     refused_where(has(table, Key::Registry))?;
@@ -58,7 +58,7 @@ fn source_of(
 
 /// Returns an entry that is a table.
 fn dependency_keys(alloc: Global, name: &str, table: &Table) -> Result<Dependency, ManifestFault>
-    ensures { Gives result (dependency_keys name.now (table_view table.now)) }
+    ensures { UnlessOom result (dependency_keys name.now (table_view table.now)) }
 {
     let first = first_keys(alloc, false, table)?;
     let (first, last) = with_next(first, last_keys(alloc, table))?;
@@ -87,7 +87,7 @@ fn dependency_of(
     name: &str,
     value: &Value,
 ) -> Result<Dependency, ManifestFault>
-    ensures { Gives result (dependency_of key name.now (view value.now)) }
+    ensures { UnlessOom result (dependency_of key name.now (view value.now)) }
 {
     if !is_name(name) {
         return Err(ManifestFault::BadName);
@@ -107,7 +107,7 @@ fn each_dependency(
     key: Key,
     table: &Table,
 ) -> Result<Items<Dependency>, ManifestFault>
-    ensures { Gives result (each_entry (dependency_of key) (table_view table.now)) }
+    ensures { UnlessOom result (each_entry (dependency_of key) (table_view table.now)) }
 {
     let mut dependencies = Items::new(alloc);
     for (name, value) in table {
@@ -123,7 +123,7 @@ pub(crate) fn dependencies_at(
     key: Key,
     table: &Table,
 ) -> Result<Items<Dependency>, ManifestFault>
-    ensures { Gives result (dependencies_at key (table_view table.now)) }
+    ensures { UnlessOom result (dependencies_at key (table_view table.now)) }
 {
     match table_at(table, key)? {
         None => Ok(Items::new(alloc)),

@@ -2,7 +2,7 @@
 
 ghost use Rattle.std.specs.Prelude.{◌≡◌, Ok, Err, IfOk, IfErr, nat_lt, length};
 ghost use Rattle.toml.specs.View.{table_view};
-ghost use Rattle.pb_manifest_types.specs.Values.{Gives};
+ghost use Rattle.pb_manifest_types.specs.Values.{UnlessOom};
 ghost use Rattle.pb_manifest.specs.Values.{GivesAs};
 ghost use Rattle.pb_manifest.specs.Document.{supported, asks_old_resolver, not_old, package_at, library_at, workspace_at, targets_of, tables_of, document_of, document_in, manifest_of};
 
@@ -22,7 +22,7 @@ use std::alloc::Global;
 use toml::Table;
 
 /// The greatest length of a manifest, in bytes. Our own choice.
-pub const GREATEST_LENGTH: usize = 1_048_576;
+pub const MAX_MANIFEST_BYTES: usize = 1_048_576;
 
 /// The package and its targets.
 #[derive(Drop)]
@@ -87,7 +87,7 @@ fn not_old(table: &Table) -> Result<(), ManifestFault>
 
 /// Returns the table `[package]`, which is required if there is no `[workspace]`.
 fn package_at(alloc: Global, table: &Table) -> Result<Option<Package>, ManifestFault>
-    ensures { Gives result (package_at (table_view table.now)) }
+    ensures { UnlessOom result (package_at (table_view table.now)) }
 {
     match table_at(table, Key::Package)? {
         None => {
@@ -106,7 +106,7 @@ fn package_at(alloc: Global, table: &Table) -> Result<Option<Package>, ManifestF
 
 /// Returns the table `[lib]`, if there is one.
 fn library_at(alloc: Global, table: &Table) -> Result<Option<Library>, ManifestFault>
-    ensures { Gives result (library_at (table_view table.now)) }
+    ensures { UnlessOom result (library_at (table_view table.now)) }
 {
     match table_at(table, Key::Lib)? {
         None => Ok(None),
@@ -119,7 +119,7 @@ fn library_at(alloc: Global, table: &Table) -> Result<Option<Library>, ManifestF
 
 /// Returns the table `[workspace]`, if there is one.
 fn workspace_at(alloc: Global, table: &Table) -> Result<Option<WorkspaceTable>, ManifestFault>
-    ensures { Gives result (workspace_at (table_view table.now)) }
+    ensures { UnlessOom result (workspace_at (table_view table.now)) }
 {
     match table_at(table, Key::Workspace)? {
         None => Ok(None),
@@ -133,7 +133,7 @@ fn workspace_at(alloc: Global, table: &Table) -> Result<Option<WorkspaceTable>, 
 /// Returns the package and its targets.
 #[tactic(auto, unfolding(crate::specs::Document::targets_of))]
 fn targets_of(alloc: Global, table: &Table) -> Result<Targets, ManifestFault>
-    ensures { Gives result (targets_of (table_view table.now)) }
+    ensures { UnlessOom result (targets_of (table_view table.now)) }
 {
     let package = package_at(alloc, table)?;
     let found = with_next(package, library_at(alloc, table))?;
@@ -148,7 +148,7 @@ fn targets_of(alloc: Global, table: &Table) -> Result<Targets, ManifestFault>
 /// Returns the tables after those of the targets.
 #[tactic(auto, unfolding(crate::specs::Document::tables_of))]
 fn tables_of(alloc: Global, table: &Table) -> Result<Tables, ManifestFault>
-    ensures { Gives result (tables_of (table_view table.now)) }
+    ensures { UnlessOom result (tables_of (table_view table.now)) }
 {
     let dependencies = dependencies_at(alloc, Key::Dependencies, table)?;
     let build_dependencies = dependencies_at(alloc, Key::BuildDependencies, table)?;
@@ -169,7 +169,7 @@ fn tables_of(alloc: Global, table: &Table) -> Result<Tables, ManifestFault>
 /// Returns the manifest of a document.
 #[tactic(auto, unfolding(crate::specs::Document::document_of))]
 fn document_of(alloc: Global, table: &Table) -> Result<Manifest, ManifestFault>
-    ensures { Gives result (document_of (table_view table.now)) }
+    ensures { UnlessOom result (document_of (table_view table.now)) }
 {
     supported(table)?;
     not_old(table)?;
@@ -218,9 +218,9 @@ fn document_in(alloc: Global, bytes: &[u8]) -> Result<Table, ManifestFault>
 /// does not use, such as `[lints]` and `[package.metadata]`. Only the keys of `[dev-dependencies]`
 /// are read.
 pub fn read_manifest(alloc: Global, bytes: &[u8]) -> Result<Manifest, ManifestFault>
-    ensures { Gives result (manifest_of bytes.now) }
+    ensures { UnlessOom result (manifest_of bytes.now) }
 {
-    if bytes.len() > GREATEST_LENGTH {
+    if bytes.len() > MAX_MANIFEST_BYTES {
         return Err(ManifestFault::TooLarge);
     }
     let table = document_in(alloc, bytes)?;

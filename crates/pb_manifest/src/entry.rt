@@ -2,7 +2,7 @@
 
 ghost use Rattle.std.specs.Prelude.{◌≡◌, true};
 ghost use Rattle.toml.specs.View.{table_view};
-ghost use Rattle.pb_manifest_types.specs.Values.{Gives};
+ghost use Rattle.pb_manifest_types.specs.Values.{UnlessOom};
 ghost use Rattle.pb_manifest.specs.Dependencies.{refused_where, workspace_at, first_keys, version_and_workspace, at_path};
 
 use crate::values::{has, listed_texts_at, takes_workspace, text_at, truth_at, value_at};
@@ -63,7 +63,7 @@ pub(crate) fn first_keys(
     keeps: bool,
     table: &Table,
 ) -> Result<FirstKeys, ManifestFault>
-    ensures { Gives result (first_keys keeps (table_view table.now)) }
+    ensures { UnlessOom result (first_keys keeps (table_view table.now)) }
 {
     let default_features = truth_at(table, Key::DefaultFeatures)?;
     let features = listed_texts_at(alloc, table, Key::Features)?;
@@ -83,7 +83,7 @@ pub(crate) fn version_and_workspace(
     alloc: Global,
     table: &Table,
 ) -> Result<Option<Requirement>, ManifestFault>
-    ensures { Gives result (version_and_workspace (table_view table.now)) }
+    ensures { UnlessOom result (version_and_workspace (table_view table.now)) }
 {
     let version = requirement_at(alloc, table)?;
     workspace_at(table)?;

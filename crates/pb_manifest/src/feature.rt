@@ -3,7 +3,7 @@
 ghost use Rattle.std.specs.Prelude.{◌≡◌, option_map};
 ghost use Rattle.toml.specs.View.{view, table_view, items_view};
 ghost use Rattle.pb_manifest_types.specs.Features.{parted};
-ghost use Rattle.pb_manifest_types.specs.Values.{Gives};
+ghost use Rattle.pb_manifest_types.specs.Values.{UnlessOom};
 ghost use Rattle.pb_manifest.specs.Values.{each, each_entry};
 ghost use Rattle.pb_manifest.specs.Features.{own_item, dependency_item, whole_item, item_of, item_of_enabled, parted_item, item_in, feature_item_of, feature_items_of, feature_of, features_at};
 
@@ -40,7 +40,7 @@ fn parted_at_colon(text: &str) -> Option<(&str, &str)>
 
 /// Returns the item `F`.
 fn own_item(alloc: Global, text: &str) -> Result<FeatureItem, ManifestFault>
-    ensures { Gives result (own_item text.now) }
+    ensures { UnlessOom result (own_item text.now) }
 {
     if !is_feature_name(text) {
         return Err(ManifestFault::BadFeature);
@@ -51,7 +51,7 @@ fn own_item(alloc: Global, text: &str) -> Result<FeatureItem, ManifestFault>
 
 /// Returns the item `dep:N` of the text before the colon and the name after it.
 fn dependency_item(alloc: Global, word: &str, name: &str) -> Result<FeatureItem, ManifestFault>
-    ensures { Gives result (dependency_item word.now name.now) }
+    ensures { UnlessOom result (dependency_item word.now name.now) }
 {
     if word != "dep" || !is_name(name) {
         return Err(ManifestFault::BadFeature);
@@ -62,7 +62,7 @@ fn dependency_item(alloc: Global, word: &str, name: &str) -> Result<FeatureItem,
 
 /// Returns an item without `/`.
 fn whole_item(alloc: Global, text: &str) -> Result<FeatureItem, ManifestFault>
-    ensures { Gives result (whole_item text.now (parted 58 text.now)) }
+    ensures { UnlessOom result (whole_item text.now (parted 58 text.now)) }
 {
     match parted_at_colon(text) {
         None => own_item(alloc, text),
@@ -72,7 +72,7 @@ fn whole_item(alloc: Global, text: &str) -> Result<FeatureItem, ManifestFault>
 
 /// Returns the item `N/F`.
 fn item_of(alloc: Global, name: &str, feature: &str) -> Result<FeatureItem, ManifestFault>
-    ensures { Gives result (item_of name.now feature.now) }
+    ensures { UnlessOom result (item_of name.now feature.now) }
 {
     if !is_name(name) || !is_feature_name(feature) {
         return Err(ManifestFault::BadFeature);
@@ -92,7 +92,7 @@ fn item_of_enabled(
     between: &str,
     feature: &str,
 ) -> Result<FeatureItem, ManifestFault>
-    ensures { Gives result (item_of_enabled name.now between.now feature.now) }
+    ensures { UnlessOom result (item_of_enabled name.now between.now feature.now) }
 {
     if !between.is_empty() || !is_name(name) || !is_feature_name(feature) {
         return Err(ManifestFault::BadFeature);
@@ -107,7 +107,7 @@ fn item_of_enabled(
 
 /// Returns an item with `/`.
 fn parted_item(alloc: Global, name: &str, feature: &str) -> Result<FeatureItem, ManifestFault>
-    ensures { Gives result (parted_item name.now (parted 63 name.now) feature.now) }
+    ensures { UnlessOom result (parted_item name.now (parted 63 name.now) feature.now) }
 {
     match parted_at_question_mark(name) {
         None => item_of(alloc, name, feature),
@@ -117,7 +117,7 @@ fn parted_item(alloc: Global, name: &str, feature: &str) -> Result<FeatureItem, 
 
 /// Returns an item of a feature.
 fn item_in(alloc: Global, text: &str) -> Result<FeatureItem, ManifestFault>
-    ensures { Gives result (item_in text.now) }
+    ensures { UnlessOom result (item_in text.now) }
 {
     match parted_at_slash(text) {
         None => whole_item(alloc, text),
@@ -127,7 +127,7 @@ fn item_in(alloc: Global, text: &str) -> Result<FeatureItem, ManifestFault>
 
 /// Returns an item of a feature.
 fn feature_item_of(alloc: Global, value: &Value) -> Result<FeatureItem, ManifestFault>
-    ensures { Gives result (feature_item_of (view value.now)) }
+    ensures { UnlessOom result (feature_item_of (view value.now)) }
 {
     match value.as_str() {
         Some(text) => item_in(alloc, text),
@@ -137,7 +137,7 @@ fn feature_item_of(alloc: Global, value: &Value) -> Result<FeatureItem, Manifest
 
 /// Returns the items of a list.
 fn each_feature_item(alloc: Global, values: &[Value]) -> Result<Items<FeatureItem>, ManifestFault>
-    ensures { Gives result (each feature_item_of (items_view values.now)) }
+    ensures { UnlessOom result (each feature_item_of (items_view values.now)) }
 {
     let mut items = Items::new(alloc);
     for value in values {
@@ -149,7 +149,7 @@ fn each_feature_item(alloc: Global, values: &[Value]) -> Result<Items<FeatureIte
 /// Returns a feature.
 #[tactic(auto, unfolding(crate::specs::Features::feature_of))]
 fn feature_of(alloc: Global, name: &str, value: &Value) -> Result<Feature, ManifestFault>
-    ensures { Gives result (feature_of name.now (view value.now)) }
+    ensures { UnlessOom result (feature_of name.now (view value.now)) }
 {
     if !is_feature_name(name) {
         return Err(ManifestFault::BadFeature);
@@ -161,7 +161,7 @@ fn feature_of(alloc: Global, name: &str, value: &Value) -> Result<Feature, Manif
 
 /// Returns the features of a table, in byte order of their names.
 fn each_feature(alloc: Global, table: &Table) -> Result<Items<Feature>, ManifestFault>
-    ensures { Gives result (each_entry feature_of (table_view table.now)) }
+    ensures { UnlessOom result (each_entry feature_of (table_view table.now)) }
 {
     let mut features = Items::new(alloc);
     for (name, value) in table {
@@ -172,7 +172,7 @@ fn each_feature(alloc: Global, table: &Table) -> Result<Items<Feature>, Manifest
 
 /// Returns the table `[features]`, empty if there is none.
 pub(crate) fn features_at(alloc: Global, table: &Table) -> Result<Items<Feature>, ManifestFault>
-    ensures { Gives result (features_at (table_view table.now)) }
+    ensures { UnlessOom result (features_at (table_view table.now)) }
 {
     match table_at(table, Key::Features)? {
         None => Ok(Items::new(alloc)),

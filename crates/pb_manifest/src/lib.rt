@@ -18,4 +18,10 @@ mod values;
 mod version;
 mod workspace;
 
-pub use document::{GREATEST_LENGTH, read_manifest};
+pub use document::{MAX_MANIFEST_BYTES, read_manifest};
+pub use pb_manifest_types::{
+    Binary, Build, CrateType, DebugInfo, Dependency, Edition, Feature, FeatureItem, Inheritable,
+    Inherited, Key, Library, Lto, Manifest, ManifestFault, OptLevel, Package, Panic, PathSource,
+    Profile, ProfileKeys, ProfileOverride, Readme, Requirement, Source, Strip, Version,
+    WorkspaceDependency, WorkspacePackage, WorkspaceSource, WorkspaceTable, WrittenPath,
+};

@@ -2,7 +2,7 @@
 
 ghost use Rattle.std.specs.Prelude.{◌≡◌};
 ghost use Rattle.toml.specs.View.{view, table_view};
-ghost use Rattle.pb_manifest_types.specs.Values.{Gives};
+ghost use Rattle.pb_manifest_types.specs.Values.{UnlessOom};
 ghost use Rattle.pb_manifest.specs.Values.{written_or_taken, text_at};
 ghost use Rattle.pb_manifest.specs.Package.{name_in, name_at, edition_in, edition_of, edition_at, inherited_edition_at, build_at, readme_of, readme_at, inheritable_readme_at, resolver_at, first_keys, middle_keys, last_keys, package_of};
 ghost use Rattle.pb_manifest_types.specs.declared.key.Key.TheVariants as key;
@@ -67,7 +67,7 @@ fn name_in(text: Option<Text>) -> Result<Text, ManifestFault>
 
 /// Returns the name at `name`, which is required.
 pub(crate) fn name_at(alloc: Global, table: &Table) -> Result<Text, ManifestFault>
-    ensures { Gives result (name_at (table_view table.now)) }
+    ensures { UnlessOom result (name_at (table_view table.now)) }
 {
     name_in(text_at(alloc, table, Key::Name)?)
 }
@@ -87,7 +87,7 @@ fn edition_in(text: &Text) -> Result<Edition, ManifestFault>
 
 /// Returns an edition.
 fn edition_of(alloc: Global, value: &Value) -> Result<Edition, ManifestFault>
-    ensures { Gives result (edition_of (view value.now)) }
+    ensures { UnlessOom result (edition_of (view value.now)) }
 {
     let text = text_of(alloc, value, Key::Edition)?;
     edition_in(&text)
@@ -95,7 +95,7 @@ fn edition_of(alloc: Global, value: &Value) -> Result<Edition, ManifestFault>
 
 /// Returns the edition at `edition`, if there is one.
 pub(crate) fn edition_at(alloc: Global, table: &Table) -> Result<Option<Edition>, ManifestFault>
-    ensures { Gives result (edition_at (table_view table.now)) }
+    ensures { UnlessOom result (edition_at (table_view table.now)) }
 {
     match value_at(table, Key::Edition) {
         None => Ok(None),
@@ -108,7 +108,7 @@ pub(crate) fn edition_at(alloc: Global, table: &Table) -> Result<Option<Edition>
 
 /// Returns an edition, or `{ workspace = true }`.
 fn edition_or_taken(alloc: Global, value: &Value) -> Result<Inheritable<Edition>, ManifestFault>
-    ensures { Gives result (written_or_taken key.Edition edition_of (view value.now)) }
+    ensures { UnlessOom result (written_or_taken key.Edition edition_of (view value.now)) }
 {
     if is_taken(value, Key::Edition)? {
         return Ok(Inheritable::Workspace);
@@ -119,7 +119,7 @@ fn edition_or_taken(alloc: Global, value: &Value) -> Result<Inheritable<Edition>
 
 /// Returns the edition of a package: 2015 if none is written.
 fn inherited_edition_at(alloc: Global, table: &Table) -> Result<Inherited<Edition>, ManifestFault>
-    ensures { Gives result (inherited_edition_at (table_view table.now)) }
+    ensures { UnlessOom result (inherited_edition_at (table_view table.now)) }
 {
     let value = match value_at(table, Key::Edition) {
         None => return Ok(Inherited::Written(Edition::E2015)),
@@ -134,7 +134,7 @@ fn inherited_edition_at(alloc: Global, table: &Table) -> Result<Inherited<Editio
 
 /// Returns the value at `build`.
 fn build_at(alloc: Global, table: &Table) -> Result<Build, ManifestFault>
-    ensures { Gives result (build_at (table_view table.now)) }
+    ensures { UnlessOom result (build_at (table_view table.now)) }
 {
     let value = match value_at(table, Key::Build) {
         None => return Ok(Build::Discovered),
@@ -153,7 +153,7 @@ fn build_at(alloc: Global, table: &Table) -> Result<Build, ManifestFault>
 
 /// Returns a README setting, which is a text or a truth value.
 fn readme_of(alloc: Global, value: &Value) -> Result<Readme, ManifestFault>
-    ensures { Gives result (readme_of (view value.now)) }
+    ensures { UnlessOom result (readme_of (view value.now)) }
 {
     if let Some(path) = value.as_str() {
         let path = Text::from_str(alloc, path)?;
@@ -168,7 +168,7 @@ fn readme_of(alloc: Global, value: &Value) -> Result<Readme, ManifestFault>
 
 /// Returns the value at `readme`, if there is one.
 pub(crate) fn readme_at(alloc: Global, table: &Table) -> Result<Option<Readme>, ManifestFault>
-    ensures { Gives result (readme_at (table_view table.now)) }
+    ensures { UnlessOom result (readme_at (table_view table.now)) }
 {
     match value_at(table, Key::Readme) {
         None => Ok(None),
@@ -181,7 +181,7 @@ pub(crate) fn readme_at(alloc: Global, table: &Table) -> Result<Option<Readme>, 
 
 /// Returns a README setting, or `{ workspace = true }`.
 fn readme_or_taken(alloc: Global, value: &Value) -> Result<Inheritable<Readme>, ManifestFault>
-    ensures { Gives result (written_or_taken key.Readme readme_of (view value.now)) }
+    ensures { UnlessOom result (written_or_taken key.Readme readme_of (view value.now)) }
 {
     if is_taken(value, Key::Readme)? {
         return Ok(Inheritable::Workspace);
@@ -192,7 +192,7 @@ fn readme_or_taken(alloc: Global, value: &Value) -> Result<Inheritable<Readme>, 
 
 /// Returns the value at `readme`, which may be inherited from the workspace.
 fn inheritable_readme_at(alloc: Global, table: &Table) -> Result<Inheritable<Readme>, ManifestFault>
-    ensures { Gives result (inheritable_readme_at (table_view table.now)) }
+    ensures { UnlessOom result (inheritable_readme_at (table_view table.now)) }
 {
     match value_at(table, Key::Readme) {
         None => Ok(Inheritable::Absent),
@@ -202,7 +202,7 @@ fn inheritable_readme_at(alloc: Global, table: &Table) -> Result<Inheritable<Rea
 
 /// Refuses a resolver that is neither `"2"` nor `"3"`.
 pub(crate) fn resolver_at(alloc: Global, table: &Table) -> Result<(), ManifestFault>
-    ensures { Gives result (resolver_at (table_view table.now)) }
+    ensures { UnlessOom result (resolver_at (table_view table.now)) }
 {
     match text_at(alloc, table, Key::Resolver)? {
         None => Ok(()),
@@ -215,7 +215,7 @@ pub(crate) fn resolver_at(alloc: Global, table: &Table) -> Result<(), ManifestFa
 
 /// Returns the keys of `[package]` from `authors` to `edition`.
 fn first_keys(alloc: Global, table: &Table) -> Result<FirstKeys, ManifestFault>
-    ensures { Gives result (first_keys (table_view table.now)) }
+    ensures { UnlessOom result (first_keys (table_view table.now)) }
 {
     let authors = inheritable_texts_at(alloc, table, Key::Authors)?;
     let autobins = truth_at(table, Key::Autobins)?.unwrap_or(true);
@@ -233,7 +233,7 @@ fn first_keys(alloc: Global, table: &Table) -> Result<FirstKeys, ManifestFault>
 
 /// Returns the keys of `[package]` from `homepage` to `name`.
 fn middle_keys(alloc: Global, table: &Table) -> Result<MiddleKeys, ManifestFault>
-    ensures { Gives result (middle_keys (table_view table.now)) }
+    ensures { UnlessOom result (middle_keys (table_view table.now)) }
 {
     let homepage = inheritable_text_at(alloc, table, Key::Homepage)?;
     let license = inheritable_text_at(alloc, table, Key::License)?;
@@ -251,7 +251,7 @@ fn middle_keys(alloc: Global, table: &Table) -> Result<MiddleKeys, ManifestFault
 
 /// Returns the keys of `[package]` from `readme` to `version`.
 fn last_keys(alloc: Global, table: &Table) -> Result<LastKeys, ManifestFault>
-    ensures { Gives result (last_keys (table_view table.now)) }
+    ensures { UnlessOom result (last_keys (table_view table.now)) }
 {
     let readme = inheritable_readme_at(alloc, table)?;
     let repository = inheritable_text_at(alloc, table, Key::Repository)?;
@@ -268,7 +268,7 @@ fn last_keys(alloc: Global, table: &Table) -> Result<LastKeys, ManifestFault>
 
 /// Returns the table `[package]`.
 pub(crate) fn package_of(alloc: Global, table: &Table) -> Result<Package, ManifestFault>
-    ensures { Gives result (package_of (table_view table.now)) }
+    ensures { UnlessOom result (package_of (table_view table.now)) }
 {
     let first = first_keys(alloc, table)?;
     let middle = middle_keys(alloc, table)?;

@@ -3,7 +3,7 @@
 ghost use Rattle.std.specs.Prelude.{◌≡◌, Ok, Err, IfOk, IfErr};
 ghost use Rattle.toml.specs.Data.{as_str};
 ghost use Rattle.toml.specs.View.{view, table_view};
-ghost use Rattle.pb_manifest_types.specs.Values.{Gives};
+ghost use Rattle.pb_manifest_types.specs.Values.{UnlessOom};
 ghost use Rattle.pb_manifest.specs.Values.{each_entry};
 ghost use Rattle.pb_manifest.specs.Profiles.{profile_value, profile_keys, profile_table, override_of, overrides_at, build_override_at, is_built_in, may_be_profile, profile_of_table, profile_of, profiles_at};
 ghost use Rattle.pb_manifest_types.specs.declared.key.Key.TheVariants as key;
@@ -20,7 +20,7 @@ use toml::{Table, Value};
 
 /// Returns the value at `inherits`, if there is one.
 fn inherits_at(alloc: Global, table: &Table) -> Result<Option<Text>, ManifestFault>
-    ensures { Gives result (profile_value as_str key.Inherits (table_view table.now)) }
+    ensures { UnlessOom result (profile_value as_str key.Inherits (table_view table.now)) }
 {
     match value_at(table, Key::Inherits) {
         None => Ok(None),
@@ -74,7 +74,7 @@ fn profile_table<'a>(value: &'a Value) -> Result<&'a Table, ManifestFault>
 /// Returns an override by a package's name.
 #[tactic(auto, unfolding(crate::specs::Profiles::override_of))]
 fn override_of(alloc: Global, name: &str, value: &Value) -> Result<ProfileOverride, ManifestFault>
-    ensures { Gives result (override_of name.now (view value.now)) }
+    ensures { UnlessOom result (override_of name.now (view value.now)) }
 {
     let keys = profile_keys(profile_table(value)?)?;
     let name = Text::from_str(alloc, name)?;
@@ -83,7 +83,7 @@ fn override_of(alloc: Global, name: &str, value: &Value) -> Result<ProfileOverri
 
 /// Returns the overrides of a table, in byte order of their names.
 fn each_override(alloc: Global, table: &Table) -> Result<Items<ProfileOverride>, ManifestFault>
-    ensures { Gives result (each_entry override_of (table_view table.now)) }
+    ensures { UnlessOom result (each_entry override_of (table_view table.now)) }
 {
     let mut overrides = Items::new(alloc);
     for (name, value) in table {
@@ -94,7 +94,7 @@ fn each_override(alloc: Global, table: &Table) -> Result<Items<ProfileOverride>,
 
 /// Returns the overrides by packages' names, none if there is no table of them.
 fn overrides_at(alloc: Global, table: &Table) -> Result<Items<ProfileOverride>, ManifestFault>
-    ensures { Gives result (overrides_at (table_view table.now)) }
+    ensures { UnlessOom result (overrides_at (table_view table.now)) }
 {
     match value_at(table, Key::Package) {
         None => Ok(Items::new(alloc)),
@@ -133,7 +133,7 @@ fn may_be_profile(name: &str, inherits: &Option<Text>) -> bool
 
 /// Returns a profile that is a table.
 fn profile_of_table(alloc: Global, name: &str, table: &Table) -> Result<Profile, ManifestFault>
-    ensures { Gives result (profile_of_table name.now (table_view table.now)) }
+    ensures { UnlessOom result (profile_of_table name.now (table_view table.now)) }
 {
     let build_override = build_override_at(table)?;
     let keys = profile_keys(table)?;
@@ -155,14 +155,14 @@ fn profile_of_table(alloc: Global, name: &str, table: &Table) -> Result<Profile,
 /// Returns a profile.
 #[tactic(auto, unfolding(crate::specs::Profiles::profile_of))]
 fn profile_of(alloc: Global, name: &str, value: &Value) -> Result<Profile, ManifestFault>
-    ensures { Gives result (profile_of name.now (view value.now)) }
+    ensures { UnlessOom result (profile_of name.now (view value.now)) }
 {
     profile_of_table(alloc, name, profile_table(value)?)
 }
 
 /// Returns the profiles of a table, in byte order of their names.
 fn each_profile(alloc: Global, table: &Table) -> Result<Items<Profile>, ManifestFault>
-    ensures { Gives result (each_entry profile_of (table_view table.now)) }
+    ensures { UnlessOom result (each_entry profile_of (table_view table.now)) }
 {
     let mut profiles = Items::new(alloc);
     for (name, value) in table {
@@ -173,7 +173,7 @@ fn each_profile(alloc: Global, table: &Table) -> Result<Items<Profile>, Manifest
 
 /// Returns the table `[profile]`, empty if there is none.
 pub(crate) fn profiles_at(alloc: Global, table: &Table) -> Result<Items<Profile>, ManifestFault>
-    ensures { Gives result (profiles_at (table_view table.now)) }
+    ensures { UnlessOom result (profiles_at (table_view table.now)) }
 {
     match value_at(table, Key::Profile) {
         None => Ok(Items::new(alloc)),

@@ -2,7 +2,7 @@
 
 ghost use Rattle.std.specs.Prelude.{◌≡◌, true};
 ghost use Rattle.toml.specs.View.{view, table_view};
-ghost use Rattle.pb_manifest_types.specs.Values.{Gives};
+ghost use Rattle.pb_manifest_types.specs.Values.{UnlessOom};
 ghost use Rattle.pb_manifest.specs.Values.{each_entry};
 ghost use Rattle.pb_manifest.specs.Dependencies.{supported_path, shared_keys, shared_source_of, shared_dependency_keys, shared_version, shared_dependency_of, shared_dependencies_at};
 
@@ -29,7 +29,7 @@ fn supported_path(table: &Table, path: Option<WrittenPath>) -> Option<WrittenPat
 
 /// Returns the keys of an entry from `path` to `workspace`.
 fn shared_keys(alloc: Global, table: &Table) -> Result<LastKeys, ManifestFault>
-    ensures { Gives result (shared_keys (table_view table.now)) }
+    ensures { UnlessOom result (shared_keys (table_view table.now)) }
 {
     let path = path_at(alloc, table, Key::Path)?;
     let version = version_and_workspace(alloc, table)?;
@@ -60,7 +60,7 @@ fn shared_dependency_keys(
     name: &str,
     table: &Table,
 ) -> Result<WorkspaceDependency, ManifestFault>
-    ensures { Gives result (shared_dependency_keys name.now (table_view table.now)) }
+    ensures { UnlessOom result (shared_dependency_keys name.now (table_view table.now)) }
 {
     let first = first_keys(alloc, true, table)?;
     let (first, last) = with_next(first, shared_keys(alloc, table))?;
@@ -85,7 +85,7 @@ fn shared_version(
     name: &str,
     version: &str,
 ) -> Result<WorkspaceDependency, ManifestFault>
-    ensures { Gives result (shared_version name.now version.now) }
+    ensures { UnlessOom result (shared_version name.now version.now) }
 {
     let _requirement = Requirement::read(alloc, Text::from_str(alloc, version)?)?;
     let key = Text::from_str(alloc, name)?;
@@ -103,7 +103,7 @@ fn shared_dependency_of(
     name: &str,
     value: &Value,
 ) -> Result<WorkspaceDependency, ManifestFault>
-    ensures { Gives result (shared_dependency_of name.now (view value.now)) }
+    ensures { UnlessOom result (shared_dependency_of name.now (view value.now)) }
 {
     if !is_name(name) {
         return Err(ManifestFault::BadName);
@@ -122,7 +122,7 @@ fn each_shared_dependency(
     alloc: Global,
     table: &Table,
 ) -> Result<Items<WorkspaceDependency>, ManifestFault>
-    ensures { Gives result (each_entry shared_dependency_of (table_view table.now)) }
+    ensures { UnlessOom result (each_entry shared_dependency_of (table_view table.now)) }
 {
     let mut dependencies = Items::new(alloc);
     for (name, value) in table {
@@ -136,7 +136,7 @@ pub(crate) fn shared_dependencies_at(
     alloc: Global,
     table: &Table,
 ) -> Result<Items<WorkspaceDependency>, ManifestFault>
-    ensures { Gives result (shared_dependencies_at (table_view table.now)) }
+    ensures { UnlessOom result (shared_dependencies_at (table_view table.now)) }
 {
     match table_at(table, Key::Dependencies)? {
         None => Ok(Items::new(alloc)),

@@ -2,7 +2,7 @@
 
 ghost use Rattle.std.specs.Prelude.{◌≡◌};
 ghost use Rattle.toml.specs.View.{view, table_view, items_view};
-ghost use Rattle.pb_manifest_types.specs.Values.{Gives};
+ghost use Rattle.pb_manifest_types.specs.Values.{UnlessOom};
 ghost use Rattle.pb_manifest.specs.Values.{each};
 ghost use Rattle.pb_manifest.specs.Library.{crate_type_in, crate_type_of, crate_types_at, crate_name_in, crate_name_at, proc_macro_at, library_of};
 ghost use Rattle.pb_manifest.specs.Binaries.{binary_keys, binary_of, binaries_at};
@@ -31,7 +31,7 @@ fn crate_type_in(text: &Text) -> Result<CrateType, ManifestFault>
 
 /// Returns a crate type.
 fn crate_type_of(alloc: Global, value: &Value) -> Result<CrateType, ManifestFault>
-    ensures { Gives result (crate_type_of (view value.now)) }
+    ensures { UnlessOom result (crate_type_of (view value.now)) }
 {
     let text = text_of(alloc, value, Key::CrateType)?;
     crate_type_in(&text)
@@ -39,7 +39,7 @@ fn crate_type_of(alloc: Global, value: &Value) -> Result<CrateType, ManifestFaul
 
 /// Returns the crate types of a list.
 fn each_crate_type(alloc: Global, values: &[Value]) -> Result<Items<CrateType>, ManifestFault>
-    ensures { Gives result (each crate_type_of (items_view values.now)) }
+    ensures { UnlessOom result (each crate_type_of (items_view values.now)) }
 {
     let mut crate_types = Items::new(alloc);
     for value in values {
@@ -50,7 +50,7 @@ fn each_crate_type(alloc: Global, values: &[Value]) -> Result<Items<CrateType>, 
 
 /// Returns the crate types at `crate-type`, none if the key is missing.
 fn crate_types_at(alloc: Global, table: &Table) -> Result<Items<CrateType>, ManifestFault>
-    ensures { Gives result (crate_types_at (table_view table.now)) }
+    ensures { UnlessOom result (crate_types_at (table_view table.now)) }
 {
     match value_at(table, Key::CrateType) {
         None => Ok(Items::new(alloc)),
@@ -60,7 +60,7 @@ fn crate_types_at(alloc: Global, table: &Table) -> Result<Items<CrateType>, Mani
 
 /// Returns the name of the crate, if one is written.
 fn crate_name_at(alloc: Global, table: &Table) -> Result<Option<Text>, ManifestFault>
-    ensures { Gives result (crate_name_at (table_view table.now)) }
+    ensures { UnlessOom result (crate_name_at (table_view table.now)) }
 {
     match text_at(alloc, table, Key::Name)? {
         None => Ok(None),
@@ -86,7 +86,7 @@ fn proc_macro_at(table: &Table) -> Result<(), ManifestFault>
 
 /// Returns the table `[lib]`.
 pub(crate) fn library_of(alloc: Global, table: &Table) -> Result<Library, ManifestFault>
-    ensures { Gives result (library_of (table_view table.now)) }
+    ensures { UnlessOom result (library_of (table_view table.now)) }
 {
     let crate_types = crate_types_at(alloc, table)?;
     let name = crate_name_at(alloc, table)?;
@@ -101,7 +101,7 @@ pub(crate) fn library_of(alloc: Global, table: &Table) -> Result<Library, Manife
 
 /// Returns the keys of a `[[bin]]`.
 fn binary_keys(alloc: Global, table: &Table) -> Result<Binary, ManifestFault>
-    ensures { Gives result (binary_keys (table_view table.now)) }
+    ensures { UnlessOom result (binary_keys (table_view table.now)) }
 {
     let name = name_at(alloc, table)?;
     let path = path_at(alloc, table, Key::Path)?;
@@ -115,14 +115,14 @@ fn binary_keys(alloc: Global, table: &Table) -> Result<Binary, ManifestFault>
 
 /// Returns a table of `[[bin]]`.
 fn binary_of(alloc: Global, value: &Value) -> Result<Binary, ManifestFault>
-    ensures { Gives result (binary_of (view value.now)) }
+    ensures { UnlessOom result (binary_of (view value.now)) }
 {
     binary_keys(alloc, table_of(value, Key::Bin)?)
 }
 
 /// Returns the binaries of a list, in its order.
 fn each_binary(alloc: Global, values: &[Value]) -> Result<Items<Binary>, ManifestFault>
-    ensures { Gives result (each binary_of (items_view values.now)) }
+    ensures { UnlessOom result (each binary_of (items_view values.now)) }
 {
     let mut binaries = Items::new(alloc);
     for value in values {
@@ -133,7 +133,7 @@ fn each_binary(alloc: Global, values: &[Value]) -> Result<Items<Binary>, Manifes
 
 /// Returns the tables of `[[bin]]`, in the manifest's order.
 pub(crate) fn binaries_at(alloc: Global, table: &Table) -> Result<Items<Binary>, ManifestFault>
-    ensures { Gives result (binaries_at (table_view table.now)) }
+    ensures { UnlessOom result (binaries_at (table_view table.now)) }
 {
     match value_at(table, Key::Bin) {
         None => Ok(Items::new(alloc)),

@@ -3,7 +3,7 @@
 ghost use Rattle.std.specs.Prelude.{◌≡◌, option_map, IfOk, IfErr, is_some};
 ghost use Rattle.toml.specs.Data.{get_member, as_table};
 ghost use Rattle.toml.specs.View.{view, table_view, array_view, items_view};
-ghost use Rattle.pb_manifest_types.specs.Values.{Gives};
+ghost use Rattle.pb_manifest_types.specs.Values.{UnlessOom};
 ghost use Rattle.pb_manifest.specs.Values.{value_at, has, each, text_of, truth_of, zero_free, path_of, texts_of, paths_of, text_at, truth_at, path_at, texts_at, listed_texts_at, paths_at, table_of, array_of, table_at, takes_workspace, is_taken, written_or_taken, inheritable_text_at, inheritable_texts_at, keys_of, keys_at};
 
 use pb_data::{Items, Text};
@@ -38,7 +38,7 @@ pub(crate) fn has(table: &Table, key: Key) -> bool
 
 /// Returns a value as a text.
 pub(crate) fn text_of(alloc: Global, value: &Value, key: Key) -> Result<Text, ManifestFault>
-    ensures { Gives result (text_of key (view value.now)) }
+    ensures { UnlessOom result (text_of key (view value.now)) }
 {
     match value.as_str() {
         Some(text) => {
@@ -61,7 +61,7 @@ pub(crate) fn path_in(text: Text, key: Key) -> Result<WrittenPath, ManifestFault
 
 /// Returns a value as a path, which is a text without byte 0.
 pub(crate) fn path_of(alloc: Global, value: &Value, key: Key) -> Result<WrittenPath, ManifestFault>
-    ensures { Gives result (path_of key (view value.now)) }
+    ensures { UnlessOom result (path_of key (view value.now)) }
 {
     path_in(text_of(alloc, value, key)?, key)
 }
@@ -100,7 +100,7 @@ pub(crate) fn array_of<'a>(value: &'a Value, key: Key) -> Result<&'a [Value], Ma
 
 /// Returns the texts of a list.
 fn each_text(alloc: Global, values: &[Value], key: Key) -> Result<Items<Text>, ManifestFault>
-    ensures { Gives result (each (text_of key) (items_view values.now)) }
+    ensures { UnlessOom result (each (text_of key) (items_view values.now)) }
 {
     let mut texts = Items::new(alloc);
     for value in values {
@@ -111,7 +111,7 @@ fn each_text(alloc: Global, values: &[Value], key: Key) -> Result<Items<Text>, M
 
 /// Returns the paths of a list.
 fn each_path(alloc: Global, values: &[Value], key: Key) -> Result<Items<WrittenPath>, ManifestFault>
-    ensures { Gives result (each (path_of key) (items_view values.now)) }
+    ensures { UnlessOom result (each (path_of key) (items_view values.now)) }
 {
     let mut paths = Items::new(alloc);
     for value in values {
@@ -122,7 +122,7 @@ fn each_path(alloc: Global, values: &[Value], key: Key) -> Result<Items<WrittenP
 
 /// Returns a value as a list of texts.
 pub(crate) fn texts_of(alloc: Global, value: &Value, key: Key) -> Result<Items<Text>, ManifestFault>
-    ensures { Gives result (texts_of key (view value.now)) }
+    ensures { UnlessOom result (texts_of key (view value.now)) }
 {
     each_text(alloc, array_of(value, key)?, key)
 }
@@ -133,14 +133,14 @@ pub(crate) fn paths_of(
     value: &Value,
     key: Key,
 ) -> Result<Items<WrittenPath>, ManifestFault>
-    ensures { Gives result (paths_of key (view value.now)) }
+    ensures { UnlessOom result (paths_of key (view value.now)) }
 {
     each_path(alloc, array_of(value, key)?, key)
 }
 
 /// Returns the text at a key, if there is one.
 pub(crate) fn text_at(alloc: Global, table: &Table, key: Key) -> Result<Option<Text>, ManifestFault>
-    ensures { Gives result (text_at key (table_view table.now)) }
+    ensures { UnlessOom result (text_at key (table_view table.now)) }
 {
     match value_at(table, key) {
         None => Ok(None),
@@ -170,7 +170,7 @@ pub(crate) fn path_at(
     table: &Table,
     key: Key,
 ) -> Result<Option<WrittenPath>, ManifestFault>
-    ensures { Gives result (path_at key (table_view table.now)) }
+    ensures { UnlessOom result (path_at key (table_view table.now)) }
 {
     match value_at(table, key) {
         None => Ok(None),
@@ -187,7 +187,7 @@ pub(crate) fn texts_at(
     table: &Table,
     key: Key,
 ) -> Result<Option<Items<Text>>, ManifestFault>
-    ensures { Gives result (texts_at key (table_view table.now)) }
+    ensures { UnlessOom result (texts_at key (table_view table.now)) }
 {
     match value_at(table, key) {
         None => Ok(None),
@@ -204,7 +204,7 @@ pub(crate) fn listed_texts_at(
     table: &Table,
     key: Key,
 ) -> Result<Items<Text>, ManifestFault>
-    ensures { Gives result (listed_texts_at key (table_view table.now)) }
+    ensures { UnlessOom result (listed_texts_at key (table_view table.now)) }
 {
     match texts_at(alloc, table, key)? {
         Some(texts) => Ok(texts),
@@ -218,7 +218,7 @@ pub(crate) fn paths_at(
     table: &Table,
     key: Key,
 ) -> Result<Option<Items<WrittenPath>>, ManifestFault>
-    ensures { Gives result (paths_at key (table_view table.now)) }
+    ensures { UnlessOom result (paths_at key (table_view table.now)) }
 {
     match value_at(table, key) {
         None => Ok(None),
@@ -275,7 +275,7 @@ pub(crate) fn is_taken(value: &Value, key: Key) -> Result<bool, ManifestFault>
 
 /// Returns a text, or `{ workspace = true }`.
 fn text_or_taken(alloc: Global, value: &Value, key: Key) -> Result<Inheritable<Text>, ManifestFault>
-    ensures { Gives result (written_or_taken key (text_of key) (view value.now)) }
+    ensures { UnlessOom result (written_or_taken key (text_of key) (view value.now)) }
 {
     if is_taken(value, key)? {
         return Ok(Inheritable::Workspace);
@@ -290,7 +290,7 @@ fn texts_or_taken(
     value: &Value,
     key: Key,
 ) -> Result<Inheritable<Items<Text>>, ManifestFault>
-    ensures { Gives result (written_or_taken key (texts_of key) (view value.now)) }
+    ensures { UnlessOom result (written_or_taken key (texts_of key) (view value.now)) }
 {
     if is_taken(value, key)? {
         return Ok(Inheritable::Workspace);
@@ -305,7 +305,7 @@ pub(crate) fn inheritable_text_at(
     table: &Table,
     key: Key,
 ) -> Result<Inheritable<Text>, ManifestFault>
-    ensures { Gives result (inheritable_text_at key (table_view table.now)) }
+    ensures { UnlessOom result (inheritable_text_at key (table_view table.now)) }
 {
     match value_at(table, key) {
         None => Ok(Inheritable::Absent),
@@ -319,7 +319,7 @@ pub(crate) fn inheritable_texts_at(
     table: &Table,
     key: Key,
 ) -> Result<Inheritable<Items<Text>>, ManifestFault>
-    ensures { Gives result (inheritable_texts_at key (table_view table.now)) }
+    ensures { UnlessOom result (inheritable_texts_at key (table_view table.now)) }
 {
     match value_at(table, key) {
         None => Ok(Inheritable::Absent),

@@ -2,7 +2,7 @@
 
 ghost use Rattle.std.specs.Prelude.{◌≡◌, IfOk, Ok, map};
 ghost use Rattle.toml.specs.View.{view, table_view};
-ghost use Rattle.pb_manifest_types.specs.Values.{Gives};
+ghost use Rattle.pb_manifest_types.specs.Values.{UnlessOom};
 ghost use Rattle.pb_manifest.specs.Values.{written_or_taken, inheritable_at, or_default};
 ghost use Rattle.pb_manifest.specs.Versions.{version_of, requirement_of, version_at, requirement_at, inherited_version_at, zero};
 ghost use Rattle.pb_manifest_types.specs.declared.key.Key.TheVariants as key;
@@ -15,7 +15,7 @@ use toml::{Table, Value};
 
 /// Returns a version.
 fn version_of(alloc: Global, value: &Value) -> Result<Version, ManifestFault>
-    ensures { Gives result (version_of (view value.now)) }
+    ensures { UnlessOom result (version_of (view value.now)) }
 {
     let text = text_of(alloc, value, Key::Version)?;
     let version = Version::read(alloc, text)?;
@@ -24,7 +24,7 @@ fn version_of(alloc: Global, value: &Value) -> Result<Version, ManifestFault>
 
 /// Returns the version at `version`, if there is one.
 pub(crate) fn version_at(alloc: Global, table: &Table) -> Result<Option<Version>, ManifestFault>
-    ensures { Gives result (version_at (table_view table.now)) }
+    ensures { UnlessOom result (version_at (table_view table.now)) }
 {
     match value_at(table, Key::Version) {
         None => Ok(None),
@@ -37,7 +37,7 @@ pub(crate) fn version_at(alloc: Global, table: &Table) -> Result<Option<Version>
 
 /// Returns a requirement.
 pub(crate) fn requirement_of(alloc: Global, value: &Value) -> Result<Requirement, ManifestFault>
-    ensures { Gives result (requirement_of (view value.now)) }
+    ensures { UnlessOom result (requirement_of (view value.now)) }
 {
     let text = text_of(alloc, value, Key::Version)?;
     let requirement = Requirement::read(alloc, text)?;
@@ -49,7 +49,7 @@ pub(crate) fn requirement_at(
     alloc: Global,
     table: &Table,
 ) -> Result<Option<Requirement>, ManifestFault>
-    ensures { Gives result (requirement_at (table_view table.now)) }
+    ensures { UnlessOom result (requirement_at (table_view table.now)) }
 {
     match value_at(table, Key::Version) {
         None => Ok(None),
@@ -62,7 +62,7 @@ pub(crate) fn requirement_at(
 
 /// Returns a version, or `{ workspace = true }`.
 fn version_or_taken(alloc: Global, value: &Value) -> Result<Inheritable<Version>, ManifestFault>
-    ensures { Gives result (written_or_taken key.Version version_of (view value.now)) }
+    ensures { UnlessOom result (written_or_taken key.Version version_of (view value.now)) }
 {
     if is_taken(value, Key::Version)? {
         return Ok(Inheritable::Workspace);
@@ -76,7 +76,7 @@ fn inheritable_version_at(
     alloc: Global,
     table: &Table,
 ) -> Result<Inheritable<Version>, ManifestFault>
-    ensures { Gives result (inheritable_at key.Version version_of (table_view table.now)) }
+    ensures { UnlessOom result (inheritable_at key.Version version_of (table_view table.now)) }
 {
     match value_at(table, Key::Version) {
         None => Ok(Inheritable::Absent),
@@ -87,7 +87,7 @@ fn inheritable_version_at(
 /// Returns the version of a package without a written one: 0.0.0.
 #[tactic(auto, using(crate::proofs::Zero::zero_is_version))]
 fn zero(alloc: Global) -> Result<Version, ManifestFault>
-    ensures { Gives result (Ok zero) }
+    ensures { UnlessOom result (Ok zero) }
 {
     let text = Text::from_str(alloc, "0.0.0")?;
     let version = Version::read(alloc, text)?;
@@ -99,7 +99,7 @@ pub(crate) fn inherited_version_at(
     alloc: Global,
     table: &Table,
 ) -> Result<Inherited<Version>, ManifestFault>
-    ensures { Gives result (inherited_version_at (table_view table.now)) }
+    ensures { UnlessOom result (inherited_version_at (table_view table.now)) }
 {
     match inheritable_version_at(alloc, table)? {
         Inheritable::Written(version) => Ok(Inherited::Written(version)),

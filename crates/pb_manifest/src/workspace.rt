@@ -2,7 +2,7 @@
 
 ghost use Rattle.std.specs.Prelude.{◌≡◌};
 ghost use Rattle.toml.specs.View.{table_view};
-ghost use Rattle.pb_manifest_types.specs.Values.{Gives};
+ghost use Rattle.pb_manifest_types.specs.Values.{UnlessOom};
 ghost use Rattle.pb_manifest.specs.Workspace.{first_keys, last_keys, workspace_package_of, workspace_package_at, listed_paths_at, workspace_of};
 
 use crate::package::{edition_at, readme_at, resolver_at};
@@ -38,7 +38,7 @@ struct LastKeys {
 
 /// Returns the keys of `[workspace.package]` from `authors` to `license`.
 fn first_keys(alloc: Global, table: &Table) -> Result<FirstKeys, ManifestFault>
-    ensures { Gives result (first_keys (table_view table.now)) }
+    ensures { UnlessOom result (first_keys (table_view table.now)) }
 {
     let authors = texts_at(alloc, table, Key::Authors)?;
     let description = text_at(alloc, table, Key::Description)?;
@@ -56,7 +56,7 @@ fn first_keys(alloc: Global, table: &Table) -> Result<FirstKeys, ManifestFault>
 
 /// Returns the keys of `[workspace.package]` from `license-file` to `version`.
 fn last_keys(alloc: Global, table: &Table) -> Result<LastKeys, ManifestFault>
-    ensures { Gives result (last_keys (table_view table.now)) }
+    ensures { UnlessOom result (last_keys (table_view table.now)) }
 {
     let license_file = text_at(alloc, table, Key::LicenseFile)?;
     let readme = readme_at(alloc, table)?;
@@ -74,7 +74,7 @@ fn last_keys(alloc: Global, table: &Table) -> Result<LastKeys, ManifestFault>
 
 /// Returns the table `[workspace.package]`.
 fn workspace_package_of(alloc: Global, table: &Table) -> Result<WorkspacePackage, ManifestFault>
-    ensures { Gives result (workspace_package_of (table_view table.now)) }
+    ensures { UnlessOom result (workspace_package_of (table_view table.now)) }
 {
     let first = first_keys(alloc, table)?;
     let last = last_keys(alloc, table)?;
@@ -97,7 +97,7 @@ fn workspace_package_at(
     alloc: Global,
     table: &Table,
 ) -> Result<Option<WorkspacePackage>, ManifestFault>
-    ensures { Gives result (workspace_package_at (table_view table.now)) }
+    ensures { UnlessOom result (workspace_package_at (table_view table.now)) }
 {
     match table_at(table, Key::Package)? {
         None => Ok(None),
@@ -114,7 +114,7 @@ fn listed_paths_at(
     table: &Table,
     key: Key,
 ) -> Result<Items<WrittenPath>, ManifestFault>
-    ensures { Gives result (listed_paths_at key (table_view table.now)) }
+    ensures { UnlessOom result (listed_paths_at key (table_view table.now)) }
 {
     match paths_at(alloc, table, key)? {
         Some(paths) => Ok(paths),
@@ -124,7 +124,7 @@ fn listed_paths_at(
 
 /// Returns the table `[workspace]`.
 pub(crate) fn workspace_of(alloc: Global, table: &Table) -> Result<WorkspaceTable, ManifestFault>
-    ensures { Gives result (workspace_of (table_view table.now)) }
+    ensures { UnlessOom result (workspace_of (table_view table.now)) }
 {
     let default_members = paths_at(alloc, table, Key::DefaultMembers)?;
     let dependencies = shared_dependencies_at(alloc, table)?;

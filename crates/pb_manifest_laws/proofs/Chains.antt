@@ -1,6 +1,6 @@
 -- Readings one after another, none of which looks at what another gave.
 use Rattle.std.proofs.Common.{◌≡◌, ◌∙◌, Ok, Err, refl, ap}
-use Rattle.pb_data.specs.Gives.{◌>>=◌}
+use Rattle.pb_data.specs.UnlessOom.{◌>>=◌}
 use Rattle.pb_manifest_types.specs.Values.{Read}
 
 pub three : {A B C D : Type 0} (y : D) (p : Read A) (q : Read B) (r : Read C) (f : A → B → C → D) → (p >>= (λ a. q >>= (λ b. r >>= (λ c. Ok (f a b c))))) ≡ Ok y

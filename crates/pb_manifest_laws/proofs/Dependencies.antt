@@ -1,7 +1,7 @@
 -- The entries of `[dependencies]` and `[build-dependencies]` are read as what they say.
 use Rattle.std.proofs.Common.{◌≡◌, ◌∙◌, ℕ, Bool, true, false, not, ◌&&◌, if◌then◌else◌, List, codes, Option, Some, None, Ok, Err, is_some, unwrap_or, refl, sym, ap, subst}
 use Rattle.toml.specs.Data.{Data, string, boolean, table, Members, get_member, as_str, as_table}
-use Rattle.pb_data.specs.Gives.{◌>>=◌}
+use Rattle.pb_data.specs.UnlessOom.{◌>>=◌}
 use Rattle.pb_manifest.specs.Dependencies.{refused_where, workspace_in, workspace_at, first_keys, version_and_workspace, own_path, last_keys, source_of, dependency_keys, dependency_from, dependency_of}
 use Rattle.pb_manifest_types.specs.Keys.{spelled}
 use Rattle.pb_manifest_types.specs.Letters.{is_name}

@@ -6,7 +6,7 @@ use Rattle.std.specs.Option.{option_and_then, option_map_or}
 use Rattle.std.specs.Str.{is_utf8}
 use Rattle.toml.specs.Data.{Data, string, integer, float, boolean, datetime, array, table, Members, get_member, as_table}
 use Rattle.toml.specs.Parse.{parse_document}
-use Rattle.pb_data.specs.Gives.{◌>>=◌, some_or}
+use Rattle.pb_data.specs.UnlessOom.{◌>>=◌, some_or}
 use Rattle.pb_manifest.specs.Binaries.{binary_keys, binary_of, binaries_in, binaries_at}
 use Rattle.pb_manifest.specs.Dependencies.{dependency_of, dependencies_at}
 use Rattle.pb_manifest.specs.Document.{supported, text_in, is_one, says_one, asks_old_resolver, not_old, package_in, package_at, library_in, library_at, workspace_in, workspace_at, targets_of, tables_of, document_of, document_in, greatest_length, manifest_of}

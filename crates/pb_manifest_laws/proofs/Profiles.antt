@@ -8,7 +8,7 @@ use Rattle.std.specs.Ordering.{int_eq}
 use Rattle.std.specs.Str.{bytes_eq}
 use Rattle.pb_graph.proofs.Membership.{none, cases}
 use Rattle.toml.specs.Data.{Data, string, integer, boolean, table, Members, as_bool, as_str, as_table}
-use Rattle.pb_data.specs.Gives.{◌>>=◌, some_or}
+use Rattle.pb_data.specs.UnlessOom.{◌>>=◌, some_or}
 use Rattle.pb_manifest_types.specs.Keys.{spelled}
 use Rattle.pb_manifest.specs.Profiles.{opt_level_in, debug_in, lto_in, strip_in, panic_in, codegen_units_in, profile_value, profile_keys, profile_table, override_of, overrides_at, build_override_in, build_override_at, may_be_profile, profile_of_table, profile_of}
 use Rattle.pb_manifest.specs.Values.{optional, value_at}

@@ -2,7 +2,7 @@
 use Rattle.std.proofs.Common.{inl, inr, ◌≡◌, ◌⊎◌, ◌∙◌, ℕ, Bool, true, false, not, ◌&&◌, ◌||◌, if◌then◌else◌, List, [], codes, Option, Some, None, Ok, Err, is_some, refl, sym, ap, subst}
 use Rattle.std.specs.Option.{option_map}
 use Rattle.toml.specs.Data.{Data, string, boolean, table, Members, get_member, as_str, as_table}
-use Rattle.pb_data.specs.Gives.{◌>>=◌}
+use Rattle.pb_data.specs.UnlessOom.{◌>>=◌}
 use Rattle.pb_manifest.specs.Dependencies.{refused_where, workspace_in, workspace_at, first_keys, version_and_workspace, supported_path, shared_keys, shared_source_of, shared_dependency_keys, shared_version, shared_dependency_from, shared_dependency_of}
 use Rattle.pb_manifest_types.specs.Keys.{spelled}
 use Rattle.pb_manifest_types.specs.Letters.{is_name}

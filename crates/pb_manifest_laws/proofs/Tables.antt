@@ -3,7 +3,7 @@ use Rattle.std.proofs.Common.{◌≡◌, ◌↔◌, ◌∙◌, ℕ, List, [], �
 use Rattle.std.specs.List.{AllZip}
 use Rattle.toml.specs.Data.{Data, table, Items, no_items, item, Members, no_members, member, as_table}
 use Rattle.toml.specs.View.{items_of}
-use Rattle.pb_data.specs.Gives.{◌>>=◌, some_or}
+use Rattle.pb_data.specs.UnlessOom.{◌>>=◌, some_or}
 use Rattle.pb_manifest_types.specs.Values.{Read}
 use Rattle.pb_manifest.specs.Values.{optional, each, each_entry, entries_of}
 use Rattle.pb_manifest_types.specs.declared.fault.ManifestFault.{ManifestFault}

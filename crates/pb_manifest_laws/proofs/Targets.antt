@@ -1,7 +1,7 @@
 -- `[lib]`, `[[bin]]` and `[features]` are read as what they say.
 use Rattle.std.proofs.Common.{◌≡◌, ◌∙◌, ℕ, Bool, true, false, if◌then◌else◌, List, codes, Option, Some, None, Ok, Err, IfSome, refl, sym, ap, subst}
 use Rattle.toml.specs.Data.{Data, string, boolean, Members}
-use Rattle.pb_data.specs.Gives.{◌>>=◌}
+use Rattle.pb_data.specs.UnlessOom.{◌>>=◌}
 use Rattle.pb_manifest.specs.Binaries.{binary_keys}
 use Rattle.pb_manifest.specs.Features.{feature_of, feature_items_of, feature_item_of, item_in}
 use Rattle.pb_manifest_types.specs.Keys.{spelled}

@@ -2,7 +2,7 @@
 use Rattle.std.proofs.Common.{◌≡◌, ◌↔◌, ◌∙◌, ℕ, List, Option, Some, None, Ok, IfSome, true, refl, subst}
 use Rattle.std.specs.List.{AllByRecursion}
 use Rattle.toml.specs.Data.{string, Members}
-use Rattle.pb_data.specs.Gives.{◌>>=◌}
+use Rattle.pb_data.specs.UnlessOom.{◌>>=◌}
 use Rattle.pb_manifest.specs.Dependencies.{shared_dependency_of, shared_dependencies_at}
 use Rattle.pb_manifest_types.specs.Keys.{spelled}
 use Rattle.pb_manifest.specs.Package.{edition_of, edition_at, readme_of, readme_at, resolver_at}

@@ -1,6 +1,6 @@
 -- What a reading returns: the value, or the first fault.
 use Rattle.std.specs.Prelude.{ℕ, List, Result}
-use Rattle.pb_data.specs.Gives as answers
+use Rattle.pb_data.specs.UnlessOom as answers
 use Rattle.pb_manifest_types.specs.declared.fault.ManifestFault.{ManifestFault}
 use Rattle.pb_manifest_types.specs.declared.fault.ManifestFault.TheVariants.{OutOfMemory}
 
@@ -13,5 +13,5 @@ abbrev pub Read : Type 0 → Type 0
 Read A = Result A ManifestFault
 
 -- the result is this answer, unless memory ran out
-abbrev pub Gives : {A : Type 0} → Read A → Read A → Type 0
-Gives result answer = answers.Gives OutOfMemory (λ x. x) result answer
+abbrev pub UnlessOom : {A : Type 0} → Read A → Read A → Type 0
+UnlessOom result answer = answers.UnlessOom OutOfMemory (λ x. x) result answer

@@ -3,7 +3,7 @@
 ghost use Rattle.std.specs.Prelude.{◌≡◌, IfOk, Ok, map};
 ghost use Rattle.semver.specs.Parse.{version_parts, req_of};
 ghost use Rattle.semver.specs.Identifiers.{parts_of, comparator_view};
-ghost use Rattle.pb_manifest_types.specs.Values.{Gives};
+ghost use Rattle.pb_manifest_types.specs.Values.{UnlessOom};
 ghost use Rattle.pb_manifest_types.specs.Versions.{version_in, requirement_in, matches};
 
 use crate::fault::ManifestFault;
@@ -36,7 +36,7 @@ impl Version {
     /// Errors: `BadVersion`, if and only if `semver` refuses the text; `OutOfMemory`.
     #[tactic(auto, unfolding(crate::specs::Versions::is_version))]
     pub fn read(alloc: Global, text: Text) -> Result<Version, ManifestFault>
-        ensures { Gives result (version_in text) }
+        ensures { UnlessOom result (version_in text) }
     {
         match semver::Version::parse(alloc, text.as_str()) {
             Ok(number) => Ok(Version { text, number }),
@@ -99,7 +99,7 @@ impl Requirement {
     /// Errors: `BadVersion`, if and only if `semver` refuses the text; `OutOfMemory`.
     #[tactic(auto, unfolding(crate::specs::Versions::is_requirement))]
     pub fn read(alloc: Global, text: Text) -> Result<Requirement, ManifestFault>
-        ensures { Gives result (requirement_in text) }
+        ensures { UnlessOom result (requirement_in text) }
     {
         match semver::VersionReq::parse(alloc, text.as_str()) {
             Ok(parsed) => Ok(Requirement { text, parsed }),

@@ -7,39 +7,40 @@ ghost use Rattle.pb_message_laws.specs.OneLine.{MessagesAreLines, BuildsEndInLin
 ghost use Rattle.pb_message_laws.specs.Streams.{CompilersSay};
 ghost use Rattle.pb_message_laws.specs.Told.{LinesTellMessages};
 
-/// A law: the line of each message has one line feed, its last byte. What a compiler's diagnostic says is copied byte
-/// for byte, so it has to be of one line; all else that is told stands in JSON strings, which escape line feeds.
+/// A law: the line of each message has one line feed, its last byte. A compiler's diagnostic is
+/// copied byte for byte, so it must have no line feed itself. Everything else is in JSON strings,
+/// which escape line feeds.
 pub fn messages_are_lines()
     ensures messages { MessagesAreLines }
     ensures end { BuildsEndInLine }
 {}
 
-/// A law: each diagnostic that is found in what a compiler writes is of one line.
+/// A law: no diagnostic that is found in what a compiler writes contains a line feed.
 pub fn diagnostics_are_lines()
     ensures { DiagnosticsAreLines }
 {}
 
-/// A law: of one package and target, messages whose lines are one are of one kind; diagnostics of one line are one, and
-/// so are notes. What is printed of an artifact is less than what a message holds, so of two artifacts no more is said;
-/// nor is it of what two scripts gave.
+/// A law: messages of one package and target with the same line are of the same kind. If they are
+/// diagnostics or notes, they are equal. For artifacts and executed scripts we promise no more,
+/// since their lines contain less than the messages do.
 pub fn lines_tell_messages()
     ensures { LinesTellMessages }
 {}
 
-/// A law: each message line is the text of one object without spaces, with these members in this order, and a line
-/// feed. A compiler's diagnostic is copied byte for byte to where its member `message` stands.
+/// A law: each message line is the text of one object without spaces, with these members in this
+/// order, and a line feed. A compiler's diagnostic is copied byte for byte as the member `message`.
 pub fn lines_are_objects()
     ensures messages { MessagesAreObjects }
     ensures ends { EndsAreObjects }
     ensures diagnostics { DiagnosticsAreCopied }
 {}
 
-/// A law: the lines of messages stand one after another.
+/// A law: the lines of several messages are their lines one after another.
 pub fn lines_follow()
     ensures { LinesFollow }
 {}
 
-/// A law: which lines of a compiler's standard error are diagnostics, and what the others say.
+/// A law: which lines of a compiler's standard error are diagnostics, and which are plain text.
 pub fn compilers_say()
     ensures { CompilersSay }
 {}

@@ -6,11 +6,11 @@ ghost use Rattle.std.specs.List.{filter_map};
 ghost use Rattle.pb_command_types.specs.Targets.{made_file_of};
 ghost use Rattle.pb_message_units.specs.Telling.{artifacts, compiler_messages, note_in, notes_in, library_in, search_in, condition_in, variable_in, executed, good_messages, gives_diagnostics, bad_messages, said_by, is_binary};
 
+use pb_command_types::{Project, UnitFault, made_file};
 use pb_data::{Bytes, Items, Text, TryCopy};
 use pb_directive::{Directive, Directives, LineFault, read_directives};
 use pb_message::{Artifact, Executed, Level, Message, diagnostics, plain_lines};
 use pb_place_types::Ended;
-use pb_command_types::{Project, UnitFault, made_file};
 use pb_unit::{Planned, What};
 use std::alloc::{AllocError, Global};
 

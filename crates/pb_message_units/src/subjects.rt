@@ -4,12 +4,12 @@ ghost use Rattle.std.specs.Prelude.{◌≡◌, IfOk, find};
 ghost use Rattle.std.specs.Str.{bytes_eq};
 ghost use Rattle.pb_message_units.specs.Telling.{library_of, binary_of, script_of, target_of, subject_with, subject_in, subject_of, lines_by, unit_lines};
 
+use pb_command_types::Project;
 use pb_data::{Text, TryCopy, with_next};
 use pb_message::{Message, Subject, Target, lines_of};
-use pb_workspace_types::{Library, Package};
 use pb_place_types::PathText;
-use pb_command_types::Project;
 use pb_unit::{Planned, What};
+use pb_workspace_types::{Library, Package};
 use std::alloc::{AllocError, Global};
 
 /// Returns the target of a package's library, if it has one.

@@ -7,7 +7,7 @@ use Rattle.std.proofs.lemmas.List.Splits.{slice_split_first, slice_split_none, j
 use Rattle.std.proofs.lemmas.List.Sums.{fails_before_first}
 use Rattle.std.specs.List.{slice_split, position_or_len, join_with_byte}
 use Rattle.std.specs.Str.{bytes_eq}
-use Rattle.pb_data.specs.Mentions.{is_mentioned}
+use Rattle.pb_data.specs.OrderedSet.{is_mentioned}
 use Rattle.pb_mini.specs.Lines.{word_in, rest_of}
 use Rattle.pb_mini.specs.Verbs.{without_conditions, line_meant}
 

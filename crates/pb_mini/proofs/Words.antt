@@ -1,6 +1,6 @@
 -- One word after another.
 use Rattle.std.proofs.Common.{◌≡◌, ℕ, false, cond, List, ◌∷◌, Option, Some, None, Result, Ok, Err, ap, refl, sym, subst}
-use Rattle.pb_data.specs.Gives.{◌>>=◌}
+use Rattle.pb_data.specs.UnlessOom.{◌>>=◌}
 use Rattle.pb_mini.specs.CommandLine.{after, joined, with_value, no_arguments, arguments_after, takes_value, role_of, role_alone}
 use Rattle.pb_mini.specs.declared.command_line.Role.{Role}
 use Rattle.pb_mini.specs.declared.command_line.Arguments.{Arguments}

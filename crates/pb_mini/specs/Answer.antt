@@ -1,7 +1,7 @@
 -- The reply of the small compiler to any arguments.
 use Rattle.std.specs.Prelude.{ℕ, pos, if◌then◌else◌, codes, List, [], ◌∷◌, Result, Ok, Err}
 use Rattle.std.specs.Str.{bytes_eq}
-use Rattle.pb_data.specs.Gives.{◌>>=◌}
+use Rattle.pb_data.specs.UnlessOom.{◌>>=◌}
 use Rattle.pb_data.specs.Table.{table_of}
 use Rattle.pb_place_types.specs.World.{World}
 use Rattle.pb_place_types.specs.declared.child.Reply.{Reply}

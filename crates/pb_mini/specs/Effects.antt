@@ -1,6 +1,6 @@
 -- The effects of lines: they add bytes to the image, report diagnostics, and name what they read.
 use Rattle.std.specs.Prelude.{◌≡◌, ℕ, List, [], ◌∷◌, ◌++◌, Option, Some, None}
-use Rattle.pb_data.specs.Mentions.{mentioned_all}
+use Rattle.pb_data.specs.OrderedSet.{mentioned_all}
 use Rattle.pb_data.specs.Table.{with_entries}
 use Rattle.pb_mini.specs.Lines.{ended, quoted}
 use Rattle.pb_mini.specs.declared.dep_info.Names.{Names}

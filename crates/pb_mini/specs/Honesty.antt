@@ -3,7 +3,7 @@ use Rattle.std.specs.Prelude.{◌≡◌, ℕ, Bool, true, if◌then◌else◌, c
 use Rattle.std.specs.List.{list_any, AllByRecursion}
 use Rattle.std.specs.Str.{bytes_eq}
 use Rattle.std.specs.FinMap as finite
-use Rattle.pb_data.specs.Mentions.{once}
+use Rattle.pb_data.specs.OrderedSet.{once}
 use Rattle.pb_data.specs.Table.{value_at, table_of}
 use Rattle.pb_place_types.specs.Paths.{is_absolute, below, is_below}
 use Rattle.pb_place_types.specs.World.{World}

@@ -1,6 +1,6 @@
 -- Definitions for private functions only: what the values of a command line settle, in parts.
 use Rattle.std.specs.Prelude.{Result, Ok}
-use Rattle.pb_data.specs.Gives.{◌>>=◌}
+use Rattle.pb_data.specs.UnlessOom.{◌>>=◌}
 use Rattle.pb_mini.specs.CommandLine.{crate_type_of, dep_info_name, file_named, first, folder_of, image_name, only}
 use Rattle.pb_mini.specs.declared.command_line.Arguments.{Arguments}
 use Rattle.pb_mini.specs.declared.command_line.CommandLineFault.{CommandLineFault}

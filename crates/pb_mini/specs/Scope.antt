@@ -1,7 +1,7 @@
 -- What the lines of a source can name: libraries, conditions and variables, and the folder at which paths begin.
 use Rattle.std.specs.Prelude.{ℕ, List, [], ◌∷◌, if◌then◌else◌, map}
 use Rattle.std.specs.Option.{is_some}
-use Rattle.pb_data.specs.Mentions.{once}
+use Rattle.pb_data.specs.OrderedSet.{once}
 use Rattle.pb_data.specs.Table.{value_at, with_entry}
 use Rattle.pb_place_types.specs.Paths.{folder_of}
 use Rattle.pb_mini.specs.Lines.{name_in, value_in}

@@ -4,7 +4,7 @@ use Rattle.std.specs.List.{before_first, slice_split}
 use Rattle.std.specs.Option.{option_map, option_and_then}
 use Rattle.std.specs.Str.{bytes_eq}
 use Rattle.std.specs.List.{join_with_byte}
-use Rattle.pb_data.specs.Mentions.{is_mentioned}
+use Rattle.pb_data.specs.OrderedSet.{is_mentioned}
 use Rattle.pb_data.specs.Table.{value_at}
 use Rattle.pb_place_types.specs.World.{World}
 use Rattle.pb_mini.specs.DepInfo.{value_text}

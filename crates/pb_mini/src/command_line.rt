@@ -2,7 +2,7 @@
 
 ghost use Rattle.std.specs.Prelude.{◌≡◌, ◌||◌, codes, Ok, None, IfOk, OnOk, List, [], ◌∷◌, ℕ};
 ghost use Rattle.std.specs.Str.{bytes_eq};
-ghost use Rattle.pb_data.specs.Gives.{Gives};
+ghost use Rattle.pb_data.specs.UnlessOom.{UnlessOom};
 ghost use Rattle.pb_mini.specs.CommandLine.{takes_value, role_of, role_alone, with_value, joined, arguments_after, after, no_arguments, only, first, crate_type_of, image_name, dep_info_name, file_named, folder_of, settled_by, command_line_of};
 ghost use Rattle.pb_mini.specs.Private.{once_in, outputs_of};
 ghost use Rattle.pb_mini.specs.declared.command_line.CommandLineFault.TheVariants as fault;
@@ -241,7 +241,7 @@ fn add_words(
 
 /// Fails with `Bad` if an option waits for its value.
 fn ended(waiting: Option<Role>) -> Result<(), CommandLineFault>
-    ensures { Gives fault.OutOfMemory (λ _. no_arguments) result (arguments_after waiting []) }
+    ensures { UnlessOom fault.OutOfMemory (λ _. no_arguments) result (arguments_after waiting []) }
 {
     if waiting.is_some() {
         return Err(CommandLineFault::Bad);
@@ -254,7 +254,7 @@ fn ended(waiting: Option<Role>) -> Result<(), CommandLineFault>
 /// Errors: `Bad`, if the last argument is an option without its value; `OutOfMemory`.
 #[tactic(auto, using(crate::proofs::Words::after_nothing))]
 fn arguments_of(alloc: Global, words: &[Text]) -> Result<Arguments, CommandLineFault>
-    ensures { Gives fault.OutOfMemory (λ said. said) result (arguments_after None words.now) }
+    ensures { UnlessOom fault.OutOfMemory (λ said. said) result (arguments_after None words.now) }
 {
     let mut said = Arguments {
         crate_names: Items::new(alloc),
@@ -274,7 +274,7 @@ fn arguments_of(alloc: Global, words: &[Text]) -> Result<Arguments, CommandLineF
 ///
 /// Errors: `Bad`, if there is no value, or more than one; `OutOfMemory`.
 fn only(alloc: Global, values: &[Text]) -> Result<Text, CommandLineFault>
-    ensures { Gives fault.OutOfMemory (λ value. value) result (only values.now) }
+    ensures { UnlessOom fault.OutOfMemory (λ value. value) result (only values.now) }
 {
     match values {
         [value] => {
@@ -289,7 +289,7 @@ fn only(alloc: Global, values: &[Text]) -> Result<Text, CommandLineFault>
 ///
 /// Errors: `Bad`, if there is none.
 fn first(values: &[Text]) -> Result<&Text, CommandLineFault>
-    ensures { Gives fault.OutOfMemory (λ value. value.now) result (first values.now) }
+    ensures { UnlessOom fault.OutOfMemory (λ value. value.now) result (first values.now) }
 {
     match values {
         [value, ..] => Ok(value),
@@ -331,7 +331,7 @@ fn dep_info_name(alloc: Global, name: &str) -> Result<Text, AllocError>
 ///
 /// Errors: `Bad`, if the name is no such file; `OutOfMemory`.
 fn file_named(alloc: Global, name: Text) -> Result<RelativePath, CommandLineFault>
-    ensures { Gives fault.OutOfMemory (λ file. file) result (file_named name) }
+    ensures { UnlessOom fault.OutOfMemory (λ file. file) result (file_named name) }
 {
     match RelativePath::new(alloc, name)? {
         Some(file) => Ok(file),
@@ -343,7 +343,7 @@ fn file_named(alloc: Global, name: Text) -> Result<RelativePath, CommandLineFaul
 ///
 /// Errors: `Bad`, if the text is no absolute path; `OutOfMemory`.
 fn folder_of(alloc: Global, text: &str) -> Result<PathText, CommandLineFault>
-    ensures { Gives fault.OutOfMemory (λ folder. folder) result (folder_of text.now) }
+    ensures { UnlessOom fault.OutOfMemory (λ folder. folder) result (folder_of text.now) }
 {
     match PathText::parse(alloc, text) {
         Ok(folder) => Ok(folder),
@@ -373,7 +373,7 @@ struct Outputs {
 ///
 /// Errors: `Bad`, if one of them does not; `OutOfMemory`.
 fn once_in(alloc: Global, said: &Arguments) -> Result<Once, CommandLineFault>
-    ensures { Gives fault.OutOfMemory (λ once. once) result (once_in said.now) }
+    ensures { UnlessOom fault.OutOfMemory (λ once. once) result (once_in said.now) }
 {
     let crate_name = only(alloc, said.crate_names.as_slice())?;
     let crate_type = crate_type_of(first(said.crate_types.as_slice())?.as_str());
@@ -391,7 +391,7 @@ fn once_in(alloc: Global, said: &Arguments) -> Result<Once, CommandLineFault>
 ///
 /// Errors: `Bad`, if the crate's name is no file name; `OutOfMemory`.
 fn image_named(alloc: Global, once: &Once) -> Result<RelativePath, CommandLineFault>
-    ensures { Gives fault.OutOfMemory (λ file. file) result (file_named (image_name once.now.crate_type once.now.crate_name)) }
+    ensures { UnlessOom fault.OutOfMemory (λ file. file) result (file_named (image_name once.now.crate_type once.now.crate_name)) }
 {
     let name = image_name(alloc, once.crate_type, once.crate_name.as_str())?;
     file_named(alloc, name)
@@ -401,7 +401,7 @@ fn image_named(alloc: Global, once: &Once) -> Result<RelativePath, CommandLineFa
 ///
 /// Errors: `Bad`, if the crate's name is no file name; `OutOfMemory`.
 fn dep_info_named(alloc: Global, once: &Once) -> Result<RelativePath, CommandLineFault>
-    ensures { Gives fault.OutOfMemory (λ file. file) result (file_named (dep_info_name once.now.crate_name)) }
+    ensures { UnlessOom fault.OutOfMemory (λ file. file) result (file_named (dep_info_name once.now.crate_name)) }
 {
     let name = dep_info_name(alloc, once.crate_name.as_str())?;
     file_named(alloc, name)
@@ -411,7 +411,7 @@ fn dep_info_named(alloc: Global, once: &Once) -> Result<RelativePath, CommandLin
 ///
 /// Errors: `Bad`, if the name or the folder is invalid; `OutOfMemory`.
 fn outputs_of(alloc: Global, once: &Once) -> Result<Outputs, CommandLineFault>
-    ensures { Gives fault.OutOfMemory (λ outputs. outputs) result (outputs_of once.now) }
+    ensures { UnlessOom fault.OutOfMemory (λ outputs. outputs) result (outputs_of once.now) }
 {
     let image = image_named(alloc, once)?;
     let dep_info = dep_info_named(alloc, once)?;
@@ -428,7 +428,7 @@ fn outputs_of(alloc: Global, once: &Once) -> Result<Outputs, CommandLineFault>
 /// Errors: `Bad`, if one that must occur once does not, or if a name or a folder is invalid;
 /// `OutOfMemory`.
 fn settled_by(alloc: Global, said: &Arguments) -> Result<Settled, CommandLineFault>
-    ensures { Gives fault.OutOfMemory (λ settled. settled) result (settled_by said.now) }
+    ensures { UnlessOom fault.OutOfMemory (λ settled. settled) result (settled_by said.now) }
 {
     let once = once_in(alloc, said)?;
     let outputs = outputs_of(alloc, &once);
@@ -453,7 +453,7 @@ pub(crate) fn command_line_of(
     alloc: Global,
     words: &[Text],
 ) -> Result<CommandLine, CommandLineFault>
-    ensures { Gives fault.OutOfMemory (λ line. line) result (command_line_of words.now) }
+    ensures { UnlessOom fault.OutOfMemory (λ line. line) result (command_line_of words.now) }
 {
     let said = arguments_of(alloc, words)?;
     let settled = settled_by(alloc, &said)?;

@@ -3,7 +3,7 @@
 ghost use Rattle.std.specs.Prelude.{◌≡◌, ◌++◌, IfOk, OnOk, ℕ, List};
 ghost use Rattle.pb_mini.specs.DepInfo.{rule_text, spelled, paths_text, value_text, variable_text, variables_text, dep_info_text};
 
-use pb_data::{Items, Mentions, Table, Text, with_next};
+use pb_data::{Items, OrderedSet, Table, Text, with_next};
 use pb_place_types::PathText;
 use std::alloc::{AllocError, Global};
 
@@ -12,7 +12,7 @@ use std::alloc::{AllocError, Global};
 #[derive(Drop)]
 pub struct Names {
     /// Files, including those that do not exist.
-    pub paths: Mentions,
+    pub paths: OrderedSet,
     /// Variables, each with the value that the compile saw, or none if it was not set.
     pub variables: Table<Option<Text>>,
 }

@@ -7,7 +7,7 @@ use crate::buffer::Buffer;
 use crate::dep_info::Names;
 use crate::diagnostic::{Diagnostic, Level};
 use crate::lines::{push_line, push_quoted};
-use pb_data::{Items, Mentions, Table, Text};
+use pb_data::{Items, OrderedSet, Table, Text};
 use pb_place_types::PathText;
 use std::alloc::{AllocError, Global};
 
@@ -31,7 +31,7 @@ impl Effects {
             image: Buffer::new(alloc),
             diagnostics: Items::new(alloc),
             names: Names {
-                paths: Mentions::new(alloc),
+                paths: OrderedSet::new(alloc),
                 variables: Table::new(alloc),
             },
         }

@@ -52,7 +52,7 @@ fn variable_of<V: View>(
     view: &V,
     path: &str,
 ) -> Result<Option<(Text, Option<Text>)>, ViewFault>
-    ensures variable { IsTrue V.tells → IfOk result (λ variable. variable ≡ variable_of pairs.now (V.shown view.now) path.now) }
+    ensures variable { IsTrue V.is_modelled → IfOk result (λ variable. variable ≡ variable_of pairs.now (V.shown view.now) path.now) }
     ensures failed { IfErr result (λ e. e ≡ ViewFault.Failed → V.fails view.now) }
 {
     match variable_in(path) {
@@ -182,7 +182,7 @@ fn file_included<V: View>(
     written: &str,
     variable: &Option<(Text, Option<Text>)>,
 ) -> Result<(Option<PathText>, Option<Bytes>), ViewFault>
-    ensures file { IsTrue V.tells → IfOk result (λ found. found ≡ (path_from folder.now (expanded written.now variable.now), file_at (V.shown view.now) (path_from folder.now (expanded written.now variable.now)))) }
+    ensures file { IsTrue V.is_modelled → IfOk result (λ found. found ≡ (path_from folder.now (expanded written.now variable.now), file_at (V.shown view.now) (path_from folder.now (expanded written.now variable.now)))) }
     ensures failed { IfErr result (λ e. e ≡ ViewFault.Failed → V.fails view.now) }
 {
     let path = path_included(alloc, folder, written, variable)?;
@@ -199,7 +199,7 @@ pub(crate) fn add_include<V: View>(
     number: u64,
     written: &str,
 ) -> Result<(), ViewFault>
-    ensures done { IsTrue V.tells → OnOk result (Does effects.new effects.old (include_effect scope.now (V.shown view.now) number written.now)) }
+    ensures done { IsTrue V.is_modelled → OnOk result (Does effects.new effects.old (include_effect scope.now (V.shown view.now) number written.now)) }
     ensures failed { IfErr result (λ e. e ≡ ViewFault.Failed → V.fails view.now) }
 {
     let variable = variable_of(alloc, &scope.pairs, view, written)?;

@@ -49,7 +49,7 @@ fn reply_to<V: View>(
     pairs: Table<Text>,
     view: &V,
 ) -> Result<Reply, ViewFault>
-    ensures reply { IsTrue V.tells → IfOk result (λ reply. reply ≡ replied_to request.now pairs (V.shown view.now)) }
+    ensures reply { IsTrue V.is_modelled → IfOk result (λ reply. reply ≡ replied_to request.now pairs (V.shown view.now)) }
     ensures failed { IfErr result (λ e. e ≡ ViewFault.Failed → V.fails view.now) }
 {
     match request {
@@ -119,7 +119,7 @@ pub fn answer<V: View>(
     pairs: &[(Text, Text)],
     view: &V,
 ) -> Result<Reply, ViewFault>
-    ensures reply { IsTrue V.tells → IfOk result (λ reply. reply ≡ answered words.now pairs.now (V.shown view.now)) }
+    ensures reply { IsTrue V.is_modelled → IfOk result (λ reply. reply ≡ answered words.now pairs.now (V.shown view.now)) }
     ensures failed { IfErr result (λ e. e ≡ ViewFault.Failed → V.fails view.now) }
 {
     let pairs = table_of(alloc, pairs)?;

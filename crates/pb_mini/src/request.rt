@@ -1,7 +1,7 @@
 //! The requests of arguments.
 
 ghost use Rattle.std.specs.Prelude.{◌≡◌};
-ghost use Rattle.pb_data.specs.Gives.{Gives};
+ghost use Rattle.pb_data.specs.UnlessOom.{UnlessOom};
 ghost use Rattle.pb_mini.specs.Answer.{compile_in, request_of};
 ghost use Rattle.pb_mini.specs.declared.command_line.CommandLineFault.TheVariants as fault;
 
@@ -22,7 +22,7 @@ pub enum Request {
 
 /// Returns the compile that some arguments request.
 fn compile_in(alloc: Global, words: &[Text]) -> Result<Request, CommandLineFault>
-    ensures { Gives fault.OutOfMemory (λ request. request) result (compile_in words.now) }
+    ensures { UnlessOom fault.OutOfMemory (λ request. request) result (compile_in words.now) }
 {
     let line = command_line_of(alloc, words)?;
     Ok(Request::Compile(line))
@@ -33,7 +33,7 @@ fn compile_in(alloc: Global, words: &[Text]) -> Result<Request, CommandLineFault
 ///
 /// Errors: `Bad`, if they are no request; `OutOfMemory`.
 pub(crate) fn request_of(alloc: Global, words: &[Text]) -> Result<Request, CommandLineFault>
-    ensures { Gives fault.OutOfMemory (λ request. request) result (request_of words.now) }
+    ensures { UnlessOom fault.OutOfMemory (λ request. request) result (request_of words.now) }
 {
     match words {
         [word] if word.as_str() == "-vV" => Ok(Request::Version),

@@ -1,13 +1,13 @@
 //! What the lines of a source can name.
 
 ghost use Rattle.std.specs.Prelude.{◌≡◌, IfOk, OnOk, map};
-ghost use Rattle.pb_data.specs.Mentions.{mentioned_all, once};
+ghost use Rattle.pb_data.specs.OrderedSet.{mentioned_all, once};
 ghost use Rattle.pb_place_types.specs.Paths.{folder_of};
 ghost use Rattle.pb_mini.specs.Scope.{library_of, with_first, with_firsts, libraries_of, scope_of};
 
 use crate::command_line::CommandLine;
 use crate::lines::name_and_value;
-use pb_data::{Mentions, Table, Text, TryCopy, with_next};
+use pb_data::{OrderedSet, Table, Text, TryCopy, with_next};
 use pb_place_types::PathText;
 use std::alloc::{AllocError, Global};
 
@@ -20,7 +20,7 @@ pub struct Scope {
     /// The file of each library by its name, from the arguments.
     pub libraries: Table<Text>,
     /// The conditions that are given.
-    pub conditions: Mentions,
+    pub conditions: OrderedSet,
     /// The values that override those of the inherited variables.
     pub pairs: Table<Text>,
 }
@@ -51,10 +51,10 @@ fn libraries_of(alloc: Global, externs: &[Text]) -> Result<Table<Text>, AllocErr
 
 /// Returns the conditions, without repeats.
 #[tactic(auto, using(crate::proofs::MentionLemmas::mention_laws))]
-fn conditions_of(alloc: Global, given: &[Text]) -> Result<Mentions, AllocError>
+fn conditions_of(alloc: Global, given: &[Text]) -> Result<OrderedSet, AllocError>
     ensures { IfOk result (λ conditions. conditions ≡ once given.now) }
 {
-    let mut conditions = Mentions::new(alloc);
+    let mut conditions = OrderedSet::new(alloc);
     for condition in given {
         conditions.insert(condition.copy(alloc)?)?;
     }
@@ -66,7 +66,7 @@ fn parts_of(
     alloc: Global,
     line: &CommandLine,
     source: &PathText,
-) -> Result<(PathText, Table<Text>, Mentions), AllocError>
+) -> Result<(PathText, Table<Text>, OrderedSet), AllocError>
     ensures { IfOk result (λ parts. parts ≡ (folder_of source.now, libraries_of line.now.externs, once line.now.conditions)) }
 {
     let folder = source.folder(alloc)?;

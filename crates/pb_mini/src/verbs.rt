@@ -2,7 +2,7 @@
 
 ghost use Rattle.std.specs.Prelude.{◌≡◌, ◌<◌, ◌++◌, codes, map, IfOk, OnOk, IfErr, IfSome, IsTrue, length, ℕ, List};
 ghost use Rattle.std.specs.Option.{option_map};
-ghost use Rattle.pb_data.specs.Mentions.{is_mentioned};
+ghost use Rattle.pb_data.specs.OrderedSet.{is_mentioned};
 ghost use Rattle.pb_mini.specs.Effects.{Does, followed_by, joined, copied, copied_file, diagnosed};
 ghost use Rattle.pb_mini.specs.Lines.{word_in};
 ghost use Rattle.pb_mini.specs.Verbs.{line_meant, meant_at, library_path, used, use_effect, env_line, told, env_effect, verb_of, is_passed_over, effect_by, effect_of, effects_from};
@@ -13,7 +13,7 @@ use crate::include::add_include;
 use crate::lines::word_and_rest;
 use crate::lookups::{file_at, path_of, value_of};
 use crate::scope::Scope;
-use pb_data::{Bytes, Mentions, Text};
+use pb_data::{Bytes, OrderedSet, Text};
 use pb_place_types::{PathText, View, ViewFault};
 use std::alloc::{AllocError, Global};
 
@@ -72,7 +72,7 @@ fn is_passed_over(line: &str) -> bool
 }
 
 /// Returns whether a condition is given.
-fn is_given(alloc: Global, given: &Mentions, condition: &str) -> Result<bool, AllocError>
+fn is_given(alloc: Global, given: &OrderedSet, condition: &str) -> Result<bool, AllocError>
     ensures { IfOk result (λ is. is ≡ is_mentioned given.now condition.now) }
 {
     let condition = Text::from_str(alloc, condition)?;
@@ -94,7 +94,7 @@ fn condition_of(line: &str) -> Option<(&str, &str)>
 
 /// Returns the line that remains of a line under these conditions: each leading `when COND` is
 /// removed. It is empty if one of the conditions is not given.
-fn line_meant<'a>(alloc: Global, given: &Mentions, line: &'a str) -> Result<&'a str, AllocError>
+fn line_meant<'a>(alloc: Global, given: &OrderedSet, line: &'a str) -> Result<&'a str, AllocError>
     ensures { IfOk result (λ meant. meant.now ≡ line_meant given.now line.now) }
 {
     let mut left = line;
@@ -181,7 +181,7 @@ fn add_use<V: View>(
     line: &str,
     name: &str,
 ) -> Result<(), ViewFault>
-    ensures done { IsTrue V.tells → OnOk result (Does effects.new effects.old (use_effect scope.now (V.shown view.now) number line.now name.now)) }
+    ensures done { IsTrue V.is_modelled → OnOk result (Does effects.new effects.old (use_effect scope.now (V.shown view.now) number line.now name.now)) }
     ensures failed { IfErr result (λ e. e ≡ ViewFault.Failed → V.fails view.now) }
 {
     let path = library_path(alloc, scope, name)?;
@@ -228,7 +228,7 @@ fn add_env<V: View>(
     view: &V,
     name: &str,
 ) -> Result<(), ViewFault>
-    ensures done { IsTrue V.tells → OnOk result (Does effects.new effects.old (env_effect scope.now (V.shown view.now) name.now)) }
+    ensures done { IsTrue V.is_modelled → OnOk result (Does effects.new effects.old (env_effect scope.now (V.shown view.now) name.now)) }
     ensures failed { IfErr result (λ e. e ≡ ViewFault.Failed → V.fails view.now) }
 {
     let value = value_of(alloc, &scope.pairs, view, name)?;
@@ -247,7 +247,7 @@ fn add_by<V: View>(
     line: &str,
     rest: &str,
 ) -> Result<(), ViewFault>
-    ensures done { IsTrue V.tells → OnOk result (Does effects.new effects.old (effect_by verb scope.now (V.shown view.now) number line.now rest.now)) }
+    ensures done { IsTrue V.is_modelled → OnOk result (Does effects.new effects.old (effect_by verb scope.now (V.shown view.now) number line.now rest.now)) }
     ensures failed { IfErr result (λ e. e ≡ ViewFault.Failed → V.fails view.now) }
 {
     match verb {
@@ -271,7 +271,7 @@ fn add_line<V: View>(
     number: u64,
     line: &str,
 ) -> Result<(), ViewFault>
-    ensures done { IsTrue V.tells → OnOk result (Does effects.new effects.old (effect_of scope.now (V.shown view.now) number line.now)) }
+    ensures done { IsTrue V.is_modelled → OnOk result (Does effects.new effects.old (effect_of scope.now (V.shown view.now) number line.now)) }
     ensures failed { IfErr result (λ e. e ≡ ViewFault.Failed → V.fails view.now) }
 {
     let meant = line_meant(alloc, &scope.conditions, line)?;
@@ -293,7 +293,7 @@ pub(crate) fn add_lines<V: View>(
     view: &V,
     lines: &[&str],
 ) -> Result<(), ViewFault>
-    ensures done { IsTrue V.tells → OnOk result (effects.new ≡ followed_by effects.old (effects_from scope.now (V.shown view.now) 0 (map (λ line. line.now) lines.now))) }
+    ensures done { IsTrue V.is_modelled → OnOk result (effects.new ≡ followed_by effects.old (effects_from scope.now (V.shown view.now) 0 (map (λ line. line.now) lines.now))) }
     ensures failed { IfErr result (λ e. e ≡ ViewFault.Failed → V.fails view.now) }
 {
     for (index, line) in lines.iter().enumerate() {

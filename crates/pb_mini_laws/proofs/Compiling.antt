@@ -3,7 +3,7 @@ use Rattle.std.proofs.Common.{◌≡◌, ◌==◌, ℕ, ◌&&◌, Bool, true, fa
 use Rattle.std.specs.FinMap as finite
 use Rattle.std.specs.List.{AllByRecursion}
 use Rattle.std.specs.Str.{bytes_eq}
-use Rattle.pb_data.specs.Mentions.{is_mentioned, once}
+use Rattle.pb_data.specs.OrderedSet.{is_mentioned, once}
 use Rattle.pb_data.specs.Table.{value_at, table_of, names_of}
 use Rattle.pb_data.proofs.MentionLemmas.{is_mentioned-once}
 use Rattle.pb_data.proofs.TableLemmas.{names-table_of}
@@ -27,7 +27,7 @@ use Rattle.pb_command_types.specs.Targets.{crate_name_of, dep_info_of, file_in, 
 use Rattle.pb_command_arguments.specs.Externs.{library_words}
 use Rattle.pb_command_arguments.specs.Said.{said_words}
 use Rattle.pb_command_arguments.specs.Words.{option, name_words, edition_word, format_words, output_words, settings_words, feature_words}
-use Rattle.pb_command_types.specs.declared.answer.Answered.{Answered}
+use Rattle.pb_command_types.specs.declared.checked_reply.CheckedReply.{CheckedReply}
 use Rattle.pb_command_types.specs.declared.fault.UnitFault.{UnitFault}
 use Rattle.pb_command_types.specs.declared.fault.UnitFault.TheVariants.{NoDepInfo}
 use Rattle.pb_command_types.specs.declared.project.Project.{Project}
@@ -164,19 +164,19 @@ too_long bytes info is = by (is_too_long bytes) is
     by true is = absurd (cc)
     by false is = at (written.dep_info_of bytes) is
 
-record Judged (c : Command) (text : List ℕ) (a : Answered) : Type 0 where
+record Judged (c : Command) (text : List ℕ) (a : CheckedReply) : Type 0 where
   info : DepInfo
   reads : written.dep_info_of text ≡ Ok info
   found : info_inputs c info ≡ Ok a.inputs
 
-judged : (c : Command) (text : List ℕ) (a : Answered) → compile_answered c (Some text) ≡ Ok a → Judged c text a
+judged : (c : Command) (text : List ℕ) (a : CheckedReply) → compile_answered c (Some text) ≡ Ok a → Judged c text a
 judged c text a is =
     let (info, first, is_1) = opened (read_info (Some text)) _ a is in
     let (inputs, second, is_2) = opened (info_inputs c info) _ a is_1 in
     let whole : record { directives = None; inputs = inputs } ≡ a = cc in
-    record { info = info; reads = too_long text info first; found = second ∙ ap (λ (x : Answered). Ok x.inputs) whole }
+    record { info = info; reads = too_long text info first; found = second ∙ ap (λ (x : CheckedReply). Ok x.inputs) whole }
 
-pub unless : (fault : Option UnitFault) (rest : Result Answered UnitFault) (a : Answered) → unless_fault fault rest ≡ Ok a → rest ≡ Ok a
+pub unless : (fault : Option UnitFault) (rest : Result CheckedReply UnitFault) (a : CheckedReply) → unless_fault fault rest ≡ Ok a → rest ≡ Ok a
 unless None rest a is = is
 unless (Some fault) rest a is = absurd (cc)
 
@@ -236,7 +236,7 @@ module _ (setup : Setup) (project : Project) (u : Planned) (done : List (Option 
       let (l, first, made) = opened (line.command_line_of c.words) (λ l. Ok (Compile l)) r is in
       (l, sym (cc), says c.words l first)
 
-  module _ (v w : World) (l : CommandLine) (tell : CanBeSpelled l (names_read c.words c.pairs v)) (asked : request_of c.words ≡ Ok (Compile l)) (a : Answered)
+  module _ (v w : World) (l : CommandLine) (tell : CanBeSpelled l (names_read c.words c.pairs v)) (asked : request_of c.words ≡ Ok (Compile l)) (a : CheckedReply)
       (judged : Judged c (dep_info_text (below l.out_dir l.image) (each_once (names_read c.words c.pairs v))) a) (same : AllByRecursion (SameInput v w) a.inputs) (folders : SameAround c v w) where
     abbrev names : Names
     names = names_read c.words c.pairs v
@@ -267,7 +267,7 @@ module _ (setup : Setup) (project : Project) (u : Planned) (done : List (Option 
         (record { files = all_among (SameFile v w) names.paths same_path; variables = all_named (λ name. value_at name (table_of c.pairs) ≡ None → finite.get w.variables name ≡ finite.get v.variables name) names.variables same_variable })
         folders.below
 
-  compile_honest : (v : World) → CanTell c v → (w : World) (a : Answered)
+  compile_honest : (v : World) → CanTell c v → (w : World) (a : CheckedReply)
       → ((l : CommandLine) → Says c.words l → (text : List ℕ) → file_named l.dep_info (small_compiler c v).files ≡ Some text → Judged c text a)
       → AllByRecursion (SameInput v w) a.inputs → SameAround c v w → small_compiler c w ≡ small_compiler c v
   compile_honest v tell w a judge same folders = by (request_of c.words) refl
@@ -277,12 +277,12 @@ module _ (setup : Setup) (project : Project) (u : Planned) (done : List (Option 
       by (Ok r) is =
           let (l, equal, said) = request r is in
           let asked : request_of c.words ≡ Ok (Compile l) = is ∙ ap Ok equal in
-          given_again v w l (subst (λ r. CanTellOf r c v) asked tell) asked a (judge l said (dep_info_text (below l.out_dir l.image) (each_once (names_read c.words c.pairs v))) (tells c.words c.pairs v l asked)) same folders
+          given_again v w l (subst (λ r. CanTellOf r c v) asked tell) asked a (judge l said (dep_info_text (below l.out_dir l.image) (each_once (names_read c.words c.pairs v))) (is_modelled c.words c.pairs v l asked)) same folders
 
 -- what is found in a good reply to a compile: dep-info that reads
 compile_judged : (setup : Setup) (project : Project) (u : Planned) (done : List (Option (List Directive))) (p : Package) (is_of : IsOfProject project u)
     (plain : is_mentioned setup.flags (codes "--extern") ≡ false) (source : is_path (source_by p u.unit.what) ≡ true) (keys : AllByRecursion (λ (entry : Entry). is_name entry.key ≡ true) p.entries)
-    (v : World) (a : Answered) → dep_info_of project u ≡ file_in u.out (crate_name_of project u ++ codes ".d")
+    (v : World) (a : CheckedReply) → dep_info_of project u ≡ file_in u.out (crate_name_of project u ++ codes ".d")
     → compile_answered (compile_of setup project u done p) (file_at (dep_info_of project u) (replied_files u.out (small_compiler (compile_of setup project u done p) v))) ≡ Ok a
     → (l : CommandLine) → Says (words_of setup project u done p) l → (text : List ℕ) → file_named l.dep_info (small_compiler (compile_of setup project u done p) v).files ≡ Some text → Judged (compile_of setup project u done p) text a
 compile_judged setup project u done p is_of plain source keys v a where_it_is found l said text file =
@@ -296,7 +296,7 @@ compile_judged setup project u done p is_of plain source keys v a where_it_is fo
 -- the small compiler is honest on every compile
 pub on_compiles : (setup : Setup) (project : Project) (u : Planned) (done : List (Option (List Directive))) (p : Package) → IsOfProject project u → is_mentioned setup.flags (codes "--extern") ≡ false
     → is_path (source_by p u.unit.what) ≡ true → AllByRecursion (λ (entry : Entry). is_name entry.key ≡ true) p.entries
-    → (v w : World) (a : Answered) → dep_info_of project u ≡ file_in u.out (crate_name_of project u ++ codes ".d")
+    → (v w : World) (a : CheckedReply) → dep_info_of project u ≡ file_in u.out (crate_name_of project u ++ codes ".d")
     → compile_answered (compile_of setup project u done p) (file_at (dep_info_of project u) (replied_files u.out (small_compiler (compile_of setup project u done p) v))) ≡ Ok a
     → CanTell (compile_of setup project u done p) v → AllByRecursion (SameInput v w) a.inputs → SameAround (compile_of setup project u done p) v w
     → small_compiler (compile_of setup project u done p) w ≡ small_compiler (compile_of setup project u done p) v

@@ -3,7 +3,7 @@ use Rattle.std.proofs.Common.{◌≡◌, ◌∙◌, ℕ, Bool, true, false, if�
 use Rattle.std.specs.FinMap.{get}
 use Rattle.std.specs.List.{AllByRecursion}
 use Rattle.std.specs.List.Sorted.{IsStrictlySortedBy}
-use Rattle.pb_data.specs.Gives.{lifted}
+use Rattle.pb_data.specs.UnlessOom.{lifted}
 use Rattle.pb_manifest.specs.Document.{manifest_of}
 use Rattle.pb_manifest_types.specs.Letters.{is_name}
 use Rattle.pb_manifest.specs.Promises.{IsBinary, IsBuild, IsManifest, IsPackage, IsSharedDependency}
@@ -42,12 +42,12 @@ use Rattle.pb_workspace_package.specs.Sorted.{with_entry}
 use Rattle.pb_workspace_package.specs.Sources.{has_own_file, library_of, own_source}
 use Rattle.pb_workspace_package.specs.Taken.{about_of, own_or_given}
 use Rattle.pb_workspace_package.specs.Wanted.{each_wanted, wanted_of}
-use Rattle.pb_workspace_package.specs.declared.draft.Draft.{Draft}
-use Rattle.pb_workspace_package.specs.declared.draft.Lists.{Lists}
-use Rattle.pb_workspace.specs.declared.frame.Frame.{Frame}
+use Rattle.pb_workspace_package.specs.declared.unresolved_package.UnresolvedPackage.{UnresolvedPackage}
+use Rattle.pb_workspace_package.specs.declared.unresolved_package.Lists.{Lists}
+use Rattle.pb_workspace.specs.declared.workspace_root.WorkspaceRoot.{WorkspaceRoot}
 use Rattle.pb_workspace_package.specs.declared.keys.Keys.{Keys}
 use Rattle.pb_workspace_package.specs.declared.settling.Given.{Given}
-use Rattle.pb_workspace_package.specs.declared.wanted.Standing.{Standing}
+use Rattle.pb_workspace_package.specs.declared.wanted.PackageLocation.{PackageLocation}
 use Rattle.pb_workspace_package.specs.declared.wanted.Wanted.{Wanted}
 use Rattle.pb_manifest_types.specs.Library.{library_name}
 use Rattle.pb_manifest_types.specs.declared.target.Library.{Library as WrittenLibrary}
@@ -120,7 +120,7 @@ module _ (folder : List ℕ) (sources : World) (name : List ℕ) (named : is_nam
   library_is (Some l) promised = library_named name (Some l) (library_name name (Some l)) named promised refl
 
 -- a package: its names, and its paths
-pub record IsWhole (folder : List ℕ) (d : Draft) : Type 0 where
+pub record IsWhole (folder : List ℕ) (d : UnresolvedPackage) : Type 0 where
   pub folder_is : d.folder ≡ folder
   pub draft : IsDraft d
   pub wanted : AllByRecursion IsLed d.wanted
@@ -128,7 +128,7 @@ pub record IsWhole (folder : List ℕ) (d : Draft) : Type 0 where
   pub binaries : AllByRecursion IsSourced d.binaries
   pub script : IfSome d.script At
 
-module _ (sources : World) (files : FilesHavePaths sources) (f : Frame) (above : is_path f.root ≡ true) (shared : AllByRecursion IsSharedDependency f.given.dependencies) where
+module _ (sources : World) (files : FilesHavePaths sources) (f : WorkspaceRoot) (above : is_path f.root ≡ true) (shared : AllByRecursion IsSharedDependency f.given.dependencies) where
   -- what a member may take, and another package may not
   given_so : (b : Bool) → AllByRecursion IsSharedDependency (given_to f b).dependencies
   given_so true = shared
@@ -139,14 +139,14 @@ module _ (sources : World) (files : FilesHavePaths sources) (f : Frame) (above :
     name : keys.name ≡ p.name
     script : keys.build ≡ p.build
 
-  keys_are : (at : Standing) (given : Given) (p : WrittenPackage) (keys : Keys) → keys_of sources at given.package p ≡ Ok keys → AreKeys p keys
+  keys_are : (at : PackageLocation) (given : Given) (p : WrittenPackage) (keys : Keys) → keys_of sources at given.package p ≡ Ok keys → AreKeys p keys
   keys_are at given p keys is =
       let (version, first, rest) = opened (own_or_given p.version given.package.version) _ keys is in
       let (edition, second, more) = opened (own_or_given p.edition given.package.edition) _ keys rest in
       let (about, third, end) = opened (about_of at.root at.folder (readme_found at.folder sources p.readme) p given.package) _ keys more in
       record { name = ap (λ (k : Keys). k.name) (sym (same_ok {E = LoadFault} _ keys end)); script = ap (λ (k : Keys). k.build) (sym (same_ok {E = LoadFault} _ keys end)) }
 
-  module _ (at : Standing) (root : at.root ≡ f.root) (is : is_path at.folder ≡ true) (member : Bool) where
+  module _ (at : PackageLocation) (root : at.root ≡ f.root) (is : is_path at.folder ≡ true) (member : Bool) where
     abbrev given : Given
     given = given_to f member
 
@@ -179,7 +179,7 @@ module _ (sources : World) (files : FilesHavePaths sources) (f : Frame) (above :
           features = ap (λ (l : Lists). l.features) same;
         }
 
-    package_is : (m : Manifest) (p : WrittenPackage) (d : Draft) → IsManifest m → IsPackage p → draft_of sources at member given p (tables_in m) ≡ Ok d → IsWhole at.folder d
+    package_is : (m : Manifest) (p : WrittenPackage) (d : UnresolvedPackage) → IsManifest m → IsPackage p → draft_of sources at member given p (tables_in m) ≡ Ok d → IsWhole at.folder d
     unfolding draft_of draft_with
     package_is m p d promised named made =
         let (keys, said, rest) = opened (keys_of sources at given.package p) (λ k. draft_with sources at member given (tables_in m) k) d made in
@@ -203,7 +203,7 @@ module _ (sources : World) (files : FilesHavePaths sources) (f : Frame) (above :
         }
 
     -- the package of a manifest that was read
-    pub whole_in_file : (d : Draft) → draft_in_file sources f member at ≡ Ok d → IsWhole at.folder d
+    pub whole_in_file : (d : UnresolvedPackage) → draft_in_file sources f member at ≡ Ok d → IsWhole at.folder d
     unfolding draft_in_file draft_if
     whole_in_file d made =
         let (parts, read, rest) = opened (parts_at sources at.manifest) (λ parts. draft_if sources f member at parts.tables parts.found) d made in

@@ -12,18 +12,18 @@ use Rattle.pb_workspace_types.specs.declared.options.Options.{Options}
 use Rattle.pb_place_types.specs.World.{World, from_nothing}
 use Rattle.pb_command_types.specs.declared.project.Project.{Project}
 use Rattle.pb_command_types.specs.Targets.{unit_at}
-use Rattle.pb_run.specs.Halves.{OnRecords, command_in, basis}
+use Rattle.pb_run.specs.UnitSteps.{TrustedRecords, command_in, basis}
 use Rattle.pb_run.specs.Outcome.{directives_of, outcomes}
 use Rattle.pb_build_session.specs.declared.step.SessionStep.{SessionStep}
 use Rattle.pb_build_session.specs.declared.step.SessionStep.TheVariants.{Write, Remove, Set, Unset, Build, Die, Fuse}
 use Rattle.pb_store_soundness.specs.Records.{reading}
 use Rattle.pb_store_soundness.specs.Sound.{Sound}
-use Rattle.pb_build_turns.specs.Crew.{Moment}
+use Rattle.pb_build_turns.specs.Executor.{BuildState}
 use Rattle.pb_unit.specs.Plan.{IsPlan}
 use Rattle.pb_unit.specs.declared.plan.Planned.{Planned}
 use Rattle.pb_workspace.proofs.Accepted.{target_kept}
 use Rattle.pb_build.specs.Environment.{environment_of}
-use Rattle.pb_build.specs.Headline.{records_of, IsHonestBuild, ByTurns, Gives, Headline}
+use Rattle.pb_build.specs.Headline.{records_of, IsHonestBuild, ByTurns, GivesCleanResult, Headline}
 use Rattle.pb_build.specs.Lasting.{AnyBuildGives, ShareNoPath, SparingCourse, Spares}
 use Rattle.pb_build.specs.Planning.{IsProject}
 use Rattle.pb_build.specs.Result.{setup_of}
@@ -62,13 +62,13 @@ small_builds_are_honest options w small units place u v at alike seen =
     small_compiler_is_honest (setup_of options (environment_of options w.variables) units.toolchain) units.project u
     (directives_of (take place (outcomes small_compiler (setup_of options (environment_of options w.variables) units.toolchain) units.project (from_nothing (environment_of options w.variables).target w)))) v
     (small.setup units.toolchain) (of_project options w small units.project units.is place u at)
-    (subst (CanTell (command_in (basis OnRecords small_compiler (setup_of options (environment_of options w.variables) units.toolchain) units.project (from_nothing (environment_of options w.variables).target w)) place u)) (sym seen)
-    (small.tells units.project units.toolchain units.is units.says place u at))
+    (subst (CanTell (command_in (basis TrustedRecords small_compiler (setup_of options (environment_of options w.variables) units.toolchain) units.project (from_nothing (environment_of options w.variables).target w)) place u)) (sym seen)
+    (small.can_tell units.project units.toolchain units.is units.says place u at))
 
 -- whatever the schedule
-pub small_gives : (Schedule : Project → List (Event BadUnit) → Type 0) (options : Options) (result : Result Summary BuildFault) (old new : Moment) → Headline true small_compiler Schedule options result old new
-    → IsSmallBuild options old.world → Sound reading judge small_compiler (records_of options old.world.variables) old.world.files → Gives OnRecords small_compiler Schedule options result old new
-small_gives Schedule options result old new headline small sound = headline refl OnRecords (sound, small_builds_are_honest options old.world small)
+pub small_gives : (Schedule : Project → List (Event BadUnit) → Type 0) (options : Options) (result : Result Summary BuildFault) (old new : BuildState) → Headline true small_compiler Schedule options result old new
+    → IsSmallBuild options old.world → Sound reading judge small_compiler (records_of options old.world.variables) old.world.files → GivesCleanResult TrustedRecords small_compiler Schedule options result old new
+small_gives Schedule options result old new headline small sound = headline refl TrustedRecords (sound, small_builds_are_honest options old.world small)
 
 pub small_builds_give : {S : Type 0} (Turns : S → List ℕ → List ℕ → Step → S → Type 0) → SmallBuildsGive Turns
 small_builds_give Turns from options result old new = small_gives (ByTurns Turns from) options result old new

@@ -26,10 +26,10 @@ use Rattle.pb_workspace.specs.Members.{parts_meant}
 use Rattle.pb_workspace.specs.PackageFolders.{frame_at, IsPackageFolder, IsRootOrMember, LeadsTo, package_in, root, member}
 use Rattle.pb_workspace.specs.Rounds.{all_read, draft_at, manifest_at, parts_at, parts_in, rounds, standing_in, with_draft}
 use Rattle.pb_workspace_package.specs.Sources.{resolved}
-use Rattle.pb_workspace_package.specs.declared.draft.Draft.{Draft}
-use Rattle.pb_workspace.specs.declared.frame.Frame.{Frame}
+use Rattle.pb_workspace_package.specs.declared.unresolved_package.UnresolvedPackage.{UnresolvedPackage}
+use Rattle.pb_workspace.specs.declared.workspace_root.WorkspaceRoot.{WorkspaceRoot}
 use Rattle.pb_workspace.specs.declared.rounds.Parts.{Parts}
-use Rattle.pb_workspace.specs.declared.rounds.Reading.{Reading}
+use Rattle.pb_workspace.specs.declared.rounds.LoadState.{LoadState}
 use Rattle.pb_workspace.proofs.Accepted.{root_kept}
 use Rattle.pb_workspace.proofs.FoldersPut.{opened}
 use Rattle.pb_workspace.proofs.FoldersTaken.{taken_only}
@@ -51,7 +51,7 @@ all_in P [] x all is = absurd (contains_none x is)
 all_in P (y ∷ xs) x all is = elim (contains_cases y xs x is) [ inl here ↦ subst P here all.0 | inr there ↦ all_in P xs x all.1 there ]
 
 -- the frame of a manifest: where it stands, and what its texts promise
-record IsFramed (manifest : List ℕ) (f : Frame) : Type 0 where
+record IsFramed (manifest : List ℕ) (f : WorkspaceRoot) : Type 0 where
   root_is : f.root ≡ folder_of manifest
   manifest_is : f.manifest ≡ manifest
   members : AllByRecursion IsPath f.members
@@ -73,11 +73,11 @@ pub record IsLaid (ws : Workspace) : Type 0 where
   pub root_at : At ws.root
   pub packages : (p : Package) → Contains ws.packages p → HasSources p
 
-module _ (sources : World) (files : FilesHavePaths sources) (manifest : List ℕ) (f : Frame) (parts : Parts) (path : is_path manifest ≡ true) (is : IsFramed manifest f) where
+module _ (sources : World) (files : FilesHavePaths sources) (manifest : List ℕ) (f : WorkspaceRoot) (parts : Parts) (path : is_path manifest ≡ true) (is : IsFramed manifest f) where
   above : At f.root
   above = folder_is_path manifest f.root path is.root_is
 
-  whole_in : (x : List ℕ) (d : Draft) → At x → package_in sources f x ≡ Ok d → IsWhole x d
+  whole_in : (x : List ℕ) (d : UnresolvedPackage) → At x → package_in sources f x ≡ Ok d → IsWhole x d
   whole_in x d at made = whole_in_file sources files f above is.shared (standing_in f x) refl at (is_member f (member_folders sources f) x) d made
 
   -- the folders that a text of `members` means
@@ -103,30 +103,30 @@ module _ (sources : World) (files : FilesHavePaths sources) (manifest : List ℕ
   folder_at _ (start x seed) = first_at x seed
   folder_at _ (onward x y before leads) = led_at x y (folder_at x before) leads
 
-  all_put : (es : List (List ℕ × Draft)) → AllByRecursion (λ e. package_in sources f e.0 ≡ Ok e.1) es → ((x : List ℕ) → Contains (folders_of es) x → At x) → AllByRecursion IsPut es
+  all_put : (es : List (List ℕ × UnresolvedPackage)) → AllByRecursion (λ e. package_in sources f e.0 ≡ Ok e.1) es → ((x : List ℕ) → Contains (folders_of es) x → At x) → AllByRecursion IsPut es
   all_put [] all at = tt
   all_put (e ∷ es) all at =
       let whole = whole_in e.0 e.1 (at e.0 (contains_head e.0 (folders_of es))) all.0 in
       ((whole.folder_is, whole.draft), all_put es all.1 (λ x there. at x (contains_tail e.0 (folders_of es) x there)))
 
   -- all that was read: at most 256 packages, in byte order of their folders
-  record IsRead (r : Reading) : Type 0 where
+  record IsRead (r : LoadState) : Type 0 where
     few : length r.found ≤ 256
     rises : IsAscending (folders_of r.found)
     puts : AllByRecursion IsPut r.found
 
-  root_rises : (r : Reading) → root_read sources f parts.tables parts.found ≡ Ok r → IsAscending (folders_of r.found)
+  root_rises : (r : LoadState) → root_read sources f parts.tables parts.found ≡ Ok r → IsAscending (folders_of r.found)
   unfolding root_read IsStrictlySortedBy
   root_rises r read_so = by parts.found read_so
     where
       by : (found : Option WrittenPackage) → root_read sources f parts.tables found ≡ Ok r → IsAscending (folders_of r.found)
-      by None h = let same : nothing_read ≡ r = cc in subst (λ (x : Reading). IsAscending (folders_of x.found)) same tt
+      by None h = let same : nothing_read ≡ r = cc in subst (λ (x : LoadState). IsAscending (folders_of x.found)) same tt
       by (Some p) h =
           let o = opened (draft_of sources (at_root f) true f.given p parts.tables) (λ d. Ok (with_draft nothing_read f.root d)) r h in
           let same : with_draft nothing_read f.root o.0 ≡ r = cc (o.2) in
-          subst (λ (x : Reading). IsAscending (folders_of x.found)) same (tt, tt)
+          subst (λ (x : LoadState). IsAscending (folders_of x.found)) same (tt, tt)
 
-  read_is : (r : Reading) → f.manifest ≡ below f.root (codes "Cargo.toml") → parts_at sources f.manifest ≡ Ok parts → packages_read sources f parts.tables parts.found ≡ Ok r → IsRead r
+  read_is : (r : LoadState) → f.manifest ≡ below f.root (codes "Cargo.toml") → parts_at sources f.manifest ≡ Ok parts → packages_read sources f parts.tables parts.found ≡ Ok r → IsRead r
   unfolding packages_read others_read
   read_is r stands there made =
       let all = all_found sources f parts stands there r made in
@@ -150,8 +150,8 @@ unfolding workspace_of workspace_in
 workspace_laid manifest target w ws path files made =
     let sources : World = from_nothing target w in
     let (parts, read, inside) = opened (root_parts sources manifest) (λ (ps : Parts). workspace_in sources target (frame_of (folder_of manifest) manifest ps.workspace) ps.profiles ps.tables ps.found) ws made in
-    let f : Frame = frame_at manifest parts in
-    let (r, packages, end) = opened (packages_read sources f parts.tables parts.found) (λ (r : Reading). workspace_from target f parts.profiles (values_of r.found)) ws inside in
+    let f : WorkspaceRoot = frame_at manifest parts in
+    let (r, packages, end) = opened (packages_read sources f parts.tables parts.found) (λ (r : LoadState). workspace_from target f parts.profiles (values_of r.found)) ws inside in
     let (stands, at) = manifest_there sources manifest parts path read in
     let is = framed manifest parts.workspace (workspace_promised sources manifest parts at) in
     let whole = read_is sources files manifest f parts path is r (is.manifest_is ∙ stands ∙ ap (λ x. below x (codes "Cargo.toml")) (sym is.root_is)) (ap (parts_at sources) is.manifest_is ∙ at) packages in

@@ -4,7 +4,7 @@ use Rattle.std.proofs.lemmas.List.Folds.{list_any-append}
 use Rattle.std.proofs.lemmas.Slice.Eq.{bytes_eq-Decides}
 use Rattle.std.specs.List.{flat_map, filter, find, AllByRecursion}
 use Rattle.std.specs.Str.{bytes_eq}
-use Rattle.pb_data.specs.Mentions.{is_mentioned}
+use Rattle.pb_data.specs.OrderedSet.{is_mentioned}
 use Rattle.pb_data.specs.Table.{last_value, names_of}
 
 pub or_left : (x y : Bool) → x ≡ true → (x || y) ≡ true

@@ -3,8 +3,8 @@ use Rattle.std.proofs.Common.{◌≡◌, ℕ, Bool, true, false, cond, List, [],
 use Rattle.std.specs.List.{flat_map, AllByRecursion}
 use Rattle.std.specs.Str.{bytes_eq}
 use Rattle.pb_command.proofs.Ordered.{first_off, second_off}
-use Rattle.pb_data.specs.Gives.{◌>>=◌}
-use Rattle.pb_data.specs.Mentions.{is_mentioned}
+use Rattle.pb_data.specs.UnlessOom.{◌>>=◌}
+use Rattle.pb_data.specs.OrderedSet.{is_mentioned}
 use Rattle.pb_data.proofs.MentionLemmas.{bytes_eq_comm}
 use Rattle.pb_mini.specs.CommandLine.{takes_value, role_of, role_alone, is_setting, with_value, no_arguments, arguments_after}
 use Rattle.pb_mini.specs.declared.command_line.Arguments.{Arguments}

@@ -2,7 +2,7 @@
 use Rattle.std.proofs.Common.{◌≡◌, ℕ, Bool, true, false, cond, if◌then◌else◌, codes, List, ◌∷◌, ◌++◌, Option, Some, None, Result, Ok, Err, refl, sym, subst}
 use Rattle.std.specs.FinMap.{get}
 use Rattle.pb_command.specs.Laws.{HasPaths}
-use Rattle.pb_data.specs.Gives.{◌>>=◌}
+use Rattle.pb_data.specs.UnlessOom.{◌>>=◌}
 use Rattle.pb_feature_types.specs.declared.features.Features.{Features}
 use Rattle.pb_mini_laws.proofs.Named.{parsed_path_is}
 use Rattle.pb_graph.proofs.Elements.{all_at, all_from_at, contains_from_at}
@@ -59,8 +59,8 @@ project_paths project selection laid target is = record {
   packages = all_from_at (λ (p : Package). At p.folder) project.workspace.packages (λ k p at. (laid.packages p (contains_from_at project.workspace.packages k p at)).folder);
   units = all_from_at (λ (u : Planned). At u.out) project.plan.planned (λ k u at.
       let out : u.out ≡ below (profile_folder project.workspace project.profile) u.key = all_at (λ (x : Planned). x.out ≡ below (profile_folder project.workspace project.profile) x.key) project.plan.planned is.folders k u at in
-      let tells = all_at TellsWhat project.plan.planned (keys_tell_what project.workspace project.features selection project.profile project.plan laid.settled is) k u at in
-      subst At (sym out) (below_is (profile_folder project.workspace project.profile) u.key folder (key_relative u tells)));
+      let is_modelled = all_at TellsWhat project.plan.planned (keys_tell_what project.workspace project.features selection project.profile project.plan laid.settled is) k u at in
+      subst At (sym out) (below_is (profile_folder project.workspace project.profile) u.key folder (key_relative u is_modelled)));
 }
   where
     folder : At (profile_folder project.workspace project.profile)

@@ -7,8 +7,8 @@ use Rattle.std.proofs.lemmas.Slice.Eq.{bytes_eq-Decides}
 use Rattle.std.specs.List.{onto_first, before_first, position_or_len, AllByRecursion}
 use Rattle.std.specs.Str.{is_utf8, bytes_eq}
 use Rattle.std.specs.Str.Lines.{strip_carriage_return}
-use Rattle.pb_data.specs.Gives.{◌>>=◌, lifted}
-use Rattle.pb_data.specs.Mentions.{is_mentioned, once}
+use Rattle.pb_data.specs.UnlessOom.{◌>>=◌, lifted}
+use Rattle.pb_data.specs.OrderedSet.{is_mentioned, once}
 use Rattle.pb_data.specs.Table.{names_of}
 use Rattle.pb_data.proofs.MentionLemmas.{is_mentioned-once}
 use Rattle.pb_directive.proofs.JoinLemmas.{names-followed_by}

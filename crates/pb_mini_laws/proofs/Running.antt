@@ -4,8 +4,8 @@ use Rattle.std.specs.FinMap as finite
 use Rattle.std.specs.List.{AllByRecursion, flat_map, list_any}
 use Rattle.std.specs.Option.{option_or}
 use Rattle.std.proofs.lemmas.List.Elements.{recursion_from_All}
-use Rattle.pb_data.specs.Gives.{lifted}
-use Rattle.pb_data.specs.Mentions.{is_mentioned, once}
+use Rattle.pb_data.specs.UnlessOom.{lifted}
+use Rattle.pb_data.specs.OrderedSet.{is_mentioned, once}
 use Rattle.pb_data.specs.Table.{value_at, table_of}
 use Rattle.pb_data.proofs.MentionLemmas.{is_mentioned-once}
 use Rattle.pb_directive.specs.Directives.{directives_of}
@@ -26,7 +26,7 @@ use Rattle.pb_command_reply.specs.Answers.{ended_fault, path_or_none, path_said,
 use Rattle.pb_command.specs.Command.{script_path, run_words, run_of, command_by, command_for}
 use Rattle.pb_command_environment.specs.Pairs.{composed}
 use Rattle.pb_command_types.specs.Targets.{package_of, package_folder, folder_of, script_source, script_file, needed, is_run, is_script, dep_info_by, dep_info_of, source_by, crate_name_of}
-use Rattle.pb_command_types.specs.declared.answer.Answered.{Answered}
+use Rattle.pb_command_types.specs.declared.checked_reply.CheckedReply.{CheckedReply}
 use Rattle.pb_command_types.specs.declared.fault.UnitFault.{UnitFault}
 use Rattle.pb_command_types.specs.declared.fault.UnitFault.TheVariants as unit_fault
 use Rattle.pb_command_types.specs.declared.project.Project.{Project}
@@ -108,7 +108,7 @@ module _ (setup : Setup) (project : Project) (u : Planned) (done : List (Option 
   path_there : (v : World) (text : List ℕ) → joined p.folder text ≡ parsed (full_path (table_of c.pairs) v text)
   path_there v text = ap (λ folder. parsed (cond (is_absolute text) text (unwrap_or folder [] ++ 47 ∷ text))) (sym (ap (λ o. option_or o (finite.get v.variables base)) begins))
 
-  module _ (v w : World) (said : List Directive) (a : Answered) (found : said_inputs c p.folder said ≡ Ok a.inputs) (same : AllByRecursion (SameInput v w) a.inputs) (folders : SameAround c v w) where
+  module _ (v w : World) (said : List Directive) (a : CheckedReply) (found : said_inputs c p.folder said ≡ Ok a.inputs) (same : AllByRecursion (SameInput v w) a.inputs) (folders : SameAround c v w) where
     abbrev paths : List (List ℕ)
     paths = flat_map changed_path said
 
@@ -150,7 +150,7 @@ module _ (setup : Setup) (project : Project) (u : Planned) (done : List (Option 
         folders.below
 
   -- what is found in a good reply to a run
-  pub on_runs : RunsAlone setup.runner → (v w : World) (a : Answered) → run_answered c p.folder (ended_by (small_compiler c v)) ≡ Ok a → CanTell c v → AllByRecursion (SameInput v w) a.inputs → SameAround c v w
+  pub on_runs : RunsAlone setup.runner → (v w : World) (a : CheckedReply) → run_answered c p.folder (ended_by (small_compiler c v)) ≡ Ok a → CanTell c v → AllByRecursion (SameInput v w) a.inputs → SameAround c v w
       → small_compiler c w ≡ small_compiler c v
   on_runs alone v w a found tell same folders = by (words_cases setup.runner script alone)
     where
@@ -162,7 +162,7 @@ module _ (setup : Setup) (project : Project) (u : Planned) (done : List (Option 
           let first : lifted unit_fault.Directive (directives_of (small_compiler c v).stdout) ≡ Ok said = one ∙ ap Ok (not_an_error lines said other) in
           let (inputs, second, is_2) = opened (said_inputs c p.folder said) _ a is_1 in
           let whole : record { directives = Some said; inputs = inputs } ≡ a = same_ok {E = UnitFault} _ a _ refl is_2 in
-          run_again v w said a (second ∙ ap (λ (x : Answered). Ok x.inputs) whole) same folders (ap request_of words) tell (lifted_ok unit_fault.Directive (directives_of (small_compiler c v).stdout) said first)
+          run_again v w said a (second ∙ ap (λ (x : CheckedReply). Ok x.inputs) whole) same folders (ap request_of words) tell (lifted_ok unit_fault.Directive (directives_of (small_compiler c v).stdout) said first)
 
 -- ---- every unit
 
@@ -172,7 +172,7 @@ module _ (setup : Setup) (project : Project) (u : Planned) (done : List (Option 
   its_keys p there = recursion_from_All _ p.entries (all_at (IsPackage (length project.workspace.packages)) project.workspace.packages u.unit.owner p is_of.settled.packages there).entry_keys
 
   -- the unit's package is there
-  of_package : (p : Package) → package_of project u ≡ Some p → (w : What) → u.unit.what ≡ w → CanTell (command_by w setup project u done p) v → (other : World) (a : Answered)
+  of_package : (p : Package) → package_of project u ≡ Some p → (w : What) → u.unit.what ≡ w → CanTell (command_by w setup project u done p) v → (other : World) (a : CheckedReply)
       → answered_by w (command_by w setup project u done p) (folder_of project u) (ended_by (small_compiler (command_by w setup project u done p) v)) (file_at (dep_info_of project u) (replied_files u.out (small_compiler (command_by w setup project u done p) v))) ≡ Ok a
       → AllByRecursion (SameInput v other) a.inputs → SameAround (command_by w setup project u done p) v other
       → small_compiler (command_by w setup project u done p) other ≡ small_compiler (command_by w setup project u done p) v
@@ -188,7 +188,7 @@ module _ (setup : Setup) (project : Project) (u : Planned) (done : List (Option 
   of_package p there what.Run is tell other a found same folders =
       on_runs setup project u done p is_of is small.runner v other a (ap (λ folder. run_answered (run_of setup project u done p) folder (ended_by (small_compiler (run_of setup project u done p) v))) (sym (ap (package_folder project.workspace.root) there)) ∙ found) tell same folders
 
-  pub by_owner : (owner : Option Package) → package_of project u ≡ owner → CanTell (command_for setup project u done owner) v → (other : World) (a : Answered)
+  pub by_owner : (owner : Option Package) → package_of project u ≡ owner → CanTell (command_for setup project u done owner) v → (other : World) (a : CheckedReply)
       → answered_of project u (command_for setup project u done owner) (ended_by (small_compiler (command_for setup project u done owner) v)) (file_at (dep_info_of project u) (replied_files u.out (small_compiler (command_for setup project u done owner) v))) ≡ Ok a
       → AllByRecursion (SameInput v other) a.inputs → SameAround (command_for setup project u done owner) v other
       → small_compiler (command_for setup project u done owner) other ≡ small_compiler (command_for setup project u done owner) v

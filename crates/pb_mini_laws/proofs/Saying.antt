@@ -9,7 +9,7 @@ use Rattle.std.proofs.lemmas.List.Splits.{slice_split_none}
 use Rattle.std.proofs.lemmas.Str.{IsUtf8-append, IsUtf8-from_ascii, is_utf8-from_IsUtf8}
 use Rattle.std.specs.List.{list_all, AllByRecursion}
 use Rattle.std.specs.Str.{is_utf8, IsAscii, IsUtf8}
-use Rattle.pb_data.specs.Gives.{◌>>=◌, lifted}
+use Rattle.pb_data.specs.UnlessOom.{◌>>=◌, lifted}
 use Rattle.pb_directive.proofs.JoinLemmas.{directives-followed_by}
 use Rattle.pb_directive.specs.Directives.{is_empty, plain, filled, variable, one, new_setting, text_directives, line_directives, directives_from, directives_of}
 use Rattle.pb_directive.specs.Faults.{fault_at}

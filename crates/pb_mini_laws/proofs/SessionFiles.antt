@@ -8,7 +8,7 @@ use Rattle.std.specs.Ordering.{nat_cmp}
 use Rattle.std.specs.Str.{bytes_eq}
 use Rattle.serde_json.specs.Data.{Data, Items, no_items, item}
 use Rattle.serde_json.specs.Find as find
-use Rattle.pb_data.specs.Gives.{◌>>=◌, lifted, some_or}
+use Rattle.pb_data.specs.UnlessOom.{◌>>=◌, lifted, some_or}
 use Rattle.pb_mini_laws.proofs.Named.{parsed_path_is}
 use Rattle.pb_mini_laws.specs.Honest.{RunsAlone, small_compiler}
 use Rattle.pb_workspace_types.specs.declared.options.Options.{Options}
@@ -32,7 +32,7 @@ use Rattle.pb_command.specs.Judge.{judge}
 use Rattle.std.proofs.lemmas.Bool.{false≢true}
 use Rattle.pb_store_soundness.specs.Records.{if_of_key, is_key, place_of, read_text, reading, record_at}
 use Rattle.pb_workspace.proofs.FoldersPut.{opened}
-use Rattle.pb_build_turns.specs.Crew.{Moment}
+use Rattle.pb_build_turns.specs.Executor.{BuildState}
 use Rattle.pb_build.specs.Environment.{environment_of}
 use Rattle.pb_build.specs.Headline.{IsHonestBuild, records_of}
 use Rattle.pb_build.specs.Lasting.{NothingIsSound, RecordsStayTrue, ShareNoPath, Spares}
@@ -174,7 +174,7 @@ step_at (Set name value) before after words same files = subst PathsAt (sym same
 step_at (Unset name) before after words same files = subst PathsAt (sym same) files
 step_at (Die key death) before after words same files = subst PathsAt (sym same) files
 step_at (Fuse number) before after words same files = subst PathsAt (sym same) files
-step_at (Build options pick) before after words built files = subst FilesHavePaths (sym (ap (λ (m : Moment). m.world) built.behind)) built.paths
+step_at (Build options pick) before after words built files = subst FilesHavePaths (sym (ap (λ (m : BuildState). m.world) built.behind)) built.paths
 
 abbrev target_in : Options → World → List ℕ
 target_in options w = (environment_of options w.variables).target
@@ -186,7 +186,7 @@ module _ (targets : List (List ℕ)) where
     manifest = manifest;
     files = removed_at (target_in options w) w files;
     setup = λ toolchain. record { flags = told.flags; runner = runner };
-    tells = told.tells;
+    can_tell = told.can_tell;
   }
 
   module _ (apart : StandApart targets) (records_stay_true : RecordsStayTrue) where

@@ -9,7 +9,7 @@ use Rattle.pb_place_types.proofs.Folders.{get-sources, get-seen}
 use Rattle.pb_record.specs.declared.record.Input.TheVariants.{Value}
 use Rattle.pb_store_soundness.specs.Inputs.{path_input, input_in, SameBelow, reply_in}
 use Rattle.pb_command_types.specs.Targets.{package_of, dep_info_of}
-use Rattle.pb_command_types.specs.declared.answer.Answered.{Answered}
+use Rattle.pb_command_types.specs.declared.checked_reply.CheckedReply.{CheckedReply}
 use Rattle.pb_record.specs.declared.record.InputName.{InputName}
 use Rattle.pb_record.specs.declared.record.InputName.TheVariants.{Path, Variable}
 use Rattle.pb_command_types.specs.declared.fault.UnitFault.{UnitFault}
@@ -69,7 +69,7 @@ module _ (c : Command) (v w : World) (below : SameBelow c.reads v.files w.files)
   same_inputs (name ∷ names) all = (same_input name all.0, same_inputs names all.1)
 
 -- what was found in a good reply
-found : (r : Result Answered UnitFault) (names : List InputName) → inputs_if r ≡ Some names → (a : Answered) × (r ≡ Ok a) × (names ≡ a.inputs)
+found : (r : Result CheckedReply UnitFault) (names : List InputName) → inputs_if r ≡ Some names → (a : CheckedReply) × (r ≡ Ok a) × (names ≡ a.inputs)
 found (Ok a) names is = (a, refl, cc)
 found (Err e) names is = absurd (cc)
 

@@ -2,7 +2,7 @@
 use Rattle.std.proofs.Common.{◌≡◌, Bool, true, false, cond, List, [], ◌∷◌, Option, Some, None, IfSome, Result, Ok, ℕ, subst}
 use Rattle.std.specs.List.{AllByRecursion, find}
 use Rattle.std.specs.Str.{bytes_eq}
-use Rattle.pb_data.specs.Gives.{◌>>=◌, some_or}
+use Rattle.pb_data.specs.UnlessOom.{◌>>=◌, some_or}
 use Rattle.pb_manifest.specs.Promises.{IsDependency, IsSharedDependency, IsSharedSource, IsSource}
 use Rattle.pb_manifest_types.specs.declared.dependency.Dependency.{Dependency}
 use Rattle.pb_manifest_types.specs.declared.dependency.Source.{Source}

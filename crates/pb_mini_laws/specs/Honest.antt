@@ -2,7 +2,7 @@
 -- a good reply again whenever all that the reply rests on is the same.
 use Rattle.std.specs.Prelude.{◌≡◌, ℕ, true, false, codes, List, [], ◌∷◌, Option, Some, Result, Ok, Err, IfSome, slice_get}
 use Rattle.std.specs.List.{AllByRecursion}
-use Rattle.pb_data.specs.Mentions.{is_mentioned}
+use Rattle.pb_data.specs.OrderedSet.{is_mentioned}
 use Rattle.pb_data.specs.Table.{table_of}
 use Rattle.pb_directive.specs.Lines.{has_byte}
 use Rattle.pb_directive.specs.declared.directive.Directive.{Directive}

@@ -8,14 +8,14 @@ use Rattle.pb_run_flight.specs.declared.turn.Step.{Step}
 use Rattle.pb_mini_laws.specs.Honest.{small_compiler}
 use Rattle.pb_workspace_types.specs.declared.options.Options.{Options}
 use Rattle.pb_place_types.specs.World.{World}
-use Rattle.pb_run.specs.Halves.{OnRecords}
+use Rattle.pb_run.specs.UnitSteps.{TrustedRecords}
 use Rattle.pb_build_session.specs.Sessions.{session_of}
 use Rattle.pb_build_session.specs.declared.pick.PickBy.{PickBy}
 use Rattle.pb_build_session.specs.declared.step.SessionStep.{SessionStep}
 use Rattle.pb_store_soundness.specs.Records.{reading}
 use Rattle.pb_store_soundness.specs.Sound.{Sound}
-use Rattle.pb_build_turns.specs.Crew.{Moment}
-use Rattle.pb_build.specs.Headline.{records_of, IsHonestBuild, ByTurns, Gives, Headline}
+use Rattle.pb_build_turns.specs.Executor.{BuildState}
+use Rattle.pb_build.specs.Headline.{records_of, IsHonestBuild, ByTurns, GivesCleanResult, Headline}
 use Rattle.pb_build.specs.Session.{Point, CarriesBuild, Course, ByPicked}
 use Rattle.pb_mini_laws.specs.Small.{AllGive, AllTold, IsSmallBuild, SmallCourse, StandApart}
 
@@ -26,15 +26,15 @@ SmallBuildsAreHonest = (options : Options) (w : World) → IsSmallBuild options 
 -- Over a place that tells its maps, with the small compiler as child: a build over true records that satisfies
 -- `IsSmallBuild` produces what a clean build of the present workspace produces, however it ends.
 abbrev pub SmallBuildsGive : {S : Type 0} → (S → List ℕ → List ℕ → Step → S → Type 0) → Type 0
-SmallBuildsGive {S} Turns = (from : S) (options : Options) (result : Result Summary BuildFault) (old new : Moment) → Headline true small_compiler (ByTurns Turns from) options result old new
-    → IsSmallBuild options old.world → Sound reading judge small_compiler (records_of options old.world.variables) old.world.files → Gives OnRecords small_compiler (ByTurns Turns from) options result old new
+SmallBuildsGive {S} Turns = (from : S) (options : Options) (result : Result Summary BuildFault) (old new : BuildState) → Headline true small_compiler (ByTurns Turns from) options result old new
+    → IsSmallBuild options old.world → Sound reading judge small_compiler (records_of options old.world.variables) old.world.files → GivesCleanResult TrustedRecords small_compiler (ByTurns Turns from) options result old new
 
 -- The same is true for a build of a session with the small compiler, if the records of its folder were true before the
 -- steps: between may be any edits outside of that folder, and any such builds.
 abbrev pub SmallSessionsGive : Type 0
 SmallSessionsGive = (options : Options) (pick : PickBy) (steps : List SessionStep) (before mid after : Point)
     → Sound reading judge small_compiler (records_of options mid.moment.world.variables) before.moment.world.files → SmallCourse (records_of options mid.moment.world.variables) steps before mid
-    → IsSmallBuild options mid.moment.world → (built : CarriesBuild small_compiler options pick mid after) → Gives OnRecords small_compiler (ByPicked pick options) options built.answer.result mid.moment built.ended
+    → IsSmallBuild options mid.moment.world → (built : CarriesBuild small_compiler options pick mid after) → GivesCleanResult TrustedRecords small_compiler (ByPicked pick options) options built.answer.result mid.moment built.ended
 
 -- The same is true for each build of a session file that begins without files and builds into these target folders. The
 -- builds need only satisfy what the file leaves open.

@@ -1,7 +1,7 @@
 -- Names that are written in dep-info, and read back from it.
 use Rattle.std.specs.Prelude.{◌≡◌, ℕ, ◌==◌, not, ◌||◌, Bool, true, false, List, [], ◌∷◌, Option, Ok}
 use Rattle.std.specs.List.{AllByRecursion}
-use Rattle.pb_data.specs.Mentions.{is_mentioned}
+use Rattle.pb_data.specs.OrderedSet.{is_mentioned}
 use Rattle.pb_data.specs.Table.{names_of}
 use Rattle.pb_directive.specs.DepInfo.{dep_info_of}
 use Rattle.pb_directive.specs.Lines.{has_byte}

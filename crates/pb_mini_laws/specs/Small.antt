@@ -1,6 +1,6 @@
 -- Builds whose child is the small compiler: what must be true of their arguments. There is no condition on the child.
 use Rattle.std.specs.Prelude.{◌≡◌, ◌⊎◌, ◌∷◌, [], ⊤, ℕ, true, false, codes, Contains, List, take, Some}
-use Rattle.pb_data.specs.Mentions.{is_mentioned}
+use Rattle.pb_data.specs.OrderedSet.{is_mentioned}
 use Rattle.pb_mini_laws.specs.Honest.{small_compiler, CanTell, IsSmall}
 use Rattle.pb_manifest_types.specs.Letters.{is_name}
 use Rattle.pb_workspace_types.specs.declared.options.Options.{Options}
@@ -9,13 +9,13 @@ use Rattle.pb_place_types.specs.World.{World, from_nothing, FilesHavePaths}
 use Rattle.pb_command_types.specs.Targets.{unit_at}
 use Rattle.pb_command_types.specs.declared.project.Project.{Project}
 use Rattle.pb_command_types.specs.declared.project.Setup.{Setup}
-use Rattle.pb_run.specs.Halves.{OnRecords}
+use Rattle.pb_run.specs.UnitSteps.{TrustedRecords}
 use Rattle.pb_run.specs.Outcome.{outcomes, command_after, view_of}
 use Rattle.pb_build_session.specs.declared.step.SessionStep.{SessionStep}
 use Rattle.pb_build_session.specs.declared.step.SessionStep.TheVariants.{Write, Remove, Build}
 use Rattle.pb_unit.specs.declared.plan.Planned.{Planned}
 use Rattle.pb_build.specs.Environment.{environment_of}
-use Rattle.pb_build.specs.Headline.{records_of, UnitsOf, Gives}
+use Rattle.pb_build.specs.Headline.{records_of, UnitsOf, GivesCleanResult}
 use Rattle.pb_build.specs.Lasting.{ShareNoPath, Spares}
 use Rattle.pb_build.specs.Planning.{IsProject}
 use Rattle.pb_build.specs.Result.{toolchain_of, setup_of}
@@ -40,7 +40,7 @@ pub record IsSmallBuild (options : Options) (w : World) : Type 0 where
   pub manifest : is_path options.manifest ≡ true
   pub files : FilesHavePaths (from_nothing (environment_of options w.variables).target w)
   pub setup : (toolchain : List ℕ) → IsSmall (setup_of options (environment_of options w.variables) toolchain)
-  pub tells : CanTellBuild options w
+  pub can_tell : CanTellBuild options w
 
 -- Sessions.
 
@@ -67,7 +67,7 @@ pub record IsToldBuild (targets : List (List ℕ)) (options : Options) (w : Worl
   pub target : Contains targets (environment_of options w.variables).target
   pub profile : is_name options.profile ≡ true
   pub flags : is_mentioned (environment_of options w.variables).flags (codes "--extern") ≡ false
-  pub tells : CanTellBuild options w
+  pub can_tell : CanTellBuild options w
 
 -- the same for a step: an edit is outside of each target folder, or removes that folder whole
 abbrev pub IsToldStep : List (List ℕ) → SessionStep → World → Type 0
@@ -84,7 +84,7 @@ AllTold targets (step ∷ steps) before after course = IsToldStep targets step b
 -- a build among the steps produces what a clean build of the workspace of that time produces, or a fault and the first
 -- of its lines
 abbrev pub StepGives : (step : SessionStep) (before after : Point) → Carries small_compiler step before after → Type 0
-StepGives (Build options pick) before after built = Gives OnRecords small_compiler (ByPicked pick options) options built.answer.result before.moment built.ended
+StepGives (Build options pick) before after built = GivesCleanResult TrustedRecords small_compiler (ByPicked pick options) options built.answer.result before.moment built.ended
 StepGives step before after taken = ⊤
 
 -- the same for each build among the steps

@@ -53,11 +53,11 @@ torn path bytes path' bytes' mid mid' new p b m t =
     subst (λ w. Torn path' bytes' w new) m (subst (λ x. Torn path' x mid new) b (subst (λ x. Torn x bytes mid new) p t))
 
 -- the write of this file failed
-pub fails_at : (tells : Bool) (folder : List ℕ) (files : List (List ℕ × List ℕ)) (i : ℕ) (file : List ℕ × List ℕ) (path bytes : List ℕ) (e : PlaceFault) (old mid new : Kept)
+pub fails_at : (is_modelled : Bool) (folder : List ℕ) (files : List (List ℕ × List ℕ)) (i : ℕ) (file : List ℕ × List ℕ) (path bytes : List ℕ) (e : PlaceFault) (old mid new : Kept)
     → i < length files → file ≡ get_or files i file → path ≡ below folder file.0 → bytes ≡ file.1
-    → mid.counts ≡ past_calls (writes_in folder (take i files)) old.counts → (IsTrue tells → mid.world ≡ put_reply (Some folder) (take i files) old.world)
-    → e ≡ place.Write → new.counts ≡ past_place_fault (call.Write path) e mid.counts → (IsTrue tells → Torn path bytes mid.world new.world) → FailsToPut tells folder files old new
-fails_at tells folder files i file path bytes e old mid new on is is_path is_bytes so put is_write counts tears = (
+    → mid.counts ≡ past_calls (writes_in folder (take i files)) old.counts → (IsTrue is_modelled → mid.world ≡ put_reply (Some folder) (take i files) old.world)
+    → e ≡ place.Write → new.counts ≡ past_place_fault (call.Write path) e mid.counts → (IsTrue is_modelled → Torn path bytes mid.world new.world) → FailsToPut is_modelled folder files old new
+fails_at is_modelled folder files i file path bytes e old mid new on is is_path is_bytes so put is_write counts tears = (
   take i files,
   file,
   drop (i + 1) files,
@@ -67,11 +67,11 @@ fails_at tells folder files i file path bytes e old mid new on is is_path is_byt
 )
 
 -- memory was refused at its write
-pub stops_at : (tells : Bool) (folder : List ℕ) (files : List (List ℕ × List ℕ)) (i : ℕ) (file : List ℕ × List ℕ) (path bytes : List ℕ) (e : PlaceFault) (old mid new : Kept)
+pub stops_at : (is_modelled : Bool) (folder : List ℕ) (files : List (List ℕ × List ℕ)) (i : ℕ) (file : List ℕ × List ℕ) (path bytes : List ℕ) (e : PlaceFault) (old mid new : Kept)
     → i < length files → file ≡ get_or files i file → path ≡ below folder file.0 → bytes ≡ file.1
-    → mid.counts ≡ past_calls (writes_in folder (take i files)) old.counts → (IsTrue tells → mid.world ≡ put_reply (Some folder) (take i files) old.world)
-    → e ≡ place.OutOfMemory → new.counts ≡ past_place_fault (call.Write path) e mid.counts → (IsTrue tells → Torn path bytes mid.world new.world) → StopsPutting tells folder files old new
-stops_at tells folder files i file path bytes e old mid new on is is_path is_bytes so put is_memory counts tears = (
+    → mid.counts ≡ past_calls (writes_in folder (take i files)) old.counts → (IsTrue is_modelled → mid.world ≡ put_reply (Some folder) (take i files) old.world)
+    → e ≡ place.OutOfMemory → new.counts ≡ past_place_fault (call.Write path) e mid.counts → (IsTrue is_modelled → Torn path bytes mid.world new.world) → StopsPutting is_modelled folder files old new
+stops_at is_modelled folder files i file path bytes e old mid new on is is_path is_bytes so put is_memory counts tears = (
   take i files,
   file,
   drop (i + 1) files,
@@ -83,10 +83,10 @@ stops_at tells folder files i file path bytes e old mid new on is is_path is_byt
 )
 
 -- or before it
-pub stops_before : (tells : Bool) (folder : List ℕ) (files : List (List ℕ × List ℕ)) (i : ℕ) (file : List ℕ × List ℕ) (old new : Kept)
+pub stops_before : (is_modelled : Bool) (folder : List ℕ) (files : List (List ℕ × List ℕ)) (i : ℕ) (file : List ℕ × List ℕ) (old new : Kept)
     → i < length files → file ≡ get_or files i file
-    → new.counts ≡ past_calls (writes_in folder (take i files)) old.counts → (IsTrue tells → new.world ≡ put_reply (Some folder) (take i files) old.world) → StopsPutting tells folder files old new
-stops_before tells folder files i file old new on is so put = (
+    → new.counts ≡ past_calls (writes_in folder (take i files)) old.counts → (IsTrue is_modelled → new.world ≡ put_reply (Some folder) (take i files) old.world) → StopsPutting is_modelled folder files old new
+stops_before is_modelled folder files i file old new on is so put = (
   take i files,
   file,
   drop (i + 1) files,
@@ -95,10 +95,10 @@ stops_before tells folder files i file old new on is so put = (
 )
 
 -- no files are put anywhere
-put_none : (folder : Option (List ℕ)) (tells : Bool) (old : Kept) → PutsIn tells folder [] old old
-put_none None tells old = (refl, λ told. refl)
-put_none (Some folder) tells old = (refl, λ told. refl)
+put_none : (folder : Option (List ℕ)) (is_modelled : Bool) (old : Kept) → PutsIn is_modelled folder [] old old
+put_none None is_modelled old = (refl, λ told. refl)
+put_none (Some folder) is_modelled old = (refl, λ told. refl)
 
-pub no_files : (tells : Bool) (folder : Option (List ℕ)) (files : List (List ℕ × List ℕ)) (old : Kept) → length files == 0 ≡ true → PutsIn tells folder files old old
-no_files tells folder [] old none = put_none folder tells old
-no_files tells folder (f ∷ files) old none = let empty : length (f ∷ files) ≡ 0 = (Decides-eqb _ _).0 none in absurd (omega arith)
+pub no_files : (is_modelled : Bool) (folder : Option (List ℕ)) (files : List (List ℕ × List ℕ)) (old : Kept) → length files == 0 ≡ true → PutsIn is_modelled folder files old old
+no_files is_modelled folder [] old none = put_none folder is_modelled old
+no_files is_modelled folder (f ∷ files) old none = let empty : length (f ∷ files) ≡ 0 = (Decides-eqb _ _).0 none in absurd (omega arith)

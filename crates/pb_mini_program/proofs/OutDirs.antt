@@ -3,7 +3,7 @@ use Rattle.std.proofs.Common.{◌≡◌, ◌≢◌, ◌∙◌, ◌||◌, ℕ, Bo
 use Rattle.std.proofs.lemmas.Bool.{false≢true}
 use Rattle.std.proofs.lemmas.Slice.Eq.{bytes_eq-Decides}
 use Rattle.std.specs.Str.{bytes_eq}
-use Rattle.pb_data.specs.Gives.{◌>>=◌}
+use Rattle.pb_data.specs.UnlessOom.{◌>>=◌}
 use Rattle.pb_place_types.specs.Paths.{parsed}
 use Rattle.pb_place_types.specs.declared.path.PathFault.{PathFault}
 use Rattle.pb_mini.specs.Answer.{request_of, compile_in}

@@ -4,7 +4,7 @@ use Rattle.std.proofs.lemmas.Bool.{false≢true}
 use Rattle.std.specs.Io.KnownBytes.{Appends}
 use Rattle.pb_data.specs.Table.{table_of}
 use Rattle.pb_place_types.specs.Counts.{up}
-use Rattle.pb_place_types.specs.Sinks.{Heard, TakesPart}
+use Rattle.pb_place_types.specs.Sinks.{SinkState, TakesPart}
 use Rattle.pb_place_types.specs.World.{World}
 use Rattle.pb_place_types.specs.declared.child.Reply.{Reply}
 use Rattle.pb_place_types.specs.declared.place.PlaceFault.{PlaceFault}
@@ -72,9 +72,9 @@ files_put shows tells words shown reply files old new is has put =
     (put.0, (λ told. put.1 (has ∙ ap (λ r. r.files) (is told)) told), subst (λ fs. PutsIn tells put.0 fs old new) has put.2)
 
 -- a sink failed at these bytes
-pub sink_fails : (told bytes : List ℕ) (old new : Heard) → told ≡ bytes → TakesPart told old.taken new.taken → new.faults ≡ up old.faults → FailsAt bytes old new
+pub sink_fails : (told bytes : List ℕ) (old new : SinkState) → told ≡ bytes → TakesPart told old.taken new.taken → new.faults ≡ up old.faults → FailsAt bytes old new
 sink_fails told bytes old new is part rose = (subst (λ b. TakesPart b old.taken new.taken) is part, rose)
 
 -- a sink took them all
-pub sink_takes : (told bytes : List ℕ) (old new : Heard) → told ≡ bytes → Appends old.taken new.taken told → new.faults ≡ old.faults → Writes bytes old new
+pub sink_takes : (told bytes : List ℕ) (old new : SinkState) → told ≡ bytes → Appends old.taken new.taken told → new.faults ≡ old.faults → Writes bytes old new
 sink_takes told bytes old new is all stays = (subst (λ b. Appends old.taken new.taken b) is all, stays)

@@ -8,7 +8,7 @@ use Rattle.pb_place_types.specs.declared.call.Call.{Call}
 use Rattle.pb_place_types.specs.declared.call.Call.TheVariants as call
 use Rattle.pb_place_types.specs.Counts.{Counts, up, past_place_fault}
 use Rattle.pb_place_types.specs.Paths.{below}
-use Rattle.pb_place_types.specs.Sinks.{Heard, TakesPart}
+use Rattle.pb_place_types.specs.Sinks.{SinkState, TakesPart}
 use Rattle.pb_place_types.specs.World.{World, Torn, put_reply}
 use Rattle.pb_place_types.specs.declared.child.Reply.{Reply}
 use Rattle.pb_place_types.specs.declared.place.PlaceFault.TheVariants as place
@@ -16,11 +16,11 @@ use Rattle.pb_mini.specs.Answer.{answered}
 use Rattle.pb_mini_program.specs.OutFolder.{out_folder}
 
 -- all of these bytes were written
-abbrev pub Writes : List ℕ → Heard → Heard → Type 0
+abbrev pub Writes : List ℕ → SinkState → SinkState → Type 0
 Writes bytes old new = Appends old.taken new.taken bytes × (new.faults ≡ old.faults)
 
 -- the sink failed at these bytes, of which it took the first n but not all
-abbrev pub FailsAt : List ℕ → Heard → Heard → Type 0
+abbrev pub FailsAt : List ℕ → SinkState → SinkState → Type 0
 FailsAt bytes old new = TakesPart bytes old.taken new.taken × (new.faults ≡ up old.faults)
 
 -- the maps of a place, and its counters
@@ -43,7 +43,7 @@ past_puts (Some folder) files c = past_calls (writes_in folder files) c
 
 -- the files were put in the folder by one call for each, in turn, and none failed; without a folder no call was made
 abbrev pub PutsIn : Bool → Option (List ℕ) → List (List ℕ × List ℕ) → Kept → Kept → Type 0
-PutsIn tells folder files old new = (new.counts ≡ past_puts folder files old.counts) × (IsTrue tells → new.world ≡ put_reply folder files old.world)
+PutsIn is_modelled folder files old new = (new.counts ≡ past_puts folder files old.counts) × (IsTrue is_modelled → new.world ≡ put_reply folder files old.world)
 
 -- the files were put in the folder up to this one, which has a first part of its bytes or is as it was
 abbrev pub PutsUpTo : List ℕ → List (List ℕ × List ℕ) → List ℕ × List ℕ → World → World → Type 0
@@ -51,17 +51,17 @@ PutsUpTo folder done file old new = Torn (below folder file.0) file.1 (put_reply
 
 -- the write of one of the files failed: the files before it were put in the folder, and no call came after it
 abbrev pub FailsToPut : Bool → List ℕ → List (List ℕ × List ℕ) → Kept → Kept → Type 0
-FailsToPut tells folder files old new =
+FailsToPut is_modelled folder files old new =
     (done : List (List ℕ × List ℕ)) × (file : List ℕ × List ℕ) × (left : List (List ℕ × List ℕ)) × (files ≡ done ++ file ∷ left)
-    × (new.counts ≡ past_place_fault (call.Write (below folder file.0)) place.Write (past_calls (writes_in folder done) old.counts)) × (IsTrue tells → PutsUpTo folder done file old.world new.world)
+    × (new.counts ≡ past_place_fault (call.Write (below folder file.0)) place.Write (past_calls (writes_in folder done) old.counts)) × (IsTrue is_modelled → PutsUpTo folder done file old.world new.world)
 
 -- memory ran out at one of the files, before its write or in it, and no call failed;
 -- the files before it were put in the folder
 abbrev pub StopsPutting : Bool → List ℕ → List (List ℕ × List ℕ) → Kept → Kept → Type 0
-StopsPutting tells folder files old new =
+StopsPutting is_modelled folder files old new =
     (done : List (List ℕ × List ℕ)) × (file : List ℕ × List ℕ) × (left : List (List ℕ × List ℕ)) × (files ≡ done ++ file ∷ left)
-    × (PutsIn tells (Some folder) done old new
-    ⊎ ((new.counts ≡ past_calls (writes_in folder (done ++ file ∷ [])) old.counts) × (IsTrue tells → PutsUpTo folder done file old.world new.world)))
+    × (PutsIn is_modelled (Some folder) done old new
+    ⊎ ((new.counts ≡ past_calls (writes_in folder (done ++ file ∷ [])) old.counts) × (IsTrue is_modelled → PutsUpTo folder done file old.world new.world)))
 
 -- What is reported of a reply over a view:
 -- if the view reports what it shows, the reply is the small compiler's to these arguments.
@@ -79,32 +79,32 @@ IsFolderOf shows words shown files folder = files ≡ (answered words [] shown).
 
 -- all files of the reply were put there
 abbrev pub Puts : Bool → Bool → List (List ℕ) → World → Reply → Kept → Kept → Type 0
-Puts shows tells words shown reply old new = (folder : Option (List ℕ)) × IsFolder shows words shown folder × PutsIn tells folder reply.files old new
+Puts shows is_modelled words shown reply old new = (folder : Option (List ℕ)) × IsFolder shows words shown folder × PutsIn is_modelled folder reply.files old new
 
 -- a place and two sinks
 pub record Outside : Type 0 where
   pub kept : Kept
-  pub out : Heard
-  pub err : Heard
+  pub out : SinkState
+  pub err : SinkState
 
-abbrev pub outside : At → Heard → Heard → Outside
+abbrev pub outside : At → SinkState → SinkState → Outside
 outside at out err = record { kept = kept at; out = out; err = err }
 
 -- all of the reply was written: the files, the output, and standard error
 abbrev pub WritesAll : Bool → Bool → List (List ℕ) → World → Reply → Outside → Outside → Type 0
-WritesAll shows tells words shown reply old new = Puts shows tells words shown reply old.kept new.kept × Writes reply.stdout old.out new.out × Writes reply.stderr old.err new.err
+WritesAll shows is_modelled words shown reply old new = Puts shows is_modelled words shown reply old.kept new.kept × Writes reply.stdout old.out new.out × Writes reply.stderr old.err new.err
 
 -- a write failed: that of a file; that of the output, after all files;
 -- or that of standard error, after the whole output
 abbrev pub WriteFails : Bool → Bool → List (List ℕ) → World → Reply → Outside → Outside → Type 0
-WriteFails shows tells words shown reply old new =
-    ((folder : List ℕ) × IsFolder shows words shown (Some folder) × FailsToPut tells folder reply.files old.kept new.kept × (new.out ≡ old.out) × (new.err ≡ old.err))
-    ⊎ ((Puts shows tells words shown reply old.kept new.kept × FailsAt reply.stdout old.out new.out × (new.err ≡ old.err))
-    ⊎ (Puts shows tells words shown reply old.kept new.kept × Writes reply.stdout old.out new.out × FailsAt reply.stderr old.err new.err))
+WriteFails shows is_modelled words shown reply old new =
+    ((folder : List ℕ) × IsFolder shows words shown (Some folder) × FailsToPut is_modelled folder reply.files old.kept new.kept × (new.out ≡ old.out) × (new.err ≡ old.err))
+    ⊎ ((Puts shows is_modelled words shown reply old.kept new.kept × FailsAt reply.stdout old.out new.out × (new.err ≡ old.err))
+    ⊎ (Puts shows is_modelled words shown reply old.kept new.kept × Writes reply.stdout old.out new.out × FailsAt reply.stderr old.err new.err))
 
 -- memory ran out before a file was put, or at one of the files; no call failed, and nothing was written to a sink
 abbrev pub MemoryEnds : Bool → Bool → List (List ℕ) → World → Outside → Outside → Type 0
-MemoryEnds shows tells words shown old new =
+MemoryEnds shows is_modelled words shown old new =
     (new ≡ old)
     ⊎ ((reply : Reply) × (folder : List ℕ) × IsReply shows words shown reply × IsFolder shows words shown (Some folder)
-    × StopsPutting tells folder reply.files old.kept new.kept × (new.out ≡ old.out) × (new.err ≡ old.err))
+    × StopsPutting is_modelled folder reply.files old.kept new.kept × (new.out ≡ old.out) × (new.err ≡ old.err))

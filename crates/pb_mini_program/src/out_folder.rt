@@ -79,7 +79,7 @@ fn path_of(alloc: Global, text: &str) -> Result<Option<PathText>, AllocError>
 ///
 /// Errors: those of the view.
 fn out_dir_variable<V: View>(alloc: Global, view: &V) -> Result<Option<PathText>, ViewFault>
-    ensures folder { IsTrue V.tells
+    ensures folder { IsTrue V.is_modelled
         → IfOk result (λ folder. folder ≡ out_dir_variable (V.shown view.now)) }
     ensures failed { IfErr result (λ e. e ≡ ViewFault.Failed → V.fails view.now) }
 {
@@ -121,7 +121,7 @@ pub(crate) fn out_folder<V: View>(
 ) -> Result<Option<PathText>, ViewFault>
     ensures compile { IfOk result (λ folder. (line : CommandLine)
         → request_of words.now ≡ Ok (Compile line) → folder ≡ Some line.out_dir) }
-    ensures run { IsTrue V.tells
+    ensures run { IsTrue V.is_modelled
         → IfOk result (λ folder. (path : List ℕ) → request_of words.now ≡ Ok (Run path)
         → folder ≡ out_dir_variable (V.shown view.now)) }
     ensures failed { IfErr result (λ e. e ≡ ViewFault.Failed → V.fails view.now) }

@@ -25,13 +25,13 @@ fn write_files<P: Place>(
     folder: &PathText,
     files: &[(RelativePath, Bytes)],
 ) -> Result<(), PlaceFault>
-    ensures written { IsTrue P.tells → OnOk result ((P.at place.new).world
+    ensures written { IsTrue P.is_modelled → OnOk result ((P.at place.new).world
         ≡ put_reply (Some folder.now) files.now (P.at place.old).world) }
     ensures whole { OnOk result ((P.at place.new).counts
         ≡ past_calls (writes_in folder.now files.now) (P.at place.old).counts) }
-    ensures fault { IfErr result (λ e. e ≢ PlaceFault.OutOfMemory → FailsToPut P.tells folder.now
+    ensures fault { IfErr result (λ e. e ≢ PlaceFault.OutOfMemory → FailsToPut P.is_modelled folder.now
         files.now (kept (P.at place.old)) (kept (P.at place.new))) }
-    ensures memory { IfErr result (λ e. e ≡ PlaceFault.OutOfMemory → StopsPutting P.tells folder.now
+    ensures memory { IfErr result (λ e. e ≡ PlaceFault.OutOfMemory → StopsPutting P.is_modelled folder.now
         files.now (kept (P.at place.old)) (kept (P.at place.new))) }
 {
     for (name, bytes) in files {
@@ -52,23 +52,23 @@ fn leave_files<P: Place, V: View>(
     files: &[(RelativePath, Bytes)],
 ) -> Result<(), Fault>
     // All files are put in the output folder, or none if there is no folder.
-    ensures files { IsTrue V.tells → IsTrue P.tells → OnOk result
+    ensures files { IsTrue V.is_modelled → IsTrue P.is_modelled → OnOk result
         (files.now ≡ (answered words.now [] (V.shown view.now)).files → (P.at place.new).world
         ≡ put_reply (out_folder words.now (V.shown view.now)) files.now (P.at place.old).world) }
     ensures whole { OnOk result ((folder : Option (List ℕ))
-        × IsFolderOf V.tells words.now (V.shown view.now) files.now folder
-        × PutsIn P.tells folder files.now (kept (P.at place.old)) (kept (P.at place.new))) }
+        × IsFolderOf V.is_modelled words.now (V.shown view.now) files.now folder
+        × PutsIn P.is_modelled folder files.now (kept (P.at place.old)) (kept (P.at place.new))) }
 
     // Why it fails:
     ensures read { IfErr result (λ e. e ≡ Fault.Read → V.fails view.now
         × (place.new ≡ place.old)) }
     ensures write { IfErr result (λ e. e ≡ Fault.Write → (folder : List ℕ)
-        × IsFolderOf V.tells words.now (V.shown view.now) files.now (Some folder)
-        × FailsToPut P.tells folder files.now (kept (P.at place.old)) (kept (P.at place.new))) }
+        × IsFolderOf V.is_modelled words.now (V.shown view.now) files.now (Some folder)
+        × FailsToPut P.is_modelled folder files.now (kept (P.at place.old)) (kept (P.at place.new))) }
     ensures memory { IfErr result (λ e. e ≡ Fault.OutOfMemory → (place.new ≡ place.old)
         ⊎ ((folder : List ℕ)
-        × IsFolderOf V.tells words.now (V.shown view.now) files.now (Some folder)
-        × StopsPutting P.tells folder files.now (kept (P.at place.old)) (kept (P.at place.new)))) }
+        × IsFolderOf V.is_modelled words.now (V.shown view.now) files.now (Some folder)
+        × StopsPutting P.is_modelled folder files.now (kept (P.at place.old)) (kept (P.at place.new)))) }
 {
     if files.is_empty() {
         return Ok(());
@@ -96,21 +96,21 @@ pub fn carry_out<V: View, P: Place, O: Out, E: Out>(
     err: &mut E,
 ) -> Result<i32, Fault>
     // Over a view that reports what it shows, and a place that tells its maps:
-    ensures status { IsTrue V.tells → IfOk result
+    ensures status { IsTrue V.is_modelled → IfOk result
         (λ status. status ≡ (answered words.now [] (V.shown view.now)).status) }
-    ensures stdout { IsTrue V.tells → OnOk result (Appends (O.heard out.old).taken
+    ensures stdout { IsTrue V.is_modelled → OnOk result (Appends (O.heard out.old).taken
         (O.heard out.new).taken (answered words.now [] (V.shown view.now)).stdout) }
-    ensures stderr { IsTrue V.tells → OnOk result (Appends (E.heard err.old).taken
+    ensures stderr { IsTrue V.is_modelled → OnOk result (Appends (E.heard err.old).taken
         (E.heard err.new).taken (answered words.now [] (V.shown view.now)).stderr) }
-    ensures files { IsTrue V.tells → IsTrue P.tells → OnOk result ((P.at place.new).world
+    ensures files { IsTrue V.is_modelled → IsTrue P.is_modelled → OnOk result ((P.at place.new).world
         ≡ put_reply (out_folder words.now (V.shown view.now))
         (answered words.now [] (V.shown view.now)).files (P.at place.old).world) }
 
     // Over any view and place: the files, the output and standard error of one reply are written,
     // in this order.
     ensures whole { IfOk result (λ status. (reply : Reply)
-        × IsReply V.tells words.now (V.shown view.now) reply × (status ≡ reply.status)
-        × WritesAll V.tells P.tells words.now (V.shown view.now) reply
+        × IsReply V.is_modelled words.now (V.shown view.now) reply × (status ≡ reply.status)
+        × WritesAll V.is_modelled P.is_modelled words.now (V.shown view.now) reply
         (outside (P.at place.old) (O.heard out.old) (E.heard err.old))
         (outside (P.at place.new) (O.heard out.new) (E.heard err.new))) }
 
@@ -118,12 +118,12 @@ pub fn carry_out<V: View, P: Place, O: Out, E: Out>(
     ensures read { IfErr result (λ e. e ≡ Fault.Read → V.fails view.now
         × (place.new ≡ place.old) × (out.new ≡ out.old) × (err.new ≡ err.old)) }
     ensures write { IfErr result (λ e. e ≡ Fault.Write → (reply : Reply)
-        × IsReply V.tells words.now (V.shown view.now) reply
-        × WriteFails V.tells P.tells words.now (V.shown view.now) reply
+        × IsReply V.is_modelled words.now (V.shown view.now) reply
+        × WriteFails V.is_modelled P.is_modelled words.now (V.shown view.now) reply
         (outside (P.at place.old) (O.heard out.old) (E.heard err.old))
         (outside (P.at place.new) (O.heard out.new) (E.heard err.new))) }
     ensures memory { IfErr result (λ e. e ≡ Fault.OutOfMemory
-        → MemoryEnds V.tells P.tells words.now (V.shown view.now)
+        → MemoryEnds V.is_modelled P.is_modelled words.now (V.shown view.now)
         (outside (P.at place.old) (O.heard out.old) (E.heard err.old))
         (outside (P.at place.new) (O.heard out.new) (E.heard err.new))) }
 {

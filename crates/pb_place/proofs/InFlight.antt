@@ -84,19 +84,19 @@ any_entry {K = K} p t (y ∷ ys) x is hit = elim (cases_Bool (y.child.ticket == 
     same_Some e = cc
 
 -- the first death for a folder, at its place
-pub fated : (out : Option (List ℕ)) (ds : List Death) (i : ℕ) (d : Death) → d ≡ get_or ds i d → i < length ds → list_any (is_for out) (take i ds) ≡ false → list_any (is_for out) (take (suc i) ds) ≡ true
+pub exit_fails : (out : Option (List ℕ)) (ds : List Death) (i : ℕ) (d : Death) → d ≡ get_or ds i d → i < length ds → list_any (is_for out) (take i ds) ≡ false → list_any (is_for out) (take (suc i) ds) ≡ true
     → (fate_of out ds ≡ Some d.kind) × (remove ds i ≡ other_deaths out ds)
-fated out [] i d is inside none hit = absurd (omega arith)
-fated out (y ∷ ys) zero d is inside none hit =
+exit_fails out [] i d is inside none hit = absurd (omega arith)
+exit_fails out (y ∷ ys) zero d is inside none hit =
     let here : is_for out y ≡ true = or_alone (is_for out y) hit in
     (ap (λ b. cond b (Some y.kind) (fate_of out ys)) here ∙ ap (λ (z : Death). Some z.kind) (sym is), sym (ap (λ b. cond b ys (y ∷ other_deaths out ys)) here))
   where
     or_alone : (b : Bool) → b || false ≡ true → b ≡ true
     or_alone true h = refl
     or_alone false h = h
-fated out (y ∷ ys) (suc i) d is inside none hit =
+exit_fails out (y ∷ ys) (suc i) d is inside none hit =
     let away : is_for out y ≡ false = or_left (is_for out y) _ none in
-    let rest = fated out ys i d is (omega arith) (or_right (is_for out y) _ none) (or_past (is_for out y) _ away hit) in
+    let rest = exit_fails out ys i d is (omega arith) (or_right (is_for out y) _ none) (or_past (is_for out y) _ away hit) in
     (ap (λ b. cond b (Some y.kind) (fate_of out ys)) away ∙ rest.0, ap (λ (zs : List Death). y ∷ zs) rest.1 ∙ sym (ap (λ b. cond b ys (y ∷ other_deaths out ys)) away))
   where
     or_past : (a b : Bool) → a ≡ false → a || b ≡ true → b ≡ true
@@ -110,11 +110,11 @@ unfated out (y ∷ ys) none =
     let rest = unfated out ys (or_right (is_for out y) _ none) in
     (ap (λ b. cond b (Some y.kind) (fate_of out ys)) away ∙ rest.0, ap (λ b. cond b ys (y ∷ other_deaths out ys)) away ∙ ap (λ (zs : List Death). y ∷ zs) rest.1)
 
-pub ruleset death_laws = (fated, unfated)
+pub ruleset death_laws = (exit_fails, unfated)
 
 pub fated_at : (out : Option (List ℕ)) (ds es : List Death) (i : ℕ) (d : Death) → es ≡ ds → d ≡ get_or ds i d → (i < length es) × (list_any (is_for out) (take i es) ≡ false) × (list_any (is_for out) (take (i + 1) es) ≡ true)
     → (fate_of out ds ≡ Some d.kind) × (remove ds i ≡ other_deaths out ds)
-fated_at out ds es i d same is place = fated out ds i d is (subst (λ (xs : List Death). i < length xs) same place.0) (ap (λ (xs : List Death). list_any (is_for out) (take i xs)) (sym same) ∙ place.1)
+fated_at out ds es i d same is place = exit_fails out ds i d is (subst (λ (xs : List Death). i < length xs) same place.0) (ap (λ (xs : List Death). list_any (is_for out) (take i xs)) (sym same) ∙ place.1)
     (ap (λ (n : ℕ). list_any (is_for out) (take n ds)) (next i) ∙ ap (λ (xs : List Death). list_any (is_for out) (take (i + 1) xs)) (sym same) ∙ place.2)
 
 -- one more child

@@ -28,4 +28,4 @@ fated_start Q r (Some e) h = λ flies. inl (h flies)
 
 -- the end is not the call that fails where it was not the second
 pub not_the_end : (before after : ℕ) → after ≡ before - 1 → before ≢ 2 → after ≢ 1
-not_the_end before after is no_end burns = no_end (omega arith)
+not_the_end before after is no_end fails_now = no_end (omega arith)

@@ -26,7 +26,7 @@ fuse_after (Err e) fuse = fuse_past e fuse
 -- a call on files or variables fails if and only if the fuse is 1, with the call's own fault;
 -- any call may run out of memory
 pub record FailsByFuse {T : Type 0} (call : Call) (result : Result T PlaceFault) (old : Held) : Type 0 where
-  pub burns : old.fuse ≡ 1 → IfOk result (λ _. ⊥)
+  pub fails_now : old.fuse ≡ 1 → IfOk result (λ _. ⊥)
   pub fault : IfErr result (λ e. e ≢ OutOfMemory → e ≡ own_fault call)
   pub fails : IfErr result (λ e. e ≢ OutOfMemory → old.fuse ≡ 1)
 

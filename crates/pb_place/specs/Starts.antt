@@ -14,8 +14,8 @@ use Rattle.pb_place.specs.Memory.{Held, fate_at, fate_of}
 -- A spawn for this folder fails if and only if the fuse is 1 or the first death for the folder is `CannotStart`.
 -- Any other spawn may run out of memory.
 pub record SpawnFails (out : Option (List ℕ)) (result : Result ℕ StartFault) (old : Held) : Type 0 where
-  pub burns : old.fuse ≡ 1 → result ≡ Err start.CannotStart
-  pub stillborn : old.fuse ≢ 1 → fate_of out old.deaths ≡ Some start.CannotStart → result ≡ Err start.CannotStart
+  pub fails_now : old.fuse ≡ 1 → result ≡ Err start.CannotStart
+  pub spawn_fails : old.fuse ≢ 1 → fate_of out old.deaths ≡ Some start.CannotStart → result ≡ Err start.CannotStart
   pub quiet : old.fuse ≢ 1 → fate_of out old.deaths ≢ Some start.CannotStart → IfErr result (λ e. e ≡ start.OutOfMemory)
   pub fault : IfErr result (λ e. e ≢ start.OutOfMemory → e ≡ start.CannotStart)
 
@@ -35,8 +35,8 @@ pub record SpawnsIn (child : Answers) (command : Command) (result : Result ℕ S
 -- The end of a child fails if and only if the fuse is 1 or the child has a fault of its own.
 -- Any other end may run out of memory.
 pub record EndFails (ticket : ℕ) (result : Result Ended StartFault) (old : Held) : Type 0 where
-  pub burns : old.fuse ≡ 1 → result ≡ Err start.Died
-  pub fated : old.fuse ≢ 1 → IfSome (fate_at ticket old.flying) (λ e. e ≢ start.CannotStart → result ≡ Err e)
+  pub fails_now : old.fuse ≡ 1 → result ≡ Err start.Died
+  pub exit_fails : old.fuse ≢ 1 → IfSome (fate_at ticket old.flying) (λ e. e ≢ start.CannotStart → result ≡ Err e)
   pub quiet : old.fuse ≢ 1 → fate_at ticket old.flying ≡ None → IfErr result (λ e. e ≡ start.OutOfMemory)
   pub fault : IfErr result (λ e. e ≢ start.OutOfMemory → (e ≡ start.Died) ⊎ (e ≡ start.Capture))
 
@@ -53,10 +53,10 @@ pub record EndsIn (ticket : ℕ) (result : Result Ended StartFault) (old new : H
 
 -- A start fails if and only if its spawn or its end does: the fuse is 1 for the spawn, and 2 for the end.
 pub record StartFails (out : Option (List ℕ)) (result : Result Ended StartFault) (old new : Held) : Type 0 where
-  pub burns : old.fuse ≡ 1 → result ≡ Err start.CannotStart
-  pub stillborn : old.fuse ≢ 1 → fate_of out old.deaths ≡ Some start.CannotStart → result ≡ Err start.CannotStart
+  pub fails_now : old.fuse ≡ 1 → result ≡ Err start.CannotStart
+  pub spawn_fails : old.fuse ≢ 1 → fate_of out old.deaths ≡ Some start.CannotStart → result ≡ Err start.CannotStart
   pub dies : old.fuse ≡ 2 → fate_of out old.deaths ≢ Some start.CannotStart → (result ≡ Err start.Died) ⊎ SpawnRefused result out old new
-  pub fated : old.fuse ≢ 1 → old.fuse ≢ 2 → IfSome (fate_of out old.deaths) (λ e. e ≢ start.CannotStart → (result ≡ Err e) ⊎ SpawnRefused result out old new)
+  pub exit_fails : old.fuse ≢ 1 → old.fuse ≢ 2 → IfSome (fate_of out old.deaths) (λ e. e ≢ start.CannotStart → (result ≡ Err e) ⊎ SpawnRefused result out old new)
   pub quiet : old.fuse ≢ 1 → old.fuse ≢ 2 → fate_of out old.deaths ≡ None → IfErr result (λ e. e ≡ start.OutOfMemory)
 
 -- What a start leaves of the place: no more children in flight than before.

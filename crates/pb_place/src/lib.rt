@@ -1,4 +1,7 @@
-//! Places in memory, and parts of places: counters, and tables of children in flight.
+//! The outside world: a place in memory, and the trait, paths and sinks that every place shares.
+//!
+//! `Memory` is a place of which contracts see every file, variable and child process. `Seen` counts the calls that a
+//! caller makes after one that failed. `Unfailing` is a place of which no call fails.
 #![tactic(auto)]
 
 pub mod in_flight;
@@ -10,6 +13,10 @@ mod tally;
 mod unfailing;
 
 pub use memory::Memory;
+pub use pb_place_types::{
+    Child, Command, Ended, Failure, Out, Over, PathFault, PathText, Place, PlaceFault,
+    RelativePath, Reply, StartFault, View, ViewFault,
+};
 pub use seen::Seen;
 pub use tally::Tally;
 pub use unfailing::Unfailing;

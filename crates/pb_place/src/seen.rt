@@ -82,7 +82,7 @@ impl<P> Seen<P> {
 }
 
 impl<P: Place> Place for Seen<P> {
-    ghost tells = { P.tells };
+    ghost is_modelled = { P.is_modelled };
 
     ghost at = { λ s. P.at s.place };
 
@@ -91,7 +91,7 @@ impl<P: Place> Place for Seen<P> {
     ghost fails = { λ s. P.fails s.place };
 
     fn read(&mut self, alloc: Global, path: &PathText) -> Result<Option<Bytes>, PlaceFault>
-        ensures ok { IsTrue P.tells → IfOk result
+        ensures ok { IsTrue P.is_modelled → IfOk result
             (λ found. found ≡ map.get (P.at self.old.place).world.files path.now) }
         ensures looks { LooksOnce (call.Read path.now) result
             (P.at self.old.place) (P.at self.new.place) }
@@ -110,7 +110,7 @@ impl<P: Place> Place for Seen<P> {
         path: &PathText,
         most: usize,
     ) -> Result<Option<Bytes>, PlaceFault>
-        ensures ok { IsTrue P.tells → IfOk result (λ found. found
+        ensures ok { IsTrue P.is_modelled → IfOk result (λ found. found
             ≡ option_map (take most) (map.get (P.at self.old.place).world.files path.now)) }
         ensures looks { LooksOnce (call.Read path.now) result
             (P.at self.old.place) (P.at self.new.place) }
@@ -124,7 +124,7 @@ impl<P: Place> Place for Seen<P> {
     }
 
     fn is_file(&mut self, alloc: Global, path: &PathText) -> Result<bool, PlaceFault>
-        ensures ok { IsTrue P.tells → IfOk result
+        ensures ok { IsTrue P.is_modelled → IfOk result
             (λ answer. answer ≡ has_file path.now (P.at self.old.place).world) }
         ensures looks { LooksOnce (call.IsFile path.now) result
             (P.at self.old.place) (P.at self.new.place) }
@@ -138,7 +138,7 @@ impl<P: Place> Place for Seen<P> {
     }
 
     fn list(&mut self, alloc: Global, folder: &PathText) -> Result<Items<PathText>, PlaceFault>
-        ensures ok { IsTrue P.tells → IfOk result
+        ensures ok { IsTrue P.is_modelled → IfOk result
             (λ paths. paths ≡ listed folder.now (P.at self.old.place).world) }
         ensures looks { LooksOnce (call.List folder.now) result
             (P.at self.old.place) (P.at self.new.place) }
@@ -157,7 +157,7 @@ impl<P: Place> Place for Seen<P> {
         folder: &PathText,
         left_out: &PathText,
     ) -> Result<Items<PathText>, PlaceFault>
-        ensures ok { IsTrue P.tells → IfOk result
+        ensures ok { IsTrue P.is_modelled → IfOk result
             (λ paths. paths
             ≡ listed folder.now (removed left_out.now (P.at self.old.place).world)) }
         ensures looks { LooksOnce (call.ListOutside folder.now left_out.now) result
@@ -176,7 +176,7 @@ impl<P: Place> Place for Seen<P> {
         alloc: Global,
         folder: &PathText,
     ) -> Result<Items<PathText>, PlaceFault>
-        ensures ok { IsTrue P.tells → IfOk result
+        ensures ok { IsTrue P.is_modelled → IfOk result
             (λ paths. paths ≡ listed_directly folder.now (P.at self.old.place).world) }
         ensures looks { LooksOnce (call.ListDirectly folder.now) result
             (P.at self.old.place) (P.at self.new.place) }
@@ -195,7 +195,7 @@ impl<P: Place> Place for Seen<P> {
         folder: &PathText,
         left_out: &PathText,
     ) -> Result<Items<PathText>, PlaceFault>
-        ensures ok { IsTrue P.tells → IfOk result (λ folders. folders
+        ensures ok { IsTrue P.is_modelled → IfOk result (λ folders. folders
             ≡ listed_folders folder.now (removed left_out.now (P.at self.old.place).world)) }
         ensures looks { LooksOnce (call.ListFolders folder.now left_out.now) result
             (P.at self.old.place) (P.at self.new.place) }
@@ -209,9 +209,9 @@ impl<P: Place> Place for Seen<P> {
     }
 
     fn write(&mut self, alloc: Global, path: &PathText, bytes: &[u8]) -> Result<(), PlaceFault>
-        ensures ok { IsTrue P.tells → OnOk result
+        ensures ok { IsTrue P.is_modelled → OnOk result
             ((P.at self.new.place).world ≡ written path.now bytes.now (P.at self.old.place).world) }
-        ensures err { IsTrue P.tells → OnErr result
+        ensures err { IsTrue P.is_modelled → OnErr result
             (Torn path.now bytes.now (P.at self.old.place).world (P.at self.new.place).world) }
         ensures changes { ChangesOnce (is_at_or_below path.now) (call.Write path.now) result
             (P.at self.old.place) (P.at self.new.place) }
@@ -225,9 +225,9 @@ impl<P: Place> Place for Seen<P> {
     }
 
     fn remove_tree(&mut self, alloc: Global, path: &PathText) -> Result<(), PlaceFault>
-        ensures ok { IsTrue P.tells → OnOk result
+        ensures ok { IsTrue P.is_modelled → OnOk result
             ((P.at self.new.place).world ≡ removed path.now (P.at self.old.place).world) }
-        ensures err { IsTrue P.tells → OnErr result
+        ensures err { IsTrue P.is_modelled → OnErr result
             (PartlyRemoved path.now (P.at self.old.place).world (P.at self.new.place).world) }
         ensures changes { ChangesOnce (is_at_or_below path.now) (call.Remove path.now) result
             (P.at self.old.place) (P.at self.new.place) }
@@ -241,7 +241,7 @@ impl<P: Place> Place for Seen<P> {
     }
 
     fn variable(&mut self, alloc: Global, name: &str) -> Result<Option<Text>, PlaceFault>
-        ensures ok { IsTrue P.tells → IfOk result
+        ensures ok { IsTrue P.is_modelled → IfOk result
             (λ found. found ≡ map.get (P.at self.old.place).world.variables name.now) }
         ensures looks { LooksOnce (call.Variable name.now) result
             (P.at self.old.place) (P.at self.new.place) }
@@ -269,7 +269,7 @@ impl<P: Place> Place for Seen<P> {
 
     fn finish(&mut self, alloc: Global, ticket: u64) -> Result<Ended, StartFault>
         requires flies { is_flying ticket (P.at self.old.place).counts.starts.flying ≡ true }
-        ensures ok { IsTrue P.tells → (P.at self.old.place).still ticket → IfOk result
+        ensures ok { IsTrue P.is_modelled → (P.at self.old.place).still ticket → IfOk result
             (λ ended. IfSome (child_at ticket (P.at self.old.place).counts.starts.flying)
             (λ spawned. LandsAs spawned (P.at self.old.place).world ended
             (P.at self.new.place).world)) }
@@ -284,7 +284,7 @@ impl<P: Place> Place for Seen<P> {
     }
 
     fn start(&mut self, alloc: Global, command: &Command) -> Result<Ended, StartFault>
-        ensures ok { IsTrue P.tells → IfOk result (λ ended. Ends (P.child command.now) command.now
+        ensures ok { IsTrue P.is_modelled → IfOk result (λ ended. Ends (P.child command.now) command.now
             (P.at self.old.place).world ended (P.at self.new.place).world) }
         ensures starts { Starts command.now result (P.at self.old.place) (P.at self.new.place) }
         ensures fails { IfErr result (λ e. e ≢ StartFault.OutOfMemory → P.fails self.old.place) }

@@ -55,7 +55,7 @@ impl<C: Child> Place for Unfailing<C> {
     ghost use Rattle.std.specs.Prelude.{true};
     ghost use Rattle.pb_place.specs.Memory.{at_in};
 
-    ghost tells = { true };
+    ghost is_modelled = { true };
 
     ghost at = { at_in };
 

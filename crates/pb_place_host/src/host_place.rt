@@ -190,7 +190,7 @@ impl<'a, R: Files + Env + Processes + AllocGlobal> Place for HostPlace<'a, R> {
     ghost use Rattle.pb_place.specs.Tallies.{with_children};
     ghost use Rattle.pb_place_host.specs.Flying.{no_world, silent};
 
-    ghost tells = { false };
+    ghost is_modelled = { false };
 
     ghost at = { λ p. record {
       world = no_world;

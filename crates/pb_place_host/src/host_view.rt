@@ -30,7 +30,7 @@ impl<'a, R: Files + Env + AllocGlobal> View for HostView<'a, R> {
     ghost use Rattle.std.specs.Prelude.{false};
     ghost use Rattle.std.specs.FinMap as map;
 
-    ghost tells = { false };
+    ghost is_modelled = { false };
 
     ghost shown = { λ _. record { files = map.empty; variables = map.empty } };
 

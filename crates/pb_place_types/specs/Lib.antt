@@ -1,4 +1,4 @@
-pub use Rattle.pb_data.specs.Gives
+pub use Rattle.pb_data.specs.UnlessOom
 pub mod At
 pub mod CallsInTurn
 pub mod Changes

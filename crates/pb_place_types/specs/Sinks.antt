@@ -4,7 +4,7 @@ use Rattle.std.specs.Io.KnownBytes.{Appends}
 use Rattle.pb_place_types.specs.Counts.{up}
 
 -- A sink as clauses see it.
-pub record Heard : Type 0 where
+pub record SinkState : Type 0 where
   -- the bytes that it took, if it reports them
   pub taken : Option (List ℕ)
   -- how many writes failed

@@ -59,7 +59,7 @@ impl<T: Drop> From<AllocFailed<T>> for ViewFault {
 /// and variables cannot report that.
 pub trait View {
     /// Whether the view reports what it shows.
-    ghost tells: { Bool } = { true };
+    ghost is_modelled: { Bool } = { true };
 
     /// The world that is shown, if the view reports it.
     ghost shown: { Self → World };
@@ -71,7 +71,7 @@ pub trait View {
     ///
     /// Errors: `Failed`, if the file cannot be read; `OutOfMemory`.
     fn file(&self, alloc: Global, path: &PathText) -> Result<Option<Bytes>, ViewFault>
-        ensures found { IsTrue tells
+        ensures found { IsTrue is_modelled
             → IfOk result (λ found. found ≡ map.get (shown self.now).files path.now) }
         ensures failed { IfErr result (λ e. e ≡ ViewFault.Failed → fails self.now) };
 
@@ -79,7 +79,7 @@ pub trait View {
     ///
     /// Errors: `Failed`, if the variable cannot be read; `OutOfMemory`.
     fn variable(&self, alloc: Global, name: &str) -> Result<Option<Text>, ViewFault>
-        ensures found { IsTrue tells
+        ensures found { IsTrue is_modelled
             → IfOk result (λ found. found ≡ map.get (shown self.now).variables name.now) }
         ensures failed { IfErr result (λ e. e ≡ ViewFault.Failed → fails self.now) };
 }
@@ -94,7 +94,7 @@ pub trait Child {
     ///
     /// Errors: `Failed`, only if the view fails; `OutOfMemory`.
     fn reply<V: View>(&self, alloc: Global, command: &Command, view: &V) -> Result<Reply, ViewFault>
-        ensures reply { IsTrue V.tells
+        ensures reply { IsTrue V.is_modelled
             → IfOk result (λ reply. reply ≡ answers command.now (V.shown view.now)) }
         ensures failed { IfErr result (λ e. e ≡ ViewFault.Failed → V.fails view.now) };
 }

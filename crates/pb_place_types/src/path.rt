@@ -3,7 +3,7 @@
 ghost use Rattle.std.specs.Prelude.{◌≡◌, true, ◌∷◌, ◌++◌, map, IfOk, OnOk, string_bytes};
 ghost use Rattle.std.specs.List.{list_any, list_all};
 ghost use Rattle.std.specs.Str.{bytes_eq};
-ghost use Rattle.pb_data.specs.Gives.{Gives};
+ghost use Rattle.pb_data.specs.UnlessOom.{UnlessOom};
 ghost use Rattle.pb_place_types.specs.declared.path.PathFault.TheVariants as path_fault;
 ghost use Rattle.pb_place_types.specs.Paths.{parts_of, stays, leads_up, walked, names_of, slashed, path_of, is_absolute, has_byte_0, parsed, joined, folder_of, is_path, stem, below, leads_below, is_below, is_at_or_below};
 
@@ -162,7 +162,7 @@ impl PathText {
     /// This is our own choice, since The Cargo Book leaves paths to the system.
     #[tactic(auto, using(crate::proofs::PathLemmas::path_laws))]
     pub fn parse(alloc: Global, text: &str) -> Result<PathText, PathFault>
-        ensures { Gives path_fault.OutOfMemory (λ path. path) result (parsed text.now) }
+        ensures { UnlessOom path_fault.OutOfMemory (λ path. path) result (parsed text.now) }
     {
         if !is_absolute(text) {
             return Err(PathFault::NotAbsolute);
@@ -184,7 +184,7 @@ impl PathText {
     ///
     /// This is our own choice, as for `parse`.
     pub fn join(&self, alloc: Global, text: &str) -> Result<PathText, PathFault>
-        ensures { Gives path_fault.OutOfMemory (λ path. path) result (joined self.now text.now) }
+        ensures { UnlessOom path_fault.OutOfMemory (λ path. path) result (joined self.now text.now) }
     {
         if is_absolute(text) {
             let path = PathText::parse(alloc, text)?;

@@ -3,7 +3,7 @@
 ghost use Rattle.std.specs.Prelude.{◌≡◌, ◌≢◌, [], Bool, true, IfOk, IfErr, OnOk, OnErr, IsTrue, IfSome, take};
 ghost use Rattle.std.specs.FinMap as map;
 ghost use Rattle.std.specs.Option.{option_map};
-ghost use Rattle.pb_data.specs.Gives.{Gives};
+ghost use Rattle.pb_data.specs.UnlessOom.{UnlessOom};
 ghost use Rattle.pb_place_types.specs.At.{At, IsUnchanged, LooksOnce, ChangesOnce, Spawns, Finishes, Starts};
 ghost use Rattle.pb_place_types.specs.Children.{child_at, is_flying, LandsAs};
 ghost use Rattle.pb_place_types.specs.Paths.{is_at_or_below, joined};
@@ -120,7 +120,7 @@ fn cut(bytes: Bytes, most: usize) -> Bytes
 pub trait Place {
     /// Whether the place tells its maps: whether `at` has the files and variables as they are. A
     /// real machine does not, so clauses with this premise do not apply to it.
-    ghost tells: { Bool };
+    ghost is_modelled: { Bool };
 
     /// All that clauses can see of the place at one moment. If it does not tell its maps, they are
     /// constant.
@@ -136,7 +136,7 @@ pub trait Place {
     ///
     /// Errors: `Read`; `OutOfMemory`.
     fn read(&mut self, alloc: Global, path: &PathText) -> Result<Option<Bytes>, PlaceFault>
-        ensures ok { IsTrue tells → IfOk result
+        ensures ok { IsTrue is_modelled → IfOk result
             (λ found. found ≡ map.get (at self.old).world.files path.now) }
         ensures looks { LooksOnce (call.Read path.now) result (at self.old) (at self.new) }
         ensures fails { IfErr result (λ e. e ≢ PlaceFault.OutOfMemory → fails self.old) };
@@ -151,7 +151,7 @@ pub trait Place {
         path: &PathText,
         most: usize,
     ) -> Result<Option<Bytes>, PlaceFault>
-        ensures ok { IsTrue tells → IfOk result (λ found. found
+        ensures ok { IsTrue is_modelled → IfOk result (λ found. found
             ≡ option_map (take most) (map.get (at self.old).world.files path.now)) }
         ensures looks { LooksOnce (call.Read path.now) result (at self.old) (at self.new) }
         ensures fails { IfErr result (λ e. e ≢ PlaceFault.OutOfMemory → fails self.old) }
@@ -167,7 +167,7 @@ pub trait Place {
     ///
     /// Errors: `Read`; `OutOfMemory`.
     fn is_file(&mut self, alloc: Global, path: &PathText) -> Result<bool, PlaceFault>
-        ensures ok { IsTrue tells → IfOk result
+        ensures ok { IsTrue is_modelled → IfOk result
             (λ answer. answer ≡ has_file path.now (at self.old).world) }
         ensures looks { LooksOnce (call.IsFile path.now) result (at self.old) (at self.new) }
         ensures fails { IfErr result (λ e. e ≢ PlaceFault.OutOfMemory → fails self.old) };
@@ -177,7 +177,7 @@ pub trait Place {
     ///
     /// Errors: `List`; `OutOfMemory`.
     fn list(&mut self, alloc: Global, folder: &PathText) -> Result<Items<PathText>, PlaceFault>
-        ensures ok { IsTrue tells → IfOk result
+        ensures ok { IsTrue is_modelled → IfOk result
             (λ paths. paths ≡ listed folder.now (at self.old).world) }
         ensures looks { LooksOnce (call.List folder.now) result (at self.old) (at self.new) }
         ensures fails { IfErr result (λ e. e ≢ PlaceFault.OutOfMemory → fails self.old) };
@@ -192,7 +192,7 @@ pub trait Place {
         folder: &PathText,
         left_out: &PathText,
     ) -> Result<Items<PathText>, PlaceFault>
-        ensures ok { IsTrue tells → IfOk result
+        ensures ok { IsTrue is_modelled → IfOk result
             (λ paths. paths ≡ listed folder.now (removed left_out.now (at self.old).world)) }
         ensures looks { LooksOnce (call.ListOutside folder.now left_out.now) result
             (at self.old) (at self.new) }
@@ -207,7 +207,7 @@ pub trait Place {
         alloc: Global,
         folder: &PathText,
     ) -> Result<Items<PathText>, PlaceFault>
-        ensures ok { IsTrue tells → IfOk result
+        ensures ok { IsTrue is_modelled → IfOk result
             (λ paths. paths ≡ listed_directly folder.now (at self.old).world) }
         ensures looks { LooksOnce (call.ListDirectly folder.now) result
             (at self.old) (at self.new) }
@@ -227,7 +227,7 @@ pub trait Place {
         folder: &PathText,
         left_out: &PathText,
     ) -> Result<Items<PathText>, PlaceFault>
-        ensures ok { IsTrue tells → IfOk result
+        ensures ok { IsTrue is_modelled → IfOk result
             (λ folders. folders
             ≡ listed_folders folder.now (removed left_out.now (at self.old).world)) }
         ensures looks { LooksOnce (call.ListFolders folder.now left_out.now) result
@@ -239,9 +239,9 @@ pub trait Place {
     ///
     /// Errors: `Write`; `OutOfMemory`.
     fn write(&mut self, alloc: Global, path: &PathText, bytes: &[u8]) -> Result<(), PlaceFault>
-        ensures ok { IsTrue tells → OnOk result
+        ensures ok { IsTrue is_modelled → OnOk result
             ((at self.new).world ≡ written path.now bytes.now (at self.old).world) }
-        ensures err { IsTrue tells → OnErr result
+        ensures err { IsTrue is_modelled → OnErr result
             (Torn path.now bytes.now (at self.old).world (at self.new).world) }
         ensures changes { ChangesOnce (is_at_or_below path.now) (call.Write path.now) result
             (at self.old) (at self.new) }
@@ -252,9 +252,9 @@ pub trait Place {
     ///
     /// Errors: `Remove`; `OutOfMemory`.
     fn remove_tree(&mut self, alloc: Global, path: &PathText) -> Result<(), PlaceFault>
-        ensures ok { IsTrue tells → OnOk result
+        ensures ok { IsTrue is_modelled → OnOk result
             ((at self.new).world ≡ removed path.now (at self.old).world) }
-        ensures err { IsTrue tells → OnErr result
+        ensures err { IsTrue is_modelled → OnErr result
             (PartlyRemoved path.now (at self.old).world (at self.new).world) }
         ensures changes { ChangesOnce (is_at_or_below path.now) (call.Remove path.now) result
             (at self.old) (at self.new) }
@@ -264,7 +264,7 @@ pub trait Place {
     ///
     /// Errors: `Variable`; `OutOfMemory`.
     fn variable(&mut self, alloc: Global, name: &str) -> Result<Option<Text>, PlaceFault>
-        ensures ok { IsTrue tells → IfOk result
+        ensures ok { IsTrue is_modelled → IfOk result
             (λ found. found ≡ map.get (at self.old).world.variables name.now) }
         ensures looks { LooksOnce (call.Variable name.now) result (at self.old) (at self.new) }
         ensures fails { IfErr result (λ e. e ≢ PlaceFault.OutOfMemory → fails self.old) };
@@ -286,7 +286,7 @@ pub trait Place {
     /// Errors: `Died`; `Capture`; `OutOfMemory`.
     fn finish(&mut self, alloc: Global, ticket: u64) -> Result<Ended, StartFault>
         requires flies { is_flying ticket (at self.old).counts.starts.flying ≡ true }
-        ensures ok { IsTrue tells → (at self.old).still ticket → IfOk result
+        ensures ok { IsTrue is_modelled → (at self.old).still ticket → IfOk result
             (λ ended. IfSome (child_at ticket (at self.old).counts.starts.flying)
             (λ spawned. LandsAs spawned (at self.old).world ended (at self.new).world)) }
         ensures finishes { Finishes ticket result (at self.old) (at self.new) }
@@ -298,7 +298,7 @@ pub trait Place {
     ///
     /// Errors: those of `spawn` and of `finish`.
     fn start(&mut self, alloc: Global, command: &Command) -> Result<Ended, StartFault>
-        ensures ok { IsTrue tells → IfOk result (λ ended.
+        ensures ok { IsTrue is_modelled → IfOk result (λ ended.
             Ends (child command.now) command.now (at self.old).world ended (at self.new).world) }
         ensures starts { Starts command.now result (at self.old) (at self.new) }
         ensures fails { IfErr result (λ e. e ≢ StartFault.OutOfMemory → fails self.old) }
@@ -313,8 +313,8 @@ pub trait Place {
     ///
     /// Errors: those of `PathText::join`.
     fn path_from(&self, alloc: Global, folder: &PathText, text: &str) -> Result<PathText, PathFault>
-        ensures { IsTrue tells →
-            Gives path_fault.OutOfMemory (λ path. path) result (joined folder.now text.now) }
+        ensures { IsTrue is_modelled →
+            UnlessOom path_fault.OutOfMemory (λ path. path) result (joined folder.now text.now) }
     {
         folder.join(alloc, text)
     }
@@ -340,7 +340,7 @@ pub trait Place {
     /// looked. This covers children in whose output folders the child reads. It takes no memory,
     /// and is not counted.
     fn stood_still(&self, _command: &Command) -> bool
-        ensures { IsTrue tells → result ≡ true }
+        ensures { IsTrue is_modelled → result ≡ true }
     {
         true
     }
@@ -349,12 +349,12 @@ pub trait Place {
     /// takes no memory.
     fn moved(&self) -> &[Moved]
         ensures all { result.now ≡ (at self.now).moved }
-        ensures none { IsTrue tells → result.now ≡ [] };
+        ensures none { IsTrue is_modelled → result.now ≡ [] };
 
     /// Does nothing; its contract states that each file in the maps has a normalised absolute path.
     /// It takes no memory, and is not counted.
     fn files_have_paths(&self)
-        ensures { IsTrue tells → FilesHavePaths (at self.now).world };
+        ensures { IsTrue is_modelled → FilesHavePaths (at self.now).world };
 
     /// Returns how many calls failed, at most `u64::MAX`. It takes no memory.
     fn failures(&self) -> u64

@@ -2,14 +2,14 @@
 
 ghost use Rattle.std.specs.Prelude.{◌≡◌, ◌≤◌, length, take, MatchOption};
 ghost use Rattle.std.specs.Io.KnownBytes.{Keeps, Appends};
-ghost use Rattle.pb_place_types.specs.Sinks.{Heard, sunk};
+ghost use Rattle.pb_place_types.specs.Sinks.{SinkState, sunk};
 
 use std::io::Write;
 
 /// A sink of bytes.
 pub trait Out {
     /// The bytes that it took, if it reports them, and how many writes failed.
-    ghost heard: { Self → Heard };
+    ghost heard: { Self → SinkState };
 
     /// Takes the first n of some bytes, and returns n, or none if it fails. A write that takes 0 of
     /// some bytes has failed too.

@@ -10,7 +10,7 @@ use Rattle.std.proofs.lemmas.List.{length-map}
 use Rattle.std.proofs.lemmas.Map.Made.{length-le_from_is_member}
 use Rattle.std.proofs.lemmas.Option.{none-some}
 use Rattle.std.proofs.lemmas.Slice.Eq.{bytes_eq-Decides}
-use Rattle.pb_data.specs.Gives.{◌>>=◌}
+use Rattle.pb_data.specs.UnlessOom.{◌>>=◌}
 use Rattle.pb_manifest_types.specs.declared.profile.Profile.{Profile}
 use Rattle.pb_profile.specs.declared.fault.ProfileFault.{ProfileFault}
 use Rattle.pb_profile.specs.Line.{Seen, seen_at, named, parent_of, custom_parent, is_either, above}

@@ -1,6 +1,6 @@
 -- A line is made profile after profile: what is behind those so far is the line of the next.
 use Rattle.std.proofs.Common.{◌≡◌, ℕ, suc, ◌+◌, ◌-◌, ◌<◌, List, [], ◌∷◌, ◌++◌, Some, None, Result, Ok, Err, refl, sym, ◌∙◌, ap, arith, append_assoc}
-use Rattle.pb_data.specs.Gives.{◌>>=◌}
+use Rattle.pb_data.specs.UnlessOom.{◌>>=◌}
 use Rattle.pb_manifest_types.specs.declared.profile.Profile.{Profile}
 use Rattle.pb_profile.specs.declared.fault.ProfileFault.{ProfileFault}
 use Rattle.pb_profile.specs.Line.{Seen, above, then_above, line_within}

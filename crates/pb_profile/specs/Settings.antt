@@ -4,7 +4,7 @@ use Rattle.std.specs.Prelude.{ℕ, Bool, true, false, if◌then◌else◌, codes
 use Rattle.std.specs.List.{find}
 use Rattle.std.specs.Option.{option_or}
 use Rattle.std.specs.Str.{bytes_eq}
-use Rattle.pb_data.specs.Gives.{◌>>=◌}
+use Rattle.pb_data.specs.UnlessOom.{◌>>=◌}
 use Rattle.pb_manifest_types.specs.declared.profile.Profile.{Profile}
 use Rattle.pb_manifest_types.specs.declared.profile.ProfileKeys.{ProfileKeys}
 use Rattle.pb_manifest_types.specs.declared.profile.ProfileOverride.{ProfileOverride}

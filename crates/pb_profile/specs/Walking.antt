@@ -1,6 +1,6 @@
 -- A line as the code builds it, profile by profile. These definitions serve a private function only.
 use Rattle.std.specs.Prelude.{List, ◌++◌, Result, Ok}
-use Rattle.pb_data.specs.Gives.{◌>>=◌}
+use Rattle.pb_data.specs.UnlessOom.{◌>>=◌}
 use Rattle.pb_profile.specs.Line.{Seen}
 use Rattle.pb_profile.specs.declared.fault.ProfileFault.{ProfileFault}
 

@@ -2,7 +2,7 @@
 
 ghost use Rattle.std.specs.Prelude.{◌≡◌, map, option_map};
 ghost use Rattle.std.specs.List.{list_all};
-ghost use Rattle.pb_data.specs.Gives.{Gives};
+ghost use Rattle.pb_data.specs.UnlessOom.{UnlessOom};
 ghost use Rattle.pb_profile.specs.Line.{folder_of, named, seen_at, parent_of, above, shown_parent, option_all, seen, line_of, allows, table_allows, may_override, checked_line};
 ghost use Rattle.pb_profile.specs.declared.fault.ProfileFault.TheVariants as profile_fault;
 
@@ -96,7 +96,7 @@ pub fn line_of<'a>(
     profiles: &'a [Profile],
     profile: &'a str,
 ) -> Result<Vec<Ancestor<'a>>, ProfileFault>
-    ensures { Gives profile_fault.OutOfMemory (λ line. map seen line.items) result (checked_line profiles.now profile.now) }
+    ensures { UnlessOom profile_fault.OutOfMemory (λ line. map seen line.items) result (checked_line profiles.now profile.now) }
 {
     let line = walked(alloc, profiles, profile)?;
     if all_allow(line.as_slice()) {
@@ -119,7 +119,7 @@ fn walked<'a>(
     profiles: &'a [Profile],
     profile: &'a str,
 ) -> Result<Vec<Ancestor<'a>>, ProfileFault>
-    ensures { Gives profile_fault.OutOfMemory (λ line. map seen line.items) result (line_of profiles.now profile.now) }
+    ensures { UnlessOom profile_fault.OutOfMemory (λ line. map seen line.items) result (line_of profiles.now profile.now) }
 {
     let mut line = Vec::new(alloc);
     let mut ancestor = ancestor_at(profiles, profile);

@@ -1,7 +1,7 @@
 //! The settings of a package in a role under a profile.
 
 ghost use Rattle.std.specs.Prelude.{◌≡◌, map};
-ghost use Rattle.pb_data.specs.Gives.{Gives};
+ghost use Rattle.pb_data.specs.UnlessOom.{UnlessOom};
 ghost use Rattle.pb_profile.specs.Line.{seen};
 ghost use Rattle.pb_profile.specs.Settings.{settings_along, settings_of};
 ghost use Rattle.pb_profile.specs.Merging.{settings_from};
@@ -66,7 +66,7 @@ impl Settings {
         owner: &Package,
         role: Side,
     ) -> Result<Settings, ProfileFault>
-        ensures { Gives profile_fault.OutOfMemory (λ s. s) result (settings_of workspace.now profile.now owner.now role) }
+        ensures { UnlessOom profile_fault.OutOfMemory (λ s. s) result (settings_of workspace.now profile.now owner.now role) }
     {
         let line = line_of(alloc, workspace.profiles.as_slice(), profile)?;
         Ok(settings_along(owner, role, line.as_slice()))

@@ -9,7 +9,7 @@ use Rattle.pb_record.specs.Numbers.{AreNumbersOf, SaysNumbers, numbers_of}
 use Rattle.pb_record.specs.Parts.{IsAny, IsNumber, AreFiles, AreBoth, IsInput, IsAsked, Says}
 use Rattle.pb_record.specs.Reading.{Stands, StandsNone, StandsSome, IsSpelling, HasCount}
 use Rattle.pb_record.specs.Whole.{NumberedParts, CopiedParts, numbered_of, copied_of, RestParts, rest_spelled, AreRest, IsRest, HasNeeds, IsEnd, Files}
-use Rattle.pb_record.specs.declared.asked.Asked.{Asked}
+use Rattle.pb_record.specs.declared.recorded_command.RecordedCommand.{RecordedCommand}
 use Rattle.pb_record.specs.declared.numbers.Numbers.{Numbers}
 use Rattle.pb_record.specs.declared.record.Input.{Input}
 use Rattle.pb_record.specs.declared.record.Record.{Record}
@@ -67,7 +67,7 @@ needs_spelling = list_spelling _ (both_spelling _ _ block_spelling number_spelli
 abbrev AreNeeds : List (List ℕ × ℕ) → Type 0
 AreNeeds = AllByRecursion (AreBoth IsUtf8 IsNumber)
 
-abbrev AreFront : Asked × List Input → Type 0
+abbrev AreFront : RecordedCommand × List Input → Type 0
 AreFront = AreBoth IsAsked (AllByRecursion IsInput)
 
 -- the text of a rest: its front, its needs, its streams
@@ -159,7 +159,7 @@ says_needs {text = text} {key = key} {own = own} there has =
 -- a record of format 1: its key, and what is behind it
 
 abbrev BehindParts : Type 0
-BehindParts = Asked × (List Input × (List (List ℕ × Files) × (List ℕ × List ℕ)))
+BehindParts = RecordedCommand × (List Input × (List (List ℕ × Files) × (List ℕ × List ℕ)))
 
 abbrev behind_spelled : BehindParts → List ℕ
 behind_spelled = both asked_bytes (both (listed input_bytes) (both (listed (both block files)) (both block block)))

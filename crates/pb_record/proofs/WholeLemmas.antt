@@ -8,7 +8,7 @@ use Rattle.pb_record.specs.Grammar.{line, number, block, listed, both, files, in
 use Rattle.pb_record.specs.Parts.{IsAny, IsNumber, IsPlace, AreFiles, AreBoth, ArePairs, IsInput, IsAsked, AreNeeded, Says}
 use Rattle.pb_record.specs.Reading.{Stands, StandsNone, IsSpelling}
 use Rattle.pb_record.specs.Whole.{AskedParts, asked_of, NumberedParts, numbered_of, CopiedParts, copied_of, Files}
-use Rattle.pb_record.specs.declared.asked.Asked.{Asked}
+use Rattle.pb_record.specs.declared.recorded_command.RecordedCommand.{RecordedCommand}
 use Rattle.pb_record.specs.declared.record.Record.{Record}
 use Rattle.pb_record.specs.declared.record.Needed.{Needed}
 use Rattle.pb_record.specs.declared.record.Needed.TheVariants.{Copies, Numbers}
@@ -25,7 +25,7 @@ asked_spelled = both block (both (listed block) (both block (both (listed (both 
 abbrev pub AreAsked : AskedParts → Type 0
 AreAsked = AreBoth IsUtf8 (AreBoth (AllByRecursion IsUtf8) (AreBoth IsPlace (AreBoth ArePairs (AreBoth IsPlace (AreBoth IsPlace (AreBoth IsAny (AllByRecursion IsPlace)))))))
 
-abbrev asked_parts : Asked → AskedParts
+abbrev asked_parts : RecordedCommand → AskedParts
 asked_parts a = (a.program, (a.words, (a.folder, (a.pairs, (a.out, (a.target, (a.toolchain, a.reads)))))))
 
 texts_spelling : IsSpelling (listed block)

@@ -2,10 +2,10 @@
 use Rattle.std.specs.Prelude.{◌≡◌, true, if◌then◌else◌, Option, Some, None, List, ℕ}
 use Rattle.pb_place_types.specs.declared.command.Command.{Command}
 use Rattle.pb_record.specs.Sorted.{are_sorted}
-use Rattle.pb_record.specs.declared.asked.Asked.{Asked}
+use Rattle.pb_record.specs.declared.recorded_command.RecordedCommand.{RecordedCommand}
 
 -- the command that was requested
-abbrev pub command_of : Asked → Command
+abbrev pub command_of : RecordedCommand → Command
 command_of a = record {
   program = a.program;
   words = a.words;
@@ -19,7 +19,7 @@ command_of a = record {
 
 -- the request of a command, from its parts and this output folder (below, with an optional one: a command has a request
 -- if it has an output folder and its variables are sorted by name, each name once)
-abbrev pub of_parts : Command → List ℕ → Asked
+abbrev pub of_parts : Command → List ℕ → RecordedCommand
 of_parts c out = record {
   program = c.program;
   words = c.words;
@@ -31,15 +31,15 @@ of_parts c out = record {
   reads = c.reads;
 }
 
-abbrev pub asked_with : Command → Option (List ℕ) → Option Asked
+abbrev pub asked_with : Command → Option (List ℕ) → Option RecordedCommand
 asked_with c None = None
 asked_with c (Some out) = if are_sorted c.pairs then Some (of_parts c out) else None
 
-abbrev pub asked_in : Command → Option Asked
+abbrev pub asked_in : Command → Option RecordedCommand
 asked_in c = asked_with c c.out
 
 -- a command requests the same, variables apart
-pub record AsksAs (a : Asked) (c : Command) : Type 0 where
+pub record AsksAs (a : RecordedCommand) (c : Command) : Type 0 where
   pub program : a.program ≡ c.program
   pub words : a.words ≡ c.words
   pub folder : a.folder ≡ c.folder
@@ -50,12 +50,12 @@ pub record AsksAs (a : Asked) (c : Command) : Type 0 where
 
 -- The command of a command's request is that command.
 abbrev pub AskedIsCommand : Type 0
-AskedIsCommand = (c : Command) (a : Asked) → asked_in c ≡ Some a → command_of a ≡ c
+AskedIsCommand = (c : Command) (a : RecordedCommand) → asked_in c ≡ Some a → command_of a ≡ c
 
 -- The request of a request's command is that request, if its variables are sorted.
 abbrev pub CommandIsAsked : Type 0
-CommandIsAsked = (a : Asked) → are_sorted a.pairs ≡ true → asked_in (command_of a) ≡ Some a
+CommandIsAsked = (a : RecordedCommand) → are_sorted a.pairs ≡ true → asked_in (command_of a) ≡ Some a
 
 -- A command that requests the same, with the same variables, is the command that was requested.
 abbrev pub SameAsked : Type 0
-SameAsked = (a : Asked) (c : Command) → AsksAs a c → a.pairs ≡ c.pairs → command_of a ≡ c
+SameAsked = (a : RecordedCommand) (c : Command) → AsksAs a c → a.pairs ≡ c.pairs → command_of a ≡ c

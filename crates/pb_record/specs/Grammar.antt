@@ -2,7 +2,7 @@
 use Rattle.std.specs.Prelude.{ℕ, ◌+◌, zero, suc, codes, List, [], ◌∷◌, ◌++◌, length, map, Option, Some, None}
 use Rattle.std.specs.Int.Digits.{digits_of}
 use Rattle.std.specs.List.{flat_map}
-use Rattle.pb_record.specs.declared.asked.Asked.{Asked}
+use Rattle.pb_record.specs.declared.recorded_command.RecordedCommand.{RecordedCommand}
 use Rattle.pb_record.specs.declared.record.Input.{Input}
 use Rattle.pb_record.specs.declared.record.Input.TheVariants.{File, Tree, Value}
 use Rattle.pb_record.specs.declared.record.Needed.{Needed}
@@ -55,7 +55,7 @@ input_bytes (Tree path below) = line (codes "t") ⨾ block path ⨾ files below
 input_bytes (Value name text) = line (codes "v") ⨾ block name ⨾ perhaps text
 
 -- what was requested of the child
-abbrev pub asked_bytes : Asked → List ℕ
+abbrev pub asked_bytes : RecordedCommand → List ℕ
 asked_bytes a =
     block a.program
     ⨾ listed block a.words

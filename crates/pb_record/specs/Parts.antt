@@ -6,7 +6,7 @@ use Rattle.std.specs.Str.{IsUtf8}
 use Rattle.pb_place_types.specs.Paths.{is_path, is_relative}
 use Rattle.pb_record.specs.Grammar.{record_bytes}
 use Rattle.pb_record.specs.Sorted.{are_sorted}
-use Rattle.pb_record.specs.declared.asked.Asked.{Asked}
+use Rattle.pb_record.specs.declared.recorded_command.RecordedCommand.{RecordedCommand}
 use Rattle.pb_record.specs.declared.record.Input.{Input}
 use Rattle.pb_record.specs.declared.record.Input.TheVariants.{File, Tree, Value}
 use Rattle.pb_record.specs.declared.record.Needed.{Needed}
@@ -46,7 +46,7 @@ IsInput (File path bytes) = IsPlace path
 IsInput (Tree path below) = IsPlace path × AreFiles below
 IsInput (Value name text) = IsUtf8 name × IsPerhaps text
 
-pub record IsAsked (a : Asked) : Type 0 where
+pub record IsAsked (a : RecordedCommand) : Type 0 where
   pub program : IsUtf8 a.program
   pub words : AllByRecursion IsUtf8 a.words
   pub folder : IsPlace a.folder

@@ -4,7 +4,7 @@ use Rattle.std.specs.List.{AllByRecursion}
 use Rattle.std.specs.Str.{IsUtf8}
 use Rattle.pb_record.specs.Grammar.{asked_bytes, block, both, input_bytes, line, listed, number}
 use Rattle.pb_record.specs.Parts.{AreBoth, IsAny, IsAsked, IsInput, IsNumber}
-use Rattle.pb_record.specs.declared.asked.Asked.{Asked}
+use Rattle.pb_record.specs.declared.recorded_command.RecordedCommand.{RecordedCommand}
 use Rattle.pb_record.specs.declared.record.Input.{Input}
 use Rattle.pb_record.specs.declared.record.Needed.TheVariants.{Copies, Numbers}
 use Rattle.pb_record.specs.declared.record.Record.{Record}
@@ -15,7 +15,7 @@ Files = List (List ℕ × List ℕ)
 abbrev pub AskedParts : Type 0
 AskedParts = List ℕ × (List (List ℕ) × (List ℕ × (List (List ℕ × List ℕ) × (List ℕ × (List ℕ × (List ℕ × List (List ℕ)))))))
 
-abbrev pub asked_of : AskedParts → Asked
+abbrev pub asked_of : AskedParts → RecordedCommand
 asked_of (program, (words, (folder, (pairs, (out, (target, (toolchain, reads))))))) = record {
   program = program;
   words = words;
@@ -29,7 +29,7 @@ asked_of (program, (words, (folder, (pairs, (out, (target, (toolchain, reads))))
 
 -- the parts of a record of format 2
 abbrev pub NumberedParts : Type 0
-NumberedParts = ℕ × (List ℕ × (Asked × (List Input × (List (List ℕ × ℕ) × (List ℕ × List ℕ)))))
+NumberedParts = ℕ × (List ℕ × (RecordedCommand × (List Input × (List (List ℕ × ℕ) × (List ℕ × List ℕ)))))
 
 abbrev pub numbered_of : NumberedParts → Record
 numbered_of (own, (key, (asked, (inputs, (needs, (stdout, stderr)))))) = record {
@@ -43,7 +43,7 @@ numbered_of (own, (key, (asked, (inputs, (needs, (stdout, stderr)))))) = record 
 
 -- the parts of a record of format 1
 abbrev pub CopiedParts : Type 0
-CopiedParts = List ℕ × (Asked × (List Input × (List (List ℕ × Files) × (List ℕ × List ℕ))))
+CopiedParts = List ℕ × (RecordedCommand × (List Input × (List (List ℕ × Files) × (List ℕ × List ℕ))))
 
 abbrev pub copied_of : CopiedParts → Record
 copied_of (key, (asked, (inputs, (copies, (stdout, stderr))))) = record {
@@ -58,7 +58,7 @@ copied_of (key, (asked, (inputs, (copies, (stdout, stderr))))) = record {
 -- the parts after the key of a record of format 2: the request and the inputs; the needed units with their numbers, and
 -- the streams
 abbrev pub RestParts : Type 0
-RestParts = (Asked × List Input) × (List (List ℕ × ℕ) × (List ℕ × List ℕ))
+RestParts = (RecordedCommand × List Input) × (List (List ℕ × ℕ) × (List ℕ × List ℕ))
 
 abbrev pub rest_spelled : RestParts → List ℕ
 rest_spelled = both (both asked_bytes (listed input_bytes)) (both (listed (both block number)) (both block block))

@@ -3,8 +3,8 @@
 ghost use Rattle.std.specs.Prelude.{◌≡◌, Decides};
 ghost use Rattle.pb_record.specs.Commands.{command_of, asked_in, AsksAs};
 
-use crate::asked::Asked;
 use crate::pairs::Pairs;
+use crate::recorded_command::RecordedCommand;
 use pb_data::{Items, Text};
 use pb_place_types::{Command, PathText};
 
@@ -42,10 +42,10 @@ fn has_out(out: &PathText, other: &Option<PathText>) -> bool
     }
 }
 
-impl Asked {
+impl RecordedCommand {
     /// Returns the request of a command, or none if the command has no output folder, or its
     /// variables are not sorted by name, each name once. It takes no memory.
-    pub fn of_command(command: Command) -> Option<Asked>
+    pub fn of_command(command: Command) -> Option<RecordedCommand>
         ensures { result ≡ asked_in command }
     {
         let Command {
@@ -59,7 +59,7 @@ impl Asked {
             reads,
         } = command;
         match (out, Pairs::of(pairs)) {
-            (Some(out), Some(pairs)) => Some(Asked {
+            (Some(out), Some(pairs)) => Some(RecordedCommand {
                 program,
                 words,
                 folder,
@@ -77,7 +77,7 @@ impl Asked {
     pub fn into_command(self) -> Command
         ensures { result ≡ command_of self }
     {
-        let Asked {
+        let RecordedCommand {
             program,
             words,
             folder,

@@ -1,7 +1,6 @@
 //! Records: what is kept beside the output folder of a unit, and its text.
 #![tactic(auto)]
 
-pub mod asked;
 mod block;
 mod commands;
 mod front;
@@ -15,10 +14,10 @@ mod pairs;
 mod part;
 mod read;
 pub mod record;
+pub mod recorded_command;
 mod room;
 mod write;
 
-pub use asked::Asked;
 pub use laws::{
     commands_are_asked, numbers_have_one_spelling, only_records_are_read, records_lie_apart,
     texts_have_a_reading, texts_have_one_reading,
@@ -27,4 +26,5 @@ pub use numbers::{Numbers, read_numbers};
 pub use pairs::Pairs;
 pub use read::read_record;
 pub use record::{Input, InputName, Needed, Record};
+pub use recorded_command::RecordedCommand;
 pub use write::write_record;

@@ -7,10 +7,10 @@ ghost use Rattle.pb_record.specs.Parts.{Says};
 ghost use Rattle.pb_record.specs.Whole.{HasNeeds, IsEnd, IsRest, RestParts};
 ghost use Rattle.pb_record.specs.declared.record.Record.{Record};
 
-use crate::asked::Asked;
 use crate::front::after;
 use crate::part::Part;
 use crate::record::Input;
+use crate::recorded_command::RecordedCommand;
 use pb_data::{Bytes, Items, Text};
 use pb_place_types::RelativePath;
 use std::alloc::{AllocError, Global};
@@ -27,7 +27,7 @@ pub struct Numbers {
 
 /// The parts of a record of format 1 after its key.
 type CopiedRest = (
-    Asked,
+    RecordedCommand,
     (
         Items<Input>,
         (Items<(Text, Items<(RelativePath, Bytes)>)>, (Bytes, Bytes)),
@@ -51,7 +51,7 @@ fn needs_at(alloc: Global, text: &[u8]) -> Result<Option<Items<(Text, u64)>>, Al
     ensures { IfOk result (λ found. MatchOption found
         ((p : RestParts) → IsRest text.now p → ⊥) (λ needs. HasNeeds text.now needs)) }
 {
-    let Some(behind) = <(Asked, Items<Input>) as Part>::skip(alloc, text)? else {
+    let Some(behind) = <(RecordedCommand, Items<Input>) as Part>::skip(alloc, text)? else {
         return Ok(None);
     };
     let found: Option<(Items<(Text, u64)>, &[u8])> = Part::read(alloc, behind)?;

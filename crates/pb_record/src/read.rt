@@ -6,10 +6,10 @@ ghost use Rattle.pb_record.specs.Parts.{Says, Reads, IsReading};
 ghost use Rattle.pb_record.specs.Whole.{numbered_of, copied_of};
 ghost use Rattle.pb_record.specs.declared.record.Record.{Record};
 
-use crate::asked::Asked;
 use crate::front::after;
 use crate::part::Part;
 use crate::record::{Input, Needed, Record};
+use crate::recorded_command::RecordedCommand;
 use pb_data::{Bytes, Items, Text};
 use pb_place_types::RelativePath;
 use std::alloc::{AllocError, Global};
@@ -19,7 +19,10 @@ type NumberedParts = (
     u64,
     (
         Text,
-        (Asked, (Items<Input>, (Items<(Text, u64)>, (Bytes, Bytes)))),
+        (
+            RecordedCommand,
+            (Items<Input>, (Items<(Text, u64)>, (Bytes, Bytes))),
+        ),
     ),
 );
 
@@ -30,7 +33,7 @@ type Files = Items<(RelativePath, Bytes)>;
 type CopiedParts = (
     Text,
     (
-        Asked,
+        RecordedCommand,
         (Items<Input>, (Items<(Text, Files)>, (Bytes, Bytes))),
     ),
 );

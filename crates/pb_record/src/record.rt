@@ -1,6 +1,6 @@
 //! What is recorded of a unit that was built.
 
-use crate::asked::Asked;
+use crate::recorded_command::RecordedCommand;
 use pb_data::{Bytes, Items, Text, TryCopy};
 use pb_place_types::{PathText, RelativePath};
 use std::alloc::{AllocError, Global};
@@ -45,7 +45,7 @@ pub struct Record {
     /// The unit's key.
     pub key: Text,
     /// What was requested of the child.
-    pub asked: Asked,
+    pub asked: RecordedCommand,
     /// The inputs with their values.
     pub inputs: Items<Input>,
     /// The needed units.

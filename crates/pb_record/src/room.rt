@@ -1,8 +1,8 @@
 //! An upper bound for the length of a record's text, so that memory for it is taken once. No proof
 //! depends on it: if it were too small, the text would grow.
 
-use crate::asked::Asked;
 use crate::record::{Input, Needed, Record};
+use crate::recorded_command::RecordedCommand;
 use pb_data::{Bytes, Items, Text};
 use pb_place_types::{PathText, RelativePath};
 
@@ -100,7 +100,7 @@ fn numbers(needs: &[(Text, u64)]) -> usize {
 }
 
 /// Returns the room for a request.
-fn asked(asked: &Asked) -> usize {
+fn asked(asked: &RecordedCommand) -> usize {
     block(asked.program.as_bytes().len())
         .saturating_add(texts(asked.words.as_slice()))
         .saturating_add(block(asked.folder.as_str().len()))

@@ -22,13 +22,13 @@ use Rattle.pb_place_types.proofs.MapLemmas.{get-kept}
 use Rattle.pb_command_types.specs.Targets.{crate_name_of, dep_info_of, unit_at}
 use Rattle.pb_build_result.specs.declared.bad_unit.BadUnit.{BadUnit}
 use Rattle.pb_unit.specs.declared.plan.Planned.{Planned}
-use Rattle.pb_run.specs.Halves.{Basis, CanAnswer, IsBegun, IsInFlight, Keeps, WaitsBy, begun_with, command_in, outcomes_in, view_in}
+use Rattle.pb_run.specs.UnitSteps.{BuildContext, CanAnswer, IsBegun, IsInFlight, BuildInvariant, WaitsBy, begun_with, command_in, outcomes_in, view_in}
 use Rattle.pb_run.specs.Outcome.{Waiting, directives_of, judged, judgement_by, outcome_by, outcome_of, ran_by, ran_of}
-use Rattle.pb_run.specs.Standing.{IsInOrder}
+use Rattle.pb_run.specs.Invariants.{IsInOrder}
 use Rattle.pb_run.specs.declared.begun.Awaited.TheVariants as awaited
 use Rattle.pb_run.specs.declared.begun.Begun.{Begun}
-use Rattle.pb_run.specs.declared.begun.Launched.{Launched}
-use Rattle.pb_run.specs.declared.ran.Judgement.{Judgement}
+use Rattle.pb_run.specs.declared.begun.SpawnedChild.{SpawnedChild}
+use Rattle.pb_run.specs.declared.ran.Validated.{Validated}
 use Rattle.pb_run.specs.declared.ran.Ran.{Ran}
 use Rattle.pb_run.proofs.Recorded.{all_at}
 use Rattle.pb_run.proofs.Shown.{AllStand, good_needs}
@@ -63,7 +63,7 @@ landed_files out files before old new is lands =
     ∙ files_alike out (put_files out files (put_back out (files_in out before) old.files)) (put_files out files empty)
     (λ q inside. put_alike out q files (put_back out (files_in out before) old.files) empty (back_none out q before old.files is inside ∙ sym (get-empty (slice_cmp nat_cmp) q)))
 
-module _ (b : Basis) (order : IsInOrder b.project) (i : ℕ) (u : Planned) (at : unit_at b.project i ≡ Some u) where
+module _ (b : BuildContext) (order : IsInOrder b.project) (i : ℕ) (u : Planned) (at : unit_at b.project i ≡ Some u) where
   pub command_out : (command_in b i u).out ≡ Some u.out
   command_out = (is_for b.setup b.project u (directives_of (take i (outcomes_in b))) (order.packages i u at)).out
 
@@ -73,7 +73,7 @@ module _ (b : Basis) (order : IsInOrder b.project) (i : ℕ) (u : Planned) (at :
   begun_as begun next w flying still is =
       subst (λ (v : Planned). (begun.command ≡ command_in b i v) × WaitsBy b v begun.command (view_in b i v) begun.awaited next w flying still) (one is.unit u (sym is.there ∙ at)) (is.command, is.waits)
 
-  pub reached_stand : (states : List (State BadUnit)) (done : List (Option (List Directive))) (next : Option ℕ) (w : World) → Keeps b states done next w → are_good states u.reaches ≡ true → AllStand b done w u.reaches
+  pub reached_stand : (states : List (State BadUnit)) (done : List (Option (List Directive))) (next : Option ℕ) (w : World) → BuildInvariant b states done next w → are_good states u.reaches ≡ true → AllStand b done w u.reaches
   reached_stand states done next w keeps reaches place has = keeps.good place (all_at (λ p. is_good_at (slice_get states p)) u.reaches place reaches has)
 
   -- the outcome, by the reply of the child in the unit's view
@@ -84,7 +84,7 @@ module _ (b : Basis) (order : IsInOrder b.project) (i : ℕ) (u : Planned) (at :
       (good_needs b done w i u.needs (order.needs i u at) (λ v has. stand v (order.needs_reached i u at v has)))
 
   -- an answer that is judged by what stands in the folder
-  pub judged_gives : (done : List (Option (List Directive))) (w : World) (c : Command) (ended : Ended) (m : Map) (j : Judgement) → AllStand b done w u.reaches → c ≡ command_in b i u
+  pub judged_gives : (done : List (Option (List Directive))) (w : World) (c : Command) (ended : Ended) (m : Map) (j : Validated) → AllStand b done w u.reaches → c ≡ command_in b i u
       → ended ≡ ended_by (b.child (command_in b i u) (view_in b i u)) → files_in u.out m ≡ replied_files u.out (b.child (command_in b i u) (view_in b i u))
       → j ≡ judgement_by b.project u ended (answered_of b.project u c ended (file_at (dep_info_of b.project u) m))
       → slice_get (outcomes_in b) i ≡ Some (outcome_by (files_in u.out m) j.ran)
@@ -95,7 +95,7 @@ module _ (b : Basis) (order : IsInOrder b.project) (i : ℕ) (u : Planned) (at :
       let info : dep_info ≡ file_at (dep_info_of b.project u) (replied_files u.out reply) =
       sym (inside_file u.out (dep_info_of b.project u) m (λ q is. dep_info_inside b.project u u.unit.what (crate_name_of b.project u) q is)) ∙ ap (file_at (dep_info_of b.project u)) made in
       let comes : j.ran ≡ ran_of b.project u command (ended_by reply) (replied_files u.out reply) =
-      ap (λ (x : Judgement). x.ran) is_judged
+      ap (λ (x : Validated). x.ran) is_judged
       ∙ ap (λ (d : Command). ran_by b.project u ended (answered_of b.project u d ended dep_info)) is_command
       ∙ ap (λ (e : Ended). ran_by b.project u e (answered_of b.project u command e dep_info)) is_ended
       ∙ ap (λ (x : Option (List ℕ)). ran_by b.project u (ended_by reply) (answered_of b.project u command (ended_by reply) x)) info in
@@ -103,7 +103,7 @@ module _ (b : Basis) (order : IsInOrder b.project) (i : ℕ) (u : Planned) (at :
       ∙ sym (ap (λ (n : Map). Some (outcome_by n j.ran)) made ∙ ap (λ (r : Ran). Some (outcome_by (replied_files u.out reply) r)) comes)
 
   -- the child that flies for it has landed
-  module _ (key : List ℕ) (c : Command) (l : Launched) (next : Option ℕ) (flying : List ChildInFlight) (still : ℕ → Type 0) where
+  module _ (key : List ℕ) (c : Command) (l : SpawnedChild) (next : Option ℕ) (flying : List ChildInFlight) (still : ℕ → Type 0) where
     pub its_flight : (w : World) → IsBegun b i (begun_with key c (awaited.Child l)) next w flying still → (c ≡ command_in b i u) × IsInFlight b.child c (view_in b i u) l.ticket flying still
     its_flight w is = let (command, waits) = begun_as (begun_with key c (awaited.Child l)) next w flying still is in (command, waits.0)
 
@@ -117,7 +117,7 @@ module _ (b : Basis) (order : IsInOrder b.project) (i : ℕ) (u : Planned) (at :
         let inside : ChangesOnlyInSome c.out old new = subst (λ (o : Option ChildInFlight). IfSome o (λ s. ChangesOnlyInSome s.command.out old new)) flight.flies only in
         only_started u.out c.out old new (ap (λ (d : Command). d.out) command ∙ command_out) inside
 
-    pub landed_gives : (states : List (State BadUnit)) (done : List (Option (List Directive))) (old new : World) (ended : Ended) (j : Judgement) → CanAnswer b states done i u (begun_with key c (awaited.Child l)) next old flying still
+    pub landed_gives : (states : List (State BadUnit)) (done : List (Option (List Directive))) (old new : World) (ended : Ended) (j : Validated) → CanAnswer b states done i u (begun_with key c (awaited.Child l)) next old flying still
         → (still l.ticket → IfSome (child_at l.ticket flying) (λ s. LandsAs s old ended new)) → j ≡ judgement_by b.project u ended (answered_of b.project u c ended (file_at (dep_info_of b.project u) new.files))
         → slice_get (outcomes_in b) i ≡ Some (outcome_by (files_in u.out new.files) j.ran)
     landed_gives states done old new ended j can lands is_judged =

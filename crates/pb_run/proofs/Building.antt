@@ -16,13 +16,13 @@ use Rattle.pb_place_types.specs.declared.command.Ended.{Ended}
 use Rattle.pb_command_types.specs.Targets.{dep_info_of, unit_at}
 use Rattle.pb_record.specs.declared.record.Record.{Record}
 use Rattle.pb_run.specs.Running.{AnswersBuild, BeginsBuild, ChangesUnit, DropsFor, IsSpawned}
-use Rattle.pb_run.specs.Halves.{Basis, begun_with, needed_keys}
+use Rattle.pb_run.specs.UnitSteps.{BuildContext, begun_with, needed_keys}
 use Rattle.pb_run.specs.Outcome.{judgement_by, unstarted}
-use Rattle.pb_run.specs.Standing.{IsInOrder, records_folder}
+use Rattle.pb_run.specs.Invariants.{IsInOrder, records_folder}
 use Rattle.pb_run.specs.declared.begun.Awaited.TheVariants as awaited
-use Rattle.pb_run.specs.declared.begun.Launched.{Launched}
+use Rattle.pb_run.specs.declared.begun.SpawnedChild.{SpawnedChild}
 use Rattle.pb_run.specs.declared.faults.StepFault.{StepFault}
-use Rattle.pb_run.specs.declared.ran.Judgement.{Judgement}
+use Rattle.pb_run.specs.declared.ran.Validated.{Validated}
 use Rattle.pb_run.specs.declared.ran.Ran.{Ran}
 use Rattle.pb_run.proofs.Halving.{begun_none, begun_some, keeps_launched, keeps_same, others_begun, others_same}
 use Rattle.pb_run.proofs.Kept.{keeps_bad_ended, keeps_ended, keeps_kept, keeps_over, others_ended, others_kept, outcome_ended, outcome_kept}
@@ -39,7 +39,7 @@ use Rattle.pb_store.specs.declared.replaying.Replayed.{Replayed}
 use Rattle.pb_unit.specs.declared.plan.Planned.{Planned}
 
 -- A unit begins.
-module _ (b : Basis) (order : IsInOrder b.project) (i : ℕ) (u : Planned) (at : unit_at b.project i ≡ Some u) (done : List (Option (List Directive))) (next : Option ℕ) (old new : At) where
+module _ (b : BuildContext) (order : IsInOrder b.project) (i : ℕ) (u : Planned) (at : unit_at b.project i ≡ Some u) (done : List (Option (List Directive))) (next : Option ℕ) (old new : At) where
   -- nothing was changed
   module _ (same : new.world ≡ old.world) (starts : new.counts.starts ≡ old.counts.starts) (keeps : KeepsStill old.still new.still) where
     pub begin_failed : (e : StepFault) → BeginsBuild b done i u (Err e) next next old new
@@ -62,7 +62,7 @@ module _ (b : Basis) (order : IsInOrder b.project) (i : ℕ) (u : Planned) (at :
   -- its child was launched, or was to be
   module _ {T : Type 0} (Goes : T → Starts → Starts → Type 0) (May : StepFault → Starts → Starts → Type 0) (result : Result T StepFault) (next' : Option ℕ) (changes : ChangesUnit (records_folder b.project) u.key None Goes May result old new)
       (taken : TakesNumber next next') where
-    pub begin_stopped : (e : StepFault) → DropsFor {T = Launched} b.child (records_folder b.project) u.key (Err e) next next' old.world new.world → BeginsBuild b done i u (Err e) next next' old new
+    pub begin_stopped : (e : StepFault) → DropsFor {T = SpawnedChild} b.child (records_folder b.project) u.key (Err e) next next' old.world new.world → BeginsBuild b done i u (Err e) next next' old new
     begin_stopped e drops = record {
       begun = λ states can. tt;
       keeps = λ states can. keeps_launched b order i u at states done next old.world can (records_folder b.project) refl new.world next' changes.only (drops.sound judge) drops.ahead;
@@ -70,8 +70,8 @@ module _ (b : Basis) (order : IsInOrder b.project) (i : ℕ) (u : Planned) (at :
           changes.only taken drops.stands (λ t f there. changes.stay t f tt there) (λ t stands stood. changes.still t tt stands stood);
     }
 
-    pub begin_launched : (key : List ℕ) (c : Command) (l : Launched) (difference : _) → c ≡ command_of b.setup b.project u done → IsSpawned (is_of (records_folder b.project) u.key) b.child c old.world l.ticket new.counts.starts.flying new.still
-        → next ≡ Some l.number → next' ≡ after l.number → DropsFor {T = Launched} b.child (records_folder b.project) u.key (Ok l) next next' old.world new.world
+    pub begin_launched : (key : List ℕ) (c : Command) (l : SpawnedChild) (difference : _) → c ≡ command_of b.setup b.project u done → IsSpawned (is_of (records_folder b.project) u.key) b.child c old.world l.ticket new.counts.starts.flying new.still
+        → next ≡ Some l.number → next' ≡ after l.number → DropsFor {T = SpawnedChild} b.child (records_folder b.project) u.key (Ok l) next next' old.world new.world
         → BeginsBuild b done i u (Ok record { unit = key; command = c; difference = difference; awaited = awaited.Child l }) next next' old new
     begin_launched key c l difference asks spawned given then' drops = record {
       begun = λ states can. begun_whole record { unit = key; command = c; difference = difference; awaited = awaited.Child l } b i key next' new.world new.counts.starts.flying new.still
@@ -82,7 +82,7 @@ module _ (b : Basis) (order : IsInOrder b.project) (i : ℕ) (u : Planned) (at :
     }
 
 -- A unit with a child answers.
-module _ (b : Basis) (order : IsInOrder b.project) (i : ℕ) (u : Planned) (at : unit_at b.project i ≡ Some u) (c : Command) (l : Launched) (next : Option ℕ) (old mid : At)
+module _ (b : BuildContext) (order : IsInOrder b.project) (i : ℕ) (u : Planned) (at : unit_at b.project i ≡ Some u) (c : Command) (l : SpawnedChild) (next : Option ℕ) (old mid : At)
     (only : IfSome (child_at l.ticket old.counts.starts.flying) (λ s. ChangesOnlyInSome s.command.out old.world mid.world)) (stays : StaysStillBut l.ticket old.counts.starts.flying old.world mid.world old.still mid.still) where
   -- nothing is kept
   pub land_failed : (new : At) → new.world ≡ mid.world → KeepsStill mid.still new.still → new.counts.starts.flying ≡ without l.ticket old.counts.starts.flying → (e : StepFault) → AnswersBuild b i u (begun_with u.key c (awaited.Child l)) (Err e) next next old new
@@ -93,7 +93,7 @@ module _ (b : Basis) (order : IsInOrder b.project) (i : ℕ) (u : Planned) (at :
   }
 
   -- the answer was judged
-  module _ (ended : Ended) (j : Judgement) (lands : old.still l.ticket → IfSome (child_at l.ticket old.counts.starts.flying) (λ s. LandsAs s old.world ended mid.world))
+  module _ (ended : Ended) (j : Validated) (lands : old.still l.ticket → IfSome (child_at l.ticket old.counts.starts.flying) (λ s. LandsAs s old.world ended mid.world))
       (judged : j ≡ judgement_by b.project u ended (answered_of b.project u c ended (file_at (dep_info_of b.project u) mid.world.files))) where
     pub land_bad : (new : At) → new.world ≡ mid.world → KeepsStill mid.still new.still → new.counts.starts.flying ≡ without l.ticket old.counts.starts.flying → is_some j.ran.bad ≡ true → AnswersBuild b i u (begun_with u.key c (awaited.Child l)) (Ok j.ran) next next old new
     land_bad new same keeps gone bad = record {
@@ -125,7 +125,7 @@ module _ (b : Basis) (order : IsInOrder b.project) (i : ℕ) (u : Planned) (at :
       land_kept stands = subst (λ (n : Option ℕ). AnswersBuild b i u (begun_with u.key c (awaited.Child l)) (Ok j.ran) next n old new) (sym taken) (kept stands)
 
 -- A unit without a child answers.
-module _ (b : Basis) (order : IsInOrder b.project) (i : ℕ) (u : Planned) (at : unit_at b.project i ≡ Some u) (c : Command) (again : Replayed) (next : Option ℕ) (old new : At) where
+module _ (b : BuildContext) (order : IsInOrder b.project) (i : ℕ) (u : Planned) (at : unit_at b.project i ≡ Some u) (c : Command) (again : Replayed) (next : Option ℕ) (old new : At) where
   -- nothing was changed
   module _ (same : new.world ≡ old.world) (starts : new.counts.starts ≡ old.counts.starts) (keeps : KeepsStill old.still new.still) where
     pub reuse_failed : (e : StepFault) → AnswersBuild b i u (begun_with u.key c (awaited.Record again)) (Err e) next next old new
@@ -136,7 +136,7 @@ module _ (b : Basis) (order : IsInOrder b.project) (i : ℕ) (u : Planned) (at :
           (ap (λ (s : Starts). s.flying) starts) keeps;
     }
 
-    module _ (j : Judgement) (judged : j ≡ judgement_by b.project u again.ended (answered_of b.project u c again.ended (file_at (dep_info_of b.project u) old.world.files))) (ran : Ran) (is : ran ≡ unstarted j.ran) where
+    module _ (j : Validated) (judged : j ≡ judgement_by b.project u again.ended (answered_of b.project u c again.ended (file_at (dep_info_of b.project u) old.world.files))) (ran : Ran) (is : ran ≡ unstarted j.ran) where
       pub reuse_bad : is_some ran.bad ≡ true → AnswersBuild b i u (begun_with u.key c (awaited.Record again)) (Ok ran) next next old new
       reuse_bad bad = record {
         outcome = λ states done can. replay_outcome b order i u at u.key c again next old.world old.counts.starts.flying old.still states done can j new.world ran same judged is;
@@ -166,7 +166,7 @@ module _ (b : Basis) (order : IsInOrder b.project) (i : ℕ) (u : Planned) (at :
           (ap (λ (s : Starts). s.flying) starts) (λ t stands stood. changes.still t tt stands stood);
     }
 
-    pub reuse_renewed : (j : Judgement) → j ≡ judgement_by b.project u again.ended (answered_of b.project u c again.ended (file_at (dep_info_of b.project u) old.world.files)) → (ran : Ran) → ran ≡ unstarted j.ran
+    pub reuse_renewed : (j : Validated) → j ≡ judgement_by b.project u again.ended (answered_of b.project u c again.ended (file_at (dep_info_of b.project u) old.world.files)) → (ran : Ran) → ran ≡ unstarted j.ran
         → Renewed (records_folder b.project) u.key (needed_keys b.project u) next next' old.world new.world → AnswersBuild b i u (begun_with u.key c (awaited.Record again)) (Ok ran) next next' old new
     reuse_renewed j judged ran is renewed = record {
       outcome = λ states done can. renewed_outcome b order i u at u.key c again next old.world old.counts.starts.flying old.still states done can j new.world ran judged is renews.only;

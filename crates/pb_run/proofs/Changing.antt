@@ -8,9 +8,9 @@ use Rattle.pb_place_types.specs.Paths.{is_at_or_below}
 use Rattle.pb_place_types.specs.World.{World, ChangesOnly, ChangesOnlyInSome}
 use Rattle.pb_place_types.specs.declared.child_in_flight.ChildInFlight.{ChildInFlight}
 use Rattle.pb_run.specs.Running.{ChangesUnit}
-use Rattle.pb_run.specs.Halves.{WritesTo}
+use Rattle.pb_run.specs.UnitSteps.{WritesTo}
 use Rattle.pb_run.specs.Steps.{StepTakes}
-use Rattle.pb_run.specs.declared.begun.Launched.{Launched}
+use Rattle.pb_run.specs.declared.begun.SpawnedChild.{SpawnedChild}
 use Rattle.pb_run.specs.declared.faults.StepFault.{StepFault}
 use Rattle.pb_run.proofs.RecordedOthers.{still_over}
 use Rattle.pb_run.proofs.Spawning.{launched_only, launched_still, place_within, still_widen, widen}
@@ -24,7 +24,7 @@ at_place Said folder root key k is its said = subst (λ f. Said (place_of f k)) 
 
 module _ {T : Type 0} (Goes : T → Starts → Starts → Type 0) (May : StepFault → Starts → Starts → Type 0) (result : Result T StepFault) where
   -- it is said of another folder and key that are the same
-  pub changes_moved : (folder root key k : List ℕ) (ended : Option Launched) (old new : At) → folder ≡ root → key ≡ k → ChangesUnit folder key ended Goes May result old new → ChangesUnit root k ended Goes May result old new
+  pub changes_moved : (folder root key k : List ℕ) (ended : Option SpawnedChild) (old new : At) → folder ≡ root → key ≡ k → ChangesUnit folder key ended Goes May result old new → ChangesUnit root k ended Goes May result old new
   changes_moved folder root key k ended old new is its changes =
       subst (λ f. ChangesUnit f k ended Goes May result old new) is (subst (λ x. ChangesUnit folder x ended Goes May result old new) its changes)
 
@@ -72,7 +72,7 @@ module _ {T : Type 0} (Goes : T → Starts → Starts → Type 0) (May : StepFau
   }
 
   -- The child of a unit has landed.
-  module _ (root key out : List ℕ) (lies : out ≡ out_of root key) (l : Launched) (old mid : At) (flies : is_flying l.ticket old.counts.starts.flying ≡ true) (writes : WritesTo out (Some l) old.counts.starts.flying)
+  module _ (root key out : List ℕ) (lies : out ≡ out_of root key) (l : SpawnedChild) (old mid : At) (flies : is_flying l.ticket old.counts.starts.flying ≡ true) (writes : WritesTo out (Some l) old.counts.starts.flying)
       (only : IfSome (child_at l.ticket old.counts.starts.flying) (λ s. ChangesOnlyInSome s.command.out old.world mid.world)) (stays : StaysStillBut l.ticket old.counts.starts.flying old.world mid.world old.still mid.still) where
     its_only : ChangesOnly (is_of root key) old.world mid.world
     its_only = unkept_only root key out lies l old.counts.starts.flying flies writes old.world mid.world mid.world only refl

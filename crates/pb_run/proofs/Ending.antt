@@ -3,20 +3,20 @@ use Rattle.std.proofs.Common.{◌≡◌, ◌≢◌, ◌⊎◌, ◌∙◌, ℕ, O
 use Rattle.pb_place_types.specs.Counts.{Counts, Starts, up, landed, past_finish_fault}
 use Rattle.pb_place_types.specs.declared.place.StartFault.{StartFault}
 use Rattle.pb_place_types.specs.declared.place.StartFault.TheVariants as start
-use Rattle.pb_run.specs.Steps.{IsLifted, LandsBy, started, MayAnswer, MayBegin, MayFollow, StepCause}
-use Rattle.pb_run.specs.declared.begun.Launched.{Launched}
+use Rattle.pb_run.specs.Steps.{StartsRise, LandsBy, started, MayAnswer, MayBegin, MayFollow, StepCause}
+use Rattle.pb_run.specs.declared.begun.SpawnedChild.{SpawnedChild}
 use Rattle.pb_run.specs.declared.faults.StepFault.{StepFault}
 use Rattle.pb_run.specs.declared.faults.StepFault.TheVariants.{Store, Start}
 use Rattle.pb_store.specs.declared.fault.StoreFault.TheVariants.{Place, NumbersSpent, OutOfMemory}
 
 -- that the answer of a unit may end with a fault, which has its cause
-abbrev pub TellsAnswer : Option ℕ → Option Launched → Counts → Counts → StepFault → Type 0
+abbrev pub TellsAnswer : Option ℕ → Option SpawnedChild → Counts → Counts → StepFault → Type 0
 TellsAnswer next launched old new e = MayAnswer next launched e old.starts new.starts × StepCause e old new
 
-pub finish_lands : (l : Launched) (old new : Counts) → new ≡ landed l.ticket old → (new.failures ≡ old.failures) × LandsBy (Some l) old.starts new.starts
+pub finish_lands : (l : SpawnedChild) (old new : Counts) → new ≡ landed l.ticket old → (new.failures ≡ old.failures) × LandsBy (Some l) old.starts new.starts
 finish_lands l old new counts = (ap (λ (c : Counts). c.failures) counts, ap (λ (c : Counts). c.starts) counts)
 
-pub finish_told : (next : Option ℕ) (l : Launched) (e : StartFault) (old new : Counts) → (e ≢ start.OutOfMemory → (e ≡ start.Died) ⊎ (e ≡ start.Capture)) → new ≡ past_finish_fault e (landed l.ticket old) → TellsAnswer next (Some l) old new (started e)
+pub finish_told : (next : Option ℕ) (l : SpawnedChild) (e : StartFault) (old new : Counts) → (e ≢ start.OutOfMemory → (e ≡ start.Died) ⊎ (e ≡ start.Capture)) → new ≡ past_finish_fault e (landed l.ticket old) → TellsAnswer next (Some l) old new (started e)
 finish_told next l start.CannotStart old new may counts = elim (may no_memory) [
   | inl e ↦ absurd (no_died e)
   | inr e ↦ absurd (no_capture e)
@@ -44,23 +44,23 @@ cause_after (Store OutOfMemory) old mid new same cause = cause ∙ same
 cause_after (Start fault) old mid new same cause = (cause.0 ∙ ap up same, cause.1, cause.2)
 
 -- a child that is spawned after calls that start none
-pub lifted_after : (ticket : ℕ) (old mid new : Counts) → mid.failures ≡ old.failures → mid.starts ≡ old.starts → (new.failures ≡ mid.failures) × IsLifted ticket mid.starts new.starts → (new.failures ≡ old.failures) × IsLifted ticket old.starts new.starts
-lifted_after ticket old mid new failures same second = (second.0 ∙ failures, subst (λ (s : Starts). IsLifted ticket s new.starts) same second.1)
+pub lifted_after : (ticket : ℕ) (old mid new : Counts) → mid.failures ≡ old.failures → mid.starts ≡ old.starts → (new.failures ≡ mid.failures) × StartsRise ticket mid.starts new.starts → (new.failures ≡ old.failures) × StartsRise ticket old.starts new.starts
+lifted_after ticket old mid new failures same second = (second.0 ∙ failures, subst (λ (s : Starts). StartsRise ticket s new.starts) same second.1)
 
 pub begun_after : (next : Option ℕ) (e : StepFault) (old mid new : Counts) → mid.failures ≡ old.failures → mid.starts ≡ old.starts → MayBegin next e mid.starts new.starts × StepCause e mid new → MayBegin next e old.starts new.starts × StepCause e old new
 begun_after next e old mid new failures same second = (subst (λ (s : Starts). MayBegin next e s new.starts) same second.0, cause_after e old mid new failures second.1)
 
 -- a fault of a call after the child's end
-follow_landed : (next : Option ℕ) (l : Launched) (e : StepFault) (old mid new : Starts) → LandsBy (Some l) old mid → MayFollow e mid new → MayAnswer next (Some l) e old new
+follow_landed : (next : Option ℕ) (l : SpawnedChild) (e : StepFault) (old mid new : Starts) → LandsBy (Some l) old mid → MayFollow e mid new → MayAnswer next (Some l) e old new
 follow_landed next l (Store (Place fault)) old mid new lands (kind, same) = (kind, same ∙ lands)
 follow_landed next l (Store NumbersSpent) old mid new lands may = absurd may
 follow_landed next l (Store OutOfMemory) old mid new lands may = may ∙ lands
 follow_landed next l (Start fault) old mid new lands may = absurd may
 
-pub landed_told : (next : Option ℕ) (l : Launched) (e : StepFault) (old mid new : Counts) → (mid.failures ≡ old.failures) × LandsBy (Some l) old.starts mid.starts → MayFollow e mid.starts new.starts × StepCause e mid new → TellsAnswer next (Some l) old new e
+pub landed_told : (next : Option ℕ) (l : SpawnedChild) (e : StepFault) (old mid new : Counts) → (mid.failures ≡ old.failures) × LandsBy (Some l) old.starts mid.starts → MayFollow e mid.starts new.starts × StepCause e mid new → TellsAnswer next (Some l) old new e
 landed_told next l e old mid new first second = (follow_landed next l e old.starts mid.starts new.starts first.1 second.0, cause_after e old mid new first.0 second.1)
 
-pub landed_more : (next : Option ℕ) (l : Launched) (e : StepFault) (old mid last new : Counts) → (mid.failures ≡ old.failures) × LandsBy (Some l) old.starts mid.starts → (last.failures ≡ mid.failures) × (last.starts ≡ mid.starts)
+pub landed_more : (next : Option ℕ) (l : SpawnedChild) (e : StepFault) (old mid last new : Counts) → (mid.failures ≡ old.failures) × LandsBy (Some l) old.starts mid.starts → (last.failures ≡ mid.failures) × (last.starts ≡ mid.starts)
     → MayFollow e last.starts new.starts × StepCause e last new → TellsAnswer next (Some l) old new e
 landed_more next l e old mid last new first between second = landed_told next l e old last new (between.0 ∙ first.0, between.1 ∙ first.1) second
 

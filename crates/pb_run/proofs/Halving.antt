@@ -18,13 +18,13 @@ use Rattle.pb_command_types.specs.declared.project.Project.{Project}
 use Rattle.pb_command_types.specs.declared.project.Setup.{Setup}
 use Rattle.pb_record.specs.declared.record.Record.{Record}
 use Rattle.pb_unit.specs.declared.plan.Planned.{Planned}
-use Rattle.pb_run.specs.Steps.{IsLifted, MayBegin}
-use Rattle.pb_run.specs.Halves.{Basis, BeginsApart, CanBegin, IsBegun, Keeps, begun_with, command_in, records_in, view_in}
+use Rattle.pb_run.specs.Steps.{StartsRise, MayBegin}
+use Rattle.pb_run.specs.UnitSteps.{BuildContext, BeginsApart, CanBegin, IsBegun, BuildInvariant, begun_with, command_in, records_in, view_in}
 use Rattle.pb_run.specs.Running.{IsSpawned}
-use Rattle.pb_run.specs.Standing.{IsCommandOf, IsInOrder, records_folder}
+use Rattle.pb_run.specs.Invariants.{IsCommandOf, IsInOrder, records_folder}
 use Rattle.pb_run.specs.declared.begun.Awaited.TheVariants as awaited
 use Rattle.pb_run.specs.declared.begun.Begun.{Begun}
-use Rattle.pb_run.specs.declared.begun.Launched.{Launched}
+use Rattle.pb_run.specs.declared.begun.SpawnedChild.{SpawnedChild}
 use Rattle.pb_run.specs.declared.faults.StepFault.{StepFault}
 use Rattle.pb_run.specs.declared.faults.StepFault.TheVariants.{Store, Start}
 use Rattle.pb_run.proofs.Answering.{reached_stand}
@@ -52,7 +52,7 @@ lies_at project i u folder order at is = order.folders i u at ∙ sym (ap (λ f.
 pub out_lies : (project : Project) (i : ℕ) (u : Planned) (folder : List ℕ) (c : Command) → IsInOrder project → slice_get project.plan.planned i ≡ Some u → folder ≡ records_folder project → IsCommandOf project u c → c.out ≡ Some (out_of folder u.key)
 out_lies project i u folder c order at is (setup, done, asks) = out_asked project setup i u done c order at asks ∙ ap Some (lies_at project i u folder order at is)
 
-module _ (b : Basis) (order : IsInOrder b.project) (i : ℕ) (u : Planned) (at : unit_at b.project i ≡ Some u) (states : List (State BadUnit)) (done : List (Option (List Directive))) (next : Option ℕ) (w : World) (can : CanBegin b states done i u next w) where
+module _ (b : BuildContext) (order : IsInOrder b.project) (i : ℕ) (u : Planned) (at : unit_at b.project i ≡ Some u) (states : List (State BadUnit)) (done : List (Option (List Directive))) (next : Option ℕ) (w : World) (can : CanBegin b states done i u next w) where
   stand : AllStand b done w u.reaches
   stand = reached_stand b order i u at states done next w can.keeps can.reaches
 
@@ -63,11 +63,11 @@ module _ (b : Basis) (order : IsInOrder b.project) (i : ℕ) (u : Planned) (at :
   is_shown_view c is = ap (λ (d : Command). seen_by d w) (is_command c is) ∙ sees_view b done w i u order at stand can.keeps.sources_stay
 
   -- nothing has changed
-  keeps_here : Keeps b (slice_set states i begun_state) done next w
+  keeps_here : BuildInvariant b (slice_set states i begun_state) done next w
   keeps_here = keeps_begun b order states done i u at next w w (only_same _ w) can next (λ s. s) (λ a. a)
 
-  pub keeps_same : (w' : World) → w' ≡ w → Keeps b (slice_set states i begun_state) done next w'
-  keeps_same w' same = subst (Keeps b (slice_set states i begun_state) done next) (sym same) keeps_here
+  pub keeps_same : (w' : World) → w' ≡ w → BuildInvariant b (slice_set states i begun_state) done next w'
+  keeps_same w' same = subst (BuildInvariant b (slice_set states i begun_state) done next) (sym same) keeps_here
 
   pub begun_none : (key : List ℕ) (c : Command) (again : Replayed) (w' : World) (folder : List ℕ) (flying : List ChildInFlight) (still : ℕ → Type 0) → w' ≡ w → folder ≡ records_folder b.project → c ≡ command_of b.setup b.project u done
       → (r : Record) × IsSame reading folder u.key c w r → IsReplayed (records folder w u.key) again → IsBegun b i (begun_with key c (awaited.Record again)) next w' flying still
@@ -83,12 +83,12 @@ module _ (b : Basis) (order : IsInOrder b.project) (i : ℕ) (u : Planned) (at :
     only_its = subst (λ f. ChangesOnly (is_of f u.key) w w') is_folder only
 
     pub keeps_launched : (Sound reading judge b.child folder w.files → Sound reading judge b.child folder w'.files) → (IsAhead (records folder w) next → IsAhead (records folder w') next')
-        → Keeps b (slice_set states i begun_state) done next' w'
+        → BuildInvariant b (slice_set states i begun_state) done next' w'
     keeps_launched sound ahead = keeps_begun b order states done i u at next w w' only_its can next'
         (subst (λ f. Sound reading judge b.child f w.files → Sound reading judge b.child f w'.files) is_folder sound)
         (subst (λ f. IsAhead (records f w) next → IsAhead (records f w') next') is_folder ahead)
 
-    pub begun_some : (key : List ℕ) (c : Command) (l : Launched) (flying : List ChildInFlight) (still : ℕ → Type 0) → c ≡ command_of b.setup b.project u done → IsSpawned (is_of folder u.key) b.child c w l.ticket flying still
+    pub begun_some : (key : List ℕ) (c : Command) (l : SpawnedChild) (flying : List ChildInFlight) (still : ℕ → Type 0) → c ≡ command_of b.setup b.project u done → IsSpawned (is_of folder u.key) b.child c w l.ticket flying still
         → records folder w' u.key ≡ None → next ≡ Some l.number → next' ≡ after l.number → IsBegun b i (begun_with key c (awaited.Child l)) next' w' flying still
     begun_some key c l flying still is spawned gone given then' =
         begun_child b order states done i u at next w w' only_its can (begun_with key c (awaited.Child l)) l spawned.spawned next' flying still (is_command c is) refl (is_shown_view c is)
@@ -106,10 +106,10 @@ flying_begun next (Store store.OutOfMemory) old new may = elim may [
 ]
 flying_begun next (Start fault) old new (kind, starts) = ap (λ (s : Starts). s.flying) starts
 
-pub flies_lifted : (ticket t : ℕ) (old new : Starts) (f : ChildInFlight) → IsLifted ticket old new → child_at t old.flying ≡ Some f → child_at t new.flying ≡ Some f
+pub flies_lifted : (ticket t : ℕ) (old new : Starts) (f : ChildInFlight) → StartsRise ticket old new → child_at t old.flying ≡ Some f → child_at t new.flying ≡ Some f
 flies_lifted ticket t old new f lifted there = ap (λ (s : Starts). child_at t s.flying) lifted.lifted ∙ flies_beside t old.flying (lifted.child ∷ []) f there
 
-module _ (b : Basis) (order : IsInOrder b.project) (i : ℕ) (u : Planned) (at : unit_at b.project i ≡ Some u) (states : List (State BadUnit)) (done : List (Option (List Directive))) (next : Option ℕ) (w : World) (can : CanBegin b states done i u next w)
+module _ (b : BuildContext) (order : IsInOrder b.project) (i : ℕ) (u : Planned) (at : unit_at b.project i ≡ Some u) (states : List (State BadUnit)) (done : List (Option (List Directive))) (next : Option ℕ) (w : World) (can : CanBegin b states done i u next w)
     (other : ℕ) (its : Begun) (flying : List ChildInFlight) (still : ℕ → Type 0) (apart : BeginsApart b states i None other its next w flying still) where
   bad : is_good_at (slice_get states i) ≡ false
   bad = ap is_good_at can.untouched

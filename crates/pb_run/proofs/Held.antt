@@ -9,11 +9,11 @@ use Rattle.pb_place_types.specs.declared.child_in_flight.ChildInFlight.{ChildInF
 use Rattle.pb_place_types.specs.declared.command.Command.{Command}
 use Rattle.pb_command_types.specs.Targets.{unit_at}
 use Rattle.pb_command_types.specs.declared.project.Project.{Project}
-use Rattle.pb_run.specs.Halves.{WritesTo}
+use Rattle.pb_run.specs.UnitSteps.{WritesTo}
 use Rattle.pb_run.specs.Running.{DropsFor, IsSpawned}
-use Rattle.pb_run.specs.Standing.{IsInOrder, records_folder}
+use Rattle.pb_run.specs.Invariants.{IsInOrder, records_folder}
 use Rattle.pb_run.specs.declared.faults.StepFault.{StepFault}
-use Rattle.pb_run.specs.declared.begun.Launched.{Launched}
+use Rattle.pb_run.specs.declared.begun.SpawnedChild.{SpawnedChild}
 use Rattle.pb_run.proofs.Halving.{lies_at}
 use Rattle.pb_run.proofs.Spawning.{launched_held}
 use Rattle.pb_run.proofs.Writes.{ended_only}
@@ -32,7 +32,7 @@ pub numbers_same : (folder : List ℕ) (w v : World) (numbers : List (List ℕ �
 numbers_same folder w v numbers same has = subst (λ (x : World). HasNumbers (records folder x) numbers) (sym same) has
 
 -- and where the child of a unit has landed
-pub numbers_landed : (project : Project) (order : IsInOrder project) (i : ℕ) (u : Planned) → unit_at project i ≡ Some u → (folder : List ℕ) → folder ≡ records_folder project → (l : Launched) (flying : List ChildInFlight) → is_flying l.ticket flying ≡ true
+pub numbers_landed : (project : Project) (order : IsInOrder project) (i : ℕ) (u : Planned) → unit_at project i ≡ Some u → (folder : List ℕ) → folder ≡ records_folder project → (l : SpawnedChild) (flying : List ChildInFlight) → is_flying l.ticket flying ≡ true
     → WritesTo u.out (Some l) flying → (w w1 v : World) → IfSome (child_at l.ticket flying) (λ s. ChangesOnlyInSome s.command.out w w1) → v ≡ w1 → (numbers : List (List ℕ × Option ℕ)) → HasNumbers (records folder w) numbers → HasNumbers (records folder v) numbers
 numbers_landed project order i u at folder is l flying flies writes w w1 v only same numbers has =
     numbers_same folder w1 v numbers same
@@ -67,12 +67,12 @@ spawned_moved child c folder root key k v w ticket flying still is its same spaw
     (subst (λ (x : List ℕ). IsSpawned (is_of folder x) child c w ticket flying still) its (subst (λ (x : World). IsSpawned (is_of folder key) child c x ticket flying still) same spawned))
 
 -- whatever fault ended it
-pub drops_fault : (child : Answers) (e f : StepFault) (folder key : List ℕ) (next next' : Option ℕ) (old new : World) → DropsFor {T = Launched} child folder key (Err e) next next' old new → DropsFor {T = Launched} child folder key (Err f) next next' old new
+pub drops_fault : (child : Answers) (e f : StepFault) (folder key : List ℕ) (next next' : Option ℕ) (old new : World) → DropsFor {T = SpawnedChild} child folder key (Err e) next next' old new → DropsFor {T = SpawnedChild} child folder key (Err f) next next' old new
 drops_fault child e f folder key next next' old new drops = record { sound = drops.sound; stands = drops.stands; ahead = drops.ahead }
 
 -- how a launch ended
-abbrev pub launched_well : Launched → Result Launched StepFault
+abbrev pub launched_well : SpawnedChild → Result SpawnedChild StepFault
 launched_well l = Ok l
 
-abbrev pub launched_badly : StepFault → Result Launched StepFault
+abbrev pub launched_badly : StepFault → Result SpawnedChild StepFault
 launched_badly e = Err e

@@ -28,16 +28,16 @@ use Rattle.pb_build_result.specs.declared.bad_unit.BadUnit.{BadUnit}
 use Rattle.pb_command_types.specs.declared.project.Project.{Project}
 use Rattle.pb_record.specs.Sorted.{are_sorted, leads}
 use Rattle.pb_unit.specs.declared.plan.Planned.{Planned}
-use Rattle.pb_run.specs.Halves.{Basis, BeginsApart, CanAnswer, IsBegun, Keeps, begun_with, command_in, needed_keys, outcomes_in, view_in}
+use Rattle.pb_run.specs.UnitSteps.{BuildContext, BeginsApart, CanAnswer, IsBegun, BuildInvariant, begun_with, command_in, needed_keys, outcomes_in, view_in}
 use Rattle.pb_run.specs.Outcome.{judgement_by, outcome_by}
-use Rattle.pb_run.specs.Standing.{IsCommandOf, IsInOrder, records_folder}
+use Rattle.pb_run.specs.Invariants.{IsCommandOf, IsInOrder, records_folder}
 use Rattle.pb_run.specs.Steps.{MayAnswer, MayFollow}
 use Rattle.pb_run.specs.declared.begun.Awaited.TheVariants as awaited
 use Rattle.pb_run.specs.declared.begun.Begun.{Begun}
-use Rattle.pb_run.specs.declared.begun.Launched.{Launched}
+use Rattle.pb_run.specs.declared.begun.SpawnedChild.{SpawnedChild}
 use Rattle.pb_run.specs.declared.faults.StepFault.{StepFault}
 use Rattle.pb_run.specs.declared.faults.StepFault.TheVariants.{Store, Start}
-use Rattle.pb_run.specs.declared.ran.Judgement.{Judgement}
+use Rattle.pb_run.specs.declared.ran.Validated.{Validated}
 use Rattle.pb_run.proofs.Answering.{command_out, files_kept, its_flight, its_landing, kept_only, landed_files, landed_gives, landed_only}
 use Rattle.pb_run.proofs.RecordedAnswer.{its_record, only_out}
 use Rattle.pb_run.proofs.RecordedLanding.{left_kept}
@@ -70,7 +70,7 @@ pairs_sorted project u c (setup, done, asks) = ap (λ (d : Command). are_sorted 
 
 -- The children in flight.
 
-pub flying_answer : (next : Option ℕ) (l : Launched) (e : StepFault) (old new : Starts) → MayAnswer next (Some l) e old new → new.flying ≡ without l.ticket old.flying
+pub flying_answer : (next : Option ℕ) (l : SpawnedChild) (e : StepFault) (old new : Starts) → MayAnswer next (Some l) e old new → new.flying ≡ without l.ticket old.flying
 flying_answer next l (Store (store.Place fault)) old new (kind, lands) = ap (λ (s : Starts). s.flying) lands
 flying_answer next l (Store store.NumbersSpent) old new (spent, none, same) = absurd (no_child none)
   where
@@ -87,14 +87,14 @@ flying_follow (Start fault) old new may = absurd may
 
 -- The child has landed.
 
-module _ (b : Basis) (order : IsInOrder b.project) (i : ℕ) (u : Planned) (at : unit_at b.project i ≡ Some u) (c : Command) (l : Launched) (next : Option ℕ) (w : World)
+module _ (b : BuildContext) (order : IsInOrder b.project) (i : ℕ) (u : Planned) (at : unit_at b.project i ≡ Some u) (c : Command) (l : SpawnedChild) (next : Option ℕ) (w : World)
     (flying : List ChildInFlight) (still : ℕ → Type 0) (states : List (State BadUnit)) (done : List (Option (List Directive))) (can : CanAnswer b states done i u (begun_with u.key c (awaited.Child l)) next w flying still)
     (w1 : World) (ends : IfSome (child_at l.ticket flying) (λ s. ChangesOnlyInSome s.command.out w w1)) where
   landed_so : ChangesOnly (is_at_or_below u.out) w w1
   landed_so = landed_only b order i u at u.key c l next flying still w w1 can.begun_so ends
 
   -- nothing is kept
-  pub keeps_ended : (v : World) → v ≡ w1 → Keeps b states done next v
+  pub keeps_ended : (v : World) → v ≡ w1 → BuildInvariant b states done next v
   keeps_ended v same = keeps_landed b order i u at u.key c l next w flying still states done can w1 landed_so v same
 
   pub others_ended : (other : ℕ) (its : Begun) (v : World) (flying' : List ChildInFlight) (mid later : ℕ → Type 0) → v ≡ w1 → flying' ≡ without l.ticket flying → StaysStillBut l.ticket flying w w1 still mid → KeepsStill mid later
@@ -104,7 +104,7 @@ module _ (b : Basis) (order : IsInOrder b.project) (i : ℕ) (u : Planned) (at :
       (λ t ne stands stood. stood_over b order i u at u.key c l next w flying still states done can w1 landed_so t mid later ne stays keeps stands stood)
 
   -- the answer was judged
-  module _ (ended : Ended) (j : Judgement) (lands : still l.ticket → IfSome (child_at l.ticket flying) (λ s. LandsAs s w ended w1))
+  module _ (ended : Ended) (j : Validated) (lands : still l.ticket → IfSome (child_at l.ticket flying) (λ s. LandsAs s w ended w1))
       (is_judged : j ≡ judgement_by b.project u ended (answered_of b.project u c ended (file_at (dep_info_of b.project u) w1.files))) where
     outcome_so : slice_get (outcomes_in b) i ≡ Some (outcome_by (files_in u.out w1.files) j.ran)
     outcome_so = landed_gives b order i u at u.key c l next flying still states done w w1 ended j can lands is_judged
@@ -113,7 +113,7 @@ module _ (b : Basis) (order : IsInOrder b.project) (i : ℕ) (u : Planned) (at :
     pub outcome_ended : (v : World) → v ≡ w1 → slice_get (outcomes_in b) i ≡ Some (outcome_by (files_in u.out v.files) j.ran)
     outcome_ended v same = subst (λ (x : World). slice_get (outcomes_in b) i ≡ Some (outcome_by (files_in u.out x.files) j.ran)) (sym same) outcome_so
 
-    pub keeps_bad_ended : (v : World) (lines : List ℕ) → v ≡ w1 → is_some j.ran.bad ≡ true → Keeps b (slice_set states i (Answered record { fault = j.ran.bad; lines = lines })) (slice_set done i j.ran.directives) next v
+    pub keeps_bad_ended : (v : World) (lines : List ℕ) → v ≡ w1 → is_some j.ran.bad ≡ true → BuildInvariant b (slice_set states i (Answered record { fault = j.ran.bad; lines = lines })) (slice_set done i j.ran.directives) next v
     keeps_bad_ended v lines same bad = keeps_bad b order i u at u.key c l next w flying still states done can w1 landed_so v j.ran lines same bad (outcome_ended v same)
 
     reply_so : (ended ≡ ended_by (b.child (command_in b i u) (view_in b i u))) × (files_in u.out w1.files ≡ replied_files u.out (b.child (command_in b i u) (view_in b i u)))
@@ -130,7 +130,7 @@ module _ (b : Basis) (order : IsInOrder b.project) (i : ℕ) (u : Planned) (at :
 
     -- it is good, and the record is kept, or was to be
     module _ (good : is_some j.ran.bad ≡ false) (v2 : World) (keeping : Keeping b.child (records_folder b.project) u.key (needed_keys b.project u) c l.number j.names ended next w1 v2) where
-      pub keeps_over : Keeps b states done next v2
+      pub keeps_over : BuildInvariant b states done next v2
       keeps_over = keeps_unkept b order i u at u.key c l next w flying still states done can w1 landed_so ended j reply_so.0 reply_so.1 is_judged good v2 keeping
 
       pub outcome_kept : slice_get (outcomes_in b) i ≡ Some (outcome_by (files_in u.out v2.files) j.ran)
@@ -138,7 +138,7 @@ module _ (b : Basis) (order : IsInOrder b.project) (i : ℕ) (u : Planned) (at :
           (sym (files_kept (records_folder b.project) u.key u.out w1 v2 order.folder (order.keys i u at) (order.folders i u at) keeping.only)) outcome_so
 
       pub keeps_kept : (lines : List ℕ) → Stands (records_folder b.project) u.key (needed_keys b.project u) c l.number j.names ended w1 v2
-          → Keeps b (slice_set states i (Answered record { fault = j.ran.bad; lines = lines })) (slice_set done i j.ran.directives) next v2
+          → BuildInvariant b (slice_set states i (Answered record { fault = j.ran.bad; lines = lines })) (slice_set done i j.ran.directives) next v2
       keeps_kept lines stands = keeps_good b order i u at u.key c l next w flying still states done can w1 landed_so ended j reply_so.0 reply_so.1 is_judged good v2 keeping lines stands outcome_kept
 
       pub others_kept : (other : ℕ) (its : Begun) (flying' : List ChildInFlight) (mid later : ℕ → Type 0) → flying' ≡ without l.ticket flying → StaysStillBut l.ticket flying w w1 still mid

@@ -7,12 +7,12 @@ use Rattle.pb_place_types.specs.declared.command.Command.{Command}
 use Rattle.pb_place_types.specs.declared.command.Ended.{Ended}
 use Rattle.pb_command_types.specs.Targets.{dep_info_of}
 use Rattle.pb_command_types.specs.declared.project.Project.{Project}
-use Rattle.pb_run.specs.Halves.{needed_keys}
+use Rattle.pb_run.specs.UnitSteps.{needed_keys}
 use Rattle.pb_run.specs.Running.{record_left, record_of}
 use Rattle.pb_run.specs.Outcome.{judgement_by}
-use Rattle.pb_run.specs.Standing.{records_folder}
+use Rattle.pb_run.specs.Invariants.{records_folder}
 use Rattle.pb_run.specs.declared.begun.Awaited.TheVariants as awaited
-use Rattle.pb_run.specs.declared.ran.Judgement.{Judgement}
+use Rattle.pb_run.specs.declared.ran.Validated.{Validated}
 use Rattle.pb_run.proofs.Settling.{Stands}
 use Rattle.pb_store_soundness.specs.Inputs.{input_in}
 use Rattle.pb_store_soundness.specs.Records.{records}
@@ -22,11 +22,11 @@ use Rattle.pb_unit.specs.declared.plan.Planned.{Planned}
 
 module _ (project : Project) (u : Planned) (c : Command) (w new : World) (ended : Ended) where
   -- that which is kept of its child's answer
-  pub record_kept : (number : ℕ) (j : Judgement) → j ≡ judgement_by project u ended (answered_of project u c ended (file_at (dep_info_of project u) w.files))
+  pub record_kept : (number : ℕ) (j : Validated) → j ≡ judgement_by project u ended (answered_of project u c ended (file_at (dep_info_of project u) w.files))
       → Stands (records_folder project) u.key (needed_keys project u) c number j.names ended w new → records (records_folder project) new u.key ≡ Some (record_of project u c number ended w)
   record_kept number j judged stands =
       stands
-      ∙ ap (λ (x : Judgement). Some (kept_of (records_folder project) u.key c (map (input_in c.target w) x.names) number (numbered (records (records_folder project) w) (needed_keys project u)) ended)) judged
+      ∙ ap (λ (x : Validated). Some (kept_of (records_folder project) u.key c (map (input_in c.target w) x.names) number (numbered (records (records_folder project) w) (needed_keys project u)) ended)) judged
 
   -- that which was there, with its number
   pub record_stayed : (again : Replayed) (next : Option ℕ) → again.numbered ≡ true → new ≡ w → records (records_folder project) new u.key ≡ record_left project u c (awaited.Record again) ended next w

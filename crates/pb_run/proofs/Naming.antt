@@ -8,7 +8,7 @@ use Rattle.pb_place_types.specs.declared.call.Call.{Call}
 use Rattle.pb_place_types.specs.declared.place.PlaceFault.TheVariants as place
 use Rattle.pb_place_types.specs.declared.place.StartFault.TheVariants as start
 use Rattle.pb_run.specs.Steps.{HasCause, LandsBy, StopsAt, is_of_start, IsOfUnit, fault_in, named, MayAnswer, MayBegin, StepCause, StepStopsAt, starts}
-use Rattle.pb_run.specs.declared.begun.Launched.{Launched}
+use Rattle.pb_run.specs.declared.begun.SpawnedChild.{SpawnedChild}
 use Rattle.pb_run.specs.declared.faults.StepFault.{StepFault}
 use Rattle.pb_run.specs.declared.faults.StepFault.TheVariants as step
 use Rattle.pb_store.specs.declared.fault.StoreFault.TheVariants as store
@@ -43,7 +43,7 @@ MayBeginUnit next key Sink old new = ⊥
 MayBeginUnit next key OutOfMemory old new = (new ≡ old) ⊎ (new ≡ up_starts old)
 
 -- of those that ask for the child's end, or read the record again, read the dep-info, and keep or renew the record
-abbrev pub MayAnswerUnit : Option ℕ → List ℕ → Option Launched → BuildFault → Starts → Starts → Type 0
+abbrev pub MayAnswerUnit : Option ℕ → List ℕ → Option SpawnedChild → BuildFault → Starts → Starts → Type 0
 MayAnswerUnit next key launched (Plan refusal) old new = ⊥
 MayAnswerUnit next key launched Toolchain old new = ⊥
 MayAnswerUnit next key launched (Child unit fault) old new = (unit ≡ key) × IsSome launched × ((fault ≡ start.Died) ⊎ (fault ≡ start.Capture)) × LandsBy launched old new
@@ -61,7 +61,7 @@ begin_told next key (Device unit NumbersSpent) old new its may = (its, may.0, ma
 begin_told next key Sink old new its may = absurd its
 begin_told next key OutOfMemory old new its may = may
 
-pub answer_told : (next : Option ℕ) (key : List ℕ) (launched : Option Launched) (e : BuildFault) (old new : Starts) → IsOfUnit key e → MayAnswer next launched (fault_in e) old new → MayAnswerUnit next key launched e old new
+pub answer_told : (next : Option ℕ) (key : List ℕ) (launched : Option SpawnedChild) (e : BuildFault) (old new : Starts) → IsOfUnit key e → MayAnswer next launched (fault_in e) old new → MayAnswerUnit next key launched e old new
 answer_told next key launched (Plan refusal) old new its may = absurd its
 answer_told next key launched Toolchain old new its may = absurd its
 answer_told next key launched (Child unit fault) old new its may = (its, may.0, may.1, may.2)

@@ -9,7 +9,7 @@ use Rattle.pb_place_types.specs.World.{World, Answers}
 use Rattle.pb_place_types.specs.declared.child_in_flight.ChildInFlight.{ChildInFlight}
 use Rattle.pb_command_types.specs.declared.project.Project.{Project}
 use Rattle.pb_run.specs.Running.{AnswersUnit, HasAnswered}
-use Rattle.pb_run.specs.Halves.{Basis, CanAnswer, IsBegun, begun_with}
+use Rattle.pb_run.specs.UnitSteps.{BuildContext, CanAnswer, IsBegun, begun_with}
 use Rattle.pb_run.specs.declared.begun.Begun.{Begun}
 use Rattle.pb_run.specs.declared.faults.StepFault.{StepFault}
 use Rattle.pb_run.specs.declared.ran.Ran.{Ran}
@@ -17,7 +17,7 @@ use Rattle.pb_store.specs.declared.store.Store.{Store}
 use Rattle.pb_unit.specs.declared.plan.Planned.{Planned}
 
 module _ (begun : Begun) where
-  module _ (b : Basis) (i : ℕ) (key : List ℕ) (next : Option ℕ) (w : World) (flying : List ChildInFlight) (still : ℕ → Type 0) where
+  module _ (b : BuildContext) (i : ℕ) (key : List ℕ) (next : Option ℕ) (w : World) (flying : List ChildInFlight) (still : ℕ → Type 0) where
     pub begun_parts : IsBegun b i begun next w flying still → IsBegun b i (begun_with key begun.command begun.awaited) next w flying still
     begun_parts is_begun = record { unit = is_begun.unit; there = is_begun.there; command = is_begun.command; waits = is_begun.waits }
 
@@ -27,12 +27,12 @@ module _ (begun : Begun) where
     pub answer_parts : (states : List (State BadUnit)) (done : List (Option (List Directive))) (u : Planned) → CanAnswer b states done i u begun next w flying still → CanAnswer b states done i u (begun_with key begun.command begun.awaited) next w flying still
     answer_parts states done u can = record { keeps = can.keeps; state = can.state; reaches = can.reaches; begun_so = begun_parts can.begun_so }
 
-  module _ (tells : Bool) (child : Answers) (project : Project) (index : ℕ) (u : Planned) (key : List ℕ) (before now : Store) (old new : At) where
-    unit_whole : (result : Result Ran StepFault) → IfOk result (AnswersUnit tells project u (begun_with key begun.command begun.awaited) before now old new) → IfOk result (AnswersUnit tells project u begun before now old new)
+  module _ (is_modelled : Bool) (child : Answers) (project : Project) (index : ℕ) (u : Planned) (key : List ℕ) (before now : Store) (old new : At) where
+    unit_whole : (result : Result Ran StepFault) → IfOk result (AnswersUnit is_modelled project u (begun_with key begun.command begun.awaited) before now old new) → IfOk result (AnswersUnit is_modelled project u begun before now old new)
     unit_whole (Ok ran) came = record { started = came.started; directives = came.directives; judged = came.judged; kept = came.kept; unkept = came.unkept; bad = came.bad; taken = came.taken }
     unit_whole (Err e) came = tt
 
-    pub answered_whole : (result : Result Ran StepFault) → HasAnswered tells child project index u (begun_with key begun.command begun.awaited) result before now old new → HasAnswered tells child project index u begun result before now old new
+    pub answered_whole : (result : Result Ran StepFault) → HasAnswered is_modelled child project index u (begun_with key begun.command begun.awaited) result before now old new → HasAnswered is_modelled child project index u begun result before now old new
     answered_whole result came = record {
       answers = unit_whole result came.answers;
       ends = record { lands = came.ends.lands; same = came.ends.same; untaken = came.ends.untaken; most = came.ends.most };

@@ -16,14 +16,14 @@ use Rattle.pb_record.specs.declared.record.Input.TheVariants.{Value}
 use Rattle.pb_record.specs.declared.record.InputName.{InputName}
 use Rattle.pb_record.specs.declared.record.InputName.TheVariants.{Path, Variable}
 use Rattle.pb_record.specs.declared.record.Record.{Record}
-use Rattle.pb_run.specs.Halves.{needed_keys}
+use Rattle.pb_run.specs.UnitSteps.{needed_keys}
 use Rattle.pb_run.specs.Running.{names_of, record_of}
 use Rattle.pb_run.specs.Outcome.{names_in}
-use Rattle.pb_run.specs.Standing.{IsInOrder, records_folder}
+use Rattle.pb_run.specs.Invariants.{IsInOrder, records_folder}
 use Rattle.pb_run.proofs.Recorded.{key_needed, record_still, sources_still}
 use Rattle.pb_run.proofs.Units.{dep_info_inside, inside_file}
 use Rattle.pb_store_soundness.specs.Apart.{is_of}
-use Rattle.pb_store_soundness.specs.Grounded.{Standing}
+use Rattle.pb_store_soundness.specs.Grounded.{RecordMap}
 use Rattle.pb_store_soundness.specs.Inputs.{input_in, path_input}
 use Rattle.pb_store_soundness.specs.Reuse.{number_if}
 use Rattle.pb_store.specs.Folder.{kept_of, numbered, or_zero, migrated_by}
@@ -38,7 +38,7 @@ inputs_still : (target : List ℕ) (v w : World) (names : List InputName) → fr
 inputs_still target v w [] same = refl
 inputs_still target v w (name ∷ names) same = ap (λ (i : Input). i ∷ map (input_in target w) names) (input_still target v w name same) ∙ ap (λ (is : List Input). input_in target v name ∷ is) (inputs_still target v w names same)
 
-numbered_still : (old new : Standing) (needs : List (List ℕ)) → ((need : List ℕ) → Contains needs need → new need ≡ old need) → numbered new needs ≡ numbered old needs
+numbered_still : (old new : RecordMap) (needs : List (List ℕ)) → ((need : List ℕ) → Contains needs need → new need ≡ old need) → numbered new needs ≡ numbered old needs
 numbered_still old new [] same = refl
 numbered_still old new (need ∷ needs) same =
     ap (λ (o : Option Record). (need, or_zero (number_if o)) ∷ numbered new needs) (same need (contains_head need needs))
@@ -52,7 +52,7 @@ number_stays r None true next pairs is = absurd (false≢true (sym is))
 number_stays r None false next pairs is = refl
 
 module _ (project : Project) (order : IsInOrder project) (place : ℕ) (u : Planned) (there : unit_at project place ≡ Some u) where
-  abbrev at_in : World → Standing
+  abbrev at_in : World → RecordMap
   at_in w = records (records_folder project) w
 
   record_on : (c : Command) (number : ℕ) (ended : Ended) (w w' : World) → from_nothing c.target w' ≡ from_nothing c.target w → files_in u.out w'.files ≡ files_in u.out w.files

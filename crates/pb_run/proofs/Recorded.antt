@@ -13,11 +13,11 @@ use Rattle.pb_place_types.proofs.PathLemmas.{and_left, and_right}
 use Rattle.pb_place_types.proofs.Within.{at_itself, at_below, at_or_below_on, outside_within}
 use Rattle.pb_command_types.specs.Targets.{unit_at}
 use Rattle.pb_command_types.specs.declared.project.Project.{Project}
-use Rattle.pb_run.specs.Halves.{Basis, key_in, needed_keys, command_in}
-use Rattle.pb_run.specs.Standing.{IsInOrder, records_folder}
+use Rattle.pb_run.specs.UnitSteps.{BuildContext, key_in, needed_keys, command_in}
+use Rattle.pb_run.specs.Invariants.{IsInOrder, records_folder}
 use Rattle.pb_run.proofs.Views.{IsFor, is_for, HasPackage}
 use Rattle.pb_store_soundness.specs.Apart.{is_of, ReadsOthers}
-use Rattle.pb_store_soundness.specs.Records.{Reading, is_key, out_of, place_of, record_at}
+use Rattle.pb_store_soundness.specs.Records.{RecordParser, is_key, out_of, place_of, record_at}
 use Rattle.pb_store_soundness.proofs.Flying.{unit_files, unit_record, unit_seen}
 use Rattle.pb_store_soundness.proofs.Places.{one_key, out_in, place_in}
 use Rattle.pb_unit.specs.declared.plan.Planned.{Planned}
@@ -135,7 +135,7 @@ module _ (project : Project) (order : IsInOrder project) where
   ]
 
   -- what a unit's command is for
-  pub command_for : (b : Basis) (place : ℕ) (u : Planned) (c : Command) → b.project ≡ project → unit_at project place ≡ Some u → c ≡ command_in b place u → IsFor project u c
+  pub command_for : (b : BuildContext) (place : ℕ) (u : Planned) (c : Command) → b.project ≡ project → unit_at project place ≡ Some u → c ≡ command_in b place u → IsFor project u c
   command_for b place u c of_project there is =
       subst (λ (p : Project). IsFor p u c) of_project
       (subst (λ (d : Command). IsFor b.project u d) (sym is) (is_for b.setup b.project u _ (subst (λ (p : Project). HasPackage p u) (sym of_project) (order.packages place u there))))
@@ -161,7 +161,7 @@ module _ (project : Project) (order : IsInOrder project) where
         subst (λ f. files_in f w'.files ≡ files_in f w.files) (sym (order.folders other v at))
         (unit_files F u.key w w' order.folder is_keyed only v.key (order.keys other v at) (keys_differ other place v u at there apart))
 
-    pub record_still : (read : Reading) (other : ℕ) (v : Planned) → unit_at project other ≡ Some v → other ≢ place → record_at read F w'.files v.key ≡ record_at read F w.files v.key
+    pub record_still : (read : RecordParser) (other : ℕ) (v : Planned) → unit_at project other ≡ Some v → other ≢ place → record_at read F w'.files v.key ≡ record_at read F w.files v.key
     record_still read other v at apart = unit_record F u.key w w' order.folder is_keyed only read v.key (keys_differ other place v u at there apart)
 
     -- it is not read by a unit that does not reach it

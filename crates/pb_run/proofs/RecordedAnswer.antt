@@ -10,7 +10,7 @@ use Rattle.pb_command.specs.Judge.{judge, judge_in, inputs_if, ended_by}
 use Rattle.pb_directive.specs.declared.directive.Directive.{Directive}
 use Rattle.pb_run_flight.specs.declared.flight.Answer.{Answer}
 use Rattle.pb_run_flight.specs.declared.flight.State.{State}
-use Rattle.pb_run_flight.specs.declared.flight.State.TheVariants.{Untouched, Begun as begun_state, Answered}
+use Rattle.pb_run_flight.specs.declared.flight.State.TheVariants.{Untouched, Begun as begun_state, CheckedReply}
 use Rattle.pb_run_flight.specs.Table.{is_good_at}
 use Rattle.pb_run_flight.proofs.Lists.{get_set_same, get_set_other, length_set}
 use Rattle.pb_place_types.specs.Folders.{files_in}
@@ -21,18 +21,18 @@ use Rattle.pb_place_types.specs.declared.child_in_flight.ChildInFlight.{ChildInF
 use Rattle.pb_place_types.specs.declared.command.Command.{Command}
 use Rattle.pb_place_types.specs.declared.command.Ended.{Ended}
 use Rattle.pb_command_types.specs.Targets.{unit_at}
-use Rattle.pb_command_types.specs.declared.answer.Answered.{Answered as answer_type}
+use Rattle.pb_command_types.specs.declared.checked_reply.CheckedReply.{CheckedReply as answer_type}
 use Rattle.pb_record.specs.declared.record.InputName.{InputName}
 use Rattle.pb_command_types.specs.declared.fault.UnitFault.{UnitFault}
 use Rattle.pb_build_result.specs.declared.bad_unit.BadUnit.{BadUnit}
 use Rattle.pb_command_types.specs.declared.fault.UnitFault.TheVariants as unit_fault
-use Rattle.pb_run.specs.Halves.{Footing, OnRecords, OnNothing, Basis, HasRecord, Keeps, IsInFlight, AwaitsBy, IsUnchanged, WaitsBy, CanAnswer, outcomes_in, records_in, command_in, view_in, child_of}
+use Rattle.pb_run.specs.UnitSteps.{Premise, TrustedRecords, NoRecords, BuildContext, HasRecord, BuildInvariant, IsInFlight, AwaitsBy, IsUnchanged, WaitsBy, CanAnswer, outcomes_in, records_in, command_in, view_in, child_of}
 use Rattle.pb_run.specs.Outcome.{outcome_by, outcome_from}
-use Rattle.pb_run.specs.Standing.{IsInOrder, records_folder}
+use Rattle.pb_run.specs.Invariants.{IsInOrder, records_folder}
 use Rattle.pb_run.specs.declared.begun.Awaited.{Awaited}
 use Rattle.pb_run.specs.declared.begun.Awaited.TheVariants as awaited
 use Rattle.pb_run.specs.declared.begun.Begun.{Begun}
-use Rattle.pb_run.specs.declared.begun.Launched.{Launched}
+use Rattle.pb_run.specs.declared.begun.SpawnedChild.{SpawnedChild}
 use Rattle.pb_run.specs.declared.ran.Ran.{Ran}
 use Rattle.pb_run.proofs.Recorded.{command_for}
 use Rattle.pb_run.proofs.RecordedBegin.{never_by, own_far}
@@ -40,7 +40,7 @@ use Rattle.pb_run.proofs.RecordedKeeps.{keeps_over}
 use Rattle.pb_run.proofs.RecordedOthers.{IfRecords, waits_child}
 use Rattle.pb_run.proofs.Views.{IsFor}
 use Rattle.pb_store_soundness.specs.Apart.{is_of}
-use Rattle.pb_store_soundness.specs.Grounded.{Standing, Grounded, grounded}
+use Rattle.pb_store_soundness.specs.Grounded.{RecordMap, Grounded, grounded}
 use Rattle.pb_store_soundness.specs.Numbers.{IsAhead}
 use Rattle.pb_store_soundness.specs.Records.{is_key, place_of, reading}
 use Rattle.pb_store_soundness.specs.Sound.{Sound}
@@ -74,16 +74,16 @@ unfolding judge
 good_status c r names is = good_by c c.out r names is
 
 -- grounded in records that are the same
-pub grounded_alike : (old new : Standing) (key : List ℕ) (n : ℕ) → ((l : List ℕ) → new l ≡ old l) → Grounded old key n → Grounded new key n
+pub grounded_alike : (old new : RecordMap) (key : List ℕ) (n : ℕ) → ((l : List ℕ) → new l ≡ old l) → Grounded old key n → Grounded new key n
 grounded_alike old new key n alike (grounded k r m here numbered_r less needs) =
     grounded key r n (alike key ∙ here) numbered_r less (λ need i names. grounded_alike old new need i alike (needs need i names))
 
-pub ahead_alike : (old new : Standing) (next : Option ℕ) → ((l : List ℕ) → new l ≡ old l) → IsAhead old next → IsAhead new next
+pub ahead_alike : (old new : RecordMap) (next : Option ℕ) → ((l : List ℕ) → new l ≡ old l) → IsAhead old next → IsAhead new next
 ahead_alike old new next alike ahead key r there = ahead key r (sym (alike key) ∙ there)
 
 -- Where a unit's own work changes files.
 
-module _ (b : Basis) (order : IsInOrder b.project) (place : ℕ) (u : Planned) (there : unit_at b.project place ≡ Some u) where
+module _ (b : BuildContext) (order : IsInOrder b.project) (place : ℕ) (u : Planned) (there : unit_at b.project place ≡ Some u) where
   abbrev Folder : List ℕ
   Folder = records_folder b.project
 
@@ -133,10 +133,10 @@ module _ (b : Basis) (order : IsInOrder b.project) (place : ℕ) (u : Planned) (
     its_waits : WaitsBy b u begun.command (view_in b place u) begun.awaited next w flying still
     its_waits = subst (λ (x : Planned). WaitsBy b x begun.command (view_in b place x) begun.awaited next w flying still) its_unit can.begun_so.waits
 
-    pub its_flight : (launched : Launched) → child_of begun ≡ Some launched → IsInFlight b.child begun.command (view_in b place u) launched.ticket flying still
+    pub its_flight : (launched : SpawnedChild) → child_of begun ≡ Some launched → IsInFlight b.child begun.command (view_in b place u) launched.ticket flying still
     its_flight launched is = (waits_child b u begun.command (view_in b place u) begun.awaited launched next w flying still is its_waits).0
 
-    pub its_record : (launched : Launched) → child_of begun ≡ Some launched → AwaitsBy b.footing b u launched.number next w
+    pub its_record : (launched : SpawnedChild) → child_of begun ≡ Some launched → AwaitsBy b.footing b u launched.number next w
     its_record launched is = (waits_child b u begun.command (view_in b place u) begun.awaited launched next w flying still is its_waits).1
 
     record_waits : (again : Replayed) → begun.awaited ≡ awaited.Record again → WaitsBy b u begun.command (view_in b place u) (awaited.Record again) next w flying still
@@ -161,7 +161,7 @@ module _ (b : Basis) (order : IsInOrder b.project) (place : ℕ) (u : Planned) (
 
     -- after a fault: no unit's state is changed
     pub keeps_fault : (w' : World) (next' : Option ℕ) → ChangesOnly (is_of Folder u.key) w w'
-        → IfRecords b.footing (Sound reading judge b.child Folder w'.files) → IfRecords b.footing (IsAhead (records_in b w') next') → Keeps b states done next' w'
+        → IfRecords b.footing (Sound reading judge b.child Folder w'.files) → IfRecords b.footing (IsAhead (records_in b w') next') → BuildInvariant b states done next' w'
     keeps_fault w' next' only sound ahead = keeps_over b order states done place u there begun_bad next w w' can.keeps only states done next' (λ p apart. refl) (λ p apart. refl) can.keeps.long
         record {
           stands = λ good. absurd (false≢true (sym begun_bad ∙ good));
@@ -177,11 +177,11 @@ module _ (b : Basis) (order : IsInOrder b.project) (place : ℕ) (u : Planned) (
     pub keeps_answered : (w' : World) (next' : Option ℕ) (ran : Ran) (lines : List ℕ) → ChangesOnly (is_of Folder u.key) w w'
         → slice_get (outcomes_in b) place ≡ Some (outcome_by (files_in u.out w'.files) ran)
         → IfRecords b.footing (Sound reading judge b.child Folder w'.files) → IfRecords b.footing (IsAhead (records_in b w') next') → IfRecords b.footing (ran.bad ≡ None → HasRecord b w' place)
-        → Keeps b (slice_set states place (Answered record { fault = ran.bad; lines = lines })) (slice_set done place ran.directives) next' w'
+        → BuildInvariant b (slice_set states place (CheckedReply record { fault = ran.bad; lines = lines })) (slice_set done place ran.directives) next' w'
     keeps_answered w' next' ran lines only outcome sound ahead recorded =
-        keeps_over b order states done place u there begun_bad next w w' can.keeps only (slice_set states place (Answered answer)) (slice_set done place ran.directives) next'
-        (λ p apart. get_set_other states place p (Answered answer) (λ e. apart (sym e))) (λ p apart. get_set_other done place p ran.directives (λ e. apart (sym e)))
-        (length_set done place ran.directives ∙ can.keeps.long ∙ sym (length_set states place (Answered answer)))
+        keeps_over b order states done place u there begun_bad next w w' can.keeps only (slice_set states place (CheckedReply answer)) (slice_set done place ran.directives) next'
+        (λ p apart. get_set_other states place p (CheckedReply answer) (λ e. apart (sym e))) (λ p apart. get_set_other done place p ran.directives (λ e. apart (sym e)))
+        (length_set done place ran.directives ∙ can.keeps.long ∙ sym (length_set states place (CheckedReply answer)))
         record {
           stands = λ good. record {
             unit = u;
@@ -195,23 +195,23 @@ module _ (b : Basis) (order : IsInOrder b.project) (place : ℕ) (u : Planned) (
           };
           reaches = λ good. can.reaches;
           recorded = recorded_by b.footing recorded;
-          begun = λ untouched. answered_untouched (Answered answer) refl (sym now ∙ untouched);
+          begun = λ untouched. answered_untouched (CheckedReply answer) refl (sym now ∙ untouched);
         } sound ahead
       where
         answer : Answer BadUnit
         answer = record { fault = ran.bad; lines = lines }
 
-        now : slice_get (slice_set states place (Answered answer)) place ≡ Some (Answered answer)
-        now = get_set_same states place begun_state (Answered answer) can.state
+        now : slice_get (slice_set states place (CheckedReply answer)) place ≡ Some (CheckedReply answer)
+        now = get_set_same states place begun_state (CheckedReply answer) can.state
 
         none_of : (o : Option BadUnit) → is_none o ≡ true → o ≡ None
         none_of None is = refl
         none_of (Some bad) is = absurd (false≢true is)
 
-        well : is_good_at (slice_get (slice_set states place (Answered answer)) place) ≡ true → ran.bad ≡ None
+        well : is_good_at (slice_get (slice_set states place (CheckedReply answer)) place) ≡ true → ran.bad ≡ None
         well good = none_of ran.bad (sym (ap is_good_at now) ∙ good)
 
-        answered_untouched : (s : State BadUnit) → s ≡ Answered answer → Some s ≡ Some Untouched → ⊥
+        answered_untouched : (s : State BadUnit) → s ≡ CheckedReply answer → Some s ≡ Some Untouched → ⊥
         answered_untouched s is e = cc
 
         long_enough : place < length states → place < length done
@@ -222,7 +222,7 @@ module _ (b : Basis) (order : IsInOrder b.project) (place : ℕ) (u : Planned) (
         noted_at (y ∷ xs) zero x less = refl
         noted_at (y ∷ xs) (suc i) x less = noted_at xs i x (omega (arith, less))
 
-        recorded_by : (footing : Footing) → IfRecords footing (ran.bad ≡ None → HasRecord b w' place)
-            → IfRecords footing (is_good_at (slice_get (slice_set states place (Answered answer)) place) ≡ true → HasRecord b w' place)
-        recorded_by OnRecords has = λ good. has (well good)
-        recorded_by OnNothing has = tt
+        recorded_by : (footing : Premise) → IfRecords footing (ran.bad ≡ None → HasRecord b w' place)
+            → IfRecords footing (is_good_at (slice_get (slice_set states place (CheckedReply answer)) place) ≡ true → HasRecord b w' place)
+        recorded_by TrustedRecords has = λ good. has (well good)
+        recorded_by NoRecords has = tt

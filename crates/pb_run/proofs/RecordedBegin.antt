@@ -15,12 +15,12 @@ use Rattle.pb_place_types.specs.declared.child_in_flight.ChildInFlight.{ChildInF
 use Rattle.pb_command_types.specs.Targets.{unit_at}
 use Rattle.pb_build_result.specs.declared.bad_unit.BadUnit.{BadUnit}
 use Rattle.pb_record.specs.declared.record.Record.{Record}
-use Rattle.pb_run.specs.Halves.{Footing, OnRecords, OnNothing, Basis, HasRecord, HoldsBy, Keeps, IsBegun, AwaitsBy, IsUnchanged, WaitsBy, CanBegin, records_in, command_in, view_in}
-use Rattle.pb_run.specs.Standing.{IsInOrder, records_folder}
+use Rattle.pb_run.specs.UnitSteps.{Premise, TrustedRecords, NoRecords, BuildContext, HasRecord, HoldsBy, BuildInvariant, IsBegun, AwaitsBy, IsUnchanged, WaitsBy, CanBegin, records_in, command_in, view_in}
+use Rattle.pb_run.specs.Invariants.{IsInOrder, records_folder}
 use Rattle.pb_run.specs.declared.begun.Awaited.{Awaited}
 use Rattle.pb_run.specs.declared.begun.Awaited.TheVariants as awaited
 use Rattle.pb_run.specs.declared.begun.Begun.{Begun}
-use Rattle.pb_run.specs.declared.begun.Launched.{Launched}
+use Rattle.pb_run.specs.declared.begun.SpawnedChild.{SpawnedChild}
 use Rattle.pb_run.proofs.Recorded.{command_for, seen_still}
 use Rattle.pb_run.proofs.RecordedKeeps.{has_needs, keeps_over}
 use Rattle.pb_run.proofs.RecordedOthers.{IfRecords, vanished, names_still, needs_still, others_at, far_of}
@@ -39,16 +39,16 @@ untouched_begun : (s : State BadUnit) → s ≡ begun_state → Some s ≡ Some 
 untouched_begun s is e = cc
 
 -- by what a build rests on
-pub by_footing : (footing : Footing) (b : Basis) (states : List (State BadUnit)) (next : Option ℕ) (w : World) (Fact : Type 0) → HoldsBy footing b states next w
+pub by_footing : (footing : Premise) (b : BuildContext) (states : List (State BadUnit)) (next : Option ℕ) (w : World) (Fact : Type 0) → HoldsBy footing b states next w
     → (Sound reading judge b.child (records_folder b.project) w.files → IsAhead (records_in b w) next → Fact) → IfRecords footing Fact
-by_footing OnRecords b states next w Fact holds gives = gives holds.sound holds.ahead
-by_footing OnNothing b states next w Fact holds gives = tt
+by_footing TrustedRecords b states next w Fact holds gives = gives holds.sound holds.ahead
+by_footing NoRecords b states next w Fact holds gives = tt
 
-pub never_by : (footing : Footing) (Given Fact : Type 0) → (Given → ⊥) → IfRecords footing (Given → Fact)
-never_by OnRecords Given Fact never = λ given. absurd (never given)
-never_by OnNothing Given Fact never = tt
+pub never_by : (footing : Premise) (Given Fact : Type 0) → (Given → ⊥) → IfRecords footing (Given → Fact)
+never_by TrustedRecords Given Fact never = λ given. absurd (never given)
+never_by NoRecords Given Fact never = tt
 
-module _ (b : Basis) (order : IsInOrder b.project) (states : List (State BadUnit)) (done : List (Option (List Directive))) (place : ℕ) (u : Planned) (there : unit_at b.project place ≡ Some u)
+module _ (b : BuildContext) (order : IsInOrder b.project) (states : List (State BadUnit)) (done : List (Option (List Directive))) (place : ℕ) (u : Planned) (there : unit_at b.project place ≡ Some u)
     (next : Option ℕ) (w w' : World) (only : ChangesOnly (is_of (records_folder b.project) u.key) w w') where
   -- a unit that is not good is not reached by itself
   pub own_far : is_good_at (slice_get states place) ≡ false → are_good states u.reaches ≡ true → (p : ℕ) → Contains u.reaches p → p ≢ place
@@ -70,7 +70,7 @@ module _ (b : Basis) (order : IsInOrder b.project) (states : List (State BadUnit
 
     -- what is kept while it begins, and after each fault on the way
     pub keeps_begun : (next' : Option ℕ) → (Sound reading judge b.child (records_folder b.project) w.files → Sound reading judge b.child (records_folder b.project) w'.files)
-        → (IsAhead (records_in b w) next → IsAhead (records_in b w') next') → Keeps b (slice_set states place begun_state) done next' w'
+        → (IsAhead (records_in b w) next → IsAhead (records_in b w') next') → BuildInvariant b (slice_set states place begun_state) done next' w'
     keeps_begun next' sound ahead = keeps_over b order states done place u there untouched_bad next w w' can.keeps only (slice_set states place begun_state) done next'
         (λ p apart. get_set_other states place p begun_state (λ e. apart (sym e))) (λ p apart. refl) (can.keeps.long ∙ sym (length_set states place begun_state))
         record {
@@ -83,9 +83,9 @@ module _ (b : Basis) (order : IsInOrder b.project) (states : List (State BadUnit
         (by_footing b.footing b states next w (IsAhead (records_in b w') next') can.keeps.records (λ was more. ahead more))
 
     -- a record of it may be kept with the number that was given
-    pub awaits : (footing : Footing) (number : ℕ) (next' : Option ℕ) → HoldsBy footing b states next w → records_in b w' u.key ≡ None → next ≡ Some number → next' ≡ after number → AwaitsBy footing b u number next' w'
-    awaits OnNothing number next' holds gone given then' = tt
-    awaits OnRecords number next' holds gone given then' =
+    pub awaits : (footing : Premise) (number : ℕ) (next' : Option ℕ) → HoldsBy footing b states next w → records_in b w' u.key ≡ None → next ≡ Some number → next' ≡ after number → AwaitsBy footing b u number next' w'
+    awaits NoRecords number next' holds gone given then' = tt
+    awaits TrustedRecords number next' holds gone given then' =
         let ahead : IsAhead (records_in b w) (Some number) = subst (IsAhead (records_in b w)) given holds.ahead in
         let new = next_is_new (records_in b w) number ahead in
         record {
@@ -97,7 +97,7 @@ module _ (b : Basis) (order : IsInOrder b.project) (states : List (State BadUnit
         }
 
     -- with a child it has begun so,
-    pub begun_child : (begun : Begun) (launched : Launched) (spawned : World) (next' : Option ℕ) (flying' : List ChildInFlight) (still' : ℕ → Type 0)
+    pub begun_child : (begun : Begun) (launched : SpawnedChild) (spawned : World) (next' : Option ℕ) (flying' : List ChildInFlight) (still' : ℕ → Type 0)
         → begun.command ≡ command_in b place u → begun.awaited ≡ awaited.Child launched → seen_by begun.command w ≡ view_in b place u
         → ChangesOnly (is_of (records_folder b.project) u.key) w spawned → child_at launched.ticket flying' ≡ Some (child_spawned (b.child begun.command) begun.command spawned launched.ticket)
         → inside_out begun.command.out spawned.files ≡ finite.empty → still' launched.ticket
@@ -119,9 +119,9 @@ module _ (b : Basis) (order : IsInOrder b.project) (states : List (State BadUnit
     }
 
     -- and without one, where nothing differs
-    unchanged_by : (footing : Footing) (c : _) → HoldsBy footing b states next w → (r : Record) × IsSame reading (records_folder b.project) u.key c w r → IsUnchanged footing b u c w
-    unchanged_by OnRecords c holds same = same
-    unchanged_by OnNothing c holds (r, same) = none_some r (sym (holds place u there can.untouched) ∙ same.stands)
+    unchanged_by : (footing : Premise) (c : _) → HoldsBy footing b states next w → (r : Record) × IsSame reading (records_folder b.project) u.key c w r → IsUnchanged footing b u c w
+    unchanged_by TrustedRecords c holds same = same
+    unchanged_by NoRecords c holds (r, same) = none_some r (sym (holds place u there can.untouched) ∙ same.stands)
 
     pub begun_same : (begun : Begun) (again : Replayed) (flying : List ChildInFlight) (still : ℕ → Type 0) → begun.command ≡ command_in b place u → begun.awaited ≡ awaited.Record again
         → (r : Record) × IsSame reading (records_folder b.project) u.key begun.command w r → IsReplayed (records_in b w u.key) again → IsBegun b place begun next w flying still

@@ -13,12 +13,12 @@ use Rattle.pb_build_result.specs.declared.bad_unit.BadUnit.{BadUnit}
 use Rattle.pb_record.specs.declared.record.Needed.{Needed}
 use Rattle.pb_record.specs.declared.record.Needed.TheVariants.{Copies, Numbers}
 use Rattle.pb_record.specs.declared.record.Record.{Record}
-use Rattle.pb_run.specs.Halves.{Footing, OnRecords, OnNothing, Basis, StandsGood, HasRecord, HoldsRecords, HoldsBy, Keeps, command_in, needed_keys, records_in}
-use Rattle.pb_run.specs.Standing.{IsInOrder, IsReadByNeed, records_folder}
+use Rattle.pb_run.specs.UnitSteps.{Premise, TrustedRecords, NoRecords, BuildContext, StandsGood, HasRecord, HoldsRecords, HoldsBy, BuildInvariant, command_in, needed_keys, records_in}
+use Rattle.pb_run.specs.Invariants.{IsInOrder, IsReadByNeed, records_folder}
 use Rattle.pb_run.proofs.Recorded.{all_at, all_of, command_for, read_reached, key_needed, needed_key, key_by_folder, keys_differ, sources_still, files_still, record_still}
 use Rattle.pb_run.proofs.RecordedOthers.{IfRecords, far_of, same_still}
 use Rattle.pb_store_soundness.specs.Apart.{is_of}
-use Rattle.pb_store_soundness.specs.Grounded.{Standing, Grounded, Reaches}
+use Rattle.pb_store_soundness.specs.Grounded.{RecordMap, Grounded, Reaches}
 use Rattle.pb_store_soundness.specs.Inputs.{Judge}
 use Rattle.pb_store_soundness.specs.Numbers.{IsAhead}
 use Rattle.pb_store_soundness.specs.Records.{number_in, number_of, out_of, reading}
@@ -31,14 +31,14 @@ use Rattle.pb_store.specs.Folder.{ReadBy, itself, further, HasNeeds}
 use Rattle.pb_unit.specs.declared.plan.Planned.{Planned}
 
 -- a grounded record rests on what stands
-rests_by : (judge : Judge) (child : Answers) (folder : List ℕ) (at : Standing) (files : Map) (key : List ℕ) (r : Record) (n : ℕ) (needed : Needed) → TrueBy judge child folder at files key r needed → number_in needed ≡ Some n → Grounded at key n → Rests judge child folder at files key r
+rests_by : (judge : Judge) (child : Answers) (folder : List ℕ) (at : RecordMap) (files : Map) (key : List ℕ) (r : Record) (n : ℕ) (needed : Needed) → TrueBy judge child folder at files key r needed → number_in needed ≡ Some n → Grounded at key n → Rests judge child folder at files key r
 rests_by judge child folder at files key r n (Copies copies) says is ground = absurd (none_some n is)
 rests_by judge child folder at files key r n (Numbers m needs) says is ground = says.rests (subst (Grounded at key) (sym (one m n is)) ground)
 
 -- Of the records of good units.
 
-module _ (b : Basis) (order : IsInOrder b.project) (states : List (State BadUnit)) (next : Option ℕ) (w : World) (holds : HoldsRecords b states next w) where
-  abbrev At : Standing
+module _ (b : BuildContext) (order : IsInOrder b.project) (states : List (State BadUnit)) (next : Option ℕ) (w : World) (holds : HoldsRecords b states next w) where
+  abbrev At : RecordMap
   At = records_in b w
 
   abbrev Folder : List ℕ
@@ -97,14 +97,14 @@ module _ (b : Basis) (order : IsInOrder b.project) (states : List (State BadUnit
 -- What is asked of the unit itself afterwards.
 
 -- where it is good: it stands, what it reaches is good, and it has its record; and it has begun
-pub record IsAfter (b : Basis) (states states' : List (State BadUnit)) (done' : List (Option (List Directive))) (place : ℕ) (u : Planned) (w' : World) : Type 0 where
+pub record IsAfter (b : BuildContext) (states states' : List (State BadUnit)) (done' : List (Option (List Directive))) (place : ℕ) (u : Planned) (w' : World) : Type 0 where
   pub stands : is_good_at (slice_get states' place) ≡ true → StandsGood b done' w' place
   pub reaches : is_good_at (slice_get states' place) ≡ true → are_good states u.reaches ≡ true
   pub recorded : IfRecords b.footing (is_good_at (slice_get states' place) ≡ true → HasRecord b w' place)
   pub begun : slice_get states' place ≡ Some Untouched → ⊥
 
-module _ (b : Basis) (order : IsInOrder b.project) (states : List (State BadUnit)) (done : List (Option (List Directive))) (place : ℕ) (u : Planned) (there : unit_at b.project place ≡ Some u) (bad : is_good_at (slice_get states place) ≡ false)
-    (next : Option ℕ) (w w' : World) (keeps : Keeps b states done next w) (only : ChangesOnly (is_of (records_folder b.project) u.key) w w') where
+module _ (b : BuildContext) (order : IsInOrder b.project) (states : List (State BadUnit)) (done : List (Option (List Directive))) (place : ℕ) (u : Planned) (there : unit_at b.project place ≡ Some u) (bad : is_good_at (slice_get states place) ≡ false)
+    (next : Option ℕ) (w w' : World) (keeps : BuildInvariant b states done next w) (only : ChangesOnly (is_of (records_folder b.project) u.key) w w') where
   good_apart : (p : ℕ) → is_good_at (slice_get states p) ≡ true → p ≢ place
   good_apart p good e = false≢true (sym bad ∙ ap (λ q. is_good_at (slice_get states q)) (sym e) ∙ good)
 
@@ -161,9 +161,9 @@ module _ (b : Basis) (order : IsInOrder b.project) (states : List (State BadUnit
     still_good places good = all_of (λ p. is_good_at (slice_get states' p)) places
         (λ p has. let it = all_at (λ q. is_good_at (slice_get states q)) places p good has in ap is_good_at (others p (good_apart p it)) ∙ it)
 
-    holds_over : (footing : Footing) → HoldsBy footing b states next w → IfRecords footing (is_good_at (slice_get states' place) ≡ true → HasRecord b w' place)
+    holds_over : (footing : Premise) → HoldsBy footing b states next w → IfRecords footing (is_good_at (slice_get states' place) ≡ true → HasRecord b w' place)
         → IfRecords footing (Sound reading judge b.child (records_folder b.project) w'.files) → IfRecords footing (IsAhead (records_in b w') next') → HoldsBy footing b states' next' w'
-    holds_over OnRecords holds its sound ahead = record {
+    holds_over TrustedRecords holds its sound ahead = record {
       honest = holds.honest;
       sound = sound;
       ahead = ahead;
@@ -172,12 +172,12 @@ module _ (b : Basis) (order : IsInOrder b.project) (states : List (State BadUnit
         | inr apart ↦ has_still holds p (was_good p apart good)
       ];
     }
-    holds_over OnNothing holds its sound ahead = λ p v at untouched. elim (cases_eq p place) [
+    holds_over NoRecords holds its sound ahead = λ p v at untouched. elim (cases_eq p place) [
       | inl e ↦ absurd (this.begun (ap (slice_get states') (sym e) ∙ untouched))
       | inr apart ↦ record_still b.project order place u there w w' only reading p v at apart ∙ holds p v at (sym (others p apart) ∙ untouched)
     ]
 
-    pub keeps_over : IfRecords b.footing (Sound reading judge b.child (records_folder b.project) w'.files) → IfRecords b.footing (IsAhead (records_in b w') next') → Keeps b states' done' next' w'
+    pub keeps_over : IfRecords b.footing (Sound reading judge b.child (records_folder b.project) w'.files) → IfRecords b.footing (IsAhead (records_in b w') next') → BuildInvariant b states' done' next' w'
     keeps_over sound ahead = record {
       long = long;
       sources_stay = sources_still b.project order place u there w w' only ∙ keeps.sources_stay;

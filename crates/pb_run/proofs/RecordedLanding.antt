@@ -15,8 +15,8 @@ use Rattle.pb_record.specs.declared.record.InputName.{InputName}
 use Rattle.pb_build_result.specs.declared.bad_unit.BadUnit.{BadUnit}
 use Rattle.pb_record.specs.declared.record.Input.{Input}
 use Rattle.pb_record.specs.declared.record.Record.{Record}
-use Rattle.pb_run.specs.Halves.{Footing, OnRecords, OnNothing, Basis, HasRecord, HoldsRecords, HoldsBy, AwaitsRecord, AwaitsBy, CanAnswer, command_in, needed_keys, records_in, view_in}
-use Rattle.pb_run.specs.Standing.{IsInOrder, records_folder}
+use Rattle.pb_run.specs.UnitSteps.{Premise, TrustedRecords, NoRecords, BuildContext, HasRecord, HoldsRecords, HoldsBy, AwaitsRecord, AwaitsBy, CanAnswer, command_in, needed_keys, records_in, view_in}
+use Rattle.pb_run.specs.Invariants.{IsInOrder, records_folder}
 use Rattle.pb_run.specs.declared.begun.Begun.{Begun}
 use Rattle.pb_run.proofs.Recorded.{sources_still}
 use Rattle.pb_run.proofs.RecordedAnswer.{good_status, grounded_alike, ahead_alike, only_out, only_place, records_out, sound_out, its_command, its_for, begun_bad, own_places}
@@ -25,7 +25,7 @@ use Rattle.pb_run.proofs.RecordedKeeps.{reads_grounded}
 use Rattle.pb_run.proofs.RecordedOthers.{IfRecords, Left, agrees_still, vanished, as_before, put_anew, needs_still, others_at}
 use Rattle.pb_run.proofs.RecordedSame.{command_back, named_now, present_agree}
 use Rattle.pb_run.proofs.Views.{IsFor}
-use Rattle.pb_store_soundness.specs.Grounded.{Standing, Grounded}
+use Rattle.pb_store_soundness.specs.Grounded.{RecordMap, Grounded}
 use Rattle.pb_store_soundness.specs.Inputs.{IsHonest, input_in, reply_in}
 use Rattle.pb_store_soundness.specs.Numbers.{NoneNames, IsAhead, IsBefore}
 use Rattle.pb_store_soundness.specs.Records.{number_of, out_of, place_of, reading}
@@ -38,7 +38,7 @@ use Rattle.pb_store.proofs.Earned.{names_stand}
 use Rattle.pb_unit.specs.declared.plan.Planned.{Planned}
 
 -- a record that is put over grounded units is grounded
-pub put_over : (old new : Standing) (folder key : List ℕ) (r : Record) (number : ℕ) → ((l : List ℕ) → l ≢ key → new l ≡ old l) → new key ≡ Some r → number_of r ≡ Some number → ((n : ℕ) → Grounded old key n → ⊥)
+pub put_over : (old new : RecordMap) (folder key : List ℕ) (r : Record) (number : ℕ) → ((l : List ℕ) → l ≢ key → new l ≡ old l) → new key ≡ Some r → number_of r ≡ Some number → ((n : ℕ) → Grounded old key n → ⊥)
     → NamesNeeds old folder r number → AreGrounded old folder r.asked.reads → Grounded new key number
 put_over old new folder key r number others here numbered_r ungrounded names grounds =
     put_grounds old new key r number others here numbered_r ungrounded
@@ -47,7 +47,7 @@ put_over old new folder key r number others here numbered_r ungrounded names gro
     let (s, stands, numbered_s) = names.stand need n has in
     (names.less need n has, subst (Grounded old need) (one m n (sym (grounded_number old need m s ground stands) ∙ numbered_s)) ground))
 
-module _ (b : Basis) (order : IsInOrder b.project) (place : ℕ) (u : Planned) (there : unit_at b.project place ≡ Some u)
+module _ (b : BuildContext) (order : IsInOrder b.project) (place : ℕ) (u : Planned) (there : unit_at b.project place ≡ Some u)
     (states : List (State BadUnit)) (done : List (Option (List Directive))) (begun : Begun) (next : Option ℕ) (w : World) (flying : List ChildInFlight) (still : ℕ → Type 0)
     (can : CanAnswer b states done place u begun next w flying still) (w1 : World) (landed : ChangesOnly (is_at_or_below u.out) w w1) where
   abbrev Folder : List ℕ
@@ -60,13 +60,13 @@ module _ (b : Basis) (order : IsInOrder b.project) (place : ℕ) (u : Planned) (
   for = its_for b order place u there states done begun next w flying still can
 
   -- what is kept where the child has landed
-  pub landed_sound : (footing : Footing) (number : ℕ) → HoldsBy footing b states next w → AwaitsBy footing b u number next w → IfRecords footing (Sound reading judge b.child Folder w1.files)
-  landed_sound OnRecords number holds waits = sound_out b order place u there w w1 landed waits.gone holds.sound
-  landed_sound OnNothing number holds waits = tt
+  pub landed_sound : (footing : Premise) (number : ℕ) → HoldsBy footing b states next w → AwaitsBy footing b u number next w → IfRecords footing (Sound reading judge b.child Folder w1.files)
+  landed_sound TrustedRecords number holds waits = sound_out b order place u there w w1 landed waits.gone holds.sound
+  landed_sound NoRecords number holds waits = tt
 
-  pub landed_ahead : (footing : Footing) → HoldsBy footing b states next w → IfRecords footing (IsAhead (records_in b w1) next)
-  landed_ahead OnRecords holds = ahead_alike (records_in b w) (records_in b w1) next alike holds.ahead
-  landed_ahead OnNothing holds = tt
+  pub landed_ahead : (footing : Premise) → HoldsBy footing b states next w → IfRecords footing (IsAhead (records_in b w1) next)
+  landed_ahead TrustedRecords holds = ahead_alike (records_in b w) (records_in b w1) next alike holds.ahead
+  landed_ahead NoRecords holds = tt
 
   -- the needed units have their records
   landed_needs : (number : ℕ) → AwaitsRecord b u number next w → HasNeeds (records_in b w1) Folder begun.command.reads (needed_keys b.project u) number
@@ -108,19 +108,19 @@ module _ (b : Basis) (order : IsInOrder b.project) (place : ℕ) (u : Planned) (
 
   module _ (w2 : World) (kept : ChangesOnly (is_at_or_below (place_of (records_folder b.project) u.key)) w1 w2) where
     -- in the words of the call: sound, and ahead
-    pub kept_sound : (footing : Footing) (number : ℕ) (names : List InputName) (ended : Ended) → HoldsBy footing b states next w → AwaitsBy footing b u number next w
+    pub kept_sound : (footing : Premise) (number : ℕ) (names : List InputName) (ended : Ended) → HoldsBy footing b states next w → AwaitsBy footing b u number next w
         → seen_by begun.command w ≡ view_in b place u → judge begun.command (b.child begun.command (view_in b place u)) ≡ Some names
         → ended ≡ ended_by (b.child begun.command (view_in b place u)) → files_in u.out w1.files ≡ replied_files u.out (b.child begun.command (view_in b place u))
         → (IsKept judge b.child Folder u.key begun.command (needed_keys b.project u) names ended number w1 → Sound reading judge b.child Folder w1.files → Sound reading judge b.child Folder w2.files)
         → IfRecords footing (Sound reading judge b.child Folder w2.files)
-    kept_sound OnRecords number names ended holds waits sees good is_ended made gives = gives (is_kept number names ended holds waits sees good is_ended made) (landed_sound OnRecords number holds waits)
-    kept_sound OnNothing number names ended holds waits sees good is_ended made gives = tt
+    kept_sound TrustedRecords number names ended holds waits sees good is_ended made gives = gives (is_kept number names ended holds waits sees good is_ended made) (landed_sound TrustedRecords number holds waits)
+    kept_sound NoRecords number names ended holds waits sees good is_ended made gives = tt
 
-    pub kept_ahead : (footing : Footing) (number : ℕ) → HoldsBy footing b states next w → AwaitsBy footing b u number next w
+    pub kept_ahead : (footing : Premise) (number : ℕ) → HoldsBy footing b states next w → AwaitsBy footing b u number next w
         → (IsBefore next number → HasNeeds (records_in b w1) Folder begun.command.reads (needed_keys b.project u) number → IsAhead (records_in b w1) next → IsAhead (records_in b w2) next)
         → IfRecords footing (IsAhead (records_in b w2) next)
-    kept_ahead OnRecords number holds waits gives = gives waits.before (landed_needs number waits) (landed_ahead OnRecords holds)
-    kept_ahead OnNothing number holds waits gives = tt
+    kept_ahead TrustedRecords number holds waits gives = gives waits.before (landed_needs number waits) (landed_ahead TrustedRecords holds)
+    kept_ahead NoRecords number holds waits gives = tt
 
     kept_names : (number : ℕ) (inputs : List Input) (ended : Ended) → AwaitsRecord b u number next w
         → NamesNeeds (records_in b w1) Folder (kept_of Folder u.key begun.command inputs number (numbered (records_in b w1) (needed_keys b.project u)) ended) number
@@ -143,9 +143,9 @@ module _ (b : Basis) (order : IsInOrder b.project) (place : ℕ) (u : Planned) (
         }
 
     -- the unit has its record
-    pub kept_record : (footing : Footing) (number : ℕ) (names : List InputName) (ended : Ended) → HoldsBy footing b states next w → AwaitsBy footing b u number next w
+    pub kept_record : (footing : Premise) (number : ℕ) (names : List InputName) (ended : Ended) → HoldsBy footing b states next w → AwaitsBy footing b u number next w
         → records_in b w2 u.key ≡ Some (kept_of Folder u.key begun.command (map (input_in begun.command.target w1) names) number (numbered (records_in b w1) (needed_keys b.project u)) ended) → IfRecords footing (HasRecord b w2 place)
-    kept_record OnRecords number names ended holds waits stands =
+    kept_record TrustedRecords number names ended holds waits stands =
         let inputs = map (input_in begun.command.target w1) names in
         let r = kept_of Folder u.key begun.command inputs number (numbered (records_in b w1) (needed_keys b.project u)) ended in
         let grounds = reads_grounded b order states next w holds u begun.command.reads for.reads can.reaches in
@@ -162,13 +162,13 @@ module _ (b : Basis) (order : IsInOrder b.project) (place : ℕ) (u : Planned) (
           reads = for.reads;
           same = kept_same number names ended waits stands;
         }
-    kept_record OnNothing number names ended holds waits stands = tt
+    kept_record NoRecords number names ended holds waits stands = tt
 
     -- what others find in its place
-    pub left_kept : (footing : Footing) (number : ℕ) (inputs : List Input) (ended : Ended) → AwaitsBy footing b u number next w
+    pub left_kept : (footing : Premise) (number : ℕ) (inputs : List Input) (ended : Ended) → AwaitsBy footing b u number next w
         → Leaves (Some (kept_of Folder u.key begun.command inputs number (numbered (records_in b w1) (needed_keys b.project u)) ended)) (records_in b w1 u.key) (records_in b w2 u.key)
         → IfRecords footing (Left (records_in b w) (records_in b w2) u.key (Some number))
-    left_kept OnRecords number inputs ended waits left = elim left [
+    left_kept TrustedRecords number inputs ended waits left = elim left [
       | inl gone ↦ vanished gone
       | inr more ↦ elim more [
         | inl same ↦ as_before (same ∙ alike u.key)
@@ -176,7 +176,7 @@ module _ (b : Basis) (order : IsInOrder b.project) (place : ℕ) (u : Planned) (
             (λ need m has. let (s, stands, numbered_s) = (kept_names number inputs ended waits).stand need m has in (s, sym (alike need) ∙ stands, numbered_s))
       ]
     ]
-    left_kept OnNothing number inputs ended waits left = tt
+    left_kept NoRecords number inputs ended waits left = tt
 
   -- and where it was not to be kept
   pub left_landed : (number : Option ℕ) → Left (records_in b w) (records_in b w1) u.key number

@@ -24,16 +24,16 @@ use Rattle.pb_record.specs.declared.record.Input.{Input}
 use Rattle.pb_record.specs.declared.record.Needed.{Needed}
 use Rattle.pb_record.specs.declared.record.Needed.TheVariants.{Copies, Numbers}
 use Rattle.pb_record.specs.declared.record.Record.{Record}
-use Rattle.pb_run.specs.Halves.{Footing, OnRecords, OnNothing, Basis, HoldsBy, Keeps, IsBegun, IsInFlight, AwaitsRecord, AwaitsBy, IsUnchanged, WaitsBy, BeginsApart, needed_keys, records_in, view_in, child_in, child_of}
-use Rattle.pb_run.specs.Standing.{IsInOrder, records_folder}
+use Rattle.pb_run.specs.UnitSteps.{Premise, TrustedRecords, NoRecords, BuildContext, HoldsBy, BuildInvariant, IsBegun, IsInFlight, AwaitsRecord, AwaitsBy, IsUnchanged, WaitsBy, BeginsApart, needed_keys, records_in, view_in, child_in, child_of}
+use Rattle.pb_run.specs.Invariants.{IsInOrder, records_folder}
 use Rattle.pb_run.specs.declared.begun.Awaited.{Awaited}
 use Rattle.pb_run.specs.declared.begun.Awaited.TheVariants as awaited
 use Rattle.pb_run.specs.declared.begun.Begun.{Begun}
-use Rattle.pb_run.specs.declared.begun.Launched.{Launched}
+use Rattle.pb_run.specs.declared.begun.SpawnedChild.{SpawnedChild}
 use Rattle.pb_run.proofs.Recorded.{all_at, read_reached, key_needed, key_by_folder, keys_differ, command_for, sources_still, files_still, record_still, seen_still}
 use Rattle.pb_run.proofs.Views.{IsFor}
 use Rattle.pb_store_soundness.specs.Apart.{is_of}
-use Rattle.pb_store_soundness.specs.Grounded.{Standing}
+use Rattle.pb_store_soundness.specs.Grounded.{RecordMap}
 use Rattle.pb_store_soundness.specs.Inputs.{Judge, Agrees, path_input, input_in, contents, name_of}
 use Rattle.pb_store_soundness.specs.Numbers.{NoneNames, IsBefore, after}
 use Rattle.pb_store_soundness.specs.Records.{needs_of, number_of, out_of, reading}
@@ -47,23 +47,23 @@ use Rattle.pb_store.specs.Differences.{replayed}
 use Rattle.pb_unit.specs.declared.plan.Planned.{Planned}
 
 -- what is asked only where a build rests on records
-abbrev pub IfRecords : Footing → Type 0 → Type 0
-IfRecords OnRecords Fact = Fact
-IfRecords OnNothing Fact = Unit {0}
+abbrev pub IfRecords : Premise → Type 0 → Type 0
+IfRecords TrustedRecords Fact = Fact
+IfRecords NoRecords Fact = Unit {0}
 
-pub if_records : (footing : Footing) (Fact : Type 0) → Fact → IfRecords footing Fact
-if_records OnRecords Fact fact = fact
-if_records OnNothing Fact fact = tt
+pub if_records : (footing : Premise) (Fact : Type 0) → Fact → IfRecords footing Fact
+if_records TrustedRecords Fact fact = fact
+if_records NoRecords Fact fact = tt
 
 -- what became of the record in a unit's place: none counts; it is as it was; or it is one with this number, over units that stand
-pub data Left (old new : Standing) (key : List ℕ) (number : Option ℕ) : Type 0 where
+pub data Left (old new : RecordMap) (key : List ℕ) (number : Option ℕ) : Type 0 where
   vanished : new key ≡ None → Left old new key number
   as_before : new key ≡ old key → Left old new key number
   put_anew : (r : Record) (n : ℕ) → new key ≡ Some r → number_of r ≡ Some n → number ≡ Some n
       → ((need : List ℕ) (m : ℕ) → Contains (needs_of r) (need, m) → (s : Record) × (old need ≡ Some s) × (number_of s ≡ Some m)) → Left old new key number
 
 -- of a record that was dropped, or was to be
-pub left_dropped : (old new : Standing) (key : List ℕ) → Leaves None (old key) (new key) → Left old new key None
+pub left_dropped : (old new : RecordMap) (key : List ℕ) → Leaves None (old key) (new key) → Left old new key None
 left_dropped old new key left = elim left [
   | inl gone ↦ vanished gone
   | inr more ↦ elim more [
@@ -73,7 +73,7 @@ left_dropped old new key left = elim left [
 ]
 
 -- a number that was given still waits
-pub names_still : (old new : Standing) (key : List ℕ) (given : Option ℕ) (number : ℕ) → ((l : List ℕ) → l ≢ key → new l ≡ old l) → Left old new key given → given ≢ Some number → NoneNames old number → NoneNames new number
+pub names_still : (old new : RecordMap) (key : List ℕ) (given : Option ℕ) (number : ℕ) → ((l : List ℕ) → l ≢ key → new l ≡ old l) → Left old new key given → given ≢ Some number → NoneNames old number → NoneNames new number
 names_still old new key given number others left apart waits other r at = elim (is_same other key) [
   | inl this ↦ by_left left (subst (λ k. new k ≡ Some r) this at)
   | inr ne ↦ waits other r (sym (others other ne) ∙ at)
@@ -114,24 +114,24 @@ agrees_still target [] v w same agree = tt
 agrees_still target (i ∷ inputs) v w same agree = (input_still target v w (name_of i) same ∙ agree.0, agrees_still target inputs v w same agree.1)
 
 -- what a record names lies among what its command reads
-named_read : (judge : Judge) (child : Answers) (folder : List ℕ) (at : Standing) (files : Map) (key : List ℕ) (r : Record) (number : ℕ) (needs : List (List ℕ × ℕ)) → TrueBy judge child folder at files key r (Numbers number needs)
+named_read : (judge : Judge) (child : Answers) (folder : List ℕ) (at : RecordMap) (files : Map) (key : List ℕ) (r : Record) (number : ℕ) (needs : List (List ℕ × ℕ)) → TrueBy judge child folder at files key r (Numbers number needs)
     → (need : List ℕ) (n : ℕ) → Contains needs (need, n) → Contains r.asked.reads (out_of folder need)
 named_read judge child folder at files key r number needs says need n has = says.read need n has
 
-copied_read : (judge : Judge) (child : Answers) (folder : List ℕ) (at : Standing) (files : Map) (key : List ℕ) (r : Record) (copies : List (List ℕ × List (List ℕ × List ℕ))) → TrueBy judge child folder at files key r (Copies copies)
+copied_read : (judge : Judge) (child : Answers) (folder : List ℕ) (at : RecordMap) (files : Map) (key : List ℕ) (r : Record) (copies : List (List ℕ × List (List ℕ × List ℕ))) → TrueBy judge child folder at files key r (Copies copies)
     → (need : List ℕ) (m : List (List ℕ × List ℕ)) → Contains copies (need, m) → Contains r.asked.reads (out_of folder need)
 copied_read judge child folder at files key r copies says need m has = says.read need m has
 
 -- Another unit.
 
-module _ (b : Basis) (order : IsInOrder b.project) (place : ℕ) (u : Planned) (there : unit_at b.project place ≡ Some u) (w w' : World) (only : ChangesOnly (is_of (records_folder b.project) u.key) w w') where
+module _ (b : BuildContext) (order : IsInOrder b.project) (place : ℕ) (u : Planned) (there : unit_at b.project place ≡ Some u) (w w' : World) (only : ChangesOnly (is_of (records_folder b.project) u.key) w w') where
   abbrev Folder : List ℕ
   Folder = records_folder b.project
 
-  abbrev At : Standing
+  abbrev At : RecordMap
   At = records_in b w
 
-  abbrev At' : Standing
+  abbrev At' : RecordMap
   At' = records_in b w'
 
   pub others_at : (l : List ℕ) → l ≢ u.key → At' l ≡ At l
@@ -167,9 +167,9 @@ module _ (b : Basis) (order : IsInOrder b.project) (place : ℕ) (u : Planned) (
       before = before_taken next next' number taken waits.before;
     }
 
-    pub awaits_by : (footing : Footing) (next next' : Option ℕ) (given : Option ℕ) (number : ℕ) → TakesNumber next next' → IfRecords footing (Left At At' u.key given) → given ≢ Some number → AwaitsBy footing b v number next w → AwaitsBy footing b v number next' w'
-    awaits_by OnRecords next next' given number taken left apart waits = awaits_still next next' given number taken left apart waits
-    awaits_by OnNothing next next' given number taken left apart waits = tt
+    pub awaits_by : (footing : Premise) (next next' : Option ℕ) (given : Option ℕ) (number : ℕ) → TakesNumber next next' → IfRecords footing (Left At At' u.key given) → given ≢ Some number → AwaitsBy footing b v number next w → AwaitsBy footing b v number next' w'
+    awaits_by TrustedRecords next next' given number taken left apart waits = awaits_still next next' given number taken left apart waits
+    awaits_by NoRecords next next' given number taken left apart waits = tt
 
     -- what its record names is another's
     read_apart : (c : Command) → IsFor b.project v c → (need : List ℕ) → Contains c.reads (out_of Folder need) → need ≢ u.key
@@ -202,9 +202,9 @@ module _ (b : Basis) (order : IsInOrder b.project) (place : ℕ) (u : Planned) (
       needed = needed_still c for r r.needed (sound.each v.key r is.stands).says (sym (ap (λ (d : Command). d.reads) is.asked)) is.needed;
     }
 
-    pub unchanged_by : (footing : Footing) (states : List (State BadUnit)) (next : Option ℕ) (c : Command) → IsFor b.project v c → HoldsBy footing b states next w → IsUnchanged footing b v c w → IsUnchanged footing b v c w'
-    unchanged_by OnRecords states next c for holds (r, is) = (r, same_still c r for holds.sound is)
-    unchanged_by OnNothing states next c for holds is = is
+    pub unchanged_by : (footing : Premise) (states : List (State BadUnit)) (next : Option ℕ) (c : Command) → IsFor b.project v c → HoldsBy footing b states next w → IsUnchanged footing b v c w → IsUnchanged footing b v c w'
+    unchanged_by TrustedRecords states next c for holds (r, is) = (r, same_still c r for holds.sound is)
+    unchanged_by NoRecords states next c for holds is = is
 
     -- its child sees what it saw, and its folder holds what it held
     flight_still : (c : Command) (t : ℕ) (flying : List ChildInFlight) (spawned : World) → IsFor b.project v c → child_at t flying ≡ Some (child_spawned (b.child c) c spawned t)
@@ -229,9 +229,9 @@ module _ (b : Basis) (order : IsInOrder b.project) (place : ℕ) (u : Planned) (
 
     pub waits_still : (c : Command) (view : World) (by : Awaited) (states : List (State BadUnit)) (next next' given : Option ℕ) (flying flying' : List ChildInFlight) (still still' : ℕ → Type 0)
         → IsFor b.project v c → HoldsBy b.footing b states next w → TakesNumber next next' → IfRecords b.footing (Left At At' u.key given)
-        → ((theirs : Launched) → child_in by ≡ Some theirs → given ≢ Some theirs.number)
-        → ((theirs : Launched) → child_in by ≡ Some theirs → (its : ChildInFlight) → child_at theirs.ticket flying ≡ Some its → child_at theirs.ticket flying' ≡ Some its)
-        → ((theirs : Launched) → child_in by ≡ Some theirs → ((x y : World) → ChangesOnly (is_of Folder u.key) x y → StandsStill theirs.ticket flying x y) → still theirs.ticket → still' theirs.ticket)
+        → ((theirs : SpawnedChild) → child_in by ≡ Some theirs → given ≢ Some theirs.number)
+        → ((theirs : SpawnedChild) → child_in by ≡ Some theirs → (its : ChildInFlight) → child_at theirs.ticket flying ≡ Some its → child_at theirs.ticket flying' ≡ Some its)
+        → ((theirs : SpawnedChild) → child_in by ≡ Some theirs → ((x y : World) → ChangesOnly (is_of Folder u.key) x y → StandsStill theirs.ticket flying x y) → still theirs.ticket → still' theirs.ticket)
         → WaitsBy b v c view by next w flying still → WaitsBy b v c view by next' w' flying' still'
     waits_still c view (awaited.Record again) states next next' given flying flying' still still' for holds taken left numbers flies_on stands_on (same, gives) = (
       unchanged_by b.footing states next c for holds same,
@@ -243,9 +243,9 @@ module _ (b : Basis) (order : IsInOrder b.project) (place : ℕ) (u : Planned) (
     )
 
 -- a unit with a child waits for its end
-pub waits_child : (b : Basis) (u : Planned) (c : Command) (view : World) (by : Awaited) (launched : Launched) (next : Option ℕ) (w : World) (flying : List ChildInFlight) (still : ℕ → Type 0) → child_in by ≡ Some launched
+pub waits_child : (b : BuildContext) (u : Planned) (c : Command) (view : World) (by : Awaited) (launched : SpawnedChild) (next : Option ℕ) (w : World) (flying : List ChildInFlight) (still : ℕ → Type 0) → child_in by ≡ Some launched
     → WaitsBy b u c view by next w flying still → WaitsBy b u c view (awaited.Child launched) next w flying still
-waits_child b u c view (awaited.Child l) launched next w flying still is waits = subst (λ (x : Launched). WaitsBy b u c view (awaited.Child x) next w flying still) (one l launched is) waits
+waits_child b u c view (awaited.Child l) launched next w flying still is waits = subst (λ (x : SpawnedChild). WaitsBy b u c view (awaited.Child x) next w flying still) (one l launched is) waits
 waits_child b u c view (awaited.Record again) launched next w flying still is waits = absurd (none_some launched is)
 
 -- a good unit is not this one, which is not good
@@ -253,14 +253,14 @@ pub far_of : (states : List (State BadUnit)) (place : ℕ) (places : List ℕ) �
 far_of states place places bad good p has e = false≢true (sym bad ∙ ap (λ q. is_good_at (slice_get states q)) (sym e) ∙ all_at (λ q. is_good_at (slice_get states q)) places p good has)
 
 -- another unit that has begun stays so
-pub stays_begun : (b : Basis) (order : IsInOrder b.project) (states : List (State BadUnit)) (done : List (Option (List Directive))) (place : ℕ) (u : Planned) (launched : Option Launched) (other : ℕ) (its : Begun)
+pub stays_begun : (b : BuildContext) (order : IsInOrder b.project) (states : List (State BadUnit)) (done : List (Option (List Directive))) (place : ℕ) (u : Planned) (launched : Option SpawnedChild) (other : ℕ) (its : Begun)
     (next next' given : Option ℕ) (w w' : World) (flying flying' : List ChildInFlight) (still still' : ℕ → Type 0)
-    → unit_at b.project place ≡ Some u → is_good_at (slice_get states place) ≡ false → Keeps b states done next w
+    → unit_at b.project place ≡ Some u → is_good_at (slice_get states place) ≡ false → BuildInvariant b states done next w
     → BeginsApart b states place launched other its next w flying still
     → ChangesOnly (is_of (records_folder b.project) u.key) w w' → TakesNumber next next' → IfRecords b.footing (Left (records_in b w) (records_in b w') u.key given)
-    → ((theirs : Launched) → child_of its ≡ Some theirs → given ≢ Some theirs.number)
-    → ((theirs : Launched) → child_of its ≡ Some theirs → (c : ChildInFlight) → child_at theirs.ticket flying ≡ Some c → child_at theirs.ticket flying' ≡ Some c)
-    → ((theirs : Launched) → child_of its ≡ Some theirs → ((x y : World) → ChangesOnly (is_of (records_folder b.project) u.key) x y → StandsStill theirs.ticket flying x y) → still theirs.ticket → still' theirs.ticket)
+    → ((theirs : SpawnedChild) → child_of its ≡ Some theirs → given ≢ Some theirs.number)
+    → ((theirs : SpawnedChild) → child_of its ≡ Some theirs → (c : ChildInFlight) → child_at theirs.ticket flying ≡ Some c → child_at theirs.ticket flying' ≡ Some c)
+    → ((theirs : SpawnedChild) → child_of its ≡ Some theirs → ((x y : World) → ChangesOnly (is_of (records_folder b.project) u.key) x y → StandsStill theirs.ticket flying x y) → still theirs.ticket → still' theirs.ticket)
     → IsBegun b other its next' w' flying' still'
 stays_begun b order states done place u launched other its next next' given w w' flying flying' still still' there bad keeps apart only taken left numbers flies_on stands_on =
     let is = apart.begun_so in

@@ -15,10 +15,10 @@ use Rattle.pb_command_types.specs.Targets.{unit_at}
 use Rattle.pb_build_result.specs.declared.bad_unit.BadUnit.{BadUnit}
 use Rattle.pb_record.specs.declared.record.Input.{Input}
 use Rattle.pb_record.specs.declared.record.Record.{Record}
-use Rattle.pb_run.specs.Halves.{Footing, OnRecords, OnNothing, Basis, HasRecord, HoldsRecords, HoldsBy, AwaitsBy, IsUnchanged, CanAnswer, BeginsApart, command_in, needed_keys, records_in, view_in, child_of}
-use Rattle.pb_run.specs.Standing.{IsInOrder, records_folder}
+use Rattle.pb_run.specs.UnitSteps.{Premise, TrustedRecords, NoRecords, BuildContext, HasRecord, HoldsRecords, HoldsBy, AwaitsBy, IsUnchanged, CanAnswer, BeginsApart, command_in, needed_keys, records_in, view_in, child_of}
+use Rattle.pb_run.specs.Invariants.{IsInOrder, records_folder}
 use Rattle.pb_run.specs.declared.begun.Begun.{Begun}
-use Rattle.pb_run.specs.declared.begun.Launched.{Launched}
+use Rattle.pb_run.specs.declared.begun.SpawnedChild.{SpawnedChild}
 use Rattle.pb_run.proofs.Recorded.{sources_still}
 use Rattle.pb_run.proofs.RecordedAnswer.{grounded_alike, only_place, its_command, its_for}
 use Rattle.pb_run.proofs.RecordedKeeps.{has_needs, reads_grounded}
@@ -47,7 +47,7 @@ next_apart (Some n) number before e = not_less n number before (one n number e)
     not_less : (m k : ℕ) → k < m → m ≡ k → ⊥
     not_less m k less is = omega (arith, less, is)
 
-module _ (b : Basis) (order : IsInOrder b.project) (place : ℕ) (u : Planned) (there : unit_at b.project place ≡ Some u)
+module _ (b : BuildContext) (order : IsInOrder b.project) (place : ℕ) (u : Planned) (there : unit_at b.project place ≡ Some u)
     (states : List (State BadUnit)) (done : List (Option (List Directive))) (begun : Begun) (next : Option ℕ) (w : World) (flying : List ChildInFlight) (still : ℕ → Type 0)
     (can : CanAnswer b states done place u begun next w flying still) where
   abbrev Folder : List ℕ
@@ -60,16 +60,16 @@ module _ (b : Basis) (order : IsInOrder b.project) (place : ℕ) (u : Planned) (
   all_grounded holds = reads_grounded b order states next w holds u begun.command.reads for.reads can.reaches
 
   -- the record holds the reply of the child in its view, and its files stand
-  pub replay_backs : (footing : Footing) → HoldsBy footing b states next w → IsUnchanged footing b u begun.command w → seen_by begun.command w ≡ view_in b place u
+  pub replay_backs : (footing : Premise) → HoldsBy footing b states next w → IsUnchanged footing b u begun.command w → seen_by begun.command w ≡ view_in b place u
       → (r : Record) × (records_in b w u.key ≡ Some r) × Backs judge r u.out (files_in u.out w.files) (b.child begun.command (view_in b place u))
-  replay_backs OnRecords holds (r, same) sees = (
+  replay_backs TrustedRecords holds (r, same) sees = (
     r,
     same.stands,
     subst (λ f. Backs judge r f (files_in f w.files) (b.child begun.command (view_in b place u))) (sym (order.folders place u there))
         (subst (λ (y : Reply). Backs judge r (out_of Folder u.key) (files_in (out_of Folder u.key) w.files) y) (ap (b.child begun.command) sees)
         (reuse reading judge b.child Folder u.key begun.command w r holds.sound same (all_grounded holds))),
   )
-  replay_backs OnNothing holds same sees = absurd same
+  replay_backs NoRecords holds same sees = absurd same
 
   -- what makes the migrated record true
   pub is_migrated : HoldsRecords b states next w → (r : Record) → IsSame reading Folder u.key begun.command w r → seen_by begun.command w ≡ view_in b place u
@@ -91,17 +91,17 @@ module _ (b : Basis) (order : IsInOrder b.project) (place : ℕ) (u : Planned) (
 
   module _ (w' : World) (next' : Option ℕ) (only : ChangesOnly (is_at_or_below (place_of (records_folder b.project) u.key)) w w') where
     -- in the words of the call: sound, and ahead
-    pub migrated_sound : (footing : Footing) → HoldsBy footing b states next w → IsUnchanged footing b u begun.command w → seen_by begun.command w ≡ view_in b place u
+    pub migrated_sound : (footing : Premise) → HoldsBy footing b states next w → IsUnchanged footing b u begun.command w → seen_by begun.command w ≡ view_in b place u
         → ((r : Record) → ((number : ℕ) → next ≡ Some number → IsMigrated judge b.child Folder u.key begun.command (needed_keys b.project u) number w r) → Sound reading judge b.child Folder w.files → Sound reading judge b.child Folder w'.files)
         → IfRecords footing (Sound reading judge b.child Folder w'.files)
-    migrated_sound OnRecords holds (r, same) sees gives = gives r (is_migrated holds r same sees) holds.sound
-    migrated_sound OnNothing holds same sees gives = tt
+    migrated_sound TrustedRecords holds (r, same) sees gives = gives r (is_migrated holds r same sees) holds.sound
+    migrated_sound NoRecords holds same sees gives = tt
 
-    pub migrated_ahead : (footing : Footing) → HoldsBy footing b states next w → IsUnchanged footing b u begun.command w → seen_by begun.command w ≡ view_in b place u
+    pub migrated_ahead : (footing : Premise) → HoldsBy footing b states next w → IsUnchanged footing b u begun.command w → seen_by begun.command w ≡ view_in b place u
         → ((r : Record) → ((number : ℕ) → next ≡ Some number → IsMigrated judge b.child Folder u.key begun.command (needed_keys b.project u) number w r) → IsAhead (records_in b w) next → IsAhead (records_in b w') next')
         → IfRecords footing (IsAhead (records_in b w') next')
-    migrated_ahead OnRecords holds (r, same) sees gives = gives r (is_migrated holds r same sees) holds.ahead
-    migrated_ahead OnNothing holds same sees gives = tt
+    migrated_ahead TrustedRecords holds (r, same) sees gives = gives r (is_migrated holds r same sees) holds.ahead
+    migrated_ahead NoRecords holds same sees gives = tt
 
     others_stand : (l : List ℕ) → l ≢ u.key → records_in b w' l ≡ records_in b w l
     others_stand = others_at b order place u there w w' (only_place b order place u there w w' only)
@@ -190,12 +190,12 @@ module _ (b : Basis) (order : IsInOrder b.project) (place : ℕ) (u : Planned) (
     record_by holds r same None is None next_is stands numbered_now = absurd (false≢true (sym (ap is_some is) ∙ numbered_now r stands))
 
     -- the unit has its record
-    pub migrated_record : (footing : Footing) → HoldsBy footing b states next w → IsUnchanged footing b u begun.command w
+    pub migrated_record : (footing : Premise) → HoldsBy footing b states next w → IsUnchanged footing b u begun.command w
         → records_in b w' u.key ≡ migrated next (numbered (records_in b w) (needed_keys b.project u)) (records_in b w u.key)
         → ((s : Record) → records_in b w' u.key ≡ Some s → is_some (number_of s) ≡ true) → IfRecords footing (HasRecord b w' place)
-    migrated_record OnRecords holds (r, same) stands numbered_now =
+    migrated_record TrustedRecords holds (r, same) stands numbered_now =
         record_by holds r same (number_of r) refl next refl (stands ∙ ap (migrated next (numbered (records_in b w) (needed_keys b.project u))) same.stands) numbered_now
-    migrated_record OnNothing holds same stands numbered_now = tt
+    migrated_record NoRecords holds same stands numbered_now = tt
 
     -- what others find in its place
     left_by : HoldsRecords b states next w → (r : Record) → IsSame reading Folder u.key begun.command w r → (has : Option ℕ) → number_of r ≡ has → (given : Option ℕ) → next ≡ given
@@ -205,24 +205,24 @@ module _ (b : Basis) (order : IsInOrder b.project) (place : ℕ) (u : Planned) (
     left_by holds r same None is (Some number) next_is stands =
         put_anew (numbered_record r number (numbered (records_in b w) (needed_keys b.project u))) number stands refl next_is (new_names holds r same number next_is).stand
 
-    pub left_migrated : (footing : Footing) → HoldsBy footing b states next w → IsUnchanged footing b u begun.command w
+    pub left_migrated : (footing : Premise) → HoldsBy footing b states next w → IsUnchanged footing b u begun.command w
         → Leaves (migrated next (numbered (records_in b w) (needed_keys b.project u)) (records_in b w u.key)) (records_in b w u.key) (records_in b w' u.key)
         → IfRecords footing (Left (records_in b w) (records_in b w') u.key next)
-    left_migrated OnRecords holds (r, same) left = elim left [
+    left_migrated TrustedRecords holds (r, same) left = elim left [
       | inl gone ↦ vanished gone
       | inr more ↦ elim more [
         | inl stays ↦ as_before stays
         | inr put ↦ left_by holds r same (number_of r) refl next refl (put ∙ ap (migrated next (numbered (records_in b w) (needed_keys b.project u))) same.stands)
       ]
     ]
-    left_migrated OnNothing holds same left = tt
+    left_migrated NoRecords holds same left = tt
 
 -- where a unit has no child, the number that its record may get is none that another has
-pub numbers_apart : (b : Basis) (u : Planned) (c : Command) (states : List (State BadUnit)) (place : ℕ) (launched : Option Launched) (other : ℕ) (its : Begun) (next : Option ℕ) (w : World) (flying : List ChildInFlight) (still : ℕ → Type 0)
-    → IsUnchanged b.footing b u c w → BeginsApart b states place launched other its next w flying still → (theirs : Launched) → child_of its ≡ Some theirs → next ≢ Some theirs.number
+pub numbers_apart : (b : BuildContext) (u : Planned) (c : Command) (states : List (State BadUnit)) (place : ℕ) (launched : Option SpawnedChild) (other : ℕ) (its : Begun) (next : Option ℕ) (w : World) (flying : List ChildInFlight) (still : ℕ → Type 0)
+    → IsUnchanged b.footing b u c w → BeginsApart b states place launched other its next w flying still → (theirs : SpawnedChild) → child_of its ≡ Some theirs → next ≢ Some theirs.number
 numbers_apart b u c states place launched other its next w flying still same apart theirs is =
     by_footing b.footing same (waits_child b apart.begun_so.unit its.command (view_in b other apart.begun_so.unit) its.awaited theirs next w flying still is apart.begun_so.waits).1
   where
-    by_footing : (footing : Footing) → IsUnchanged footing b u c w → AwaitsBy footing b apart.begun_so.unit theirs.number next w → next ≢ Some theirs.number
-    by_footing OnRecords same_now waits = next_apart next theirs.number waits.before
-    by_footing OnNothing same_now waits = absurd same_now
+    by_footing : (footing : Premise) → IsUnchanged footing b u c w → AwaitsBy footing b apart.begun_so.unit theirs.number next w → next ≢ Some theirs.number
+    by_footing TrustedRecords same_now waits = next_apart next theirs.number waits.before
+    by_footing NoRecords same_now waits = absurd same_now

@@ -22,17 +22,17 @@ use Rattle.pb_command_types.specs.Targets.{dep_info_of, unit_at}
 use Rattle.pb_build_result.specs.declared.bad_unit.BadUnit.{BadUnit}
 use Rattle.pb_record.specs.declared.record.Record.{Record}
 use Rattle.pb_unit.specs.declared.plan.Planned.{Planned}
-use Rattle.pb_run.specs.Halves.{Footing, OnRecords, OnNothing, Basis, BeginsApart, CanAnswer, HasRecord, HoldsBy, IsBegun, IsUnchanged, Keeps, awaits_number, begun_with, child_in, child_of, command_in, needed_keys, outcomes_in, records_in, view_in}
+use Rattle.pb_run.specs.UnitSteps.{Premise, TrustedRecords, NoRecords, BuildContext, BeginsApart, CanAnswer, HasRecord, HoldsBy, IsBegun, IsUnchanged, BuildInvariant, awaits_number, begun_with, child_in, child_of, command_in, needed_keys, outcomes_in, records_in, view_in}
 use Rattle.pb_run.specs.Outcome.{judgement_by, outcome_by, unstarted}
-use Rattle.pb_run.specs.Standing.{IsInOrder, records_folder}
+use Rattle.pb_run.specs.Invariants.{IsInOrder, records_folder}
 use Rattle.pb_run.specs.Steps.{MayAnswer}
 use Rattle.pb_run.specs.declared.begun.Awaited.{Awaited}
 use Rattle.pb_run.specs.declared.begun.Awaited.TheVariants as awaited
 use Rattle.pb_run.specs.declared.begun.Begun.{Begun}
-use Rattle.pb_run.specs.declared.begun.Launched.{Launched}
+use Rattle.pb_run.specs.declared.begun.SpawnedChild.{SpawnedChild}
 use Rattle.pb_run.specs.declared.faults.StepFault.{StepFault}
 use Rattle.pb_run.specs.declared.faults.StepFault.TheVariants.{Store, Start}
-use Rattle.pb_run.specs.declared.ran.Judgement.{Judgement}
+use Rattle.pb_run.specs.declared.ran.Validated.{Validated}
 use Rattle.pb_run.specs.declared.ran.Ran.{Ran}
 use Rattle.pb_run.proofs.Answering.{files_kept, judged_gives, reached_stand}
 use Rattle.pb_run.proofs.RecordedAnswer.{begun_bad, its_again, its_command, its_same, keeps_answered, keeps_fault, only_place}
@@ -109,7 +109,7 @@ stays_numbered : (next : Option ℕ) (pairs : List (List ℕ × ℕ)) (found : O
 stays_numbered next pairs None again is has = refl
 stays_numbered next pairs (Some r) again is has = number_stays next pairs r (number_of r) (sym (ap (λ (x : Replayed). x.numbered) (one again (replayed r) (sym is))) ∙ has)
 
-pub no_child : (l : Launched) (Fact : Type 0) → Some l ≡ None → Fact
+pub no_child : (l : SpawnedChild) (Fact : Type 0) → Some l ≡ None → Fact
 no_child l Fact none = absurd (some_none none)
   where
     some_none : Some l ≡ None → ⊥
@@ -132,7 +132,7 @@ pub unnumbered_awaited : (flag : Bool) → not flag ≡ true → flag ≡ false
 unnumbered_awaited true e = absurd (false≢true e)
 unnumbered_awaited false e = refl
 
-module _ (b : Basis) (order : IsInOrder b.project) (i : ℕ) (u : Planned) (at : unit_at b.project i ≡ Some u) (key : List ℕ) (c : Command) (again : Replayed) (next : Option ℕ) (w : World)
+module _ (b : BuildContext) (order : IsInOrder b.project) (i : ℕ) (u : Planned) (at : unit_at b.project i ≡ Some u) (key : List ℕ) (c : Command) (again : Replayed) (next : Option ℕ) (w : World)
     (flying : List ChildInFlight) (still : ℕ → Type 0) (states : List (State BadUnit)) (done : List (Option (List Directive))) (can : CanAnswer b states done i u (begun_with key c (awaited.Record again)) next w flying still) where
   abbrev begun : Begun
   begun = begun_with key c (awaited.Record again)
@@ -159,7 +159,7 @@ module _ (b : Basis) (order : IsInOrder b.project) (i : ℕ) (u : Planned) (at :
       ∙ ap (λ s. let x : Ended = record { status = reply.status; stdout = reply.stdout; stderr = s } in x) (sym backs.stderr)
 
   -- the outcome, by what the record gives again
-  pub replay_gives : (j : Judgement) → j ≡ judgement_by b.project u again.ended (answered_of b.project u c again.ended (file_at (dep_info_of b.project u) w.files)) → slice_get (outcomes_in b) i ≡ Some (outcome_by (files_in u.out w.files) j.ran)
+  pub replay_gives : (j : Validated) → j ≡ judgement_by b.project u again.ended (answered_of b.project u c again.ended (file_at (dep_info_of b.project u) w.files)) → slice_get (outcomes_in b) i ≡ Some (outcome_by (files_in u.out w.files) j.ran)
   replay_gives j is_judged =
       let (r, stands, backs) = replay_backs b order i u at states done begun next w flying still can b.footing can.keeps.records same_now sees in
       let again_is : again ≡ replayed r = one again (replayed r) (sym gives ∙ ap (option_map replayed) stands) in
@@ -169,7 +169,7 @@ module _ (b : Basis) (order : IsInOrder b.project) (i : ℕ) (u : Planned) (at :
       (sym backs.files ∙ ap (replied_files u.out) replies) is_judged
 
   -- for which no child was started
-  pub replay_outcome : (j : Judgement) (w2 : World) (ran : Ran) → w2 ≡ w → j ≡ judgement_by b.project u again.ended (answered_of b.project u c again.ended (file_at (dep_info_of b.project u) w.files)) → ran ≡ unstarted j.ran
+  pub replay_outcome : (j : Validated) (w2 : World) (ran : Ran) → w2 ≡ w → j ≡ judgement_by b.project u again.ended (answered_of b.project u c again.ended (file_at (dep_info_of b.project u) w.files)) → ran ≡ unstarted j.ran
       → slice_get (outcomes_in b) i ≡ Some (outcome_by (files_in u.out w2.files) ran)
   replay_outcome j w2 ran same is_judged is_ran =
       replay_gives j is_judged
@@ -177,34 +177,34 @@ module _ (b : Basis) (order : IsInOrder b.project) (i : ℕ) (u : Planned) (at :
       ∙ sym (ap (λ (r : Ran). Some (outcome_by (files_in u.out w2.files) r)) is_ran)
 
   -- and whose record was renewed
-  pub renewed_outcome : (j : Judgement) (w' : World) (ran : Ran) → j ≡ judgement_by b.project u again.ended (answered_of b.project u c again.ended (file_at (dep_info_of b.project u) w.files)) → ran ≡ unstarted j.ran
+  pub renewed_outcome : (j : Validated) (w' : World) (ran : Ran) → j ≡ judgement_by b.project u again.ended (answered_of b.project u c again.ended (file_at (dep_info_of b.project u) w.files)) → ran ≡ unstarted j.ran
       → ChangesOnly (is_at_or_below (place_of (records_folder b.project) u.key)) w w' → slice_get (outcomes_in b) i ≡ Some (outcome_by (files_in u.out w'.files) ran)
   renewed_outcome j w' ran is_judged is_ran only =
       replay_outcome j w ran refl is_judged is_ran
       ∙ sym (ap (λ (m : Map). Some (outcome_by m ran)) (files_kept (records_folder b.project) u.key u.out w w' order.folder (order.keys i u at) (order.folders i u at) only))
 
   -- nothing was changed
-  pub keeps_unchanged : (w' : World) → w' ≡ w → Keeps b states done next w'
-  keeps_unchanged w' same = subst (Keeps b states done next) (sym same) can.keeps
+  pub keeps_unchanged : (w' : World) → w' ≡ w → BuildInvariant b states done next w'
+  keeps_unchanged w' same = subst (BuildInvariant b states done next) (sym same) can.keeps
 
-  sound_of : (footing : Footing) → HoldsBy footing b states next w → IfRecords footing (Sound reading judge b.child (records_folder b.project) w.files)
-  sound_of OnRecords holds = holds.sound
-  sound_of OnNothing holds = tt
+  sound_of : (footing : Premise) → HoldsBy footing b states next w → IfRecords footing (Sound reading judge b.child (records_folder b.project) w.files)
+  sound_of TrustedRecords holds = holds.sound
+  sound_of NoRecords holds = tt
 
-  ahead_of : (footing : Footing) → HoldsBy footing b states next w → IfRecords footing (IsAhead (records_in b w) next)
-  ahead_of OnRecords holds = holds.ahead
-  ahead_of OnNothing holds = tt
+  ahead_of : (footing : Premise) → HoldsBy footing b states next w → IfRecords footing (IsAhead (records_in b w) next)
+  ahead_of TrustedRecords holds = holds.ahead
+  ahead_of NoRecords holds = tt
 
   keeps_bad_here : (ran : Ran) (lines : List ℕ) → is_some ran.bad ≡ true → slice_get (outcomes_in b) i ≡ Some (outcome_by (files_in u.out w.files) ran)
-      → Keeps b (slice_set states i (Answered record { fault = ran.bad; lines = lines })) (slice_set done i ran.directives) next w
+      → BuildInvariant b (slice_set states i (Answered record { fault = ran.bad; lines = lines })) (slice_set done i ran.directives) next w
   keeps_bad_here ran lines bad outcome = keeps_answered b order i u at states done begun next w flying still can w next ran lines (only_same _ w) outcome
       (sound_of b.footing can.keeps.records) (ahead_of b.footing can.keeps.records)
       (if_records b.footing (ran.bad ≡ None → HasRecord b w i) (λ good. absurd (not_none ran.bad bad good)))
 
   pub keeps_bad_again : (w' : World) (ran : Ran) (lines : List ℕ) → w' ≡ w → is_some ran.bad ≡ true → slice_get (outcomes_in b) i ≡ Some (outcome_by (files_in u.out w'.files) ran)
-      → Keeps b (slice_set states i (Answered record { fault = ran.bad; lines = lines })) (slice_set done i ran.directives) next w'
+      → BuildInvariant b (slice_set states i (Answered record { fault = ran.bad; lines = lines })) (slice_set done i ran.directives) next w'
   keeps_bad_again w' ran lines same bad outcome =
-      subst (Keeps b (slice_set states i (Answered record { fault = ran.bad; lines = lines })) (slice_set done i ran.directives) next) (sym same)
+      subst (BuildInvariant b (slice_set states i (Answered record { fault = ran.bad; lines = lines })) (slice_set done i ran.directives) next) (sym same)
       (keeps_bad_here ran lines bad (subst (λ (v : World). slice_get (outcomes_in b) i ≡ Some (outcome_by (files_in u.out v.files) ran)) same outcome))
 
   -- nor was a record with a number
@@ -221,17 +221,17 @@ module _ (b : Basis) (order : IsInOrder b.project) (i : ℕ) (u : Planned) (at :
     only_new : ChangesOnly (is_of (records_folder b.project) u.key) w w'
     only_new = only_place b order i u at w w' renews.only
 
-    pub keeps_unrenewed : Keeps b states done next' w'
+    pub keeps_unrenewed : BuildInvariant b states done next' w'
     keeps_unrenewed = keeps_fault b order i u at states done begun next w flying still can w' next' only_new sound_new ahead_new
 
     renewed_by : (ran : Ran) (lines : List ℕ) → records_in b w' u.key ≡ migrated next (numbered (records_in b w) (needed_keys b.project u)) (records_in b w u.key) → ((s : Record) → records_in b w' u.key ≡ Some s → is_some (number_of s) ≡ true)
-        → slice_get (outcomes_in b) i ≡ Some (outcome_by (files_in u.out w'.files) ran) → Keeps b (slice_set states i (Answered record { fault = ran.bad; lines = lines })) (slice_set done i ran.directives) next' w'
+        → slice_get (outcomes_in b) i ≡ Some (outcome_by (files_in u.out w'.files) ran) → BuildInvariant b (slice_set states i (Answered record { fault = ran.bad; lines = lines })) (slice_set done i ran.directives) next' w'
     renewed_by ran lines stands has outcome = keeps_answered b order i u at states done begun next w flying still can w' next' ran lines only_new outcome sound_new ahead_new
         (on_good b.footing (ran.bad ≡ None) (HasRecord b w' i)
         (migrated_record b order i u at states done begun next w flying still can w' next' renews.only b.footing can.keeps.records same_now stands has))
 
     pub keeps_renewed : (ran : Ran) (lines : List ℕ) → Renewed (records_folder b.project) u.key (needed_keys b.project u) next next' w w' → slice_get (outcomes_in b) i ≡ Some (outcome_by (files_in u.out w'.files) ran)
-        → Keeps b (slice_set states i (Answered record { fault = ran.bad; lines = lines })) (slice_set done i ran.directives) next' w'
+        → BuildInvariant b (slice_set states i (Answered record { fault = ran.bad; lines = lines })) (slice_set done i ran.directives) next' w'
     keeps_renewed ran lines renewed outcome = renewed_by ran lines renewed.stands (numbered_now (records_folder b.project) u.key (needed_keys b.project u) next next' w w' renewed) outcome
 
     -- another unit that has begun
@@ -244,16 +244,16 @@ module _ (b : Basis) (order : IsInOrder b.project) (i : ℕ) (u : Planned) (at :
         (λ theirs is f there. ap (child_at theirs.ticket) flies ∙ there) (λ theirs is stands stood. keeps theirs.ticket stands stood)
 
   keeps_numbered_here : (ran : Ran) (lines : List ℕ) → again.numbered ≡ true → slice_get (outcomes_in b) i ≡ Some (outcome_by (files_in u.out w.files) ran)
-      → Keeps b (slice_set states i (Answered record { fault = ran.bad; lines = lines })) (slice_set done i ran.directives) next w
+      → BuildInvariant b (slice_set states i (Answered record { fault = ran.bad; lines = lines })) (slice_set done i ran.directives) next w
   keeps_numbered_here ran lines has outcome = renewed_by w next renewing_none ran lines
       (stays_numbered next (numbered (records_in b w) (needed_keys b.project u)) (records_in b w u.key) again gives has)
       (λ s there. sym (ap (λ (x : Replayed). x.numbered) (one again (replayed s) (sym gives ∙ ap (option_map replayed) there))) ∙ has)
       outcome
 
   pub keeps_numbered : (w' : World) (ran : Ran) (lines : List ℕ) → w' ≡ w → again.numbered ≡ true → slice_get (outcomes_in b) i ≡ Some (outcome_by (files_in u.out w'.files) ran)
-      → Keeps b (slice_set states i (Answered record { fault = ran.bad; lines = lines })) (slice_set done i ran.directives) next w'
+      → BuildInvariant b (slice_set states i (Answered record { fault = ran.bad; lines = lines })) (slice_set done i ran.directives) next w'
   keeps_numbered w' ran lines same has outcome =
-      subst (Keeps b (slice_set states i (Answered record { fault = ran.bad; lines = lines })) (slice_set done i ran.directives) next) (sym same)
+      subst (BuildInvariant b (slice_set states i (Answered record { fault = ran.bad; lines = lines })) (slice_set done i ran.directives) next) (sym same)
       (keeps_numbered_here ran lines has (subst (λ (v : World). slice_get (outcomes_in b) i ≡ Some (outcome_by (files_in u.out v.files) ran)) same outcome))
 
   pub others_unchanged : (other : ℕ) (its : Begun) (w' : World) (flying' : List ChildInFlight) (still' : ℕ → Type 0) → BeginsApart b states i None other its next w flying still → w' ≡ w → flying' ≡ flying → KeepsStill still still'

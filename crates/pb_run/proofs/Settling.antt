@@ -8,7 +8,7 @@ use Rattle.pb_command.specs.Judge.{ended_by, file_at, inputs_if, judge, replied_
 use Rattle.pb_command.proofs.Judged.{judges_as_answered}
 use Rattle.pb_directive.specs.declared.directive.Directive.{Directive}
 use Rattle.pb_run_flight.specs.declared.flight.State.{State}
-use Rattle.pb_run_flight.specs.declared.flight.State.TheVariants.{Answered}
+use Rattle.pb_run_flight.specs.declared.flight.State.TheVariants.{CheckedReply}
 use Rattle.pb_place_types.specs.Children.{StandsStill, StaysStillBut, child_at, KeepsStill}
 use Rattle.pb_place_types.specs.Counts.{Counts, counted_finish, without}
 use Rattle.pb_place_types.specs.Folders.{files_in}
@@ -21,20 +21,20 @@ use Rattle.pb_place_types.specs.declared.command.Ended.{Ended}
 use Rattle.pb_place_types.specs.declared.place.StartFault.{StartFault}
 use Rattle.pb_place_types.specs.declared.place.StartFault.TheVariants as start
 use Rattle.pb_command_types.specs.Targets.{crate_name_of, dep_info_of, unit_at}
-use Rattle.pb_command_types.specs.declared.answer.Answered as answers
+use Rattle.pb_command_types.specs.declared.checked_reply.CheckedReply as answers
 use Rattle.pb_record.specs.declared.record.InputName.{InputName}
 use Rattle.pb_command_types.specs.declared.fault.UnitFault.{UnitFault}
 use Rattle.pb_build_result.specs.declared.bad_unit.BadUnit.{BadUnit}
 use Rattle.pb_command_types.specs.declared.project.Project.{Project}
 use Rattle.pb_unit.specs.declared.plan.Planned.{Planned}
-use Rattle.pb_run.specs.Halves.{Footing, OnRecords, OnNothing, Basis, AwaitsBy, BeginsApart, CanAnswer, HasRecord, IsBegun, Keeps, begun_with, command_in, needed_keys, outcomes_in, records_in, view_in, child_in, child_of}
+use Rattle.pb_run.specs.UnitSteps.{Premise, TrustedRecords, NoRecords, BuildContext, AwaitsBy, BeginsApart, CanAnswer, HasRecord, IsBegun, BuildInvariant, begun_with, command_in, needed_keys, outcomes_in, records_in, view_in, child_in, child_of}
 use Rattle.pb_run.specs.Outcome.{directives_of, judgement_by, names_in, outcome_by, ran_by}
-use Rattle.pb_run.specs.Standing.{IsInOrder, records_folder}
+use Rattle.pb_run.specs.Invariants.{IsInOrder, records_folder}
 use Rattle.pb_run.specs.declared.begun.Awaited.{Awaited}
 use Rattle.pb_run.specs.declared.begun.Awaited.TheVariants as awaited
 use Rattle.pb_run.specs.declared.begun.Begun.{Begun}
-use Rattle.pb_run.specs.declared.begun.Launched.{Launched}
-use Rattle.pb_run.specs.declared.ran.Judgement.{Judgement}
+use Rattle.pb_run.specs.declared.begun.SpawnedChild.{SpawnedChild}
+use Rattle.pb_run.specs.declared.ran.Validated.{Validated}
 use Rattle.pb_run.specs.declared.ran.Ran.{Ran}
 use Rattle.pb_run.proofs.Answering.{landed_only, reached_stand}
 use Rattle.pb_run.proofs.Parts.{answer_parts, begun_parts}
@@ -51,7 +51,7 @@ use Rattle.pb_store_soundness.specs.Sound.{Sound}
 use Rattle.pb_store.specs.Folder.{HasNeeds, IsKept, Leaves, kept_of, numbered}
 
 -- a good judgement has the names of its inputs
-good_names : (project : Project) (u : Planned) (e : Ended) (a : Result answers.Answered UnitFault) → (ran_by project u e a).bad ≡ None → inputs_if a ≡ Some (names_in a)
+good_names : (project : Project) (u : Planned) (e : Ended) (a : Result answers.CheckedReply UnitFault) → (ran_by project u e a).bad ≡ None → inputs_if a ≡ Some (names_in a)
 good_names project u e (Ok answered) good = refl
 good_names project u e (Err fault) good = cc
 
@@ -63,9 +63,9 @@ pub no_some : {A : Type 0} (o : Option A) → is_some o ≡ false → o ≡ None
 no_some None good = refl
 no_some (Some x) good = absurd (false≢true (sym good))
 
-pub on_good : (footing : Footing) (Given Fact : Type 0) → IfRecords footing Fact → IfRecords footing (Given → Fact)
-on_good OnRecords Given Fact has = λ given. has
-on_good OnNothing Given Fact has = tt
+pub on_good : (footing : Premise) (Given Fact : Type 0) → IfRecords footing Fact → IfRecords footing (Given → Fact)
+on_good TrustedRecords Given Fact has = λ given. has
+on_good NoRecords Given Fact has = tt
 
 -- what the call that keeps a record does
 pub record Keeping (child : Answers) (folder key : List ℕ) (needs : List (List ℕ)) (c : Command) (number : ℕ) (names : List InputName) (ended : Ended) (next : Option ℕ) (w1 w2 : World) : Type 0 where
@@ -97,7 +97,7 @@ module _ (child : Answers) (folder root key k : List ℕ) (needs ns : List (List
       (subst (λ xs. Stands folder key needs c number xs ended w1 v2) named
       (subst (λ (x : World). Stands folder key needs c number names ended x v2) same stands))))
 
-module _ (b : Basis) (order : IsInOrder b.project) (i : ℕ) (u : Planned) (at : unit_at b.project i ≡ Some u) (key : List ℕ) (c : Command) (l : Launched) (next : Option ℕ) (w : World)
+module _ (b : BuildContext) (order : IsInOrder b.project) (i : ℕ) (u : Planned) (at : unit_at b.project i ≡ Some u) (key : List ℕ) (c : Command) (l : SpawnedChild) (next : Option ℕ) (w : World)
     (flying : List ChildInFlight) (still : ℕ → Type 0) (states : List (State BadUnit)) (done : List (Option (List Directive))) (can : CanAnswer b states done i u (begun_with key c (awaited.Child l)) next w flying still)
     (w1 : World) (landed : ChangesOnly (is_at_or_below u.out) w w1) where
   abbrev begun : Begun
@@ -119,19 +119,19 @@ module _ (b : Basis) (order : IsInOrder b.project) (i : ℕ) (u : Planned) (at :
   only_now = only_out b order i u at w w1 landed
 
   -- a fault after it has landed, or on the way
-  pub keeps_landed : (w' : World) → w' ≡ w1 → Keeps b states done next w'
-  keeps_landed w' same = subst (Keeps b states done next) (sym same) (keeps_fault b order i u at states done begun next w flying still can w1 next only_now sound_now ahead_now)
+  pub keeps_landed : (w' : World) → w' ≡ w1 → BuildInvariant b states done next w'
+  keeps_landed w' same = subst (BuildInvariant b states done next) (sym same) (keeps_fault b order i u at states done begun next w flying still can w1 next only_now sound_now ahead_now)
 
   -- a bad answer
   keeps_bad_now : (ran : Ran) (lines : List ℕ) → is_some ran.bad ≡ true → slice_get (outcomes_in b) i ≡ Some (outcome_by (files_in u.out w1.files) ran)
-      → Keeps b (slice_set states i (Answered record { fault = ran.bad; lines = lines })) (slice_set done i ran.directives) next w1
+      → BuildInvariant b (slice_set states i (CheckedReply record { fault = ran.bad; lines = lines })) (slice_set done i ran.directives) next w1
   keeps_bad_now ran lines bad outcome = keeps_answered b order i u at states done begun next w flying still can w1 next ran lines only_now outcome sound_now ahead_now
       (if_records b.footing (ran.bad ≡ None → HasRecord b w1 i) (λ good. absurd (not_none ran.bad bad good)))
 
   pub keeps_bad : (w' : World) (ran : Ran) (lines : List ℕ) → w' ≡ w1 → is_some ran.bad ≡ true → slice_get (outcomes_in b) i ≡ Some (outcome_by (files_in u.out w'.files) ran)
-      → Keeps b (slice_set states i (Answered record { fault = ran.bad; lines = lines })) (slice_set done i ran.directives) next w'
+      → BuildInvariant b (slice_set states i (CheckedReply record { fault = ran.bad; lines = lines })) (slice_set done i ran.directives) next w'
   keeps_bad w' ran lines same bad outcome =
-      subst (Keeps b (slice_set states i (Answered record { fault = ran.bad; lines = lines })) (slice_set done i ran.directives) next) (sym same)
+      subst (BuildInvariant b (slice_set states i (CheckedReply record { fault = ran.bad; lines = lines })) (slice_set done i ran.directives) next) (sym same)
       (keeps_bad_now ran lines bad (subst (λ (v : World). slice_get (outcomes_in b) i ≡ Some (outcome_by (files_in u.out v.files) ran)) same outcome))
 
   -- its answer is that of the unit's view
@@ -144,7 +144,7 @@ module _ (b : Basis) (order : IsInOrder b.project) (i : ℕ) (u : Planned) (at :
   abbrev reply : Reply
   reply = b.child (command_in b i u) (view_in b i u)
 
-  module _ (ended : Ended) (j : Judgement) (is_ended : ended ≡ ended_by reply) (made : files_in u.out w1.files ≡ replied_files u.out reply)
+  module _ (ended : Ended) (j : Validated) (is_ended : ended ≡ ended_by reply) (made : files_in u.out w1.files ≡ replied_files u.out reply)
       (is_judged : j ≡ judgement_by b.project u ended (answered_of b.project u c ended (file_at (dep_info_of b.project u) w1.files))) (good : is_some j.ran.bad ≡ false) where
     answered_so : answered_of b.project u c ended (file_at (dep_info_of b.project u) w1.files) ≡ answered_of b.project u (command_in b i u) (ended_by reply) (file_at (dep_info_of b.project u) (replied_files u.out reply))
     answered_so =
@@ -157,8 +157,8 @@ module _ (b : Basis) (order : IsInOrder b.project) (i : ℕ) (u : Planned) (at :
     its_names =
         judges_as_answered b.setup b.project u (directives_of (take i (outcomes_in b))) order.selection i reply order.settled order.planned at
         ∙ sym (ap inputs_if answered_so)
-        ∙ good_names b.project u ended (answered_of b.project u c ended (file_at (dep_info_of b.project u) w1.files)) (sym (ap (λ (x : Judgement). x.ran.bad) is_judged) ∙ no_some j.ran.bad good)
-        ∙ sym (ap (λ (x : Judgement). Some x.names) is_judged)
+        ∙ good_names b.project u ended (answered_of b.project u c ended (file_at (dep_info_of b.project u) w1.files)) (sym (ap (λ (x : Validated). x.ran.bad) is_judged) ∙ no_some j.ran.bad good)
+        ∙ sym (ap (λ (x : Validated). Some x.names) is_judged)
 
     replies : b.child c (view_in b i u) ≡ reply
     replies = ap (λ (d : Command). b.child d (view_in b i u)) is_command
@@ -183,12 +183,12 @@ module _ (b : Basis) (order : IsInOrder b.project) (i : ℕ) (u : Planned) (at :
       only_kept = only_join b order i u at w w1 w2 only_now (only_place b order i u at w1 w2 kept.only)
 
       -- a fault while it is kept
-      pub keeps_unkept : Keeps b states done next w2
+      pub keeps_unkept : BuildInvariant b states done next w2
       keeps_unkept = keeps_fault b order i u at states done begun next w flying still can w2 next only_kept sound_kept ahead_kept
 
       -- a good answer
       pub keeps_good : (lines : List ℕ) → Stands (records_folder b.project) u.key (needed_keys b.project u) c l.number j.names ended w1 w2 → slice_get (outcomes_in b) i ≡ Some (outcome_by (files_in u.out w2.files) j.ran)
-          → Keeps b (slice_set states i (Answered record { fault = j.ran.bad; lines = lines })) (slice_set done i j.ran.directives) next w2
+          → BuildInvariant b (slice_set states i (CheckedReply record { fault = j.ran.bad; lines = lines })) (slice_set done i j.ran.directives) next w2
       keeps_good lines stands outcome = keeps_answered b order i u at states done begun next w flying still can w2 next j.ran lines only_kept outcome sound_kept ahead_kept
           (on_good b.footing (j.ran.bad ≡ None) (HasRecord b w2 i)
           (kept_record b order i u at states done begun next w flying still can w1 landed w2 kept.only b.footing l.number j.names ended can.keeps.records waits stands))
@@ -230,8 +230,8 @@ finish_flying ticket (Err start.Died) old = refl
 finish_flying ticket (Err start.Capture) old = refl
 finish_flying ticket (Err start.OutOfMemory) old = refl
 
-module _ (b : Basis) (order : IsInOrder b.project) (i : ℕ) (u : Planned) (at : unit_at b.project i ≡ Some u) (w w1 : World) (next : Option ℕ) (flying : List ChildInFlight) (still : ℕ → Type 0)
-    (begun : Begun) (l : Launched) (is : begun.awaited ≡ awaited.Child l) where
+module _ (b : BuildContext) (order : IsInOrder b.project) (i : ℕ) (u : Planned) (at : unit_at b.project i ≡ Some u) (w w1 : World) (next : Option ℕ) (flying : List ChildInFlight) (still : ℕ → Type 0)
+    (begun : Begun) (l : SpawnedChild) (is : begun.awaited ≡ awaited.Child l) where
   dropped_only : IsBegun b i begun next w flying still → IfSome (child_at l.ticket flying) (λ s. ChangesOnlyInSome s.command.out w w1) → ChangesOnly (is_at_or_below u.out) w w1
   dropped_only is_begun only = landed_only b order i u at begun.unit begun.command l next flying still w w1 (subst (λ (by : Awaited). IsBegun b i (begun_with begun.unit begun.command by) next w flying still) is (begun_parts begun b i begun.unit next w flying still is_begun)) only
 
@@ -239,13 +239,13 @@ module _ (b : Basis) (order : IsInOrder b.project) (i : ℕ) (u : Planned) (at :
     can_parts : CanAnswer b states done i u (begun_with begun.unit begun.command (awaited.Child l)) next w flying still
     can_parts = subst (λ (by : Awaited). CanAnswer b states done i u (begun_with begun.unit begun.command by) next w flying still) is (answer_parts begun b i begun.unit next w flying still states done u can)
 
-    pub dropped_keeps : Keeps b states done next w1
+    pub dropped_keeps : BuildInvariant b states done next w1
     dropped_keeps = keeps_landed b order i u at begun.unit begun.command l next w flying still states done can_parts w1 (dropped_only can.begun_so only) w1 refl
 
     pub dropped_others : (other : ℕ) (its : Begun) (result : Result Ended StartFault) (still' : ℕ → Type 0) (old new : Counts) → old.starts.flying ≡ flying → new ≡ counted_finish l.ticket result old → w1 ≡ w1
         → StaysStillBut l.ticket flying w w1 still still' → BeginsApart b states i (child_of begun) other its next w flying still → IsBegun b other its next w1 new.starts.flying still'
     dropped_others other its result still' old new flies counts same ends apart =
         others_unkept b order i u at begun.unit begun.command l next w flying still states done can_parts w1 (dropped_only can.begun_so only) other its w1 new.starts.flying still'
-        (subst (λ (o : Option Launched). BeginsApart b states i o other its next w flying still) (ap child_in is) apart) refl
+        (subst (λ (o : Option SpawnedChild). BeginsApart b states i o other its next w flying still) (ap child_in is) apart) refl
         (ap (λ (c : Counts). c.starts.flying) counts ∙ finish_flying l.ticket result old ∙ ap (without l.ticket) flies)
         (λ t ne stands stood. stood_over b order i u at begun.unit begun.command l next w flying still states done can_parts w1 (dropped_only can.begun_so only) t still' still' ne ends (λ x y. y) stands stood)

@@ -11,9 +11,9 @@ use Rattle.pb_place_types.specs.World.{World, Map, seen_by, from_nothing}
 use Rattle.pb_place_types.proofs.Folders.{sees_folders}
 use Rattle.pb_command_types.specs.Targets.{unit_at}
 use Rattle.pb_unit.specs.declared.plan.Planned.{Planned}
-use Rattle.pb_run.specs.Halves.{Basis, StandsGood, outcomes_in, command_in, view_in}
+use Rattle.pb_run.specs.UnitSteps.{BuildContext, StandsGood, outcomes_in, command_in, view_in}
 use Rattle.pb_run.specs.Outcome.{Outcome, files_at, is_good_at, with_made, directives_in, directives_of}
-use Rattle.pb_run.specs.Standing.{IsInOrder}
+use Rattle.pb_run.specs.Invariants.{IsInOrder}
 use Rattle.pb_run.proofs.Commands.{command_same}
 use Rattle.pb_run.proofs.Views.{IsFor, is_for}
 use Rattle.pb_store_soundness.proofs.Flying.{contains_head, contains_tail}
@@ -39,10 +39,10 @@ each_of P (y ∷ xs) x all has = elim (contains_cases y xs x has) [
 ]
 
 -- each unit that is reached stands with the files of its outcome
-abbrev pub AllStand : Basis → List (Option (List Directive)) → World → List ℕ → Type 0
+abbrev pub AllStand : BuildContext → List (Option (List Directive)) → World → List ℕ → Type 0
 AllStand b done w places = (place : ℕ) → Contains places place → StandsGood b done w place
 
-module _ (b : Basis) (done : List (Option (List Directive))) (w : World) (n : ℕ) where
+module _ (b : BuildContext) (done : List (Option (List Directive))) (w : World) (n : ℕ) where
   good_one : (place : ℕ) → StandsGood b done w place → place < n → is_good_at (slice_get (take n (outcomes_in b)) place) ≡ true
   good_one place s less = ap is_good_at (before_take n place (outcomes_in b) less ∙ s.good)
 
@@ -67,7 +67,7 @@ module _ (b : Basis) (done : List (Option (List Directive))) (w : World) (n : �
   noted_one : (place : ℕ) → StandsGood b done w place → place < n → slice_get done place ≡ slice_get (directives_of (take n (outcomes_in b))) place
   noted_one place s less = s.noted ∙ sym (slice_get-map directives_in (take n (outcomes_in b)) place ∙ ap (option_map directives_in) (before_take n place (outcomes_in b) less ∙ s.good))
 
-module _ (b : Basis) (done : List (Option (List Directive))) (w : World) (i : ℕ) (u : Planned) (order : IsInOrder b.project) (at : unit_at b.project i ≡ Some u) (stand : AllStand b done w u.reaches) where
+module _ (b : BuildContext) (done : List (Option (List Directive))) (w : World) (i : ℕ) (u : Planned) (order : IsInOrder b.project) (at : unit_at b.project i ≡ Some u) (stand : AllStand b done w u.reaches) where
   pub commanded : command_of b.setup b.project u done ≡ command_in b i u
   commanded = command_same b.setup b.project u done (directives_of (take i (outcomes_in b))) (order.needs_reached i u at)
       (λ place has. noted_one b done w i place (stand place has) (each_of (λ v. v < i) u.reaches place (order.reaches i u at) has))

@@ -17,14 +17,14 @@ use Rattle.pb_place_types.proofs.Folders.{get-files_in, only_removed, only_start
 use Rattle.pb_place_types.proofs.InFlight.{last_at, same_number}
 use Rattle.pb_place_types.proofs.MapLemmas.{exact, get-kept}
 use Rattle.pb_place_types.proofs.Within.{at_below}
-use Rattle.pb_run.specs.Steps.{IsLifted}
-use Rattle.pb_run.specs.Halves.{WritesTo}
+use Rattle.pb_run.specs.Steps.{StartsRise}
+use Rattle.pb_run.specs.UnitSteps.{WritesTo}
 use Rattle.pb_run.specs.Running.{IsSpawned}
 use Rattle.pb_run.proofs.Causing.{spawn_told}
 use Rattle.pb_store_soundness.specs.Apart.{is_of}
 use Rattle.pb_store_soundness.specs.Inputs.{Judge}
 use Rattle.pb_store_soundness.specs.Numbers.{IsAhead}
-use Rattle.pb_store_soundness.specs.Records.{Reading, is_key, out_of, place_of, record_at}
+use Rattle.pb_store_soundness.specs.Records.{RecordParser, is_key, out_of, place_of, record_at}
 use Rattle.pb_store_soundness.specs.Reuse.{number_if}
 use Rattle.pb_store_soundness.specs.Sound.{Sound}
 use Rattle.pb_store_soundness.proofs.Four.{in_output}
@@ -74,7 +74,7 @@ pub spawned_flies : (child : World → Reply) (c : Command) (w : World) (ticket 
 spawned_flies child c w ticket old new fresh counts = ap (λ (x : Counts). child_at ticket x.starts.flying) counts ∙ last_at ticket old.starts.flying (child_spawned child c w ticket) fresh (same_number ticket)
 
 pub spawned_lifts : (child : World → Reply) (c : Command) (w : World) (ticket : ℕ) (old new : Counts) → is_flying ticket old.starts.flying ≡ false → new ≡ counted_spawn (child_spawned child c w) (Ok ticket) old
-    → (new.failures ≡ old.failures) × IsLifted ticket old.starts new.starts
+    → (new.failures ≡ old.failures) × StartsRise ticket old.starts new.starts
 spawned_lifts child c w ticket old new fresh counts = (
   ap (λ (x : Counts). x.failures) counts,
   record {
@@ -137,13 +137,13 @@ launched_still folder key out flying next before mid after lies same first secon
     (still_widen (is_at_or_below (out_of folder key)) (is_of folder key) next mid after (out_within folder key) (subst (λ (o : List ℕ). KeepsStillOutside (is_at_or_below o) next mid after) lies second))
 
 -- what changes in a unit's folder leaves all records as they are
-pub records_stay : (read : Reading) (folder key : List ℕ) (old new : Map) → is_key key ≡ true → AgreeBut (is_at_or_below (out_of folder key)) old new → (l : List ℕ) → record_at read folder new l ≡ record_at read folder old l
+pub records_stay : (read : RecordParser) (folder key : List ℕ) (old new : Map) → is_key key ≡ true → AgreeBut (is_at_or_below (out_of folder key)) old new → (l : List ℕ) → record_at read folder new l ≡ record_at read folder old l
 records_stay read folder key old new is only l = elim (cases_Bool (is_key l)) [
   | inl is_l ↦ record_same read folder old new l (only (place_of folder l) (place_outside folder key l is is_l))
   | inr wrong ↦ no_key read folder new l wrong ∙ sym (no_key read folder old l wrong)
 ]
 
-module _ (read : Reading) (folder key out : List ℕ) (old new : World) (is : is_key key ≡ true) (lies : out ≡ out_of folder key) (only : ChangesOnly (is_at_or_below out) old new) where
+module _ (read : RecordParser) (folder key out : List ℕ) (old new : World) (is : is_key key ≡ true) (lies : out ≡ out_of folder key) (only : ChangesOnly (is_at_or_below out) old new) where
   in_folder : AgreeBut (is_at_or_below (out_of folder key)) old.files new.files
   in_folder = subst (λ (o : List ℕ). AgreeBut (is_at_or_below o) old.files new.files) lies only.files
 

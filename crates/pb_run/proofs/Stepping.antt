@@ -17,14 +17,14 @@ use Rattle.pb_command_types.specs.declared.project.Project.{Project}
 use Rattle.pb_record.specs.declared.record.InputName.{InputName}
 use Rattle.pb_run.specs.Running.{answered_called, dep_info_looked, judged_called, recorded_called}
 use Rattle.pb_run.specs.Outcome.{judgement_by}
-use Rattle.pb_run.specs.Standing.{records_folder}
+use Rattle.pb_run.specs.Invariants.{records_folder}
 use Rattle.pb_run.specs.Steps.{NumberingStopsAt, NumbersInTurn, StepStopsAt}
 use Rattle.pb_run.specs.declared.begun.Awaited.{Awaited}
 use Rattle.pb_run.specs.declared.begun.Awaited.TheVariants as awaited
-use Rattle.pb_run.specs.declared.begun.Launched.{Launched}
+use Rattle.pb_run.specs.declared.begun.SpawnedChild.{SpawnedChild}
 use Rattle.pb_run.specs.declared.faults.StepFault.{StepFault}
 use Rattle.pb_run.specs.declared.faults.StepFault.TheVariants.{Store, Start}
-use Rattle.pb_run.specs.declared.ran.Judgement.{Judgement}
+use Rattle.pb_run.specs.declared.ran.Validated.{Validated}
 use Rattle.pb_run.specs.declared.ran.Ran.{Ran}
 use Rattle.pb_store_soundness.specs.Records.{place_of, records}
 use Rattle.pb_store.specs.Folder.{lacks_number}
@@ -128,17 +128,17 @@ numbers_then (Ok x) a b old mid new first second = made_both a b old mid new fir
 numbers_then (Err e) a b old mid new first second = numbering_then e a b old mid new first second
 
 -- What comes after the dep-info, by the judgement of the answer.
-module _ (project : Project) (u : Planned) (c : Command) (by : Awaited) (w : World) (ended : Ended) (j : Judgement)
+module _ (project : Project) (u : Planned) (c : Command) (by : Awaited) (w : World) (ended : Ended) (j : Validated)
     (judged : j ≡ judgement_by project u ended (answered_of project u c ended (file_at (dep_info_of project u) w.files))) (old mid : Counts) (first : mid ≡ past_calls (dep_info_looked (dep_info_of project u)) old) where
   told_of : {T : Type 0} (result : Result T StepFault) (new : Counts) → NumbersInTurn result (judged_called project u c w by j) mid new → NumbersInTurn result (answered_called project u c w by ended) old new
   told_of result new makes =
-      subst (λ (x : Judgement). NumbersInTurn result (dep_info_looked (dep_info_of project u) ++ judged_called project u c w by x) old new) judged
+      subst (λ (x : Validated). NumbersInTurn result (dep_info_looked (dep_info_of project u) ++ judged_called project u c w by x) old new) judged
       (numbers_then result (dep_info_looked (dep_info_of project u)) (judged_called project u c w by j) old mid new first makes)
 
   -- the unit is bad
   pub bad_made : is_some j.ran.bad ≡ true → mid ≡ past_calls (answered_called project u c w by ended) old
   bad_made bad =
-      subst (λ (x : Judgement). mid ≡ past_calls (dep_info_looked (dep_info_of project u) ++ judged_called project u c w by x) old) judged
+      subst (λ (x : Validated). mid ≡ past_calls (dep_info_looked (dep_info_of project u) ++ judged_called project u c w by x) old) judged
       (made_both (dep_info_looked (dep_info_of project u)) (judged_called project u c w by j) old mid mid first (ap (λ b. past_calls (cond b [] (recorded_called project u c w j.names by)) mid) (sym bad)))
 
   -- it is good, and just these calls were made then
@@ -150,12 +150,12 @@ module _ (project : Project) (u : Planned) (c : Command) (by : Awaited) (w : Wor
   -- it is good, and a call stopped it then
   pub good_stops : (fault : StepFault) (names : List Call) (new : Counts) → is_some j.ran.bad ≡ false → names ≡ recorded_called project u c w j.names by → StepStopsAt fault names mid new → StepStopsAt fault (answered_called project u c w by ended) old new
   good_stops fault names new good are stops =
-      subst (λ (x : Judgement). StepStopsAt fault (dep_info_looked (dep_info_of project u) ++ judged_called project u c w by x) old new) judged
+      subst (λ (x : Validated). StepStopsAt fault (dep_info_looked (dep_info_of project u) ++ judged_called project u c w by x) old new) judged
       (stops_then fault (dep_info_looked (dep_info_of project u)) (judged_called project u c w by j) old mid new first
       (subst (λ b. StepStopsAt fault (cond b [] (recorded_called project u c w j.names by)) mid new) (sym good) (subst (λ (ns : List Call). StepStopsAt fault ns mid new) are stops)))
 
 -- the record is kept; it has a number; it is given one
-pub kept_so : (project : Project) (u : Planned) (c : Command) (l : Launched) (folder key : List ℕ) (v w : World) (names told : List InputName) → folder ≡ records_folder project → key ≡ u.key → v ≡ w → names ≡ told
+pub kept_so : (project : Project) (u : Planned) (c : Command) (l : SpawnedChild) (folder key : List ℕ) (v w : World) (names told : List InputName) → folder ≡ records_folder project → key ≡ u.key → v ≡ w → names ≡ told
     → kept_called folder key c.target v names ≡ recorded_called project u c w told (awaited.Child l)
 kept_so project u c l folder key v w names told is its same are =
     ap (λ (f : List ℕ). kept_called f key c.target v names) is

@@ -10,13 +10,13 @@ use Rattle.pb_place_types.specs.World.{World, Answers}
 use Rattle.pb_place_types.specs.declared.command.Command.{Command}
 use Rattle.pb_command_types.specs.declared.project.Project.{Project}
 use Rattle.pb_run.specs.Steps.{BeginsBy, LandsBy, IsOfUnit, fault_in, MayAnswer}
-use Rattle.pb_run.specs.Halves.{child_of}
+use Rattle.pb_run.specs.UnitSteps.{child_of}
 use Rattle.pb_run.specs.Running.{HasAnswered, HasTold, TellsAnswer, told_of}
 use Rattle.pb_run.specs.declared.begun.Begun.{Begun}
-use Rattle.pb_run.specs.declared.begun.Launched.{Launched}
+use Rattle.pb_run.specs.declared.begun.SpawnedChild.{SpawnedChild}
 use Rattle.pb_run.specs.declared.faults.StepFault.{StepFault}
 use Rattle.pb_run.specs.declared.faults.StepFault.TheVariants as step
-use Rattle.pb_run.specs.declared.halves.Outcome.{Outcome}
+use Rattle.pb_run.specs.declared.unit_steps.Outcome.{Outcome}
 use Rattle.pb_run.specs.declared.ran.Ran.{Ran}
 use Rattle.pb_store.specs.Differences.{FirstDifference}
 use Rattle.pb_store.specs.declared.difference.Difference.{Difference}
@@ -43,42 +43,42 @@ not_both : (result : Result Outcome StepFault) (outcome : Outcome) (e : StepFaul
 not_both result outcome e first second = cc
 
 -- how its fault leaves the starts
-may_land : (next : Option ℕ) (launched : Option Launched) (e : StepFault) (old new : Starts) → MayAnswer next launched e old new → LandsBy launched old new
+may_land : (next : Option ℕ) (launched : Option SpawnedChild) (e : StepFault) (old new : Starts) → MayAnswer next launched e old new → LandsBy launched old new
 may_land next launched (step.Store (store.Place fault)) old new may = may.1
-may_land next launched (step.Store store.NumbersSpent) old new may = subst (λ (l : Option Launched). LandsBy l old new) (sym may.1) may.2
+may_land next launched (step.Store store.NumbersSpent) old new may = subst (λ (l : Option SpawnedChild). LandsBy l old new) (sym may.1) may.2
 may_land next launched (step.Store store.OutOfMemory) old new may = may
 may_land next launched (step.Start fault) old new may = may.2
 
 -- no child of a unit was started, or something had differed
-pub tried_by : (folder key : List ℕ) (c : Command) (w : World) (launched : Option Launched) (difference : Option Difference) → is_some launched ≡ is_some difference → FirstDifference folder key c w difference
+pub tried_by : (folder key : List ℕ) (c : Command) (w : World) (launched : Option SpawnedChild) (difference : Option Difference) → is_some launched ≡ is_some difference → FirstDifference folder key c w difference
     → (old mid new : Starts) → BeginsBy launched old mid → LandsBy launched mid new → (new ≡ old) ⊎ ((first : Difference) × FirstDifference folder key c w (Some first))
 tried_by folder key c w None difference spawned differs old mid new begins lands = inl (lands ∙ begins)
 tried_by folder key c w (Some launched) None spawned differs old mid new begins lands = absurd (false≢true (sym spawned))
 tried_by folder key c w (Some launched) (Some first) spawned differs old mid new begins lands = inr (first, differs)
 
-module _ (tells : Bool) (child : Answers) (project : Project) (index : ℕ) (u : Planned) (begun : Begun) (before now : Store) (old new : At) where
-  well_by : (outcome : Outcome) (answer : Result Ran StepFault) → HasAnswered tells child project index u begun answer before now old new → TellsAnswer project u begun.difference answer (Ok outcome)
-      → (ran : Ran) × HasAnswered tells child project index u begun (Ok ran) before now old new × (outcome ≡ told_of project u begun.difference ran)
+module _ (is_modelled : Bool) (child : Answers) (project : Project) (index : ℕ) (u : Planned) (begun : Begun) (before now : Store) (old new : At) where
+  well_by : (outcome : Outcome) (answer : Result Ran StepFault) → HasAnswered is_modelled child project index u begun answer before now old new → TellsAnswer project u begun.difference answer (Ok outcome)
+      → (ran : Ran) × HasAnswered is_modelled child project index u begun (Ok ran) before now old new × (outcome ≡ told_of project u begun.difference ran)
   well_by outcome (Ok ran) came told = (ran, came, told)
   well_by outcome (Err e) came told = absurd (not_both (Ok outcome) outcome e refl told)
 
-  pub told_well : (outcome : Outcome) → HasTold tells child project index u begun (Ok outcome) before now old new
-      → (ran : Ran) × HasAnswered tells child project index u begun (Ok ran) before now old new × (outcome ≡ told_of project u begun.difference ran)
+  pub told_well : (outcome : Outcome) → HasTold is_modelled child project index u begun (Ok outcome) before now old new
+      → (ran : Ran) × HasAnswered is_modelled child project index u begun (Ok ran) before now old new × (outcome ≡ told_of project u begun.difference ran)
   told_well outcome has = well_by outcome has.answer has.answered has.told
 
-  badly_by : (fault : BuildFault) (answer : Result Ran StepFault) → IsOfUnit u.key fault → HasAnswered tells child project index u begun answer before now old new → TellsAnswer project u begun.difference answer (Err (fault_in fault))
-      → HasAnswered tells child project index u begun (Err (fault_in fault)) before now old new ⊎ ((ran : Ran) × HasAnswered tells child project index u begun (Ok ran) before now old new × (fault ≡ OutOfMemory))
+  badly_by : (fault : BuildFault) (answer : Result Ran StepFault) → IsOfUnit u.key fault → HasAnswered is_modelled child project index u begun answer before now old new → TellsAnswer project u begun.difference answer (Err (fault_in fault))
+      → HasAnswered is_modelled child project index u begun (Err (fault_in fault)) before now old new ⊎ ((ran : Ran) × HasAnswered is_modelled child project index u begun (Ok ran) before now old new × (fault ≡ OutOfMemory))
   badly_by fault (Ok ran) its came told = inr (ran, came, memory_of u.key fault its told)
-  badly_by fault (Err e) its came told = inl (subst (λ (f : StepFault). HasAnswered tells child project index u begun (Err f) before now old new) (same_fault (Err (fault_in fault)) (fault_in fault) e refl told) came)
+  badly_by fault (Err e) its came told = inl (subst (λ (f : StepFault). HasAnswered is_modelled child project index u begun (Err f) before now old new) (same_fault (Err (fault_in fault)) (fault_in fault) e refl told) came)
 
   -- the unit's answer ended so; or memory for its lines was refused
-  pub told_badly : (fault : BuildFault) → IsOfUnit u.key fault → HasTold tells child project index u begun (Err (fault_in fault)) before now old new
-      → HasAnswered tells child project index u begun (Err (fault_in fault)) before now old new ⊎ ((ran : Ran) × HasAnswered tells child project index u begun (Ok ran) before now old new × (fault ≡ OutOfMemory))
+  pub told_badly : (fault : BuildFault) → IsOfUnit u.key fault → HasTold is_modelled child project index u begun (Err (fault_in fault)) before now old new
+      → HasAnswered is_modelled child project index u begun (Err (fault_in fault)) before now old new ⊎ ((ran : Ran) × HasAnswered is_modelled child project index u begun (Ok ran) before now old new × (fault ≡ OutOfMemory))
   told_badly fault its has = badly_by fault has.answer its has.answered has.told
 
-  lands_by : (answer : Result Ran StepFault) → HasAnswered tells child project index u begun answer before now old new → LandsBy (child_of begun) old.counts.starts new.counts.starts
+  lands_by : (answer : Result Ran StepFault) → HasAnswered is_modelled child project index u begun answer before now old new → LandsBy (child_of begun) old.counts.starts new.counts.starts
   lands_by (Ok ran) came = came.changes.takes.1
   lands_by (Err e) came = may_land before.next (child_of begun) e old.counts.starts new.counts.starts came.changes.takes.0
 
-  pub told_lands : (result : Result Outcome StepFault) → HasTold tells child project index u begun result before now old new → LandsBy (child_of begun) old.counts.starts new.counts.starts
+  pub told_lands : (result : Result Outcome StepFault) → HasTold is_modelled child project index u begun result before now old new → LandsBy (child_of begun) old.counts.starts new.counts.starts
   told_lands result has = lands_by has.answer has.answered

@@ -10,9 +10,9 @@ use Rattle.pb_place_types.specs.declared.child_in_flight.ChildInFlight.{ChildInF
 use Rattle.pb_place_types.specs.declared.command.Ended.{Ended}
 use Rattle.pb_place_types.specs.declared.place.StartFault.{StartFault}
 use Rattle.pb_place_types.proofs.Folders.{only_same, only_started}
-use Rattle.pb_run.specs.Halves.{WritesTo}
+use Rattle.pb_run.specs.UnitSteps.{WritesTo}
 use Rattle.pb_run.specs.Running.{HasEnded}
-use Rattle.pb_run.specs.declared.begun.Launched.{Launched}
+use Rattle.pb_run.specs.declared.begun.SpawnedChild.{SpawnedChild}
 use Rattle.pb_run.proofs.Answering.{kept_only}
 use Rattle.pb_run.proofs.RecordedOthers.{flies_without}
 use Rattle.pb_run.proofs.Spawning.{out_within, widen}
@@ -31,14 +31,14 @@ flying_at ticket (f ∷ flying) flies = elim (cases_Bool (f.ticket == ticket)) [
 ]
 
 -- it changes only the folder into which it writes
-pub ended_only : (out : List ℕ) (l : Launched) (flying : List ChildInFlight) (old new : World) → is_flying l.ticket flying ≡ true → WritesTo out (Some l) flying → IfSome (child_at l.ticket flying) (λ s. ChangesOnlyInSome s.command.out old new)
+pub ended_only : (out : List ℕ) (l : SpawnedChild) (flying : List ChildInFlight) (old new : World) → is_flying l.ticket flying ≡ true → WritesTo out (Some l) flying → IfSome (child_at l.ticket flying) (λ s. ChangesOnlyInSome s.command.out old new)
     → ChangesOnly (is_at_or_below out) old new
 ended_only out l flying old new flies writes only =
     let (f, at) = flying_at l.ticket flying flies in
     only_started out f.command.out old new (subst (λ (o : Option ChildInFlight). IfSome o (λ s. s.command.out ≡ Some out)) at writes)
     (subst (λ (o : Option ChildInFlight). IfSome o (λ s. ChangesOnlyInSome s.command.out old new)) at only)
 
-module _ (root key out : List ℕ) (lies : out ≡ out_of root key) (l : Launched) (flying : List ChildInFlight) (flies : is_flying l.ticket flying ≡ true) (writes : WritesTo out (Some l) flying) (w w1 v : World)
+module _ (root key out : List ℕ) (lies : out ≡ out_of root key) (l : SpawnedChild) (flying : List ChildInFlight) (flies : is_flying l.ticket flying ≡ true) (writes : WritesTo out (Some l) flying) (w w1 v : World)
     (only : IfSome (child_at l.ticket flying) (λ s. ChangesOnlyInSome s.command.out w w1)) (same : v ≡ w1) where
   ended_v : ChangesOnly (is_at_or_below out) w v
   ended_v = subst (ChangesOnly (is_at_or_below out) w) (sym same) (ended_only out l flying w w1 flies writes only)
@@ -52,16 +52,16 @@ module _ (root key out : List ℕ) (lies : out ≡ out_of root key) (l : Launche
   record_only folder v2 is_folder then' = kept_only root key out w v v2 lies ended_v (subst (λ f. ChangesOnly (is_at_or_below (place_of f key)) v v2) is_folder then')
 
 -- it is that of a unit which has begun so
-module _ (launched : Option Launched) (l : Launched) (is : launched ≡ Some l) (flying : List ChildInFlight) where
+module _ (launched : Option SpawnedChild) (l : SpawnedChild) (is : launched ≡ Some l) (flying : List ChildInFlight) where
   pub dropped_in : (out : List ℕ) (old new : World) → IfSome launched (λ k. is_flying k.ticket flying ≡ true) → WritesTo out launched flying → IfSome (child_at l.ticket flying) (λ s. ChangesOnlyInSome s.command.out old new)
       → ChangesOnly (is_at_or_below out) old new
   dropped_in out old new flies writes only =
-      ended_only out l flying old new (subst (λ (o : Option Launched). IfSome o (λ k. is_flying k.ticket flying ≡ true)) is flies) (subst (λ (o : Option Launched). WritesTo out o flying) is writes) only
+      ended_only out l flying old new (subst (λ (o : Option SpawnedChild). IfSome o (λ k. is_flying k.ticket flying ≡ true)) is flies) (subst (λ (o : Option SpawnedChild). WritesTo out o flying) is writes) only
 
   -- another child flies on
   pub stays_apart : (flying' : List ChildInFlight) (ticket : ℕ) (f : ChildInFlight) → flying' ≡ without l.ticket flying → IfSome launched (λ k. ticket ≢ k.ticket) → child_at ticket flying ≡ Some f → child_at ticket flying' ≡ Some f
   stays_apart flying' ticket f flies apart there =
-      ap (child_at ticket) flies ∙ flies_without ticket l.ticket flying (subst (λ (o : Option Launched). IfSome o (λ k. ticket ≢ k.ticket)) is apart) ∙ there
+      ap (child_at ticket) flies ∙ flies_without ticket l.ticket flying (subst (λ (o : Option SpawnedChild). IfSome o (λ k. ticket ≢ k.ticket)) is apart) ∙ there
 
 -- Beyond what its child left, a unit's answer changes the place of its record alone.
 

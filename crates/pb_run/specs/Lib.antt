@@ -1,5 +1,5 @@
 pub mod Outcome
 pub mod Steps
-pub mod Standing
-pub mod Halves
+pub mod Invariants
+pub mod UnitSteps
 pub mod Running

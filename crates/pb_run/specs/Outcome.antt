@@ -14,12 +14,12 @@ use Rattle.pb_place_types.specs.declared.child.Reply.{Reply}
 use Rattle.pb_place_types.specs.declared.command.Command.{Command}
 use Rattle.pb_place_types.specs.declared.command.Ended.{Ended}
 use Rattle.pb_command_types.specs.Targets.{dep_info_of}
-use Rattle.pb_command_types.specs.declared.answer.Answered.{Answered}
+use Rattle.pb_command_types.specs.declared.checked_reply.CheckedReply.{CheckedReply}
 use Rattle.pb_command_types.specs.declared.fault.UnitFault.{UnitFault}
 use Rattle.pb_command_types.specs.declared.project.Project.{Project}
 use Rattle.pb_command_types.specs.declared.project.Setup.{Setup}
 use Rattle.pb_record.specs.declared.record.InputName.{InputName}
-use Rattle.pb_run.specs.declared.ran.Judgement.{Judgement}
+use Rattle.pb_run.specs.declared.ran.Validated.{Validated}
 use Rattle.pb_run.specs.declared.ran.Ran.{Ran}
 use Rattle.pb_unit.specs.declared.plan.Planned.{Planned}
 use Rattle.pb_message_units.specs.Telling.{good_messages, bad_messages, said_by}
@@ -66,17 +66,17 @@ view_of done sources u = record sources { files = with_made done u.reaches sourc
 -- The judgement.
 
 -- what comes of a unit whose child produced this answer
-abbrev pub ran_by : Project → Planned → Ended → Result Answered UnitFault → Ran
+abbrev pub ran_by : Project → Planned → Ended → Result CheckedReply UnitFault → Ran
 ran_by project u e (Ok a) = record { started = true; bad = None; directives = a.directives; messages = good_messages project u e.stderr a.directives }
 ran_by project u e (Err fault) = record { started = true; bad = Some record { fault = fault; said = said_by u.unit.what fault e }; directives = None; messages = bad_messages u.unit.what fault e }
 
 -- the inputs found in an answer; none if it is bad
-abbrev pub names_in : Result Answered UnitFault → List InputName
+abbrev pub names_in : Result CheckedReply UnitFault → List InputName
 names_in (Ok a) = a.inputs
 names_in (Err fault) = []
 
 -- what comes of the unit, with its inputs
-abbrev pub judgement_by : Project → Planned → Ended → Result Answered UnitFault → Judgement
+abbrev pub judgement_by : Project → Planned → Ended → Result CheckedReply UnitFault → Validated
 judgement_by project u e a = record { ran = ran_by project u e a; names = names_in a }
 
 -- what comes of a unit, marked as not started

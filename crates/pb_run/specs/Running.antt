@@ -27,17 +27,17 @@ use Rattle.pb_command_types.specs.declared.project.Setup.{Setup}
 use Rattle.pb_record.specs.declared.record.InputName.{InputName}
 use Rattle.pb_record.specs.declared.record.Record.{Record}
 use Rattle.pb_run.specs.Steps.{BeginsBy, Lands, started, NumbersInTurn, StepMakes, StepStopsAt, StepTakes, starts, MayAnswer, MayBegin}
-use Rattle.pb_run.specs.Halves.{needed_keys, Basis, Keeps, IsBegun, CanBegin, BeginsApart, KeepsOthersStill, WritesTo, child_of, outcomes_in, CanAnswer, awaits_number, Footing, basis}
+use Rattle.pb_run.specs.UnitSteps.{needed_keys, BuildContext, BuildInvariant, IsBegun, CanBegin, BeginsApart, KeepsOthersStill, WritesTo, child_of, outcomes_in, CanAnswer, awaits_number, Premise, basis}
 use Rattle.pb_run.specs.Outcome.{judgement_by, names_in, ran_of, unstarted, outcome_by, directives_in}
-use Rattle.pb_run.specs.Standing.{records_folder, IsCommandOf}
+use Rattle.pb_run.specs.Invariants.{records_folder, IsCommandOf}
 use Rattle.pb_run.specs.declared.begun.Awaited.{Awaited}
 use Rattle.pb_run.specs.declared.begun.Awaited.TheVariants as awaited
 use Rattle.pb_run.specs.declared.begun.Begun.{Begun}
-use Rattle.pb_run.specs.declared.begun.Launched.{Launched}
+use Rattle.pb_run.specs.declared.begun.SpawnedChild.{SpawnedChild}
 use Rattle.pb_run.specs.declared.faults.StepFault.{StepFault}
 use Rattle.pb_run.specs.declared.faults.StepFault.TheVariants as step
-use Rattle.pb_run.specs.declared.halves.Outcome.{Outcome}
-use Rattle.pb_run.specs.declared.ran.Judgement.{Judgement}
+use Rattle.pb_run.specs.declared.unit_steps.Outcome.{Outcome}
+use Rattle.pb_run.specs.declared.ran.Validated.{Validated}
 use Rattle.pb_run.specs.declared.ran.Ran.{Ran}
 use Rattle.pb_store_soundness.specs.Apart.{is_of}
 use Rattle.pb_store_soundness.specs.Inputs.{Judge, input_in}
@@ -185,7 +185,7 @@ recorded_called project u c w names (awaited.Child launched) = kept_called (reco
 recorded_called project u c w names (awaited.Record again) = if again.numbered then [] else migrated_called (records_folder project) u.key w
 
 -- the same calls, but none for a bad unit
-abbrev pub judged_called : Project → Planned → Command → World → Awaited → Judgement → List Call
+abbrev pub judged_called : Project → Planned → Command → World → Awaited → Validated → List Call
 judged_called project u c w by j = if is_some j.ran.bad then [] else recorded_called project u c w j.names by
 
 -- first the dep-info is read; the next calls depend on the judgement of the answer
@@ -212,42 +212,42 @@ abbrev pub past_look : Project → Planned → Command → World → Counts → 
 past_look project u c w old = past_calls (unit_looks project u c w) old
 
 -- the unit has begun: with a child if it reports a difference; else with what its record replays
-pub record BeginsUnit (tells : Bool) (child : Answers) (project : Project) (u : Planned) (c : Command) (before now : Store) (old new : At) (begun : Begun) : Type 0 where
+pub record BeginsUnit (is_modelled : Bool) (child : Answers) (project : Project) (u : Planned) (c : Command) (before now : Store) (old new : At) (begun : Begun) : Type 0 where
   -- it has the unit's key and its command
   pub unit : begun.unit ≡ u.key
   pub asks : begun.command ≡ c
   -- over a place that tells its maps the report is the first difference
-  pub differs : IsTrue tells → FirstDifference (records_folder project) u.key begun.command old.world begun.difference
+  pub differs : IsTrue is_modelled → FirstDifference (records_folder project) u.key begun.command old.world begun.difference
   pub spawned : is_some (child_of begun) ≡ is_some begun.difference
   -- the child takes the next run number, is counted as in flight, and writes into the unit's folder; when it was
   -- spawned the folder was empty, and the unit had no record
   pub number : MatchOption (child_of begun) (now.next ≡ before.next) (λ launched. (before.next ≡ Some launched.number) × (now.next ≡ after launched.number))
   pub most : MatchOption (child_of begun) (new.most ≡ old.most) (λ launched. new.most ≡ max old.most (length old.counts.starts.flying + 1))
   pub writes : WritesTo u.out (child_of begun) new.counts.starts.flying
-  pub launched : IsTrue tells → IfSome (child_of begun) (λ launched. IsSpawned (is_of (records_folder project) u.key) child begun.command old.world launched.ticket new.counts.starts.flying new.still)
-  pub dropped : IsTrue tells → IsSome (child_of begun) → records (records_folder project) new.world u.key ≡ None
-  pub launches : IsTrue tells → IfSome (child_of begun) (λ launched. Launches child begun.command launched.ticket (past_look project u begun.command old.world old.counts) new.counts)
+  pub launched : IsTrue is_modelled → IfSome (child_of begun) (λ launched. IsSpawned (is_of (records_folder project) u.key) child begun.command old.world launched.ticket new.counts.starts.flying new.still)
+  pub dropped : IsTrue is_modelled → IsSome (child_of begun) → records (records_folder project) new.world u.key ≡ None
+  pub launches : IsTrue is_modelled → IfSome (child_of begun) (λ launched. Launches child begun.command launched.ticket (past_look project u begun.command old.world old.counts) new.counts)
   -- without a child nothing changes, and no call comes after the comparison
   pub same : child_of begun ≡ None → new.world ≡ old.world
-  pub looks : IsTrue tells → child_of begun ≡ None → new.counts ≡ past_look project u begun.command old.world old.counts
-  pub carries : IsTrue tells → GivesRecord (records (records_folder project) old.world u.key) begun.awaited
+  pub looks : IsTrue is_modelled → child_of begun ≡ None → new.counts ≡ past_look project u begun.command old.world old.counts
+  pub carries : IsTrue is_modelled → GivesRecord (records (records_folder project) old.world u.key) begun.awaited
 
 -- a unit could not begin: a call of its comparison failed; or something differs, and a call of the launch failed
 abbrev pub StopsToBegin : Project → Planned → Command → StepFault → World → Counts → Counts → Type 0
 StopsToBegin project u c fault w old new = StepStopsAt fault (unit_looks project u c w) old new ⊎ (Differs project u c w × LaunchEnds (place_of (records_folder project) u.key) u.out fault (past_look project u c w old) new)
 
-pub record FailsToBegin (tells : Bool) (project : Project) (u : Planned) (c : Command) (old new : At) (e : StepFault) : Type 0 where
-  pub stops : IsTrue tells → StopsToBegin project u c e old.world old.counts new.counts
+pub record FailsToBegin (is_modelled : Bool) (project : Project) (u : Planned) (c : Command) (old new : At) (e : StepFault) : Type 0 where
+  pub stops : IsTrue is_modelled → StopsToBegin project u c e old.world old.counts new.counts
   -- a call of the launch fails, anything changes, or a spawn is tried only if something differs
-  pub cause : IsTrue tells → starts e ≡ true → Differs project u c old.world
-  pub spared : IsTrue tells → (new.world ≡ old.world) ⊎ Differs project u c old.world
-  pub tried : IsTrue tells → (new.counts.starts ≡ old.counts.starts) ⊎ Differs project u c old.world
+  pub cause : IsTrue is_modelled → starts e ≡ true → Differs project u c old.world
+  pub spared : IsTrue is_modelled → (new.world ≡ old.world) ⊎ Differs project u c old.world
+  pub tried : IsTrue is_modelled → (new.counts.starts ≡ old.counts.starts) ⊎ Differs project u c old.world
   pub most : new.most ≡ old.most
 
 -- what is true of a build over true records, or over none, stays true as a unit begins
-pub record BeginsBuild (b : Basis) (done : List (Option (List Directive))) (index : ℕ) (u : Planned) (result : Result Begun StepFault) (before now : Option ℕ) (old new : At) : Type 0 where
+pub record BeginsBuild (b : BuildContext) (done : List (Option (List Directive))) (index : ℕ) (u : Planned) (result : Result Begun StepFault) (before now : Option ℕ) (old new : At) : Type 0 where
   pub begun : (states : List (State BadUnit)) → CanBegin b states done index u before old.world → IfOk result (λ begun. IsBegun b index begun now new.world new.counts.starts.flying new.still)
-  pub keeps : (states : List (State BadUnit)) → CanBegin b states done index u before old.world → Keeps b (slice_set states index state.Begun) done now new.world
+  pub keeps : (states : List (State BadUnit)) → CanBegin b states done index u before old.world → BuildInvariant b (slice_set states index state.Begun) done now new.world
   pub others : (states : List (State BadUnit)) (other : ℕ) (its : Begun) → CanBegin b states done index u before old.world
       → BeginsApart b states index None other its before old.world old.counts.starts.flying old.still → IsBegun b other its now new.world new.counts.starts.flying new.still
 
@@ -255,14 +255,14 @@ pub record BeginsBuild (b : Basis) (done : List (Option (List Directive))) (inde
 
 -- the store keeps its folder; its next number is unchanged or was taken; and if the step ended well, its numbers are
 -- those of its records
-pub record KeepsStore {T : Type 0} (tells : Bool) (result : Result T StepFault) (before now : Store) (new : At) : Type 0 where
+pub record KeepsStore {T : Type 0} (is_modelled : Bool) (result : Result T StepFault) (before now : Store) (new : At) : Type 0 where
   pub folder : now.folder ≡ before.folder
   pub next : TakesNumber before.next now.next
-  pub numbers : IsTrue tells → OnOk result (HasNumbers (records before.folder new.world) now.numbers)
+  pub numbers : IsTrue is_modelled → OnOk result (HasNumbers (records before.folder new.world) now.numbers)
 
 -- only this unit's folder and record change; the other children stay in flight, and stand still unless a change of
 -- these paths touches what they see; at most one call failed, and it was the last
-pub record ChangesUnit {T : Type 0} (folder key : List ℕ) (ended : Option Launched) (Goes : T → Starts → Starts → Type 0) (May : StepFault → Starts → Starts → Type 0) (result : Result T StepFault) (old new : At) : Type 0 where
+pub record ChangesUnit {T : Type 0} (folder key : List ℕ) (ended : Option SpawnedChild) (Goes : T → Starts → Starts → Type 0) (May : StepFault → Starts → Starts → Type 0) (result : Result T StepFault) (old new : At) : Type 0 where
   pub only : ChangesOnly (is_of folder key) old.world new.world
   pub still : KeepsOthersStill ended (is_of folder key) old.counts.starts.flying old.still new.still
   pub stay : (ticket : ℕ) (its : ChildInFlight) → IfSome ended (λ launched. ticket ≢ launched.ticket) → child_at ticket old.counts.starts.flying ≡ Some its → child_at ticket new.counts.starts.flying ≡ Some its
@@ -286,57 +286,57 @@ pub record AnswersThen (by : Awaited) (answer : Result Ended StartFault) (well :
 
 -- what came of a unit is the judgement of its child's answer, or, without a child, of what its record replays; a good
 -- unit leaves the record of `record_left`
-pub record AnswersUnit (tells : Bool) (project : Project) (u : Planned) (begun : Begun) (before now : Store) (old new : At) (ran : Ran) : Type 0 where
+pub record AnswersUnit (is_modelled : Bool) (project : Project) (u : Planned) (begun : Begun) (before now : Store) (old new : At) (ran : Ran) : Type 0 where
   pub started : ran.started ≡ is_some (child_of begun)
   pub directives : directives_in (outcome_by finite.empty ran) ≡ ran.directives
-  pub judged : IsTrue tells → (ended : Ended) × AnswersThen begun.awaited (Ok ended) (IsTrue true) old (λ w counts. IsJudged project u begun.command begun.awaited ended w ran)
-  pub kept : IsTrue tells → is_some ran.bad ≡ false → (ended : Ended) × AnswersThen begun.awaited (Ok ended) (IsTrue true) old (λ w counts.
+  pub judged : IsTrue is_modelled → (ended : Ended) × AnswersThen begun.awaited (Ok ended) (IsTrue true) old (λ w counts. IsJudged project u begun.command begun.awaited ended w ran)
+  pub kept : IsTrue is_modelled → is_some ran.bad ≡ false → (ended : Ended) × AnswersThen begun.awaited (Ok ended) (IsTrue true) old (λ w counts.
       records (records_folder project) new.world u.key ≡ record_left project u begun.command begun.awaited ended before.next w)
   -- a bad unit leaves its record as it is, and takes no number
   pub unkept : IsSome ran.bad → ChangesOnly (is_at_or_below u.out) old.world new.world
   pub bad : IsSome ran.bad → now.next ≡ before.next
   -- a good unit takes the next number if its record had none
-  pub taken : IsTrue tells → awaits_number begun.awaited ≡ true → lacks_number (records (records_folder project) old.world u.key) ≡ true → is_some ran.bad ≡ false → TakesNext before.next now.next
+  pub taken : IsTrue is_modelled → awaits_number begun.awaited ≡ true → lacks_number (records (records_folder project) old.world u.key) ≡ true → is_some ran.bad ≡ false → TakesNext before.next now.next
 
 -- how the answer ended, well or with a fault: after it only these calls came, and they changed only the unit's record
-pub record EndsUnit {T : Type 0} (tells : Bool) (project : Project) (u : Planned) (begun : Begun) (result : Result T StepFault) (before now : Store) (old new : At) : Type 0 where
-  pub lands : IsTrue tells → (answer : Result Ended StartFault) × AnswersThen begun.awaited answer (IsOk result) old (λ w counts.
+pub record EndsUnit {T : Type 0} (is_modelled : Bool) (project : Project) (u : Planned) (begun : Begun) (result : Result T StepFault) (before now : Store) (old new : At) : Type 0 where
+  pub lands : IsTrue is_modelled → (answer : Result Ended StartFault) × AnswersThen begun.awaited answer (IsOk result) old (λ w counts.
       ChangesOnly (is_at_or_below (place_of (records_folder project) u.key)) w new.world × CallsBehind begun.awaited (answered_called project u begun.command w begun.awaited) answer result counts new.counts)
   -- without a child, and with a record that has a number, nothing changes and no number is taken
-  pub same : IsTrue tells → child_of begun ≡ None → lacks_number (records (records_folder project) old.world u.key) ≡ false → new.world ≡ old.world
+  pub same : IsTrue is_modelled → child_of begun ≡ None → lacks_number (records (records_folder project) old.world u.key) ≡ false → new.world ≡ old.world
   pub untaken : awaits_number begun.awaited ≡ false → now.next ≡ before.next
   pub most : new.most ≡ old.most
 
 -- what is true of a build over true records, or over none, stays true as a unit answers
-pub record AnswersBuild (b : Basis) (index : ℕ) (u : Planned) (begun : Begun) (result : Result Ran StepFault) (before now : Option ℕ) (old new : At) : Type 0 where
+pub record AnswersBuild (b : BuildContext) (index : ℕ) (u : Planned) (begun : Begun) (result : Result Ran StepFault) (before now : Option ℕ) (old new : At) : Type 0 where
   pub outcome : (states : List (State BadUnit)) (done : List (Option (List Directive))) → CanAnswer b states done index u begun before old.world old.counts.starts.flying old.still
       → IfOk result (λ ran. slice_get (outcomes_in b) index ≡ Some (outcome_by (files_in u.out new.world.files) ran))
   pub keeps : (states : List (State BadUnit)) (done : List (Option (List Directive))) → CanAnswer b states done index u begun before old.world old.counts.starts.flying old.still → MatchResult result
-      (λ ran. (lines : List ℕ) → Keeps b (slice_set states index (state.Answered record { fault = ran.bad; lines = lines })) (slice_set done index ran.directives) now new.world)
-      (λ e. Keeps b states done now new.world)
+      (λ ran. (lines : List ℕ) → BuildInvariant b (slice_set states index (state.Answered record { fault = ran.bad; lines = lines })) (slice_set done index ran.directives) now new.world)
+      (λ e. BuildInvariant b states done now new.world)
   pub others : (states : List (State BadUnit)) (done : List (Option (List Directive))) (other : ℕ) (its : Begun) → CanAnswer b states done index u begun before old.world old.counts.starts.flying old.still
       → BeginsApart b states index (child_of begun) other its before old.world old.counts.starts.flying old.still → IsBegun b other its now new.world new.counts.starts.flying new.still
 
 -- and as a unit's answer is dropped
-pub record DropsBuild (b : Basis) (index : ℕ) (u : Planned) (begun : Begun) (next : Option ℕ) (old new : At) : Type 0 where
-  pub keeps : (states : List (State BadUnit)) (done : List (Option (List Directive))) → CanAnswer b states done index u begun next old.world old.counts.starts.flying old.still → Keeps b states done next new.world
+pub record DropsBuild (b : BuildContext) (index : ℕ) (u : Planned) (begun : Begun) (next : Option ℕ) (old new : At) : Type 0 where
+  pub keeps : (states : List (State BadUnit)) (done : List (Option (List Directive))) → CanAnswer b states done index u begun next old.world old.counts.starts.flying old.still → BuildInvariant b states done next new.world
   pub others : (states : List (State BadUnit)) (done : List (Option (List Directive))) (other : ℕ) (its : Begun) → CanAnswer b states done index u begun next old.world old.counts.starts.flying old.still
       → BeginsApart b states index (child_of begun) other its next old.world old.counts.starts.flying old.still → IsBegun b other its next new.world new.counts.starts.flying new.still
 
 -- all that we promise of the beginning of a unit, without the key in its error
-pub record HasBegun (tells : Bool) (child : Answers) (setup : Setup) (project : Project) (done : List (Option (List Directive))) (index : ℕ) (u : Planned) (result : Result Begun StepFault) (before now : Store) (old new : At) : Type 0 where
-  pub begins : IfOk result (BeginsUnit tells child project u (command_of setup project u done) before now old new)
-  pub fails : IfErr result (FailsToBegin tells project u (command_of setup project u done) old new)
-  pub build : (footing : Footing) (sources : World) → IsTrue tells → BeginsBuild (basis footing child setup project sources) done index u result before.next now.next old new
-  pub store : KeepsStore tells result before now new
+pub record HasBegun (is_modelled : Bool) (child : Answers) (setup : Setup) (project : Project) (done : List (Option (List Directive))) (index : ℕ) (u : Planned) (result : Result Begun StepFault) (before now : Store) (old new : At) : Type 0 where
+  pub begins : IfOk result (BeginsUnit is_modelled child project u (command_of setup project u done) before now old new)
+  pub fails : IfErr result (FailsToBegin is_modelled project u (command_of setup project u done) old new)
+  pub build : (footing : Premise) (sources : World) → IsTrue is_modelled → BeginsBuild (basis footing child setup project sources) done index u result before.next now.next old new
+  pub store : KeepsStore is_modelled result before now new
   pub changes : ChangesUnit (records_folder project) u.key None Begins (MayBegin before.next) result old new
 
 -- and of its answer
-pub record HasAnswered (tells : Bool) (child : Answers) (project : Project) (index : ℕ) (u : Planned) (begun : Begun) (result : Result Ran StepFault) (before now : Store) (old new : At) : Type 0 where
-  pub answers : IfOk result (AnswersUnit tells project u begun before now old new)
-  pub ends : EndsUnit tells project u begun result before now old new
-  pub build : (footing : Footing) (setup : Setup) (sources : World) → IsTrue tells → AnswersBuild (basis footing child setup project sources) index u begun result before.next now.next old new
-  pub store : KeepsStore tells result before now new
+pub record HasAnswered (is_modelled : Bool) (child : Answers) (project : Project) (index : ℕ) (u : Planned) (begun : Begun) (result : Result Ran StepFault) (before now : Store) (old new : At) : Type 0 where
+  pub answers : IfOk result (AnswersUnit is_modelled project u begun before now old new)
+  pub ends : EndsUnit is_modelled project u begun result before now old new
+  pub build : (footing : Premise) (setup : Setup) (sources : World) → IsTrue is_modelled → AnswersBuild (basis footing child setup project sources) index u begun result before.next now.next old new
+  pub store : KeepsStore is_modelled result before now new
   pub changes : ChangesUnit (records_folder project) u.key (child_of begun) (Lands (child_of begun)) (MayAnswer before.next (child_of begun)) result old new
 
 -- what came of a unit, with its message lines and its difference
@@ -349,13 +349,13 @@ TellsAnswer project u difference (Ok ran) result = MatchResult result (λ outcom
 TellsAnswer project u difference (Err fault) result = result ≡ Err fault
 
 -- the unit has answered, and the outcome or the fault is that of its answer
-pub record HasTold (tells : Bool) (child : Answers) (project : Project) (index : ℕ) (u : Planned) (begun : Begun) (result : Result Outcome StepFault) (before now : Store) (old new : At) : Type 0 where
+pub record HasTold (is_modelled : Bool) (child : Answers) (project : Project) (index : ℕ) (u : Planned) (begun : Begun) (result : Result Outcome StepFault) (before now : Store) (old new : At) : Type 0 where
   pub answer : Result Ran StepFault
-  pub answered : HasAnswered tells child project index u begun answer before now old new
+  pub answered : HasAnswered is_modelled child project index u begun answer before now old new
   pub told : TellsAnswer project u begun.difference answer result
 
 -- the unit could not begin; or it began, and then answered over the store and the place as they were in between
 abbrev pub RunsUnit : {P : Type 0} → (P → At) → Bool → Answers → Setup → Project → List (Option (List Directive)) → ℕ → Planned → Result Outcome StepFault → Store → Store → P → P → Type 0
-RunsUnit {P} at tells child setup project done index u result before now old new =
-    ((fault : StepFault) × (result ≡ Err fault) × HasBegun tells child setup project done index u (Err fault) before now (at old) (at new))
-    ⊎ ((begun : Begun) × (mid_store : Store) × (mid : P) × HasBegun tells child setup project done index u (Ok begun) before mid_store (at old) (at mid) × HasTold tells child project index u begun result mid_store now (at mid) (at new))
+RunsUnit {P} at is_modelled child setup project done index u result before now old new =
+    ((fault : StepFault) × (result ≡ Err fault) × HasBegun is_modelled child setup project done index u (Err fault) before now (at old) (at new))
+    ⊎ ((begun : Begun) × (mid_store : Store) × (mid : P) × HasBegun is_modelled child setup project done index u (Ok begun) before mid_store (at old) (at mid) × HasTold is_modelled child project index u begun result mid_store now (at mid) (at new))

@@ -19,7 +19,7 @@ use Rattle.pb_place_types.specs.declared.place.PlaceFault.{PlaceFault}
 use Rattle.pb_place_types.specs.declared.place.PlaceFault.TheVariants as place
 use Rattle.pb_place_types.specs.declared.place.StartFault.{StartFault}
 use Rattle.pb_place_types.specs.declared.place.StartFault.TheVariants as start
-use Rattle.pb_run.specs.declared.begun.Launched.{Launched}
+use Rattle.pb_run.specs.declared.begun.SpawnedChild.{SpawnedChild}
 use Rattle.pb_run.specs.declared.faults.StepFault.{StepFault}
 use Rattle.pb_run.specs.declared.faults.StepFault.TheVariants as step
 use Rattle.pb_store.specs.Calls.{FailedLast}
@@ -78,26 +78,26 @@ NoStart x old new = new ≡ old
 -- The two steps of a unit.
 
 -- one more start is counted, and a child with this ticket, which no other child had, is the last in flight
-pub record IsLifted (ticket : ℕ) (old new : Starts) : Type 0 where
+pub record StartsRise (ticket : ℕ) (old new : Starts) : Type 0 where
   pub child : ChildInFlight
   pub its : child.ticket ≡ ticket
   pub free : is_flying ticket old.flying ≡ false
   pub lifted : new ≡ record old { count = up old.count; flying = old.flying ++ child ∷ [] }
 
 -- what the beginning of a unit does to the starts (below, what its answer does)
-abbrev pub BeginsBy : Option Launched → Starts → Starts → Type 0
+abbrev pub BeginsBy : Option SpawnedChild → Starts → Starts → Type 0
 BeginsBy None old new = new ≡ old
-BeginsBy (Some launched) old new = IsLifted launched.ticket old new
+BeginsBy (Some launched) old new = StartsRise launched.ticket old new
 
-abbrev pub LandsBy : Option Launched → Starts → Starts → Type 0
+abbrev pub LandsBy : Option SpawnedChild → Starts → Starts → Type 0
 LandsBy None old new = new ≡ old
 LandsBy (Some launched) old new = new ≡ record old { flying = without launched.ticket old.flying }
 
-abbrev pub Lands : {T : Type 0} → Option Launched → T → Starts → Starts → Type 0
+abbrev pub Lands : {T : Type 0} → Option SpawnedChild → T → Starts → Starts → Type 0
 Lands launched x old new = LandsBy launched old new
 
 -- the end of the child was awaited, if there is a child, and its answer dropped
-abbrev pub Drops : Option Launched → Counts → Counts → Type 0
+abbrev pub Drops : Option SpawnedChild → Counts → Counts → Type 0
 Drops None old new = new ≡ old
 Drops (Some launched) old new = (result : Result Ended StartFault) × (new ≡ counted_finish launched.ticket result old) × IfErr result (λ e. e ≢ start.OutOfMemory → (e ≡ start.Died) ⊎ (e ≡ start.Capture))
 
@@ -153,7 +153,7 @@ MayFollow (step.Start fault) old new = ⊥
 
 -- the faults of the calls that await the child's end, read the dep-info, and keep or renew the record; a run number is
 -- missing only for a record, and only if none is left
-abbrev pub MayAnswer : Option ℕ → Option Launched → StepFault → Starts → Starts → Type 0
+abbrev pub MayAnswer : Option ℕ → Option SpawnedChild → StepFault → Starts → Starts → Type 0
 MayAnswer next launched (step.Store (store.Place fault)) old new = (fault ≢ place.Remove) × LandsBy launched old new
 MayAnswer next launched (step.Store store.NumbersSpent) old new = (next ≡ None) × (launched ≡ None) × (new ≡ old)
 MayAnswer next launched (step.Store store.OutOfMemory) old new = LandsBy launched old new

@@ -1,8 +1,8 @@
 //! A unit that has begun.
 
 ghost use Rattle.std.specs.Prelude.{◌≡◌, is_some, option_map};
-ghost use Rattle.pb_run.specs.Halves.{child_of};
-ghost use Rattle.pb_run.specs.declared.begun.Launched.{Launched};
+ghost use Rattle.pb_run.specs.UnitSteps.{child_of};
+ghost use Rattle.pb_run.specs.declared.begun.SpawnedChild.{SpawnedChild};
 
 use pb_data::Text;
 use pb_place_types::Command;
@@ -10,7 +10,7 @@ use pb_store::{Difference, Replayed};
 
 /// A child process that was spawned for a unit.
 #[derive(Debug, Drop)]
-pub struct Launched {
+pub struct SpawnedChild {
     /// The ticket with which its end is awaited.
     pub ticket: u64,
     /// The run number of the unit's record, if its answer is good.
@@ -21,7 +21,7 @@ pub struct Launched {
 #[derive(Drop)]
 pub enum Awaited {
     /// The end of its child.
-    Child(Launched),
+    Child(SpawnedChild),
     /// Its record, from which nothing differs, and which replays this.
     Record(Replayed),
 }
@@ -55,7 +55,7 @@ impl Begun {
 
     /// Returns the ticket with which the end of the unit's child is awaited, if it has a child.
     pub fn ticket(&self) -> Option<u64>
-        ensures { result ≡ option_map (λ (l : Launched). l.ticket) (child_of self.now) }
+        ensures { result ≡ option_map (λ (l : SpawnedChild). l.ticket) (child_of self.now) }
     {
         match &self.awaited {
             Awaited::Child(launched) => Some(launched.ticket),
@@ -66,7 +66,7 @@ impl Begun {
     /// Returns the run number that the unit's record gets if its answer is good, if the unit has a
     /// child.
     pub fn number(&self) -> Option<u64>
-        ensures { result ≡ option_map (λ (l : Launched). l.number) (child_of self.now) }
+        ensures { result ≡ option_map (λ (l : SpawnedChild). l.number) (child_of self.now) }
     {
         match &self.awaited {
             Awaited::Child(launched) => Some(launched.number),

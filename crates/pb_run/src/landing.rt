@@ -13,21 +13,21 @@ ghost use Rattle.pb_command_types.specs.Targets.{dep_info_of};
 ghost use Rattle.pb_command_types.specs.declared.project.Setup.{Setup};
 ghost use Rattle.pb_run.specs.Running.{AnswersBuild, AnswersUnit, EndsUnit, ChangesUnit, KeepsStore, HasEnded, dep_info_looked, HasAnswered};
 ghost use Rattle.pb_run.specs.Steps.{Lands, started, MayAnswer, MayFollow, StepLooks, StepMakes, StepTakes};
-ghost use Rattle.pb_run.specs.Halves.{Footing, WritesTo, basis, begun_with, child_in, key_at, needed_keys};
+ghost use Rattle.pb_run.specs.UnitSteps.{Premise, WritesTo, basis, begun_with, child_in, key_at, needed_keys};
 ghost use Rattle.pb_run.specs.Outcome.{judgement_by, outcome_by, directives_in, unstarted};
-ghost use Rattle.pb_run.specs.Standing.{IsCommandOf, records_folder};
+ghost use Rattle.pb_run.specs.Invariants.{IsCommandOf, records_folder};
 ghost use Rattle.pb_run.specs.declared.begun.Awaited.TheVariants as awaited;
 ghost use Rattle.pb_store_soundness.specs.Records.{records};
 ghost use Rattle.pb_store.specs.Folder.{HasNumbers};
 
-use crate::begun::{Awaited, Launched};
+use crate::begun::{Awaited, SpawnedChild};
 use crate::faults::{StepFault, started};
 use crate::ordered::OrderedProject;
-use crate::ran::{Judgement, Ran, judged};
+use crate::ran::{Ran, Validated, judged};
 use crate::running::read_at;
+use pb_command_types::{Project, dep_info_path, unit_at};
 use pb_data::{Items, Text, TryCopy};
 use pb_place_types::{Command, Ended, Place};
-use pb_command_types::{Project, dep_info_path, unit_at};
 use pb_store::{Key, Replayed, Store, StoreFault};
 use pb_unit::Planned;
 use std::alloc::{AllocError, Global};
@@ -37,11 +37,15 @@ const OUT_OF_MEMORY: StepFault = StepFault::Store(StoreFault::OutOfMemory);
 
 /// Waits for the end of the child of a unit.
 #[tactic(auto, using(crate::proofs::Ending::finish_laws))]
-fn finish<P: Place>(alloc: Global, place: &mut P, launched: &Launched) -> Result<Ended, StepFault>
+fn finish<P: Place>(
+    alloc: Global,
+    place: &mut P,
+    launched: &SpawnedChild,
+) -> Result<Ended, StepFault>
     requires flies { is_flying launched.now.ticket (P.at place.old).counts.starts.flying ≡ true }
 
     // How the child ended, and what it left.
-    ensures ended { IsTrue P.tells → MatchResult result
+    ensures ended { IsTrue P.is_modelled → MatchResult result
         (λ ended. HasEnded launched.now.ticket (Ok ended) (IsOk result)
         ((P.at place.old).still launched.now.ticket) (P.at place.old).world (P.at place.new).world
         (P.at place.old).counts (P.at place.new).counts)
@@ -76,8 +80,8 @@ fn judged_now<P: Place>(
     unit: &Planned,
     command: &Command,
     ended: &Ended,
-) -> Result<Judgement, StepFault>
-    ensures judged { IsTrue P.tells → IfOk result (λ judgement. judgement ≡ judgement_by
+) -> Result<Validated, StepFault>
+    ensures judged { IsTrue P.is_modelled → IfOk result (λ judgement. judgement ≡ judgement_by
         project.now unit.now ended.now (answered_of project.now unit.now command.now ended.now
         (file_at (dep_info_of project.now unit.now) (P.at place.old).world.files))) }
     ensures started { IfOk result (λ judgement. judgement.ran.started ≡ true) }
@@ -165,7 +169,7 @@ fn land<P: Place>(
     unit: &Planned,
     key: &Key,
     command: &Command,
-    launched: &Launched,
+    launched: &SpawnedChild,
 ) -> Result<Ran, StepFault>
     requires unit { slice_get project.now.plan.planned index ≡ Some unit.now }
     requires folder { store.old.folder ≡ records_folder project.now }
@@ -174,21 +178,21 @@ fn land<P: Place>(
     requires flies { is_flying launched.now.ticket (P.at place.old).counts.starts.flying ≡ true }
     requires writes { WritesTo unit.now.out (Some launched.now)
         (P.at place.old).counts.starts.flying }
-    requires numbers { IsTrue P.tells →
+    requires numbers { IsTrue P.is_modelled →
         HasNumbers (records store.old.folder (P.at place.old).world) store.old.numbers }
 
     // As `answered`.
-    ensures answers { IfOk result (AnswersUnit P.tells project.now unit.now
+    ensures answers { IfOk result (AnswersUnit P.is_modelled project.now unit.now
         (begun_with unit.now.key command.now (awaited.Child launched.now))
         store.old store.new (P.at place.old) (P.at place.new)) }
-    ensures ends { EndsUnit P.tells project.now unit.now
+    ensures ends { EndsUnit P.is_modelled project.now unit.now
         (begun_with unit.now.key command.now (awaited.Child launched.now)) result
         store.old store.new (P.at place.old) (P.at place.new) }
-    ensures build { (footing : Footing) (setup : Setup) (sources : World) → IsTrue P.tells →
+    ensures build { (footing : Premise) (setup : Setup) (sources : World) → IsTrue P.is_modelled →
         AnswersBuild (basis footing P.child setup project.now sources) index unit.now
         (begun_with unit.now.key command.now (awaited.Child launched.now)) result
         store.old.next store.new.next (P.at place.old) (P.at place.new) }
-    ensures store { KeepsStore P.tells result store.old store.new (P.at place.new) }
+    ensures store { KeepsStore P.is_modelled result store.old store.new (P.at place.new) }
     ensures changes { ChangesUnit (records_folder project.now) unit.now.key (Some launched.now)
         (Lands (Some launched.now)) (MayAnswer store.old.next (Some launched.now)) result
         (P.at place.old) (P.at place.new) }
@@ -243,21 +247,21 @@ fn reuse<P: Place>(
     requires folder { store.old.folder ≡ records_folder project.now }
     requires key { key.now ≡ unit.now.key }
     requires asks { IsCommandOf project.now unit.now command.now }
-    requires numbers { IsTrue P.tells →
+    requires numbers { IsTrue P.is_modelled →
         HasNumbers (records store.old.folder (P.at place.old).world) store.old.numbers }
 
     // As `answered`.
-    ensures answers { IfOk result (AnswersUnit P.tells project.now unit.now
+    ensures answers { IfOk result (AnswersUnit P.is_modelled project.now unit.now
         (begun_with unit.now.key command.now (awaited.Record again.now))
         store.old store.new (P.at place.old) (P.at place.new)) }
-    ensures ends { EndsUnit P.tells project.now unit.now
+    ensures ends { EndsUnit P.is_modelled project.now unit.now
         (begun_with unit.now.key command.now (awaited.Record again.now)) result
         store.old store.new (P.at place.old) (P.at place.new) }
-    ensures build { (footing : Footing) (setup : Setup) (sources : World) → IsTrue P.tells →
+    ensures build { (footing : Premise) (setup : Setup) (sources : World) → IsTrue P.is_modelled →
         AnswersBuild (basis footing P.child setup project.now sources) index unit.now
         (begun_with unit.now.key command.now (awaited.Record again.now)) result
         store.old.next store.new.next (P.at place.old) (P.at place.new) }
-    ensures store { KeepsStore P.tells result store.old store.new (P.at place.new) }
+    ensures store { KeepsStore P.is_modelled result store.old store.new (P.at place.new) }
     ensures changes { ChangesUnit (records_folder project.now) unit.now.key None (Lands None)
         (MayAnswer store.old.next None) result (P.at place.old) (P.at place.new) }
 {
@@ -308,9 +312,9 @@ pub(crate) fn answered<P: Place>(
         (λ launched. is_flying launched.ticket (P.at place.old).counts.starts.flying ≡ true) }
     requires writes { WritesTo unit.now.out (child_in awaited.now)
         (P.at place.old).counts.starts.flying }
-    requires numbers { IsTrue P.tells →
+    requires numbers { IsTrue P.is_modelled →
         HasNumbers (records store.old.folder (P.at place.old).world) store.old.numbers }
-    ensures { HasAnswered P.tells P.child project.now index unit.now
+    ensures { HasAnswered P.is_modelled P.child project.now index unit.now
         (begun_with unit.now.key command.now awaited.now) result store.old store.new
         (P.at place.old) (P.at place.new) }
 {

@@ -5,13 +5,13 @@ ghost use Rattle.pb_place_types.specs.Children.{child_at, child_spawned, StaysSt
 ghost use Rattle.pb_place_types.specs.Paths.{is_path, is_at_or_below};
 ghost use Rattle.pb_place_types.specs.World.{ChangesOnly, ChangesOnlyInSome};
 ghost use Rattle.pb_run.specs.Running.{ChangesUnit, KeepsStore, AnewEnds, Calls, DropsFor, IsSpawned, LaunchEnds, Launches, SpawnStops, Spawns, SpawnsAnew};
-ghost use Rattle.pb_run.specs.Steps.{IsLifted, MayBegin, StepTakes};
-ghost use Rattle.pb_run.specs.Halves.{WritesTo};
+ghost use Rattle.pb_run.specs.Steps.{StartsRise, MayBegin, StepTakes};
+ghost use Rattle.pb_run.specs.UnitSteps.{WritesTo};
 ghost use Rattle.pb_store_soundness.specs.Apart.{is_of};
 ghost use Rattle.pb_store_soundness.specs.Records.{out_of, place_of, records};
 ghost use Rattle.pb_store.specs.Folder.{IsGiven, HasNumbers};
 
-use crate::begun::Launched;
+use crate::begun::SpawnedChild;
 use crate::faults::{StepFault, started};
 use crate::running::empty;
 use pb_place_types::{Command, PathText, Place};
@@ -35,7 +35,7 @@ fn spawn<P: Place>(alloc: Global, place: &mut P, command: &Command) -> Result<u6
         (P.at place.new).world }
     ensures still { StaysStill (P.at place.old).counts.starts.flying (P.at place.old).world
         (P.at place.new).world (P.at place.old).still (P.at place.new).still }
-    ensures takes { (next : Option ℕ) → StepTakes IsLifted (MayBegin next) result
+    ensures takes { (next : Option ℕ) → StepTakes StartsRise (MayBegin next) result
         (P.at place.old).counts (P.at place.new).counts }
     ensures calls { Calls (Spawns P.child command.now) SpawnStops result
         (P.at place.old).counts (P.at place.new).counts }
@@ -57,7 +57,7 @@ fn spawn_anew<P: Place>(
     requires out { command.now.out ≡ Some out.now }
 
     // The child is in flight, was spawned over an empty folder, and writes into it.
-    ensures spawned { IsTrue P.tells → IfOk result (λ ticket. IsSpawned (is_at_or_below out.now)
+    ensures spawned { IsTrue P.is_modelled → IfOk result (λ ticket. IsSpawned (is_at_or_below out.now)
         P.child command.now (P.at place.old).world ticket (P.at place.new).counts.starts.flying
         (P.at place.new).still) }
     ensures writes { IfOk result (λ ticket. (number : ℕ) → WritesTo out.now
@@ -73,7 +73,7 @@ fn spawn_anew<P: Place>(
         (P.at place.new).world }
     ensures still { KeepsStillOutside (is_at_or_below out.now)
         (P.at place.old).counts.starts.flying (P.at place.old).still (P.at place.new).still }
-    ensures takes { (next : Option ℕ) → StepTakes IsLifted (MayBegin next) result
+    ensures takes { (next : Option ℕ) → StepTakes StartsRise (MayBegin next) result
         (P.at place.old).counts (P.at place.new).counts }
     ensures calls { Calls (SpawnsAnew P.child command.now) (AnewEnds out.now) result
         (P.at place.old).counts (P.at place.new).counts }
@@ -97,18 +97,18 @@ pub(crate) fn launch<P: Place>(
     key: &Key,
     out: &PathText,
     command: &Command,
-) -> Result<Launched, StepFault>
+) -> Result<SpawnedChild, StepFault>
     requires out { command.now.out ≡ Some out.now }
     requires lies { out.now ≡ out_of store.old.folder key.now }
     requires path { is_path store.old.folder ≡ true }
-    requires numbers { IsTrue P.tells →
+    requires numbers { IsTrue P.is_modelled →
         HasNumbers (records store.old.folder (P.at place.old).world) store.old.numbers }
 
     // The child is in flight with the next number, was spawned over an empty folder, and writes
     // into it.
     ensures number { IfOk result
         (λ launched. IsGiven launched.number store.old.next store.new.next) }
-    ensures spawned { IsTrue P.tells → IfOk result (λ launched.
+    ensures spawned { IsTrue P.is_modelled → IfOk result (λ launched.
         IsSpawned (is_of store.old.folder key.now) P.child command.now (P.at place.old).world
         launched.ticket (P.at place.new).counts.starts.flying (P.at place.new).still) }
     ensures writes { IfOk result
@@ -119,11 +119,11 @@ pub(crate) fn launch<P: Place>(
         (λ e. (P.at place.new).most ≡ (P.at place.old).most) }
 
     // The record is gone; after a fault it is gone or unchanged. Only this unit's paths change.
-    ensures record { IsTrue P.tells → DropsFor P.child store.old.folder key.now result
+    ensures record { IsTrue P.is_modelled → DropsFor P.child store.old.folder key.now result
         store.old.next store.new.next (P.at place.old).world (P.at place.new).world }
-    ensures store { KeepsStore P.tells result store.old store.new (P.at place.new) }
+    ensures store { KeepsStore P.is_modelled result store.old store.new (P.at place.new) }
     ensures changes { ChangesUnit store.old.folder key.now None
-        (λ launched. IsLifted launched.ticket) (MayBegin store.old.next) result
+        (λ launched. StartsRise launched.ticket) (MayBegin store.old.next) result
         (P.at place.old) (P.at place.new) }
     ensures calls { Calls (λ launched. Launches P.child command.now launched.ticket)
         (LaunchEnds (place_of store.old.folder key.now) out.now) result
@@ -137,7 +137,7 @@ pub(crate) fn launch<P: Place>(
         Err(fault) => return Err(StepFault::Store(fault)),
     };
     match spawn_anew(alloc, place, out, command) {
-        Ok(ticket) => Ok(Launched { ticket, number }),
+        Ok(ticket) => Ok(SpawnedChild { ticket, number }),
         Err(fault) => Err(fault),
     }
 }

@@ -4,18 +4,18 @@
 
 pub mod begun;
 pub mod faults;
-mod halves;
 mod landing;
 mod launching;
 mod laws;
 mod ordered;
 pub mod ran;
 mod running;
+mod unit_steps;
 
-pub use begun::{Awaited, Begun, Launched};
+pub use begun::{Awaited, Begun, SpawnedChild};
 pub use faults::{StepFault, deviceless};
-pub use halves::{Outcome, answer_unit, begin_unit, drop_unit, run_unit};
 pub use laws::outcomes_unfold;
 pub use ordered::OrderedProject;
 pub use pb_run_flight::{First, Flight, Jobs, Last, Pick, Step, Turn};
-pub use ran::{Judgement, Ran};
+pub use ran::{Ran, Validated};
+pub use unit_steps::{Outcome, answer_unit, begin_unit, drop_unit, run_unit};

@@ -1,7 +1,7 @@
 //! A project that is in order.
 
-use pb_data::Text;
 use pb_command_types::Project;
+use pb_data::Text;
 use pb_unit::Planned;
 use std::marker::Model;
 
@@ -14,7 +14,7 @@ pub struct OrderedProject {
 
 impl Model for OrderedProject {
     ghost use Rattle.pb_command_types.specs.declared.project.Project.{Project};
-    ghost use Rattle.pb_run.specs.Standing.{IsInOrder};
+    ghost use Rattle.pb_run.specs.Invariants.{IsInOrder};
 
     ghost Value = { Project };
 
@@ -25,7 +25,7 @@ impl Model for OrderedProject {
 
 impl OrderedProject {
     ghost use Rattle.std.specs.Prelude.{◌≡◌};
-    ghost use Rattle.pb_run.specs.Standing.{IsInOrder};
+    ghost use Rattle.pb_run.specs.Invariants.{IsInOrder};
 
     /// Returns the project as one that is in order.
     pub fn new(project: Project) -> OrderedProject

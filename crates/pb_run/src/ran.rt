@@ -2,21 +2,21 @@
 
 ghost use Rattle.std.specs.Prelude.{◌≡◌, ◌≢◌, IfOk, IsTrue, Result, Ok, Err, true};
 ghost use Rattle.pb_command_reply.specs.Answers.{answered_of};
-ghost use Rattle.pb_command_types.specs.declared.answer.Answered.{Answered};
+ghost use Rattle.pb_command_types.specs.declared.checked_reply.CheckedReply.{CheckedReply};
 ghost use Rattle.pb_command_types.specs.declared.fault.UnitFault.TheVariants as unit_fault;
 ghost use Rattle.std.specs.FinMap as finite;
 ghost use Rattle.pb_run.specs.Outcome.{judgement_by, outcome_by, directives_in};
 
 use pb_build_result::BadUnit;
 use pb_command::answered_at;
+use pb_command_types::{CheckedReply, Project, UnitFault};
 use pb_data::{Bytes, Items};
 use pb_directive::Directives;
 use pb_message::Message;
+use pb_message_units::{bad_messages, good_messages, said_by};
 use pb_place_types::{Command, Ended, Place};
-use pb_command_types::{Answered, Project, UnitFault};
 use pb_record::InputName;
 use pb_unit::Planned;
-use pb_message_units::{bad_messages, good_messages, said_by};
 use std::alloc::{AllocError, Global};
 
 /// What came of a unit.
@@ -34,7 +34,7 @@ pub struct Ran {
 
 /// The judgement of the answer of a unit's child.
 #[derive(Drop)]
-pub struct Judgement {
+pub struct Validated {
     /// What came of the unit.
     pub ran: Ran,
     /// The inputs found in its answer; none if it is bad.
@@ -47,14 +47,14 @@ fn good(
     project: &Project,
     unit: &Planned,
     ended: &Ended,
-    answered: Answered,
-) -> Result<Judgement, AllocError>
+    answered: CheckedReply,
+) -> Result<Validated, AllocError>
     ensures judged { IfOk result (λ judgement.
         judgement ≡ judgement_by project.now unit.now ended.now (Ok answered)) }
 {
-    let Answered { directives, inputs } = answered;
+    let CheckedReply { directives, inputs } = answered;
     let messages = good_messages(alloc, project, unit, &ended.stderr, &directives)?;
-    Ok(Judgement {
+    Ok(Validated {
         ran: Ran {
             started: true,
             bad: None,
@@ -72,13 +72,13 @@ fn bad(
     unit: &Planned,
     ended: &Ended,
     fault: UnitFault,
-) -> Result<Judgement, AllocError>
+) -> Result<Validated, AllocError>
     ensures judged { IfOk result (λ judgement.
         judgement ≡ judgement_by project.now unit.now ended.now (Err fault)) }
 {
     let messages = bad_messages(alloc, &unit.unit.what, &fault, ended)?;
     let said = said_by(alloc, &unit.unit.what, &fault, ended)?;
-    Ok(Judgement {
+    Ok(Validated {
         ran: Ran {
             started: true,
             bad: Some(BadUnit { fault, said }),
@@ -101,8 +101,8 @@ pub fn judged<P: Place>(
     command: &Command,
     ended: &Ended,
     dep_info: &Option<Bytes>,
-) -> Result<Judgement, AllocError>
-    ensures judged { IsTrue P.tells → IfOk result (λ judgement. judgement ≡ judgement_by
+) -> Result<Validated, AllocError>
+    ensures judged { IsTrue P.is_modelled → IfOk result (λ judgement. judgement ≡ judgement_by
         project.now unit.now ended.now (answered_of project.now unit.now command.now ended.now
         dep_info.now)) }
     ensures started { IfOk result (λ judgement. judgement.ran.started ≡ true) }

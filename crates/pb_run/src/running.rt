@@ -19,7 +19,7 @@ pub(crate) fn empty<P: Place>(
     place: &mut P,
     folder: &PathText,
 ) -> Result<(), StepFault>
-    ensures ok { IsTrue P.tells →
+    ensures ok { IsTrue P.is_modelled →
         OnOk result ((P.at place.new).world ≡ removed folder.now (P.at place.old).world) }
     ensures changes { StepChanges (is_at_or_below folder.now) MayRemove result
         (P.at place.old) (P.at place.new) }
@@ -39,7 +39,7 @@ pub(crate) fn read_at<P: Place>(
     place: &mut P,
     path: &Option<PathText>,
 ) -> Result<Option<Bytes>, StepFault>
-    ensures ok { IsTrue P.tells →
+    ensures ok { IsTrue P.is_modelled →
         IfOk result (λ found. found ≡ file_at path.now (P.at place.old).world.files) }
     ensures quiet { StepLooks MayFollow result (P.at place.old) (P.at place.new) }
     ensures calls { StepMakes result (dep_info_looked path.now) (P.at place.old).counts

@@ -9,13 +9,13 @@ ghost use Rattle.pb_run_flight.specs.Steps.{Flies, Anyhow, HandsBack};
 ghost use Rattle.pb_run_flight.specs.Table.{Table, is_finished, ready_of, begun, answered, fresh, count_due};
 ghost use Rattle.pb_run_flight.specs.Working.{weight_of};
 
-use crate::crew::Crew;
+use crate::executor::Executor;
 use crate::flight::{Answer, Flight};
 use crate::turn::{Step, Turn};
 use std::alloc::Global;
 
 /// Begins a unit that may begin.
-fn begin_one<P, O, F: Drop, E, C: Crew<P, O, F, E>>(
+fn begin_one<P, O, F: Drop, E, C: Executor<P, O, F, E>>(
     alloc: Global,
     crew: &mut C,
     place: &mut P,
@@ -58,7 +58,7 @@ fn begin_one<P, O, F: Drop, E, C: Crew<P, O, F, E>>(
 }
 
 /// Hands out the lines that the last answer made due.
-fn tell<P, O, F: Drop, E, C: Crew<P, O, F, E>>(
+fn tell<P, O, F: Drop, E, C: Executor<P, O, F, E>>(
     alloc: Global,
     crew: &mut C,
     place: &mut P,
@@ -99,7 +99,7 @@ fn tell<P, O, F: Drop, E, C: Crew<P, O, F, E>>(
 
 /// Takes the answer of the unit at an index of those in flight,
 /// and hands out the lines that are then due.
-fn answer_one<P, O, F: Drop, E, C: Crew<P, O, F, E>>(
+fn answer_one<P, O, F: Drop, E, C: Executor<P, O, F, E>>(
     alloc: Global,
     crew: &mut C,
     place: &mut P,
@@ -158,7 +158,7 @@ fn answer_one<P, O, F: Drop, E, C: Crew<P, O, F, E>>(
 }
 
 /// One step: what the turn says.
-fn step<P, O, F: Drop, E, C: Crew<P, O, F, E>, T: Turn>(
+fn step<P, O, F: Drop, E, C: Executor<P, O, F, E>, T: Turn>(
     alloc: Global,
     crew: &mut C,
     place: &mut P,
@@ -228,7 +228,7 @@ fn step<P, O, F: Drop, E, C: Crew<P, O, F, E>, T: Turn>(
 /// all units have answered, or all up to and including the first bad one. Units later than
 /// the first bad one may be in flight at the end, and after a fault any may be. Once all
 /// these units have answered, no answer is taken; after a fault the turn is not asked again.
-pub fn drive<P, O, F: Drop, E, C: Crew<P, O, F, E>, T: Turn>(
+pub fn drive<P, O, F: Drop, E, C: Executor<P, O, F, E>, T: Turn>(
     alloc: Global,
     crew: &mut C,
     place: &mut P,

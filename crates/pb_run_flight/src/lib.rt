@@ -3,14 +3,14 @@
 //! number, and what it answers is a fault, if there is one, and bytes.
 #![tactic(auto)]
 
-mod crew;
 mod driving;
+mod executor;
 pub mod flight;
 pub mod laws;
 mod needs;
 pub mod turn;
 
-pub use crew::Crew;
 pub use driving::drive;
+pub use executor::Executor;
 pub use flight::{Answer, Flight, State};
 pub use turn::{First, Jobs, Last, Pick, Step, Turn};

@@ -12,7 +12,7 @@ use Rattle.pb_place_types.specs.World.{World, Map}
 use Rattle.pb_place_types.specs.declared.command.Command as commands
 use Rattle.pb_record.proofs.CommandLemmas.{same_asked, texts_same}
 use Rattle.pb_record.specs.Commands.{command_of}
-use Rattle.pb_record.specs.declared.asked.Asked.{Asked}
+use Rattle.pb_record.specs.declared.recorded_command.RecordedCommand.{RecordedCommand}
 use Rattle.pb_record.specs.declared.record.Input.{Input}
 use Rattle.pb_record.specs.declared.record.Input.TheVariants.{File, Tree, Value}
 use Rattle.pb_store_soundness.specs.Inputs.{contents, input_in, name_of}
@@ -59,17 +59,17 @@ has_files_decides folder files need = Decides-and _ _ (true_decides (is_relative
 
 -- a command
 
-abbrev SameAll : Asked → commands.Command → Type 0
+abbrev SameAll : RecordedCommand → commands.Command → Type 0
 SameAll a c = (a.program ≡ c.program) × ((a.words ≡ c.words) × ((a.folder ≡ c.folder) × ((Some a.out ≡ c.out) × ((a.target ≡ c.target) × ((a.toolchain ≡ c.toolchain) × ((a.reads ≡ c.reads) × (a.pairs ≡ c.pairs)))))))
 
-all_asked : (a : Asked) (c : commands.Command) → SameAll a c → command_of a ≡ c
+all_asked : (a : RecordedCommand) (c : commands.Command) → SameAll a c → command_of a ≡ c
 all_asked a c (program, (words, (folder, (out, (target, (toolchain, (reads, pairs))))))) =
     same_asked a c record { program = program; words = words; folder = folder; out = out; target = target; toolchain = toolchain; reads = reads } pairs
 
-asked_all : (a : Asked) (c : commands.Command) → command_of a ≡ c → SameAll a c
+asked_all : (a : RecordedCommand) (c : commands.Command) → command_of a ≡ c → SameAll a c
 asked_all a c same = let asks = asks_of a c same in (asks.program, (asks.words, (asks.folder, (asks.out, (asks.target, (asks.toolchain, (asks.reads, sets_of a c same)))))))
 
-pub asked_decides : (a : Asked) (c : commands.Command) → Decides (is_asked a c) (command_of a ≡ c)
+pub asked_decides : (a : RecordedCommand) (c : commands.Command) → Decides (is_asked a c) (command_of a ≡ c)
 unfolding is_asked
 asked_decides a c = Decides-like _ (all_asked a c) (asked_all a c)
     (Decides-and _ _ (bytes_eq-Decides a.program c.program) (Decides-and _ _ (texts_decide a.words c.words) (Decides-and _ _ (bytes_eq-Decides a.folder c.folder) (Decides-and _ _ (text_decides (Some a.out) c.out)

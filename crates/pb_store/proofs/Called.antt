@@ -79,17 +79,17 @@ reads_one paths path (open_fault.Place at fault) there (read, has, named) = elim
 ]
 reads_one paths path open_fault.OutOfMemory there told = tt
 
-lists : (tells : Bool) (folder : List ℕ) (w : World) (fault : PlaceFault) → (fault ≢ place.OutOfMemory → fault ≡ place.List) → OpensBy tells folder w (opened folder fault)
-lists tells folder w place.Read is = inl (is (λ e. cc), refl)
-lists tells folder w place.List is = inl (refl, refl)
-lists tells folder w place.Write is = inl (is (λ e. cc), refl)
-lists tells folder w place.Remove is = inl (is (λ e. cc), refl)
-lists tells folder w place.Variable is = inl (is (λ e. cc), refl)
-lists tells folder w place.OutOfMemory is = tt
+lists : (is_modelled : Bool) (folder : List ℕ) (w : World) (fault : PlaceFault) → (fault ≢ place.OutOfMemory → fault ≡ place.List) → OpensBy is_modelled folder w (opened folder fault)
+lists is_modelled folder w place.Read is = inl (is (λ e. cc), refl)
+lists is_modelled folder w place.List is = inl (refl, refl)
+lists is_modelled folder w place.Write is = inl (is (λ e. cc), refl)
+lists is_modelled folder w place.Remove is = inl (is (λ e. cc), refl)
+lists is_modelled folder w place.Variable is = inl (is (λ e. cc), refl)
+lists is_modelled folder w place.OutOfMemory is = tt
 
-pub opens_by_listing : (tells : Bool) (folder : List ℕ) (w : World) (fault : PlaceFault) (e : OpenFault) → e ≡ opened folder fault → (fault ≢ place.OutOfMemory → fault ≡ place.List) → OpensBy tells folder w e
-opens_by_listing tells folder w fault e told is = subst (OpensBy tells folder w) (sym told) (lists tells folder w fault is)
+pub opens_by_listing : (is_modelled : Bool) (folder : List ℕ) (w : World) (fault : PlaceFault) (e : OpenFault) → e ≡ opened folder fault → (fault ≢ place.OutOfMemory → fault ≡ place.List) → OpensBy is_modelled folder w e
+opens_by_listing is_modelled folder w fault e told is = subst (OpensBy is_modelled folder w) (sym told) (lists is_modelled folder w fault is)
 
-pub opens_by_reading : (tells : Bool) (folder : List ℕ) (w : World) (paths : List (List ℕ)) (e : OpenFault) → (IsTrue tells → paths ≡ listed_directly folder w) → ReadsOneOf paths e → OpensBy tells folder w e
-opens_by_reading tells folder w paths (open_fault.Place at fault) are (read, there, named) = inr (read, named, λ told. subst (λ ps. Contains ps at) (are told) there)
-opens_by_reading tells folder w paths open_fault.OutOfMemory are told = tt
+pub opens_by_reading : (is_modelled : Bool) (folder : List ℕ) (w : World) (paths : List (List ℕ)) (e : OpenFault) → (IsTrue is_modelled → paths ≡ listed_directly folder w) → ReadsOneOf paths e → OpensBy is_modelled folder w e
+opens_by_reading is_modelled folder w paths (open_fault.Place at fault) are (read, there, named) = inr (read, named, λ told. subst (λ ps. Contains ps at) (are told) there)
+opens_by_reading is_modelled folder w paths open_fault.OutOfMemory are told = tt

@@ -10,10 +10,10 @@ use Rattle.pb_record.specs.declared.record.InputName.{InputName}
 use Rattle.pb_record.specs.declared.record.InputName.TheVariants.{Path, Variable}
 use Rattle.pb_record.specs.Commands.{asked_in, asked_with, command_of, of_parts}
 use Rattle.pb_record.specs.Sorted.{are_sorted}
-use Rattle.pb_record.specs.declared.asked.Asked.{Asked}
+use Rattle.pb_record.specs.declared.recorded_command.RecordedCommand.{RecordedCommand}
 use Rattle.pb_record.specs.declared.record.Input.{Input}
 use Rattle.pb_record.specs.declared.record.Record.{Record}
-use Rattle.pb_store_soundness.specs.Grounded.{Standing}
+use Rattle.pb_store_soundness.specs.Grounded.{RecordMap}
 use Rattle.pb_store_soundness.specs.Inputs.{Judge, Agrees, IsHonest, input_in, name_of, path_input, reply_in}
 use Rattle.pb_store_soundness.specs.Laws.{Unnamed}
 use Rattle.pb_store_soundness.specs.Numbers.{NoneNames, IsBefore, NamesBefore}
@@ -49,7 +49,7 @@ map_contains f (y ∷ xs) v h = elim (contains_cases (f y) (map f xs) v h) [
 pair_is : (p q : List ℕ × ℕ) → p ≡ q → (p.0 ≡ q.0) × (p.1 ≡ q.1)
 pair_is p q e = (ap (λ (x : List ℕ × ℕ). x.0) e, ap (λ (x : List ℕ × ℕ). x.1) e)
 
-module _ (at : Standing) (folder : List ℕ) (needs : List (List ℕ)) (r : Record) (number : ℕ) (has : HasNeeds at folder r.asked.reads needs number) (same : needs_of r ≡ numbered at needs) where
+module _ (at : RecordMap) (folder : List ℕ) (needs : List (List ℕ)) (r : Record) (number : ℕ) (has : HasNeeds at folder r.asked.reads needs number) (same : needs_of r ≡ numbered at needs) where
   named_of : (need : List ℕ) (n : ℕ) → Contains (needs_of r) (need, n) → Contains needs need × (or_zero (number_if (at need)) ≡ n)
   named_of need n names =
       let (k, there, pair) = map_contains (λ (x : List ℕ). (x, or_zero (number_if (at x)))) needs (need, n) (subst (λ (l : List (List ℕ × ℕ)). Contains l (need, n)) same names) in
@@ -81,7 +81,7 @@ module _ (at : Standing) (folder : List ℕ) (needs : List (List ℕ)) (r : Reco
       from_named f (own need n names is) = itself need (named_of need n names).0 is
       from_named f (beyond need n s names at_s more) = further need s (named_of need n names).0 at_s more
 
-pub unnamed_of : (at : Standing) (key : List ℕ) (number : ℕ) → NoneNames at number → Unnamed at key number
+pub unnamed_of : (at : RecordMap) (key : List ℕ) (number : ℕ) → NoneNames at number → Unnamed at key number
 unnamed_of at key number none other r there has = (none other r there).1 key has
 
 -- what a command asks
@@ -91,16 +91,16 @@ asked_by c out here b there is sorted = ap (asked_with c) there ∙ ap (λ x. co
 asked_is : (c : Command) (out : List ℕ) → c.out ≡ Some out → are_sorted c.pairs ≡ true → asked_in c ≡ Some (of_parts c out)
 asked_is c out there sorted = asked_by c out c.out (are_sorted c.pairs) there refl sorted
 
-pub asked_some : (c passed : Command) (out : List ℕ) (found : Option Asked) (a : Asked) → found ≡ asked_in passed → passed ≡ c → found ≡ Some a → c.out ≡ Some out → are_sorted c.pairs ≡ true → a ≡ of_parts c out
+pub asked_some : (c passed : Command) (out : List ℕ) (found : Option RecordedCommand) (a : RecordedCommand) → found ≡ asked_in passed → passed ≡ c → found ≡ Some a → c.out ≡ Some out → are_sorted c.pairs ≡ true → a ≡ of_parts c out
 asked_some c passed out found a is given some there sorted = some_same a (of_parts c out) (sym some ∙ is ∙ ap asked_in given ∙ asked_is c out there sorted)
   where
-    some_same : (x y : Asked) → Some x ≡ Some y → x ≡ y
+    some_same : (x y : RecordedCommand) → Some x ≡ Some y → x ≡ y
     some_same x y e = cc
 
-pub asked_none : (c passed : Command) (out : List ℕ) (found : Option Asked) → found ≡ asked_in passed → passed ≡ c → found ≡ None → c.out ≡ Some out → are_sorted c.pairs ≡ true → ⊥
+pub asked_none : (c passed : Command) (out : List ℕ) (found : Option RecordedCommand) → found ≡ asked_in passed → passed ≡ c → found ≡ None → c.out ≡ Some out → are_sorted c.pairs ≡ true → ⊥
 asked_none c passed out found is given none there sorted = none_same (of_parts c out) (sym none ∙ is ∙ ap asked_in given ∙ asked_is c out there sorted)
   where
-    none_same : (x : Asked) → None ≡ Some x → ⊥
+    none_same : (x : RecordedCommand) → None ≡ Some x → ⊥
     none_same x e = cc
 
 pub ruleset asked_laws = (asked_some, asked_none)
@@ -162,7 +162,7 @@ pub before_less : (next : Option ℕ) (n number : ℕ) → n < number → IsBefo
 before_less None n number less before = tt
 before_less (Some m) n number less before = omega (arith, less, before)
 
-pub kept_before : (at : Standing) (folder key : List ℕ) (next : Option ℕ) (c : Command) (inputs : List Input) (number : ℕ) (needs : List (List ℕ)) (ended : Ended) (r : Record)
+pub kept_before : (at : RecordMap) (folder key : List ℕ) (next : Option ℕ) (c : Command) (inputs : List Input) (number : ℕ) (needs : List (List ℕ)) (ended : Ended) (r : Record)
     → IsBefore next number → HasNeeds at folder c.reads needs number → r ≡ kept_of folder key c inputs number (numbered at needs) ended → NamesBefore next r
 kept_before at folder key next c inputs number needs ended r before has kept =
     subst (NamesBefore next) (sym kept) record {

@@ -13,7 +13,7 @@ use Rattle.pb_place_types.specs.declared.command.Command.{Command}
 use Rattle.pb_record.specs.declared.record.Needed.{Needed}
 use Rattle.pb_record.specs.declared.record.Needed.TheVariants.{Copies, Numbers}
 use Rattle.pb_record.specs.declared.record.Record.{Record}
-use Rattle.pb_store_soundness.specs.Grounded.{Standing}
+use Rattle.pb_store_soundness.specs.Grounded.{RecordMap}
 use Rattle.pb_store_soundness.specs.Records.{record_at, records}
 use Rattle.pb_store_soundness.specs.Reuse.{IsSame, NeededNow}
 use Rattle.pb_store.specs.Differences.{IsFirst, AreNeeded, HasFiles, HasNumber, FirstFrom, FirstOf, same_files}
@@ -48,7 +48,7 @@ all_contained P [] all x (k, within, at) = absurd (omega (arith, within))
 all_contained P (y ∷ xs) (here, all) x (zero, within, at) = subst P at here
 all_contained P (y ∷ xs) (here, all) x (suc k, within, at) = all_contained P xs all x (k, omega (arith, within), at)
 
-needed_now : (folder : List ℕ) (at : Standing) (w : World) (needed : Needed) → AreNeeded folder at w.files needed → NeededNow folder at w.files needed
+needed_now : (folder : List ℕ) (at : RecordMap) (w : World) (needed : Needed) → AreNeeded folder at w.files needed → NeededNow folder at w.files needed
 needed_now folder at w (Copies copies) all = λ need files there. (all_contained (HasFiles folder w.files) copies all (need, files) there).1
 needed_now folder at w (Numbers number needs) all = λ need n there. all_contained (HasNumber at) needs all (need, n) there
 
@@ -57,7 +57,7 @@ none_is_same folder key c w None is told = cc
 none_is_same folder key c w (Some r) is told = (r, record { stands = is; asked = told.asked; inputs = told.inputs; needed = needed_now folder (records folder w) w r.needed told.needed })
 
 -- what is told of the record there, by the records of needed units
-module _ (folder key : List ℕ) (at : Standing) (c : Command) (w : World) (found : Option Record) (is : found ≡ record_at reading folder w.files key) where
+module _ (folder key : List ℕ) (at : RecordMap) (c : Command) (w : World) (found : Option Record) (is : found ≡ record_at reading folder w.files key) where
   pub none_there : found ≡ None → FirstOf folder at c w (record_at reading folder w.files key) (Some NoRecord)
   none_there none = subst (λ o. FirstOf folder at c w o (Some NoRecord)) (sym none ∙ is) refl
 
@@ -80,14 +80,14 @@ module _ {V A B : Type 0} (Holds : V → A → Type 0) (told : A → B) (old mid
       (all_push (take i row) all (subst (λ w. Holds w here) same (test.0 passes)))
 
   pub one_fails : (b : Bool) (said : B) → AllByRecursion (Holds old) (take i row) → Decides b (Holds mid here) → b ≡ false → said ≡ told here → IsFirst (Holds old) told row said
-  one_fails b said all test wrong tells = record {
+  one_fails b said all test wrong is_modelled = record {
     before = take i row;
     here = here;
     after = drop (i + 1) row;
     place = sym (take-append-drop i row) ∙ ap (λ rest. take i row ++ rest) (drop_more row i here within ∙ ap (λ x. x ∷ drop (i + 1) row) (sym is));
     hold = all;
     fails = λ holds. let passes = test.1 (subst (λ w. Holds w here) (sym same) holds) in cc;
-    tells = tells;
+    is_modelled = is_modelled;
   }
 
 -- the first of a row whose items are copied out
@@ -101,5 +101,5 @@ module _ {A : Type 0} (Holds : A → Type 0) (row : List A) (i : ℕ) (first : A
     place = sym (take-append-drop i row) ∙ ap (λ rest. take i row ++ rest) (drop_more row i (get_or row i first) within ∙ ap (λ x. x ∷ drop (i + 1) row) (get_or_default row i (get_or row i first) first within));
     hold = all;
     fails = λ holds. let passes = test.1 holds in cc;
-    tells = refl;
+    is_modelled = refl;
   }

@@ -16,8 +16,8 @@ use Rattle.pb_record.proofs.ReadingLemmas.{reading}
 use Rattle.pb_record.specs.declared.record.Needed.{Needed}
 use Rattle.pb_record.specs.declared.record.Needed.TheVariants.{Numbers}
 use Rattle.pb_record.specs.declared.record.Record.{Record}
-use Rattle.pb_store_soundness.specs.Grounded.{Standing}
-use Rattle.pb_store_soundness.specs.Records.{Reading, ends_as_record, if_of_key, is_key, number_of, place_of, read_text, record_at}
+use Rattle.pb_store_soundness.specs.Grounded.{RecordMap}
+use Rattle.pb_store_soundness.specs.Records.{RecordParser, ends_as_record, if_of_key, is_key, number_of, place_of, read_text, record_at}
 use Rattle.pb_store_soundness.specs.Reuse.{number_if}
 use Rattle.pb_store_soundness.proofs.Places.{is_same, no_key, one_key, places_differ, record_same, text_at}
 use Rattle.pb_store.specs.Differences.{AreNeeded, FirstNeed, FirstOrAll, HasNumber, IsFirst}
@@ -27,7 +27,7 @@ use Rattle.pb_store.proofs.Ahead.{place_ends, place_listed}
 use Rattle.pb_store.proofs.Earned.{contains_cases, contains_none}
 
 -- The numbers that are held stand for the records of needed units.
-module _ (at : Standing) (numbers : List (List ℕ × Option ℕ)) (holds : HasNumbers at numbers) where
+module _ (at : RecordMap) (numbers : List (List ℕ × Option ℕ)) (holds : HasNumbers at numbers) where
   has_from : (need : List ℕ × ℕ) → IsHeld numbers need → HasNumber at need
   has_from need held = sym (holds need.0) ∙ held
 
@@ -43,7 +43,7 @@ module _ (at : Standing) (numbers : List (List ℕ × Option ℕ)) (holds : HasN
     place = first.place;
     hold = all_from first.before first.hold;
     fails = λ has. first.fails (holds first.here.0 ∙ has);
-    tells = first.tells;
+    is_modelled = first.is_modelled;
   }
 
   told_from : (needs : List (List ℕ × ℕ)) (number : ℕ) (folder : List ℕ) (files : Map) (found : Option (List ℕ)) → FirstOrAll (IsHeld numbers) needs found → MatchOption found (AreNeeded folder at files (Numbers number needs)) (FirstNeed folder at files (Numbers number needs))
@@ -89,7 +89,7 @@ pub noted_so : (numbers later : List (List ℕ × Option ℕ)) (text key : List 
 noted_so numbers later text key n is noted = noted ∙ ap (λ k. with_entry numbers k n) is
 
 -- Where only the place of a record changes, and what stands there has this number.
-module _ (read : Reading) (folder key : List ℕ) (is : is_key key ≡ true) where
+module _ (read : RecordParser) (folder key : List ℕ) (is : is_key key ≡ true) where
   stays : (old new : Map) (l : List ℕ) → AgreeBut (is_at_or_below (place_of folder key)) old new → key ≢ l → record_at read folder new l ≡ record_at read folder old l
   stays old new l only apart = elim (cases_Bool (is_key l)) [
     | inl is_l ↦ record_same read folder old new l (only _ (places_differ folder key l is is_l apart))

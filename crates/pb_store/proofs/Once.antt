@@ -5,12 +5,12 @@ use Rattle.pb_place_types.specs.Paths.{is_relative}
 use Rattle.pb_place_types.specs.World.{World, Map}
 use Rattle.pb_place_types.specs.declared.command.Command as commands
 use Rattle.pb_record.specs.Commands.{AsksAs, command_of}
-use Rattle.pb_record.specs.declared.asked.Asked.{Asked}
+use Rattle.pb_record.specs.declared.recorded_command.RecordedCommand.{RecordedCommand}
 use Rattle.pb_record.specs.declared.record.Needed.{Needed}
 use Rattle.pb_record.specs.declared.record.Needed.TheVariants.{Copies, Numbers}
 use Rattle.pb_record.specs.declared.record.Record.{Record}
 use Rattle.pb_record.proofs.ReadingLemmas.{reading}
-use Rattle.pb_store_soundness.specs.Grounded.{Standing}
+use Rattle.pb_store_soundness.specs.Grounded.{RecordMap}
 use Rattle.pb_store_soundness.specs.Inputs.{name_of}
 use Rattle.pb_store_soundness.specs.Records.{records}
 use Rattle.pb_store_soundness.specs.Reuse.{IsSame, NeededNow}
@@ -52,7 +52,7 @@ module _ {A B : Type 0} (Holds : A → Type 0) (told : A → B) where
 
 -- the command that was asked asks the same
 
-pub asks_of : (a : Asked) (c : commands.Command) → command_of a ≡ c → AsksAs a c
+pub asks_of : (a : RecordedCommand) (c : commands.Command) → command_of a ≡ c → AsksAs a c
 asks_of a c same = record {
   program = ap (λ (d : commands.Command). d.program) same;
   words = ap (λ (d : commands.Command). d.words) same;
@@ -63,21 +63,21 @@ asks_of a c same = record {
   reads = ap (λ (d : commands.Command). d.reads) same;
 }
 
-pub sets_of : (a : Asked) (c : commands.Command) → command_of a ≡ c → a.pairs ≡ c.pairs
+pub sets_of : (a : RecordedCommand) (c : commands.Command) → command_of a ≡ c → a.pairs ≡ c.pairs
 sets_of a c same = ap (λ (d : commands.Command). d.pairs) same
 
-asks_all : (a : Asked) (c : commands.Command) → AsksAs a c → AllByRecursion (SamePart a c) parts
+asks_all : (a : RecordedCommand) (c : commands.Command) → AsksAs a c → AllByRecursion (SamePart a c) parts
 asks_all a c asks = (asks.program, (asks.words, (asks.folder, (asks.out, (asks.target, (asks.toolchain, (asks.reads, tt)))))))
 
-pub part_apart : (a : Asked) (c : commands.Command) (part : CommandPart) → AsksAs a c → IsFirst (SamePart a c) (λ p. p) parts part → ⊥
+pub part_apart : (a : RecordedCommand) (c : commands.Command) (part : CommandPart) → AsksAs a c → IsFirst (SamePart a c) (λ p. p) parts part → ⊥
 part_apart a c part asks first = none_fails (SamePart a c) (λ p. p) parts part (asks_all a c asks) first
 
-pub name_apart : (a : Asked) (c : commands.Command) (name : List ℕ) → command_of a ≡ c → IsFirstName a.pairs c.pairs name → ⊥
+pub name_apart : (a : RecordedCommand) (c : commands.Command) (name : List ℕ) → command_of a ≡ c → IsFirstName a.pairs c.pairs name → ⊥
 name_apart a c name same first = names_apart a.pairs c.pairs name first (sets_of a c same)
 
 -- what is told of a record is one
 
-module _ (folder : List ℕ) (at : Standing) (c : commands.Command) (w : World) where
+module _ (folder : List ℕ) (at : RecordMap) (c : commands.Command) (w : World) where
   need_fails : (needed : Needed) (need : List ℕ) → AreNeeded folder at w.files needed → FirstNeed folder at w.files needed need → ⊥
   need_fails (Copies copies) need all first = none_fails (HasFiles folder w.files) (λ x. x.0) copies need all first
   need_fails (Numbers number needs) need all first = none_fails (HasNumber at) (λ x. x.0) needs need all first
@@ -139,7 +139,7 @@ each_of : {A : Type 0} (P : A → Type 0) (xs : List A) → ((x : A) → Contain
 each_of P [] is = tt
 each_of P (x ∷ xs) is = (is x (contains_head x xs), each_of P xs (λ y there. is y (contains_tail x xs y there)))
 
-needed_still : (folder : List ℕ) (at : Standing) (files : Map) (needed : Needed) → NamesPaths needed → NeededNow folder at files needed → AreNeeded folder at files needed
+needed_still : (folder : List ℕ) (at : RecordMap) (files : Map) (needed : Needed) → NamesPaths needed → NeededNow folder at files needed → AreNeeded folder at files needed
 needed_still folder at files (Copies copies) named now = all_of (λ c. is_relative c.0 ≡ true) (HasFiles folder files) copies (λ c there relative. (relative, now c.0 c.1 there)) named
 needed_still folder at files (Numbers number needs) named now = each_of (HasNumber at) needs (λ n there. now n.0 n.1 there)
 

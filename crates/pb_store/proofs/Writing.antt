@@ -15,10 +15,10 @@ use Rattle.pb_place_types.proofs.Worlds.{written-read, removed-read}
 use Rattle.pb_record.specs.declared.record.Record.{Record}
 use Rattle.pb_record.specs.Parts.{Reads, Says, IsReading}
 use Rattle.pb_record.proofs.LawLemmas.{one_reading, first_parts}
-use Rattle.pb_store_soundness.specs.Grounded.{Standing}
+use Rattle.pb_store_soundness.specs.Grounded.{RecordMap}
 use Rattle.pb_store_soundness.specs.Numbers.{IsAhead, NamesBefore, after}
 use Rattle.pb_store_soundness.specs.Inputs.{Judge}
-use Rattle.pb_store_soundness.specs.Records.{Reading, is_key, out_of, place_of, record_at, read_text, if_of_key}
+use Rattle.pb_store_soundness.specs.Records.{RecordParser, is_key, out_of, place_of, record_at, read_text, if_of_key}
 use Rattle.pb_store_soundness.specs.Sound.{Sound, IsTrueRecord}
 use Rattle.pb_store_soundness.specs.Laws.{Became, stays}
 use Rattle.pb_store.specs.Folder.{Leaves, MayPut}
@@ -34,21 +34,21 @@ record_relative key is =
     ap (list_all is_name) (parts_lone (key ++ codes ".record") (record_plain key (key_facts key is).plain)) ∙ ap (λ b. b && true) (record_named key (key_facts key is).named)
 
 -- what is read of a text is its reading
-pub read_as : (read : Reading) (text : List ℕ) (found : Option Record) → IsReading read → Reads text found → found ≡ read text
+pub read_as : (read : RecordParser) (text : List ℕ) (found : Option Record) → IsReading read → Reads text found → found ≡ read text
 read_as read text found is reads = one_reading text found (read text) reads (is text)
 
-pub read_as_some : (read : Reading) (o : Option (List ℕ)) (text passed : List ℕ) (found : Option Record) → IsReading read → o ≡ Some text → passed ≡ text → Reads passed found → found ≡ read_text read o
+pub read_as_some : (read : RecordParser) (o : Option (List ℕ)) (text passed : List ℕ) (found : Option Record) → IsReading read → o ≡ Some text → passed ≡ text → Reads passed found → found ≡ read_text read o
 read_as_some read o text passed found is there given reads = read_as read passed found is reads ∙ ap read given ∙ sym (ap (read_text read) there)
 
 -- the text of a record is read as it, and a first part of it as nothing else
-pub says_read : (read : Reading) (text : List ℕ) (r : Record) → IsReading read → Says text r → read text ≡ Some r
+pub says_read : (read : RecordParser) (text : List ℕ) (r : Record) → IsReading read → Says text r → read text ≡ Some r
 says_read read text r is says = (is text r).1 says
 
 part_short : (text : List ℕ) (r s : Record) (n : ℕ) → Says text r → n < length text → Says (take n text) s → ⊥
 part_short text r s n says less part =
     first_parts n r s (subst (λ t. n < length t) says.same less) (subst (λ t. Says (take n t) s) says.same part)
 
-pub says_parts : (read : Reading) (text : List ℕ) (r : Record) → IsReading read → Says text r → (n : ℕ) (s : Record) → read (take n text) ≡ Some s → s ≡ r
+pub says_parts : (read : RecordParser) (text : List ℕ) (r : Record) → IsReading read → Says text r → (n : ℕ) (s : Record) → read (take n text) ≡ Some s → s ≡ r
 says_parts read text r is says n s reads = elim (cases_lt n (length text)) [
   | inl less ↦ absurd (part_short text r s n says less ((is (take n text) s).0 reads))
   | inr whole ↦ one s r (sym reads ∙ ap read (take_all n text whole) ∙ says_read read text r is says)
@@ -58,7 +58,7 @@ says_parts read text r is says n s reads = elim (cases_lt n (length text)) [
 of_key : (key : List ℕ) (r : Record) → r.key ≡ key → if_of_key key (Some r) ≡ Some r
 of_key key r same = ap (λ b. cond b (Some r) None) ((bytes_eq-Decides r.key key).1 same)
 
-module _ (read : Reading) (folder : List ℕ) where
+module _ (read : RecordParser) (folder : List ℕ) where
   pub read_there : (m : Map) (key text : List ℕ) (r : Record) → is_key key ≡ true → get m (place_of folder key) ≡ Some text → read text ≡ Some r → r.key ≡ key → record_at read folder m key ≡ Some r
   read_there m key text r is at reads same = text_at read folder m key (Some text) is at ∙ ap (if_of_key key) reads ∙ of_key key r same
 
@@ -68,7 +68,7 @@ module _ (read : Reading) (folder : List ℕ) where
   pub unread_there : (m : Map) (key text : List ℕ) → is_key key ≡ true → get m (place_of folder key) ≡ Some text → read text ≡ None → record_at read folder m key ≡ None
   unread_there m key text is at reads = text_at read folder m key (Some text) is at ∙ ap (if_of_key key) reads
 
-module _ (read : Reading) (folder key : List ℕ) (next : Option ℕ) (path : is_path folder ≡ true) (is : is_key key ≡ true) where
+module _ (read : RecordParser) (folder key : List ℕ) (next : Option ℕ) (path : is_path folder ≡ true) (is : is_key key ≡ true) where
   -- where only a record's place changes, and the record there is gone, as it was, or names only numbers below the next one
   pub place_ahead : (old new : Map) → AgreeBut (is_at_or_below (place_of folder key)) old new
       → (record_at read folder new key ≡ None) ⊎ ((record_at read folder new key ≡ record_at read folder old key) ⊎ ((r : Record) → record_at read folder new key ≡ Some r → NamesBefore next r))
@@ -95,7 +95,7 @@ module _ (read : Reading) (folder key : List ℕ) (next : Option ℕ) (path : is
   pub partly_ahead_at : (p : List ℕ) (old new : World) → PartlyRemoved p old new → p ≡ place_of folder key → IsAhead (record_at read folder old.files) next → IsAhead (record_at read folder new.files) next
   partly_ahead_at p old new partly at = partly_ahead old new (subst (λ x. PartlyRemoved x old new) at partly)
 
-module _ (read : Reading) (judge : Judge) (child : Answers) (folder key : List ℕ) (path : is_path folder ≡ true) (is : is_key key ≡ true) where
+module _ (read : RecordParser) (judge : Judge) (child : Answers) (folder key : List ℕ) (path : is_path folder ≡ true) (is : is_key key ≡ true) where
   -- a record that is removed
   pub removed_sound : (old new : World) → new ≡ removed (place_of folder key) old → Sound read judge child folder old.files → Sound read judge child folder new.files
   removed_sound old new same sound = without_record read judge child folder old.files new.files key path is
@@ -171,7 +171,7 @@ module _ (read : Reading) (judge : Judge) (child : Answers) (folder key : List �
   torn_sound_at p passed text old new r number torn at given reading says may sound =
       torn_sound old new r number text may (subst (λ x. Torn (place_of folder key) x old new) given (subst (λ x. Torn x passed old new) at torn)) (says_parts read text r reading says) sound
 
-module _ (read : Reading) (folder key : List ℕ) (is : is_key key ≡ true) where
+module _ (read : RecordParser) (folder key : List ℕ) (is : is_key key ≡ true) where
   pub removed_gone_at : (p : List ℕ) (old new : World) → new ≡ removed p old → p ≡ place_of folder key → record_at read folder new.files key ≡ None
   removed_gone_at p old new same at = none_there read folder new.files key is
       (removed-read (place_of folder key) (place_of folder key) old new (same ∙ ap (λ x. removed x old) at) ∙ ap (λ b. cond (not b) (get old.files (place_of folder key)) None) (at_itself (place_of folder key) (place_of folder key) refl))
@@ -180,7 +180,7 @@ module _ (read : Reading) (folder key : List ℕ) (is : is_key key ≡ true) whe
   written_there_at p passed text old new r same at given reading says its =
       read_there read folder new.files key text r is (written-read (place_of folder key) text old new (same ∙ ap (λ x. written x passed old) at ∙ ap (λ x. written (place_of folder key) x old) given)) (says_read read text r reading says) its
 
-module _ (read : Reading) (folder key : List ℕ) (next : Option ℕ) (path : is_path folder ≡ true) (is : is_key key ≡ true) where
+module _ (read : RecordParser) (folder key : List ℕ) (next : Option ℕ) (path : is_path folder ≡ true) (is : is_key key ≡ true) where
   -- a record that counts after a write was in the text, or there before
   text_before : (m : Map) (r s : Record) (text : List ℕ) (o : Option Record) → NamesBefore next r → get m (place_of folder key) ≡ Some text → read text ≡ o → ((t : Record) → read text ≡ Some t → t ≡ r)
       → if_of_key key o ≡ Some s → NamesBefore next s
@@ -223,7 +223,7 @@ module _ (read : Reading) (folder key : List ℕ) (next : Option ℕ) (path : is
   torn_ahead_at p passed text old new r torn at given = torn_ahead text old new r (subst (λ x. Torn (place_of folder key) x old new) given (subst (λ x. Torn x passed old new) at torn))
 
 -- what stands in a record's place after a removal or a writing, whatever became of it
-module _ (read : Reading) (folder key : List ℕ) (is : is_key key ≡ true) where
+module _ (read : RecordParser) (folder key : List ℕ) (is : is_key key ≡ true) where
   pub partly_left_at : (p : List ℕ) (old new : World) → PartlyRemoved p old new → p ≡ place_of folder key → Leaves None (record_at read folder old.files key) (record_at read folder new.files key)
   partly_left_at p old new partly at = elim ((subst (λ x. PartlyRemoved x old new) at partly).files.there (place_of folder key)) [
     | inl same ↦ inr (inl (record_same read folder old.files new.files key same))
@@ -247,5 +247,5 @@ module _ (read : Reading) (folder key : List ℕ) (is : is_key key ≡ true) whe
   torn_left_at p passed text old new r torn at given = torn_left text old new r (subst (λ x. Torn (place_of folder key) x old new) given (subst (λ x. Torn x passed old new) at torn))
 
 -- where the number is given after what was done, and the one after it is the next
-pub dropped_ahead : (old new : Standing) (before then : Option ℕ) (number : ℕ) → before ≡ Some number → then ≡ after number → ((next : Option ℕ) → IsAhead old next → IsAhead new next) → IsAhead old before → IsAhead new then
+pub dropped_ahead : (old new : RecordMap) (before then : Option ℕ) (number : ℕ) → before ≡ Some number → then ≡ after number → ((next : Option ℕ) → IsAhead old next → IsAhead new next) → IsAhead old before → IsAhead new then
 dropped_ahead old new before then number was is kept ahead = subst (IsAhead new) (sym is) ((given_ahead new number (kept (Some number) (subst (IsAhead old) was ahead))).0)

@@ -7,7 +7,7 @@ use Rattle.std.specs.Cmp.Lexicographic.{slice_cmp}
 use Rattle.std.specs.FinMap.{find}
 use Rattle.pb_place_types.specs.declared.command.Command.{Command}
 use Rattle.pb_record.specs.Sorted.{are_sorted}
-use Rattle.pb_record.specs.declared.asked.Asked.{Asked}
+use Rattle.pb_record.specs.declared.recorded_command.RecordedCommand.{RecordedCommand}
 use Rattle.pb_store.specs.declared.difference.CommandPart.{CommandPart}
 use Rattle.pb_store.specs.declared.difference.CommandPart.TheVariants.{Program, Words, Folder, Out, Target, Toolchain, Reads}
 
@@ -16,7 +16,7 @@ abbrev pub parts : List CommandPart
 parts = Program ∷ Words ∷ Folder ∷ Out ∷ Target ∷ Toolchain ∷ Reads ∷ []
 
 -- this part of a command is equal to the recorded one
-abbrev pub SamePart : Asked → Command → CommandPart → Type 0
+abbrev pub SamePart : RecordedCommand → Command → CommandPart → Type 0
 SamePart a c Program = a.program ≡ c.program
 SamePart a c Words = a.words ≡ c.words
 SamePart a c Folder = a.folder ≡ c.folder

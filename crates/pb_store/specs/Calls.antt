@@ -48,8 +48,8 @@ HasCause OutOfMemory old new = new.failures ≡ old.failures
 
 -- what a call of the store does to the counters: it starts no child; if it ended well, no call failed; else its fault
 -- is a possible one and has its cause
-abbrev pub Takes : {T : Type 0} → (StoreFault → Type 0) → Result T StoreFault → Counts → Counts → Type 0
-Takes May result old new = (new.starts ≡ old.starts) × MatchResult result (λ x. new.failures ≡ old.failures) (λ e. May e × HasCause e old new)
+abbrev pub CountsAs : {T : Type 0} → (StoreFault → Type 0) → Result T StoreFault → Counts → Counts → Type 0
+CountsAs May result old new = (new.starts ≡ old.starts) × MatchResult result (λ x. new.failures ≡ old.failures) (λ e. May e × HasCause e old new)
 
 -- the faults of a call that reads files
 abbrev pub MayRead : StoreFault → Type 0
@@ -102,8 +102,8 @@ FailsToOpen (open_fault.Place path fault) old new = ((fault ≡ place.List) ⊎ 
 FailsToOpen open_fault.OutOfMemory old new = new.failures ≡ old.failures
 
 -- what opening does to the counters: it starts no child; if it ended well, no call failed; else its fault has its cause
-abbrev pub TakesOpen : {T : Type 0} → Result T OpenFault → Counts → Counts → Type 0
-TakesOpen result old new = (new.starts ≡ old.starts) × MatchResult result (λ x. new.failures ≡ old.failures) (λ e. FailsToOpen e old new)
+abbrev pub CountsAsOpen : {T : Type 0} → Result T OpenFault → Counts → Counts → Type 0
+CountsAsOpen result old new = (new.starts ≡ old.starts) × MatchResult result (λ x. new.failures ≡ old.failures) (λ e. FailsToOpen e old new)
 
 -- this one call failed with this fault; if the fault is the store's own, no call was made; out of memory, at most one
 abbrev pub EndsOnce : Call → StoreFault → Counts → Counts → Type 0
@@ -141,8 +141,8 @@ ReadsOneOf paths open_fault.OutOfMemory = Unit {0}
 
 -- the folder could not be listed, or a record directly in it could not be read
 abbrev pub OpensBy : Bool → List ℕ → World → OpenFault → Type 0
-OpensBy tells folder w (open_fault.Place at fault) = ((fault ≡ place.List) × (at ≡ folder)) ⊎ ((fault ≡ place.Read) × (ends_as_record at ≡ true) × (IsTrue tells → Contains (listed_directly folder w) at))
-OpensBy tells folder w open_fault.OutOfMemory = Unit {0}
+OpensBy is_modelled folder w (open_fault.Place at fault) = ((fault ≡ place.List) × (at ≡ folder)) ⊎ ((fault ≡ place.Read) × (ends_as_record at ≡ true) × (IsTrue is_modelled → Contains (listed_directly folder w) at))
+OpensBy is_modelled folder w open_fault.OutOfMemory = Unit {0}
 
 -- a call only looks: nothing changes but the counters; a call of the place that failed was the last, with one of these
 -- faults
@@ -150,14 +150,14 @@ pub record OnlyLooks {T : Type 0} (May : StoreFault → Type 0) (result : Result
   pub world : new.world ≡ old.world
   pub most : new.most ≡ old.most
   pub still : KeepsStill old.still new.still
-  pub takes : Takes May result old.counts new.counts
+  pub takes : CountsAs May result old.counts new.counts
 
 -- the same for opening
 pub record OnlyOpens {T : Type 0} (result : Result T OpenFault) (old new : At) : Type 0 where
   pub world : new.world ≡ old.world
   pub most : new.most ≡ old.most
   pub still : KeepsStill old.still new.still
-  pub takes : TakesOpen result old.counts new.counts
+  pub takes : CountsAsOpen result old.counts new.counts
 
 -- a call changes only files of these paths, and starts no child; a call of the place that failed was the last, with one
 -- of these faults
@@ -165,4 +165,4 @@ pub record ChangesOnlyAt {T : Type 0} (inside : List ℕ → Bool) (May : StoreF
   pub only : ChangesOnly inside old.world new.world
   pub most : new.most ≡ old.most
   pub still : KeepsStillOutside inside old.counts.starts.flying old.still new.still
-  pub takes : Takes May result old.counts new.counts
+  pub takes : CountsAs May result old.counts new.counts

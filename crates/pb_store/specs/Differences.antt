@@ -12,7 +12,7 @@ use Rattle.pb_record.specs.declared.record.InputName.{InputName}
 use Rattle.pb_record.specs.declared.record.Needed.{Needed}
 use Rattle.pb_record.specs.declared.record.Needed.TheVariants.{Copies, Numbers}
 use Rattle.pb_record.specs.declared.record.Record.{Record}
-use Rattle.pb_store_soundness.specs.Grounded.{Standing}
+use Rattle.pb_store_soundness.specs.Grounded.{RecordMap}
 use Rattle.pb_store_soundness.specs.Inputs.{Agrees, contents, input_in, name_of}
 use Rattle.pb_store_soundness.specs.Records.{out_of, reading, records, number_of}
 use Rattle.pb_store_soundness.specs.Reuse.{IsSame, number_if}
@@ -48,7 +48,7 @@ FirstInput target row w None = Agrees target row w
 FirstInput target row w (Some name) = IsFirst (IsPresent target w) name_of row name
 
 -- the record of a needed unit has the number by which it is named
-abbrev pub HasNumber : Standing → (List ℕ × ℕ) → Type 0
+abbrev pub HasNumber : RecordMap → (List ℕ × ℕ) → Type 0
 HasNumber at need = number_if (at need.0) ≡ Some need.1
 
 -- the folder of a needed unit contains the named files; a text that is no relative path names no unit
@@ -56,23 +56,23 @@ abbrev pub HasFiles : List ℕ → Map → (List ℕ × List (List ℕ × List �
 HasFiles folder files need = (is_relative need.0 ≡ true) × (contents (out_of folder need.0) files ≡ need.1)
 
 -- the needed units are as the record names them, by its format (below, the first that is not, in the record's order)
-abbrev pub AreNeeded : List ℕ → Standing → Map → Needed → Type 0
+abbrev pub AreNeeded : List ℕ → RecordMap → Map → Needed → Type 0
 AreNeeded folder at files (Copies copies) = AllByRecursion (HasFiles folder files) copies
 AreNeeded folder at files (Numbers number needs) = AllByRecursion (HasNumber at) needs
 
-abbrev pub FirstNeed : List ℕ → Standing → Map → Needed → List ℕ → Type 0
+abbrev pub FirstNeed : List ℕ → RecordMap → Map → Needed → List ℕ → Type 0
 FirstNeed folder at files (Copies copies) need = IsFirst (HasFiles folder files) (λ c. c.0) copies need
 FirstNeed folder at files (Numbers number needs) need = IsFirst (HasNumber at) (λ n. n.0) needs need
 
 -- nothing differs from a record
-pub record IsAsRecorded (folder : List ℕ) (at : Standing) (c : commands.Command) (w : World) (r : Record) : Type 0 where
+pub record IsAsRecorded (folder : List ℕ) (at : RecordMap) (c : commands.Command) (w : World) (r : Record) : Type 0 where
   pub asked : command_of r.asked ≡ c
   pub inputs : Agrees c.target r.inputs w
   pub needed : AreNeeded folder at w.files r.needed
 
 -- the first difference from a record: a part of its command, variables apart; then a variable; then an input; then a
 -- needed unit
-abbrev pub DiffersFrom : List ℕ → Standing → commands.Command → World → Record → Difference → Type 0
+abbrev pub DiffersFrom : List ℕ → RecordMap → commands.Command → World → Record → Difference → Type 0
 DiffersFrom folder at c w r NoRecord = ⊥
 DiffersFrom folder at c w r (Command part) = IsFirst (SamePart r.asked c) (λ p. p) parts part
 DiffersFrom folder at c w r (Pair name) = AsksAs r.asked c × IsFirstName r.asked.pairs c.pairs name
@@ -80,12 +80,12 @@ DiffersFrom folder at c w r (Input name) = (command_of r.asked ≡ c) × IsFirst
 DiffersFrom folder at c w r (Dependency need) = (command_of r.asked ≡ c) × Agrees c.target r.inputs w × FirstNeed folder at w.files r.needed need
 
 -- the report on a record: none if nothing differs from it, else the first difference
-abbrev pub FirstFrom : List ℕ → Standing → commands.Command → World → Record → Option Difference → Type 0
+abbrev pub FirstFrom : List ℕ → RecordMap → commands.Command → World → Record → Option Difference → Type 0
 FirstFrom folder at c w r None = IsAsRecorded folder at c w r
 FirstFrom folder at c w r (Some d) = DiffersFrom folder at c w r d
 
 -- the report on a unit: that it has no record that counts, or the report on its record
-abbrev pub FirstOf : List ℕ → Standing → commands.Command → World → Option Record → Option Difference → Type 0
+abbrev pub FirstOf : List ℕ → RecordMap → commands.Command → World → Option Record → Option Difference → Type 0
 FirstOf folder at c w None found = found ≡ Some NoRecord
 FirstOf folder at c w (Some r) found = FirstFrom folder at c w r found
 

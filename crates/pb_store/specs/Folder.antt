@@ -16,11 +16,11 @@ use Rattle.pb_record.specs.declared.record.InputName.{InputName}
 use Rattle.pb_record.specs.declared.record.Needed.{Needed}
 use Rattle.pb_record.specs.declared.record.Needed.TheVariants.{Numbers, Copies}
 use Rattle.pb_record.specs.declared.record.Record.{Record}
-use Rattle.pb_store_soundness.specs.Grounded.{Standing}
+use Rattle.pb_store_soundness.specs.Grounded.{RecordMap}
 use Rattle.pb_store_soundness.specs.Inputs.{Judge, Agrees, IsHonest, reply_in, input_in}
 use Rattle.pb_store_soundness.specs.Laws.{Unnamed}
 use Rattle.pb_store_soundness.specs.Numbers.{NoneNames, after, IsAhead, IsBefore, NamesBefore}
-use Rattle.pb_store_soundness.specs.Records.{Reading, is_key, out_of, record_at, records, number_of, reading, ends_as_record, read_text}
+use Rattle.pb_store_soundness.specs.Records.{RecordParser, is_key, out_of, record_at, records, number_of, reading, ends_as_record, read_text}
 use Rattle.pb_store_soundness.specs.Reuse.{number_if, NamesNeeds, IsSame, AreGrounded}
 use Rattle.pb_store_soundness.specs.Sound.{Backs, replied_files, Sound}
 use Rattle.pb_store.specs.Calls.{looked}
@@ -35,17 +35,17 @@ abbrev pub number_in : List (List ℕ × Option ℕ) → List ℕ → Option ℕ
 number_in table key = option_and_then (λ (number : Option ℕ). number) (value_at key table)
 
 -- a table contains the run number of each record that counts, by its key, and no other number
-abbrev pub HasNumbers : Standing → List (List ℕ × Option ℕ) → Type 0
+abbrev pub HasNumbers : RecordMap → List (List ℕ × Option ℕ) → Type 0
 HasNumbers at table = (key : List ℕ) → number_in table key ≡ number_if (at key)
 
 -- a folder of one of these units, or one that the record of such a unit reads
-pub data ReadBy (at : Standing) (folder : List ℕ) (needs : List (List ℕ)) (f : List ℕ) : Type 0 where
+pub data ReadBy (at : RecordMap) (folder : List ℕ) (needs : List (List ℕ)) (f : List ℕ) : Type 0 where
   itself : (need : List ℕ) → Contains needs need → f ≡ out_of folder need → ReadBy at folder needs f
   further : (need : List ℕ) (s : Record) → Contains needs need → at need ≡ Some s → Contains s.asked.reads f → ReadBy at folder needs f
 
 -- each needed unit has a record of format 2 with a number below this one; the command reads the folders of these units
 -- and what their records read
-pub record HasNeeds (at : Standing) (folder : List ℕ) (reads : List (List ℕ)) (needs : List (List ℕ)) (number : ℕ) : Type 0 where
+pub record HasNeeds (at : RecordMap) (folder : List ℕ) (reads : List (List ℕ)) (needs : List (List ℕ)) (number : ℕ) : Type 0 where
   pub stand : (need : List ℕ) → Contains needs need → (s : Record) × (at need ≡ Some s) × ((n : ℕ) × (number_of s ≡ Some n) × (n < number))
   pub reads_are : (f : List ℕ) → Contains reads f ↔ ReadBy at folder needs f
 
@@ -54,7 +54,7 @@ or_zero None = 0
 or_zero (Some n) = n
 
 -- the needed units with the numbers of their records
-abbrev pub numbered : Standing → List (List ℕ) → List (List ℕ × ℕ)
+abbrev pub numbered : RecordMap → List (List ℕ) → List (List ℕ × ℕ)
 numbered at needs = map (λ (need : List ℕ). (need, or_zero (number_if (at need)))) needs
 
 -- in the view of this world the child is honest on the command; its reply is good, with these input names and streams;
@@ -84,7 +84,7 @@ pub record IsKept (judge : Judge) (child : Answers) (folder key : List ℕ) (c :
 
 -- a record may be put into the folder: it contains the reply of an honest child in the present view; it names present
 -- records; and no record that counts names its unit by its number
-pub record MayPut (read : Reading) (judge : Judge) (child : Answers) (folder key : List ℕ) (w : World) (r : Record) (number : ℕ) : Type 0 where
+pub record MayPut (read : RecordParser) (judge : Judge) (child : Answers) (folder key : List ℕ) (w : World) (r : Record) (number : ℕ) : Type 0 where
   pub honest : IsHonest judge child (command_of r.asked) w
   pub agree : Agrees r.asked.target r.inputs w
   pub backs : Backs judge r (out_of folder key) (files_in (out_of folder key) w.files) (reply_in child (command_of r.asked) w)

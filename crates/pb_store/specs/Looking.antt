@@ -13,7 +13,7 @@ use Rattle.pb_place_types.specs.Paths.{is_at_or_below, is_relative}
 use Rattle.pb_place_types.specs.World.{World, Map, from_nothing, listed, listed_directly, removed}
 use Rattle.pb_place_types.specs.declared.command.Command as commands
 use Rattle.pb_record.specs.Commands.{command_of}
-use Rattle.pb_record.specs.declared.asked.Asked.{Asked}
+use Rattle.pb_record.specs.declared.recorded_command.RecordedCommand.{RecordedCommand}
 use Rattle.pb_record.specs.declared.record.Input.{Input}
 use Rattle.pb_record.specs.declared.record.Input.TheVariants.{File, Tree, Value}
 use Rattle.pb_record.specs.declared.record.InputName.{InputName}
@@ -122,7 +122,7 @@ abbrev pub same_texts : List (List ℕ) → List (List ℕ) → Bool
 same_texts texts others = pointwise (pointwise ◌==◌) texts others
 
 -- a command is equal to the recorded one, part for part, and variable for variable
-unfoldable pub is_asked : Asked → commands.Command → Bool
+unfoldable pub is_asked : RecordedCommand → commands.Command → Bool
 is_asked a c = bytes_eq a.program c.program && (same_texts a.words c.words && (bytes_eq a.folder c.folder && (same_text (Some a.out) c.out && (bytes_eq a.target c.target && (bytes_eq a.toolchain c.toolchain && (same_texts a.reads c.reads && same_files a.pairs c.pairs))))))
 
 -- the calls for a record: none if its command differs
@@ -162,4 +162,4 @@ LooksOrSpent result first calls old new = ((result ≡ Err NumbersSpent) × (new
 pub record TestsDecide : Type 0 where
   pub input : (target : List ℕ) (w : World) (i : Input) → Decides (is_present target w i) (IsPresent target w i)
   pub copies : (folder : List ℕ) (files : Map) (need : List ℕ × List (List ℕ × List ℕ)) → Decides (has_files folder files need) (HasFiles folder files need)
-  pub command : (a : Asked) (c : commands.Command) → Decides (is_asked a c) (command_of a ≡ c)
+  pub command : (a : RecordedCommand) (c : commands.Command) → Decides (is_asked a c) (command_of a ≡ c)

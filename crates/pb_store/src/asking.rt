@@ -9,7 +9,7 @@ ghost use Rattle.pb_store.specs.Differences.{IsFirst};
 use crate::difference::CommandPart;
 use pb_data::{Text, TryCopy};
 use pb_place_types::{Command, PathText};
-use pb_record::Asked;
+use pb_record::RecordedCommand;
 use std::alloc::{AllocError, Global};
 
 /// The parts of a command, without its variables, in order.
@@ -50,7 +50,7 @@ fn has_out(out: &PathText, other: &Option<PathText>) -> bool
 }
 
 /// Returns whether a part of a command is equal to the recorded one.
-fn is_same_part(asked: &Asked, command: &Command, part: CommandPart) -> bool
+fn is_same_part(asked: &RecordedCommand, command: &Command, part: CommandPart) -> bool
     ensures { Decides result (SamePart asked.now command.now part) }
 {
     match part {
@@ -66,7 +66,7 @@ fn is_same_part(asked: &Asked, command: &Command, part: CommandPart) -> bool
 
 /// Returns the first part of a command, apart from its variables, that differs from the recorded
 /// one. It takes no memory.
-pub(crate) fn first_part(asked: &Asked, command: &Command) -> Option<CommandPart>
+pub(crate) fn first_part(asked: &RecordedCommand, command: &Command) -> Option<CommandPart>
     ensures { MatchOption result (AsksAs asked.now command.now)
         (IsFirst (SamePart asked.now command.now) (λ part. part) parts) }
 {

@@ -72,7 +72,7 @@ fn are_files_at<P: Place>(
     paths: &[PathText],
     recorded: &[(RelativePath, Bytes)],
 ) -> Result<bool, StoreFault>
-    ensures ok { IsTrue P.tells →
+    ensures ok { IsTrue P.is_modelled →
         IfOk result (λ same. same ≡ same_files
         (filter_map (file_in folder.now (P.at place.old).world.files) paths.now) recorded.now) }
     ensures quiet { OnlyLooks MayRead result (P.at place.old) (P.at place.new) }
@@ -102,11 +102,11 @@ fn are_sources<P: Place>(
     folder: &PathText,
     recorded: &[(RelativePath, Bytes)],
 ) -> Result<bool, StoreFault>
-    ensures ok { IsTrue P.tells →
+    ensures ok { IsTrue P.is_modelled →
         IfOk result (λ same. Decides same (contents folder.now
         (from_nothing target.now (P.at place.old).world).files ≡ recorded.now)) }
     ensures quiet { OnlyLooks MayLook result (P.at place.old) (P.at place.new) }
-    ensures looks { IsTrue P.tells →
+    ensures looks { IsTrue P.is_modelled →
         Looks result (call.ListOutside folder.now target.now ∷ map call.Read
         (listed folder.now (removed target.now (P.at place.old).world))) (P.at place.old).counts
         (P.at place.new).counts }
@@ -127,11 +127,11 @@ pub(crate) fn are_files<P: Place>(
     folder: &PathText,
     recorded: &[(RelativePath, Bytes)],
 ) -> Result<bool, StoreFault>
-    ensures ok { IsTrue P.tells →
+    ensures ok { IsTrue P.is_modelled →
         IfOk result (λ same. Decides same
         (contents folder.now (P.at place.old).world.files ≡ recorded.now)) }
     ensures quiet { OnlyLooks MayLook result (P.at place.old) (P.at place.new) }
-    ensures looks { IsTrue P.tells →
+    ensures looks { IsTrue P.is_modelled →
         Looks result
         (call.List folder.now ∷ map call.Read (listed folder.now (P.at place.old).world))
         (P.at place.old).counts (P.at place.new).counts }
@@ -152,11 +152,11 @@ fn is_file_present<P: Place>(
     path: &PathText,
     bytes: &Bytes,
 ) -> Result<bool, StoreFault>
-    ensures ok { IsTrue P.tells →
+    ensures ok { IsTrue P.is_modelled →
         IfOk result (λ same. Decides same
         (input_in target.now (P.at place.old).world (Path path.now) ≡ File path.now bytes.now)) }
     ensures quiet { OnlyLooks MayLook result (P.at place.old) (P.at place.new) }
-    ensures looks { IsTrue P.tells →
+    ensures looks { IsTrue P.is_modelled →
         Looks result (name_looked target.now (P.at place.old).world (Path path.now))
         (P.at place.old).counts (P.at place.new).counts }
 {
@@ -179,11 +179,11 @@ fn is_tree_present<P: Place>(
     path: &PathText,
     files: &Items<(RelativePath, Bytes)>,
 ) -> Result<bool, StoreFault>
-    ensures ok { IsTrue P.tells →
+    ensures ok { IsTrue P.is_modelled →
         IfOk result (λ same. Decides same
         (input_in target.now (P.at place.old).world (Path path.now) ≡ Tree path.now files.now)) }
     ensures quiet { OnlyLooks MayLook result (P.at place.old) (P.at place.new) }
-    ensures looks { IsTrue P.tells →
+    ensures looks { IsTrue P.is_modelled →
         Looks result (name_looked target.now (P.at place.old).world (Path path.now))
         (P.at place.old).counts (P.at place.new).counts }
 {
@@ -206,7 +206,7 @@ fn is_value_present<P: Place>(
     name: &Text,
     value: &Option<Text>,
 ) -> Result<bool, StoreFault>
-    ensures ok { IsTrue P.tells →
+    ensures ok { IsTrue P.is_modelled →
         IfOk result (λ same. Decides same
         (input_in target.now (P.at place.old).world (Variable name.now)
         ≡ Value name.now value.now)) }
@@ -229,10 +229,10 @@ pub(crate) fn is_present<P: Place>(
     target: &PathText,
     input: &Input,
 ) -> Result<bool, StoreFault>
-    ensures ok { IsTrue P.tells →
+    ensures ok { IsTrue P.is_modelled →
         IfOk result (λ same. Decides same (IsPresent target.now (P.at place.old).world input.now)) }
     ensures quiet { OnlyLooks MayLook result (P.at place.old) (P.at place.new) }
-    ensures looks { IsTrue P.tells →
+    ensures looks { IsTrue P.is_modelled →
         Looks result (name_looked target.now (P.at place.old).world (name_of input.now))
         (P.at place.old).counts (P.at place.new).counts }
 {

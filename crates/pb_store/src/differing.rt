@@ -5,7 +5,7 @@ ghost use Rattle.pb_place_types.specs.declared.call.Call.TheVariants as call;
 ghost use Rattle.pb_record.specs.Commands.{command_of};
 ghost use Rattle.pb_record.specs.declared.record.Record.{Record};
 ghost use Rattle.pb_place_types.specs.Paths.{is_relative};
-ghost use Rattle.pb_store_soundness.specs.Grounded.{Standing};
+ghost use Rattle.pb_store_soundness.specs.Grounded.{RecordMap};
 ghost use Rattle.pb_store_soundness.specs.Inputs.{name_of};
 ghost use Rattle.pb_store_soundness.specs.Records.{out_of, place_of, records};
 ghost use Rattle.pb_store.specs.Calls.{OnlyLooks, MayLook, MayRead};
@@ -44,10 +44,10 @@ fn first_input<P: Place>(
     target: &PathText,
     inputs: &[Input],
 ) -> Result<Option<InputName>, StoreFault>
-    ensures ok { IsTrue P.tells →
+    ensures ok { IsTrue P.is_modelled →
         IfOk result (FirstInput target.now inputs.now (P.at place.old).world) }
     ensures quiet { OnlyLooks MayLook result (P.at place.old) (P.at place.new) }
-    ensures looks { IsTrue P.tells →
+    ensures looks { IsTrue P.is_modelled →
         Looks result (inputs_looked target.now (P.at place.old).world inputs.now)
         (P.at place.old).counts (P.at place.new).counts }
 {
@@ -84,11 +84,11 @@ fn has_files<P: Place>(
     folder: &PathText,
     need: &(Text, Items<(RelativePath, Bytes)>),
 ) -> Result<bool, StoreFault>
-    ensures ok { IsTrue P.tells →
+    ensures ok { IsTrue P.is_modelled →
         IfOk result
         (λ same. Decides same (HasFiles folder.now (P.at place.old).world.files need.now)) }
     ensures quiet { OnlyLooks MayLook result (P.at place.old) (P.at place.new) }
-    ensures looks { IsTrue P.tells →
+    ensures looks { IsTrue P.is_modelled →
         Looks result (out_looked folder.now (P.at place.old).world need.now.0)
         (P.at place.old).counts (P.at place.new).counts }
 {
@@ -107,11 +107,11 @@ fn first_copy<P: Place>(
     folder: &PathText,
     copies: &[(Text, Items<(RelativePath, Bytes)>)],
 ) -> Result<Option<Text>, StoreFault>
-    ensures ok { IsTrue P.tells →
+    ensures ok { IsTrue P.is_modelled →
         IfOk result (λ found. FirstOrAll (HasFiles folder.now (P.at place.old).world.files)
         copies.now found) }
     ensures quiet { OnlyLooks MayLook result (P.at place.old) (P.at place.new) }
-    ensures looks { IsTrue P.tells →
+    ensures looks { IsTrue P.is_modelled →
         Looks result (copies_looked folder.now (P.at place.old).world copies.now)
         (P.at place.old).counts (P.at place.new).counts }
 {
@@ -141,12 +141,12 @@ fn first_need<P: Place>(
     numbers: &Table<Option<u64>>,
     needed: &Needed,
 ) -> Result<Option<Text>, StoreFault>
-    ensures ok { (at : Standing) → IsTrue P.tells → HasNumbers at numbers.now →
+    ensures ok { (at : RecordMap) → IsTrue P.is_modelled → HasNumbers at numbers.now →
         IfOk result
         (λ found. MatchOption found (AreNeeded folder.now at (P.at place.old).world.files
         needed.now) (FirstNeed folder.now at (P.at place.old).world.files needed.now)) }
     ensures quiet { OnlyLooks MayLook result (P.at place.old) (P.at place.new) }
-    ensures looks { IsTrue P.tells →
+    ensures looks { IsTrue P.is_modelled →
         Looks result (needed_looked folder.now (P.at place.old).world needed.now)
         (P.at place.old).counts (P.at place.new).counts }
 {
@@ -168,11 +168,11 @@ fn first_around<P: Place>(
     command: &Command,
     kept: &Record,
 ) -> Result<Option<Difference>, StoreFault>
-    ensures ok { (at : Standing) → IsTrue P.tells → HasNumbers at numbers.now →
+    ensures ok { (at : RecordMap) → IsTrue P.is_modelled → HasNumbers at numbers.now →
         command_of kept.now.asked ≡ command.now →
         IfOk result (FirstFrom folder.now at command.now (P.at place.old).world kept.now) }
     ensures quiet { OnlyLooks MayLook result (P.at place.old) (P.at place.new) }
-    ensures looks { IsTrue P.tells →
+    ensures looks { IsTrue P.is_modelled →
         Looks result (around_looked folder.now command.now.target (P.at place.old).world kept.now)
         (P.at place.old).counts (P.at place.new).counts }
 {
@@ -197,10 +197,10 @@ fn first_from<P: Place>(
     command: &Command,
     kept: &Record,
 ) -> Result<Option<Difference>, StoreFault>
-    ensures ok { (at : Standing) → IsTrue P.tells → HasNumbers at numbers.now →
+    ensures ok { (at : RecordMap) → IsTrue P.is_modelled → HasNumbers at numbers.now →
         IfOk result (FirstFrom folder.now at command.now (P.at place.old).world kept.now) }
     ensures quiet { OnlyLooks MayLook result (P.at place.old) (P.at place.new) }
-    ensures looks { IsTrue P.tells →
+    ensures looks { IsTrue P.is_modelled →
         Looks result (from_looked folder.now command.now (P.at place.old).world kept.now)
         (P.at place.old).counts (P.at place.new).counts }
 {
@@ -230,14 +230,14 @@ impl Store {
         key: &Key,
         command: &Command,
     ) -> Result<Compared, StoreFault>
-        requires numbers { IsTrue P.tells →
+        requires numbers { IsTrue P.is_modelled →
             HasNumbers (records self.now.folder (P.at place.old).world) self.now.numbers }
-        ensures compares { IsTrue P.tells →
+        ensures compares { IsTrue P.is_modelled →
             IfOk result (Compares self.now.folder key.now command.now (P.at place.old).world) }
 
         // It only looks, and no further than the first difference.
         ensures quiet { OnlyLooks MayLook result (P.at place.old) (P.at place.new) }
-        ensures looks { IsTrue P.tells →
+        ensures looks { IsTrue P.is_modelled →
             Looks result (unit_looked self.now.folder key.now command.now (P.at place.old).world)
             (P.at place.old).counts (P.at place.new).counts }
     {
@@ -272,15 +272,15 @@ impl Store {
         key: &Key,
         command: &Command,
     ) -> Result<Option<Difference>, StoreFault>
-        requires numbers { IsTrue P.tells →
+        requires numbers { IsTrue P.is_modelled →
             HasNumbers (records self.now.folder (P.at place.old).world) self.now.numbers }
-        ensures first { IsTrue P.tells →
+        ensures first { IsTrue P.is_modelled →
             IfOk result
             (FirstDifference self.now.folder key.now command.now (P.at place.old).world) }
 
         // It only looks, and no further than the first difference.
         ensures quiet { OnlyLooks MayLook result (P.at place.old) (P.at place.new) }
-        ensures looks { IsTrue P.tells →
+        ensures looks { IsTrue P.is_modelled →
             Looks result (unit_looked self.now.folder key.now command.now (P.at place.old).world)
             (P.at place.old).counts (P.at place.new).counts }
     {
@@ -304,16 +304,16 @@ impl Store {
         place: &mut P,
         key: &Key,
     ) -> Result<Ended, StoreFault>
-        requires same { IsTrue P.tells →
+        requires same { IsTrue P.is_modelled →
             NothingDiffers self.now.folder key.now (P.at place.old).world }
-        ensures ended { IsTrue P.tells →
+        ensures ended { IsTrue P.is_modelled →
             IfOk result (IsAnswered (records self.now.folder (P.at place.old).world key.now)) }
 
         // It only reads the record. Over a place that does not tell its maps the record may be
         // gone.
-        ensures quiet { IsTrue P.tells →
+        ensures quiet { IsTrue P.is_modelled →
             OnlyLooks MayRead result (P.at place.old) (P.at place.new) }
-        ensures looks { IsTrue P.tells →
+        ensures looks { IsTrue P.is_modelled →
             Looks result (call.Read (place_of self.now.folder key.now) ∷ [])
             (P.at place.old).counts (P.at place.new).counts }
     {

@@ -29,9 +29,9 @@ pub(crate) fn number_after(number: u64) -> Option<u64>
 
 /// Removes a path.
 fn remove<P: Place>(alloc: Global, place: &mut P, path: &PathText) -> Result<(), StoreFault>
-    ensures ok { IsTrue P.tells →
+    ensures ok { IsTrue P.is_modelled →
         OnOk result ((P.at place.new).world ≡ removed path.now (P.at place.old).world) }
-    ensures err { IsTrue P.tells →
+    ensures err { IsTrue P.is_modelled →
         OnErr result (PartlyRemoved path.now (P.at place.old).world (P.at place.new).world) }
     ensures only { ChangesOnlyAt (is_at_or_below path.now) MayRemove result (P.at place.old)
         (P.at place.new) }
@@ -51,7 +51,7 @@ fn remove_record<P: Place>(
     folder: &PathText,
     key: &Key,
 ) -> Result<(), StoreFault>
-    ensures record { IsTrue P.tells →
+    ensures record { IsTrue P.is_modelled →
         RemovesRecord P.child folder.now key.now result (P.at place.old).world
         (P.at place.new).world }
     ensures only { ChangesOnlyAt (is_at_or_below (place_of folder.now key.now)) MayRemove result
@@ -84,7 +84,7 @@ impl Store {
         place: &mut P,
         key: &Key,
     ) -> Result<u64, StoreFault>
-        requires numbers { IsTrue P.tells →
+        requires numbers { IsTrue P.is_modelled →
             HasNumbers (records self.old.folder (P.at place.old).world) self.old.numbers }
 
         // It returns the number that was next. After an error that number is still the next.
@@ -93,7 +93,7 @@ impl Store {
         ensures folder { self.new.folder ≡ self.old.folder }
 
         // The record is gone. After an error it is gone or unchanged.
-        ensures record { IsTrue P.tells →
+        ensures record { IsTrue P.is_modelled →
             DropsRecord P.child key.now result self.old self.new (P.at place.old).world
             (P.at place.new).world }
 

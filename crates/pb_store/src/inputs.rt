@@ -28,7 +28,7 @@ pub(crate) fn source_at<P: Place>(
     target: &PathText,
     path: &PathText,
 ) -> Result<Option<Bytes>, StoreFault>
-    ensures ok { IsTrue P.tells →
+    ensures ok { IsTrue P.is_modelled →
         IfOk result
         (λ found. found ≡ finite.get (from_nothing target.now (P.at place.old).world).files
         path.now) }
@@ -53,7 +53,7 @@ pub(crate) fn file_at<P: Place>(
     folder: &PathText,
     path: &PathText,
 ) -> Result<Option<(RelativePath, Bytes)>, StoreFault>
-    ensures ok { IsTrue P.tells →
+    ensures ok { IsTrue P.is_modelled →
         IfOk result (λ found. found ≡ file_in folder.now (P.at place.old).world.files path.now) }
     ensures quiet { OnlyLooks MayRead result (P.at place.old) (P.at place.new) }
     ensures looks { Looks result (file_looked path.now (inside folder.now path.now))
@@ -78,7 +78,7 @@ fn files_at<P: Place>(
     folder: &PathText,
     paths: &[PathText],
 ) -> Result<Items<(RelativePath, Bytes)>, StoreFault>
-    ensures ok { IsTrue P.tells →
+    ensures ok { IsTrue P.is_modelled →
         IfOk result (λ files. files ≡ filter_map (file_in folder.now (P.at place.old).world.files)
         paths.now) }
     ensures quiet { OnlyLooks MayRead result (P.at place.old) (P.at place.new) }
@@ -106,7 +106,7 @@ pub(crate) fn paths_outside<P: Place>(
     target: &PathText,
     folder: &PathText,
 ) -> Result<Items<PathText>, StoreFault>
-    ensures ok { IsTrue P.tells →
+    ensures ok { IsTrue P.is_modelled →
         IfOk result
         (λ paths. paths ≡ listed folder.now (removed target.now (P.at place.old).world)) }
     ensures quiet { OnlyLooks MayLook result (P.at place.old) (P.at place.new) }
@@ -126,7 +126,7 @@ pub(crate) fn paths_below<P: Place>(
     place: &mut P,
     folder: &PathText,
 ) -> Result<Items<PathText>, StoreFault>
-    ensures ok { IsTrue P.tells →
+    ensures ok { IsTrue P.is_modelled →
         IfOk result (λ paths. paths ≡ listed folder.now (P.at place.old).world) }
     ensures quiet { OnlyLooks MayLook result (P.at place.old) (P.at place.new) }
     ensures looks { Looks result (call.List folder.now ∷ []) (P.at place.old).counts
@@ -146,12 +146,12 @@ fn sources_in<P: Place>(
     target: &PathText,
     folder: &PathText,
 ) -> Result<Items<(RelativePath, Bytes)>, StoreFault>
-    ensures ok { IsTrue P.tells →
+    ensures ok { IsTrue P.is_modelled →
         IfOk result
         (λ files. files ≡ contents folder.now
         (from_nothing target.now (P.at place.old).world).files) }
     ensures quiet { OnlyLooks MayLook result (P.at place.old) (P.at place.new) }
-    ensures looks { IsTrue P.tells →
+    ensures looks { IsTrue P.is_modelled →
         Looks result (call.ListOutside folder.now target.now ∷ map call.Read
         (listed folder.now (removed target.now (P.at place.old).world))) (P.at place.old).counts
         (P.at place.new).counts }
@@ -170,7 +170,7 @@ pub(crate) fn text_in<P: Place>(
     place: &mut P,
     name: &Text,
 ) -> Result<Option<Text>, StoreFault>
-    ensures ok { IsTrue P.tells →
+    ensures ok { IsTrue P.is_modelled →
         IfOk result (λ found. found ≡ finite.get (P.at place.old).world.variables name.now) }
     ensures quiet { OnlyLooks MayLook result (P.at place.old) (P.at place.new) }
     ensures looks { Looks result (call.Variable name.now ∷ []) (P.at place.old).counts
@@ -189,12 +189,12 @@ fn path_now<P: Place>(
     target: &PathText,
     path: &PathText,
 ) -> Result<Input, StoreFault>
-    ensures ok { IsTrue P.tells →
+    ensures ok { IsTrue P.is_modelled →
         IfOk result
         (λ input. input ≡ path_input path.now (from_nothing target.now (P.at place.old).world).files
         (finite.get (from_nothing target.now (P.at place.old).world).files path.now)) }
     ensures quiet { OnlyLooks MayLook result (P.at place.old) (P.at place.new) }
-    ensures looks { IsTrue P.tells →
+    ensures looks { IsTrue P.is_modelled →
         Looks result (name_looked target.now (P.at place.old).world (Path path.now))
         (P.at place.old).counts (P.at place.new).counts }
 {
@@ -220,7 +220,7 @@ fn value_now<P: Place>(
     target: &PathText,
     name: &Text,
 ) -> Result<Input, StoreFault>
-    ensures ok { IsTrue P.tells →
+    ensures ok { IsTrue P.is_modelled →
         IfOk result (λ input. input ≡ input_in target.now (P.at place.old).world
         (Variable name.now)) }
     ensures quiet { OnlyLooks MayLook result (P.at place.old) (P.at place.new) }
@@ -245,10 +245,10 @@ fn input_now<P: Place>(
     target: &PathText,
     name: &InputName,
 ) -> Result<Input, StoreFault>
-    ensures ok { IsTrue P.tells →
+    ensures ok { IsTrue P.is_modelled →
         IfOk result (λ input. input ≡ input_in target.now (P.at place.old).world name.now) }
     ensures quiet { OnlyLooks MayLook result (P.at place.old) (P.at place.new) }
-    ensures looks { IsTrue P.tells →
+    ensures looks { IsTrue P.is_modelled →
         Looks result (name_looked target.now (P.at place.old).world name.now)
         (P.at place.old).counts (P.at place.new).counts }
 {
@@ -265,11 +265,11 @@ pub(crate) fn present<P: Place>(
     target: &PathText,
     names: &[InputName],
 ) -> Result<Items<Input>, StoreFault>
-    ensures ok { IsTrue P.tells →
+    ensures ok { IsTrue P.is_modelled →
         IfOk result
         (λ inputs. inputs ≡ map (input_in target.now (P.at place.old).world) names.now) }
     ensures quiet { OnlyLooks MayLook result (P.at place.old) (P.at place.new) }
-    ensures looks { IsTrue P.tells →
+    ensures looks { IsTrue P.is_modelled →
         Looks result (names_looked target.now (P.at place.old).world names.now)
         (P.at place.old).counts (P.at place.new).counts }
 {

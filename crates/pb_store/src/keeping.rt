@@ -5,7 +5,7 @@ ghost use Rattle.pb_place_types.specs.declared.call.Call.TheVariants as call;
 ghost use Rattle.pb_place_types.specs.At.{IsUnchanged};
 ghost use Rattle.pb_place_types.specs.Paths.{is_at_or_below};
 ghost use Rattle.pb_place_types.specs.World.{Torn, written};
-ghost use Rattle.pb_store_soundness.specs.Grounded.{Standing};
+ghost use Rattle.pb_store_soundness.specs.Grounded.{RecordMap};
 ghost use Rattle.pb_store_soundness.specs.Inputs.{input_in};
 ghost use Rattle.pb_store_soundness.specs.Records.{number_of, out_of, place_of, records};
 ghost use Rattle.pb_store.specs.Calls.{CallsOnce, FailsToWrite, OnlyLooks, ChangesOnlyAt, MayLook, MayWrite, MayKeep};
@@ -21,7 +21,7 @@ use crate::numbers::{note, numbered};
 use crate::store::{Store, place_path};
 use pb_data::{Bytes, Items, Table, Text, TryCopy, with_next};
 use pb_place_types::{Command, Ended, PathText, Place};
-use pb_record::{Asked, Input, InputName, Needed, Record, write_record};
+use pb_record::{Input, InputName, Needed, Record, RecordedCommand, write_record};
 use std::alloc::{AllocError, Global};
 
 /// Returns the number of a record.
@@ -41,9 +41,9 @@ fn write<P: Place>(
     path: &PathText,
     bytes: &[u8],
 ) -> Result<(), StoreFault>
-    ensures ok { IsTrue P.tells →
+    ensures ok { IsTrue P.is_modelled →
         OnOk result ((P.at place.new).world ≡ written path.now bytes.now (P.at place.old).world) }
-    ensures err { IsTrue P.tells →
+    ensures err { IsTrue P.is_modelled →
         OnErr result (Torn path.now bytes.now (P.at place.old).world (P.at place.new).world) }
     ensures only { ChangesOnlyAt (is_at_or_below path.now) MayWrite result (P.at place.old)
         (P.at place.new) }
@@ -64,7 +64,7 @@ pub(crate) fn put_record<P: Place>(
     key: &Key,
     kept: &Record,
 ) -> Result<(), StoreFault>
-    ensures record { IsTrue P.tells → kept.now.key ≡ key.now →
+    ensures record { IsTrue P.is_modelled → kept.now.key ≡ key.now →
         PutsRecord P.child folder.now key.now kept.now result (P.at place.old).world
         (P.at place.new).world }
     ensures only { ChangesOnlyAt (is_at_or_below (place_of folder.now key.now)) MayWrite result
@@ -96,12 +96,12 @@ fn asked_of(
     folder: &PathText,
     key: &Key,
     command: &Command,
-) -> Result<Asked, AllocError>
+) -> Result<RecordedCommand, AllocError>
     requires out { command.now.out ≡ Some (out_of folder.now key.now) }
     requires sorted { are_sorted command.now.pairs ≡ true }
     ensures { IfOk result (λ asked. asked ≡ of_parts command.now (out_of folder.now key.now)) }
 {
-    match Asked::of_command(command.copy(alloc)?) {
+    match RecordedCommand::of_command(command.copy(alloc)?) {
         Some(asked) => Ok(asked),
         None => unreachable!(),
     }
@@ -114,7 +114,7 @@ fn copied_of(
     key: &Key,
     command: &Command,
     ended: &Ended,
-) -> Result<(Text, Asked, Bytes, Bytes), AllocError>
+) -> Result<(Text, RecordedCommand, Bytes, Bytes), AllocError>
     requires out { command.now.out ≡ Some (out_of folder.now key.now) }
     requires sorted { are_sorted command.now.pairs ≡ true }
     ensures { IfOk result
@@ -178,12 +178,12 @@ fn kept_now<P: Place>(
 ) -> Result<Record, StoreFault>
     requires out { command.now.out ≡ Some (out_of folder.now key.now) }
     requires sorted { are_sorted command.now.pairs ≡ true }
-    ensures ok { (at : Standing) → IsTrue P.tells → HasNumbers at numbers.now →
+    ensures ok { (at : RecordMap) → IsTrue P.is_modelled → HasNumbers at numbers.now →
         IfOk result (λ kept. kept ≡ kept_of folder.now key.now command.now
         (map (input_in command.now.target (P.at place.old).world) names.now) number
         (numbered at needs.now) ended.now) }
     ensures quiet { OnlyLooks MayLook result (P.at place.old) (P.at place.new) }
-    ensures looks { IsTrue P.tells →
+    ensures looks { IsTrue P.is_modelled →
         Looks result (names_looked command.now.target (P.at place.old).world names.now)
         (P.at place.old).counts (P.at place.new).counts }
 {
@@ -223,7 +223,7 @@ fn stood_still<P: Place>(
     command: &Command,
     names: &[InputName],
 ) -> Result<bool, AllocError>
-    ensures still { IsTrue P.tells → IfOk result (λ still. still ≡ true) }
+    ensures still { IsTrue P.is_modelled → IfOk result (λ still. still ≡ true) }
     ensures unchanged { IsUnchanged (P.at place.old) (P.at place.new) }
 {
     for name in names {
@@ -243,12 +243,12 @@ fn put_still<P: Place>(
     names: &[InputName],
     kept: &Record,
 ) -> Result<(), StoreFault>
-    ensures record { IsTrue P.tells → kept.now.key ≡ key.now →
+    ensures record { IsTrue P.is_modelled → kept.now.key ≡ key.now →
         PutsRecord P.child folder.now key.now kept.now result (P.at place.old).world
         (P.at place.new).world }
     ensures only { ChangesOnlyAt (is_at_or_below (place_of folder.now key.now)) MayWrite result
         (P.at place.old) (P.at place.new) }
-    ensures calls { IsTrue P.tells →
+    ensures calls { IsTrue P.is_modelled →
         CallsOnce (call.Write (place_of folder.now key.now)) result (P.at place.old).counts
         (P.at place.new).counts }
     ensures written { FailsToWrite (place_of folder.now key.now) result
@@ -291,11 +291,11 @@ impl Store {
     ) -> Result<(), StoreFault>
         requires out { command.now.out ≡ Some (out_of self.old.folder key.now) }
         requires sorted { are_sorted command.now.pairs ≡ true }
-        requires numbers { IsTrue P.tells →
+        requires numbers { IsTrue P.is_modelled →
             HasNumbers (records self.old.folder (P.at place.old).world) self.old.numbers }
 
         // The unit has the new record. After an error it has that, its old one, or none.
-        ensures record { IsTrue P.tells →
+        ensures record { IsTrue P.is_modelled →
             KeepsRecord P.child key.now command.now needs.now names.now ended.now number result
             self.old self.new (P.at place.old).world (P.at place.new).world }
         ensures folder { self.new.folder ≡ self.old.folder }
@@ -304,7 +304,7 @@ impl Store {
         // Only the record's file changes, by the last of these calls.
         ensures only { ChangesOnlyAt (is_at_or_below (place_of self.old.folder key.now)) MayKeep
             result (P.at place.old) (P.at place.new) }
-        ensures calls { IsTrue P.tells →
+        ensures calls { IsTrue P.is_modelled →
             Looks result (kept_called self.old.folder key.now command.now.target
             (P.at place.old).world names.now) (P.at place.old).counts (P.at place.new).counts }
         ensures written { FailsToWrite (place_of self.old.folder key.now) result

@@ -43,12 +43,12 @@ impl Store {
         needs: &[Text],
         kept: Record,
     ) -> Result<(), StoreFault>
-        requires numbers { IsTrue P.tells →
+        requires numbers { IsTrue P.is_modelled →
             HasNumbers (records self.old.folder (P.at place.old).world) self.old.numbers }
-        requires found { IsTrue P.tells →
+        requires found { IsTrue P.is_modelled →
             records self.old.folder (P.at place.old).world key.now ≡ Some kept }
         requires lacks { is_some (number_of kept) ≡ false }
-        ensures record { IsTrue P.tells →
+        ensures record { IsTrue P.is_modelled →
             MigratesRecord P.child key.now needs.now result self.old self.new
             (P.at place.old).world (P.at place.new).world }
         ensures next { MigratesNext result self.old.next self.new.next }
@@ -115,12 +115,12 @@ impl Store {
         key: &Key,
         needs: &[Text],
     ) -> Result<(), StoreFault>
-        requires numbers { IsTrue P.tells →
+        requires numbers { IsTrue P.is_modelled →
             HasNumbers (records self.old.folder (P.at place.old).world) self.old.numbers }
 
         // A record without a number gets the next one. After an error it has got it, is unchanged,
         // or is gone.
-        ensures record { IsTrue P.tells →
+        ensures record { IsTrue P.is_modelled →
             MigratesRecord P.child key.now needs.now result self.old self.new
             (P.at place.old).world (P.at place.new).world }
         ensures next { MigratesNext result self.old.next self.new.next }
@@ -129,7 +129,7 @@ impl Store {
         // Only the record's file changes, by the last of these calls.
         ensures only { ChangesOnlyAt (is_at_or_below (place_of self.old.folder key.now))
             (MayMigrate self.old.next) result (P.at place.old) (P.at place.new) }
-        ensures calls { IsTrue P.tells →
+        ensures calls { IsTrue P.is_modelled →
             LooksOrSpent result (call.Read (place_of self.old.folder key.now) ∷ [])
             (migrated_called self.old.folder key.now (P.at place.old).world)
             (P.at place.old).counts (P.at place.new).counts }

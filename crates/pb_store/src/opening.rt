@@ -89,10 +89,10 @@ fn read_greatest<P: Place>(
     path: PathText,
 ) -> Result<u64, OpenFault>
     requires named { ends_as_record path ≡ true }
-    ensures held { IsTrue P.tells →
+    ensures held { IsTrue P.is_modelled →
         OnOk result (numbers.new ≡ noted folder.now path
         (read_text reading (map.get (P.at place.old).world.files path)) numbers.old) }
-    ensures ok { IsTrue P.tells →
+    ensures ok { IsTrue P.is_modelled →
         IfOk result (λ n. n ≡ greatest_if
         (read_text reading (map.get (P.at place.old).world.files path))) }
     ensures quiet { OnlyOpens result (P.at place.old) (P.at place.new) }
@@ -130,10 +130,10 @@ fn greatest_at<P: Place>(
     numbers: &mut Table<Option<u64>>,
     path: PathText,
 ) -> Result<u64, OpenFault>
-    ensures held { IsTrue P.tells →
+    ensures held { IsTrue P.is_modelled →
         OnOk result
         (numbers.new ≡ noted_at folder.now (P.at place.old).world.files numbers.old path) }
-    ensures ok { IsTrue P.tells →
+    ensures ok { IsTrue P.is_modelled →
         IfOk result (λ n. n ≡ greatest_at (P.at place.old).world.files path) }
     ensures quiet { OnlyOpens result (P.at place.old) (P.at place.new) }
     ensures told { IfErr result (ReadsOneOf (path ∷ [])) }
@@ -156,10 +156,10 @@ fn greatest_of<P: Place>(
     numbers: &mut Table<Option<u64>>,
     paths: Items<PathText>,
 ) -> Result<u64, OpenFault>
-    ensures held { IsTrue P.tells →
+    ensures held { IsTrue P.is_modelled →
         OnOk result (numbers.new ≡ fold (noted_at folder.now (P.at place.old).world.files)
         numbers.old paths) }
-    ensures ok { IsTrue P.tells →
+    ensures ok { IsTrue P.is_modelled →
         IfOk result (λ n. n ≡ greatest_of (P.at place.old).world.files paths) }
     ensures quiet { OnlyOpens result (P.at place.old) (P.at place.new) }
     ensures told { IfErr result (ReadsOneOf paths) }
@@ -189,13 +189,13 @@ impl Store {
         folder: PathText,
     ) -> Result<Store, OpenFault>
         ensures folder { IfOk result (λ store. store.folder ≡ folder) }
-        ensures opens { IsTrue P.tells →
+        ensures opens { IsTrue P.is_modelled →
             IfOk result (OpensStore folder (P.at place.old).world) }
 
         // It only lists the folder and reads each record. An error contains the path.
         ensures quiet { OnlyOpens result (P.at place.old) (P.at place.new) }
-        ensures told { IfErr result (OpensBy P.tells folder (P.at place.old).world) }
-        ensures looks { IsTrue P.tells →
+        ensures told { IfErr result (OpensBy P.is_modelled folder (P.at place.old).world) }
+        ensures looks { IsTrue P.is_modelled →
             OpensLooking result (opened_looked folder (P.at place.old).world)
             (P.at place.old).counts (P.at place.new).counts }
     {

@@ -51,7 +51,7 @@ pub(crate) fn text_of<P: Place>(
     place: &mut P,
     path: &PathText,
 ) -> Result<Option<Bytes>, StoreFault>
-    ensures ok { IsTrue P.tells →
+    ensures ok { IsTrue P.is_modelled →
         IfOk result (λ found. found ≡ map.get (P.at place.old).world.files path.now) }
     ensures quiet { OnlyLooks MayRead result (P.at place.old) (P.at place.new) }
     ensures looks { Looks result (call.Read path.now ∷ []) (P.at place.old).counts
@@ -70,7 +70,7 @@ fn text_at<P: Place>(
     folder: &PathText,
     key: &Key,
 ) -> Result<Option<Bytes>, StoreFault>
-    ensures ok { IsTrue P.tells →
+    ensures ok { IsTrue P.is_modelled →
         IfOk result (λ found. found ≡ map.get (P.at place.old).world.files
         (place_of folder.now key.now)) }
     ensures quiet { OnlyLooks MayRead result (P.at place.old) (P.at place.new) }
@@ -122,7 +122,7 @@ pub(crate) fn record_at<P: Place>(
     folder: &PathText,
     key: &Key,
 ) -> Result<Option<Record>, StoreFault>
-    ensures ok { IsTrue P.tells →
+    ensures ok { IsTrue P.is_modelled →
         IfOk result (λ found. found ≡ records folder.now (P.at place.old).world key.now) }
     ensures quiet { OnlyLooks MayRead result (P.at place.old) (P.at place.new) }
     ensures looks { Looks result (call.Read (place_of folder.now key.now) ∷ [])

@@ -8,8 +8,8 @@ use Rattle.pb_record.specs.declared.record.Needed.{Needed}
 use Rattle.pb_record.specs.declared.record.Needed.TheVariants.{Copies, Numbers}
 use Rattle.pb_record.specs.declared.record.Record.{Record}
 use Rattle.pb_store_soundness.specs.Inputs.{Judge, SameBelow, reply_in}
-use Rattle.pb_store_soundness.specs.Records.{Reading, out_of, record_at, number_of, needs_of}
-use Rattle.pb_store_soundness.specs.Grounded.{Standing, Grounded, grounded, Reaches, named, onward}
+use Rattle.pb_store_soundness.specs.Records.{RecordParser, out_of, record_at, number_of, needs_of}
+use Rattle.pb_store_soundness.specs.Grounded.{RecordMap, Grounded, grounded, Reaches, named, onward}
 use Rattle.pb_store_soundness.specs.Sound.{Sound, IsTrueRecord, TrueBy, Rests, Backs}
 use Rattle.pb_store_soundness.proofs.Elements.{any_at, inside_same}
 use Rattle.pb_store_soundness.specs.Laws.{Became, gone, stays, renewed, StaysSound}
@@ -21,30 +21,30 @@ pub none_some : {A : Type 0} (x : A) → None ≡ Some x → ⊥
 none_some x e = cc
 
 -- a grounded unit: its record, and what it names
-pub grounded_number : (at : Standing) (key : List ℕ) (number : ℕ) (r : Record) → Grounded at key number → at key ≡ Some r → number_of r ≡ Some number
+pub grounded_number : (at : RecordMap) (key : List ℕ) (number : ℕ) (r : Record) → Grounded at key number → at key ≡ Some r → number_of r ≡ Some number
 grounded_number at key number r (grounded k s n here numbered less needs) is = ap number_of (one r s (sym is ∙ here)) ∙ numbered
 
-pub grounded_stands : (at : Standing) (key : List ℕ) (number : ℕ) → Grounded at key number → at key ≡ None → ⊥
+pub grounded_stands : (at : RecordMap) (key : List ℕ) (number : ℕ) → Grounded at key number → at key ≡ None → ⊥
 grounded_stands at key number (grounded k s n here numbered less needs) is = none_some s (sym is ∙ here)
 
-pub need_grounded : (at : Standing) (key : List ℕ) (number : ℕ) (r : Record) → Grounded at key number → at key ≡ Some r → (need : List ℕ) (n : ℕ) → Contains (needs_of r) (need, n) → Grounded at need n
+pub need_grounded : (at : RecordMap) (key : List ℕ) (number : ℕ) (r : Record) → Grounded at key number → at key ≡ Some r → (need : List ℕ) (n : ℕ) → Contains (needs_of r) (need, n) → Grounded at need n
 need_grounded at key number r (grounded k s m here numbered less needs) is need n names = needs need n (subst (λ (t : Record). Contains (needs_of t) (need, n)) (one r s (sym is ∙ here)) names)
 
 -- from a grounded unit only grounded ones are reached
-pub reached_grounded : (at : Standing) (key v : List ℕ) (number : ℕ) → Grounded at key number → Reaches at key v → (n : ℕ) × Grounded at v n
+pub reached_grounded : (at : RecordMap) (key v : List ℕ) (number : ℕ) → Grounded at key number → Reaches at key v → (n : ℕ) × Grounded at v n
 reached_grounded at key v number is (named k r here need n names) = (n, need_grounded at key number r is here need n names)
 reached_grounded at key v number is (onward k r here need n names further more) = reached_grounded at need v n (need_grounded at key number r is here need n names) more
 
 -- the record, the files of a unit are as they were
-pub record Stays (read : Reading) (folder : List ℕ) (old new : Map) (key : List ℕ) : Type 0 where
+pub record Stays (read : RecordParser) (folder : List ℕ) (old new : Map) (key : List ℕ) : Type 0 where
   pub standing : record_at read folder new key ≡ record_at read folder old key
   pub files : files_in (out_of folder key) new ≡ files_in (out_of folder key) old
 
-module _ (read : Reading) (folder : List ℕ) (old new : Map) (Said : List ℕ → Record → Type 0) (each : (key : List ℕ) → Became read folder old new Said key) where
-  abbrev pub Old : Standing
+module _ (read : RecordParser) (folder : List ℕ) (old new : Map) (Said : List ℕ → Record → Type 0) (each : (key : List ℕ) → Became read folder old new Said key) where
+  abbrev pub Old : RecordMap
   Old = record_at read folder old
 
-  abbrev pub New : Standing
+  abbrev pub New : RecordMap
   New = record_at read folder new
 
   named_stays : (key : List ℕ) (r : Record) → Old key ≡ Some r → (need : List ℕ) (n : ℕ) → Contains (needs_of r) (need, n) → Grounded New need n → Became read folder old new Said need → Stays read folder old new need
@@ -78,11 +78,11 @@ module _ (read : Reading) (folder : List ℕ) (old new : Map) (Said : List ℕ �
   reached_stays key v number same is (onward k r here need n names further more) =
       reached_stays need v n (need_stays key number r same is here need n names) (need_grounded New key number r is here need n names) more
 
-module _ (read : Reading) (judge : Judge) (child : Answers) (folder : List ℕ) (old new : Map) (each : (key : List ℕ) → Became read folder old new (IsTrueRecord judge child folder (record_at read folder new) new) key) where
-  abbrev Was : Standing
+module _ (read : RecordParser) (judge : Judge) (child : Answers) (folder : List ℕ) (old new : Map) (each : (key : List ℕ) → Became read folder old new (IsTrueRecord judge child folder (record_at read folder new) new) key) where
+  abbrev Was : RecordMap
   Was = record_at read folder old
 
-  abbrev Now : Standing
+  abbrev Now : RecordMap
   Now = record_at read folder new
 
   abbrev Said : List ℕ → Record → Type 0

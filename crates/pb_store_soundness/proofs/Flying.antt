@@ -8,7 +8,7 @@ use Rattle.pb_place_types.specs.World.{World, ChangesOnly, seen_by}
 use Rattle.pb_place_types.specs.declared.command.Command.{Command}
 use Rattle.pb_place_types.proofs.Folders.{files_alike, sources_alike, sees_alike}
 use Rattle.pb_place_types.proofs.Within.{at_below, at_or_below_on, outside_within, share_no_path}
-use Rattle.pb_store_soundness.specs.Records.{Reading, is_key, out_of, place_of, record_at}
+use Rattle.pb_store_soundness.specs.Records.{RecordParser, is_key, out_of, place_of, record_at}
 use Rattle.pb_store_soundness.specs.Apart.{is_of, ReadsOthers, OthersLaw}
 use Rattle.pb_store_soundness.specs.Numbers.{NumberWaitsLaw}
 use Rattle.pb_store_soundness.proofs.Places.{is_same, no_key, out_in, place_in, place_outside, places_differ, outs_apart, out_place_apart, record_same}
@@ -32,7 +32,7 @@ module _ (folder key : List ℕ) (old new : World) (path : is_path folder ≡ tr
   pub unit_files : (l : List ℕ) → is_key l ≡ true → l ≢ key → files_in (out_of folder l) new.files ≡ files_in (out_of folder l) old.files
   unit_files l is_l apart = folder_apart (out_of folder l) (outs_apart folder l key path is_l is apart) (out_place_apart folder l key path is_l is)
 
-  pub unit_record : (read : Reading) (l : List ℕ) → l ≢ key → record_at read folder new.files l ≡ record_at read folder old.files l
+  pub unit_record : (read : RecordParser) (l : List ℕ) → l ≢ key → record_at read folder new.files l ≡ record_at read folder old.files l
   unit_record read l apart = elim (cases_Bool (is_key l)) [
     | inl is_l ↦ record_same read folder old.files new.files l (only.files (place_of folder l) (neither (is_at_or_below (out_of folder key) (place_of folder l)) (is_at_or_below (place_of folder key) (place_of folder l))
         (place_outside folder key l is is_l) (places_differ folder key l is is_l (λ e. apart (sym e)))))

@@ -8,13 +8,13 @@ use Rattle.pb_place_types.specs.World.{Map, AgreeBut}
 use Rattle.pb_place_types.proofs.Folders.{files_alike}
 use Rattle.pb_place_types.proofs.Within.{at_below, below_on}
 use Rattle.pb_record.specs.declared.record.Record.{Record}
-use Rattle.pb_store_soundness.specs.Records.{Reading, is_key, out_of, place_of, record_at, number_of}
+use Rattle.pb_store_soundness.specs.Records.{RecordParser, is_key, out_of, place_of, record_at, number_of}
 use Rattle.pb_store_soundness.specs.Sound.{IsTrueRecord}
 use Rattle.pb_store_soundness.specs.Laws.{Became, gone, stays, renewed, Unnamed, OutsideLaw, InOutputLaw, WithoutRecordLaw, PutLaw}
 use Rattle.pb_store_soundness.proofs.Becoming.{Stays, stays_sound}
 use Rattle.pb_store_soundness.proofs.Places.{is_same, out_in, place_in, place_outside, places_differ, outs_apart, out_place_apart, folder_still, record_same, no_key}
 
-module _ (read : Reading) (folder : List ℕ) (old new : Map) (Said : List ℕ → Record → Type 0) where
+module _ (read : RecordParser) (folder : List ℕ) (old new : Map) (Said : List ℕ → Record → Type 0) where
   -- a unit whose record's text and files are as they were
   unchanged : (l : List ℕ) → get new (place_of folder l) ≡ get old (place_of folder l) → files_in (out_of folder l) new ≡ files_in (out_of folder l) old → Became read folder old new Said l
   unchanged l text files = stays (record_same read folder old new l text) files

@@ -15,7 +15,7 @@ use Rattle.pb_place_types.proofs.Folders.{named_folders_lie_apart, files_alike}
 use Rattle.pb_place_types.proofs.PathLemmas.{and_left, and_right}
 use Rattle.pb_place_types.proofs.Within.{at_below, goes_below, names_lie_apart, share_no_path}
 use Rattle.pb_record.specs.declared.record.Record.{Record}
-use Rattle.pb_store_soundness.specs.Records.{Reading, is_key, ends_as_record, out_of, place_of, record_at, read_text, if_of_key}
+use Rattle.pb_store_soundness.specs.Records.{RecordParser, is_key, ends_as_record, out_of, place_of, record_at, read_text, if_of_key}
 
 pub is_same : (k l : List ℕ) → (k ≡ l) ⊎ (k ≢ l)
 is_same k l = elim (cases_Bool (bytes_eq k l)) [
@@ -120,7 +120,7 @@ module _ (folder : List ℕ) where
 pub folder_still : (f g : List ℕ) (old new : Map) → LieApart f g → AgreeBut (is_at_or_below g) old new → files_in f new ≡ files_in f old
 folder_still f g old new apart only = files_alike f new old (λ q inside. only q (share_no_path f g q apart.first apart.second apart.not_below_first apart.not_below_second (at_below f q inside)))
 
-module _ (read : Reading) (folder : List ℕ) where
+module _ (read : RecordParser) (folder : List ℕ) where
   pub record_same : (old new : Map) (key : List ℕ) → get new (place_of folder key) ≡ get old (place_of folder key) → record_at read folder new key ≡ record_at read folder old key
   unfolding record_at
   record_same old new key same = ap (λ o. cond (is_key key) (if_of_key key (read_text read o)) None) same

@@ -12,8 +12,8 @@ use Rattle.pb_record.specs.declared.record.Needed.{Needed}
 use Rattle.pb_record.specs.declared.record.Needed.TheVariants.{Copies, Numbers}
 use Rattle.pb_record.specs.declared.record.Record.{Record}
 use Rattle.pb_store_soundness.specs.Inputs.{Judge, Agrees, SameBelow, IsHonest, input_in, name_of, reply_in}
-use Rattle.pb_store_soundness.specs.Records.{Reading, out_of, place_of, record_at, number_in, numbered_in, number_of, needs_of}
-use Rattle.pb_store_soundness.specs.Grounded.{Standing, Grounded, grounded, Reaches, named, onward}
+use Rattle.pb_store_soundness.specs.Records.{RecordParser, out_of, place_of, record_at, number_in, numbered_in, number_of, needs_of}
+use Rattle.pb_store_soundness.specs.Grounded.{RecordMap, Grounded, grounded, Reaches, named, onward}
 use Rattle.pb_store_soundness.specs.Sound.{Sound, IsTrueRecord, TrueBy, TrueNumbers, Rests, Backs}
 use Rattle.pb_store_soundness.specs.Laws.{Became}
 use Rattle.pb_store_soundness.specs.Reuse.{number_if, NeededNow, IsSame, AreGrounded, GroundsLaw, ReuseLaw, ReadByNeeds, own, beyond, NamesNeeds, IsPut, RenewLaw, SparesLaw, PutGroundsLaw}
@@ -23,22 +23,22 @@ use Rattle.pb_store_soundness.proofs.Four.{other_stays, put_became, put}
 use Rattle.pb_store_soundness.proofs.Places.{its_key, out_place_apart, folder_still}
 
 -- what is true of a record of format 2
-numbers_by : (judge : Judge) (child : Answers) (folder : List ℕ) (at : Standing) (files : Map) (key : List ℕ) (r : Record) (number : ℕ) (needed : Needed) → number_in needed ≡ Some number
+numbers_by : (judge : Judge) (child : Answers) (folder : List ℕ) (at : RecordMap) (files : Map) (key : List ℕ) (r : Record) (number : ℕ) (needed : Needed) → number_in needed ≡ Some number
     → TrueBy judge child folder at files key r needed → TrueNumbers judge child folder at files key r number (numbered_in needed)
 numbers_by judge child folder at files key r number (Copies copies) is true_then = absurd (none_some number is)
 numbers_by judge child folder at files key r number (Numbers m needs) is true_then = subst (λ n. TrueNumbers judge child folder at files key r n needs) (one m number is) true_then
 
-numbers_in : (judge : Judge) (child : Answers) (folder : List ℕ) (at : Standing) (files : Map) (key : List ℕ) (r : Record) (number : ℕ) → number_of r ≡ Some number
+numbers_in : (judge : Judge) (child : Answers) (folder : List ℕ) (at : RecordMap) (files : Map) (key : List ℕ) (r : Record) (number : ℕ) → number_of r ≡ Some number
     → IsTrueRecord judge child folder at files key r → TrueNumbers judge child folder at files key r number (needs_of r)
 numbers_in judge child folder at files key r number is true_then = numbers_by judge child folder at files key r number r.needed is true_then.says
 
 -- the needs of a record without a difference have the numbers named
-now_numbered : (folder : List ℕ) (at : Standing) (files : Map) (needed : Needed) (number : ℕ) → number_in needed ≡ Some number → NeededNow folder at files needed
+now_numbered : (folder : List ℕ) (at : RecordMap) (files : Map) (needed : Needed) (number : ℕ) → number_in needed ≡ Some number → NeededNow folder at files needed
     → (need : List ℕ) (n : ℕ) → Contains (numbered_in needed) (need, n) → number_if (at need) ≡ Some n
 now_numbered folder at files (Copies copies) number is now = absurd (none_some number is)
 now_numbered folder at files (Numbers m needs) number is now = now
 
-grounded_now : (at : Standing) (key : List ℕ) (n : ℕ) → Grounded at key n → number_if (at key) ≡ Some n
+grounded_now : (at : RecordMap) (key : List ℕ) (n : ℕ) → Grounded at key n → number_if (at key) ≡ Some n
 grounded_now at key n (grounded k r m here numbered less needs) = ap number_if here ∙ numbered
 
 pub grounds : GroundsLaw
@@ -53,7 +53,7 @@ grounds read judge child folder key c w r number sound same are_grounded numbere
 same_itself : (folders : List (List ℕ)) (m : Map) → SameBelow folders m m
 same_itself folders m q inside = refl
 
-reuse_by : (read : Reading) (judge : Judge) (child : Answers) (folder key : List ℕ) (c : Command) (w : World) (r : Record) → Sound read judge child folder w.files
+reuse_by : (read : RecordParser) (judge : Judge) (child : Answers) (folder key : List ℕ) (c : Command) (w : World) (r : Record) → Sound read judge child folder w.files
     → IsSame read folder key c w r → AreGrounded (record_at read folder w.files) folder c.reads → (needed : Needed) → r.needed ≡ needed
     → TrueBy judge child folder (record_at read folder w.files) w.files key r needed → Backs judge r (out_of folder key) (files_in (out_of folder key) w.files) (reply_in child (command_of r.asked) w)
 reuse_by read judge child folder key c w r sound same are_grounded (Copies copies) is says =
@@ -86,13 +86,13 @@ both_agree : (target : List ℕ) (inputs : List Input) (v w : World) → Agrees 
 both_agree target [] v w one other = one
 both_agree target (i ∷ inputs) v w one other = (other.0 ∙ sym one.0, both_agree target inputs v w one.1 other.1)
 
-module _ (read : Reading) (judge : Judge) (child : Answers) (folder key : List ℕ) (w : World) (new : Map) (r : Record) (number : ℕ)
+module _ (read : RecordParser) (judge : Judge) (child : Answers) (folder key : List ℕ) (w : World) (new : Map) (r : Record) (number : ℕ)
     (honest : IsHonest judge child (command_of r.asked) w) (agree : Agrees r.asked.target r.inputs w) (backs : Backs judge r (out_of folder key) (files_in (out_of folder key) w.files) (reply_in child (command_of r.asked) w))
     (names : NamesNeeds (record_at read folder w.files) folder r number) (put_there : IsPut read folder key r number w.files new) (sound : Sound read judge child folder w.files) where
-  abbrev Was : Standing
+  abbrev Was : RecordMap
   Was = record_at read folder w.files
 
-  abbrev Now : Standing
+  abbrev Now : RecordMap
   Now = record_at read folder new
 
   abbrev Any : List ℕ → Record → Type 0

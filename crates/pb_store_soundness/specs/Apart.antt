@@ -4,7 +4,7 @@ use Rattle.pb_place_types.specs.Folders.{files_in}
 use Rattle.pb_place_types.specs.Paths.{is_path, is_at_or_below}
 use Rattle.pb_place_types.specs.World.{World, ChangesOnly, seen_by}
 use Rattle.pb_place_types.specs.declared.command.Command.{Command}
-use Rattle.pb_store_soundness.specs.Records.{Reading, is_key, out_of, place_of, record_at}
+use Rattle.pb_store_soundness.specs.Records.{RecordParser, is_key, out_of, place_of, record_at}
 
 -- a path of a unit: at or below its output folder, or at or below the path of its record
 abbrev pub is_of : List ℕ → List ℕ → List ℕ → Bool
@@ -17,5 +17,5 @@ ReadsOthers folder key c = (f : List ℕ) → Contains c.reads f → (v : List �
 -- A change at the paths of one unit leaves the records and files of all other units as they are. It also leaves the
 -- view of each command that reads only folders of other units.
 abbrev pub OthersLaw : Type 0
-OthersLaw = (read : Reading) (folder key : List ℕ) (c : Command) (old new : World) → is_path folder ≡ true → is_key key ≡ true → is_at_or_below c.target folder ≡ true → ReadsOthers folder key c → ChangesOnly (is_of folder key) old new
+OthersLaw = (read : RecordParser) (folder key : List ℕ) (c : Command) (old new : World) → is_path folder ≡ true → is_key key ≡ true → is_at_or_below c.target folder ≡ true → ReadsOthers folder key c → ChangesOnly (is_of folder key) old new
     → (seen_by c new ≡ seen_by c old) × ((l : List ℕ) → l ≢ key → (record_at read folder new.files l ≡ record_at read folder old.files l)) × ((l : List ℕ) → is_key l ≡ true → l ≢ key → files_in (out_of folder l) new.files ≡ files_in (out_of folder l) old.files)

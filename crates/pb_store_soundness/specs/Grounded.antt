@@ -4,17 +4,17 @@ use Rattle.pb_record.specs.declared.record.Record.{Record}
 use Rattle.pb_store_soundness.specs.Records.{number_of, needs_of}
 
 -- the records that count, by key
-abbrev pub Standing : Type 0
-Standing = List ℕ → Option Record
+abbrev pub RecordMap : Type 0
+RecordMap = List ℕ → Option Record
 
 -- a unit has a record with this number, and each unit that the record names is grounded with the number that it names,
 -- which is less
-pub data Grounded (at : Standing) : List ℕ → ℕ → Type 0 where
+pub data Grounded (at : RecordMap) : List ℕ → ℕ → Type 0 where
   grounded : (key : List ℕ) (r : Record) (number : ℕ) (here : at key ≡ Some r) (numbered : number_of r ≡ Some number)
       (less : (need : List ℕ) (n : ℕ) → Contains (needs_of r) (need, n) → n < number)
       (needs : (need : List ℕ) (n : ℕ) → Contains (needs_of r) (need, n) → Grounded at need n) → Grounded at key number
 
 -- one unit reaches another: the record of each names the next, in one or more steps
-pub data Reaches (at : Standing) : List ℕ → List ℕ → Type 0 where
+pub data Reaches (at : RecordMap) : List ℕ → List ℕ → Type 0 where
   named : (key : List ℕ) (r : Record) (here : at key ≡ Some r) (need : List ℕ) (n : ℕ) (names : Contains (needs_of r) (need, n)) → Reaches at key need
   onward : (key : List ℕ) (r : Record) (here : at key ≡ Some r) (need : List ℕ) (n : ℕ) (names : Contains (needs_of r) (need, n)) (further : List ℕ) (more : Reaches at need further) → Reaches at key further

@@ -6,43 +6,43 @@ use Rattle.pb_place_types.specs.Paths.{is_path, is_at_or_below}
 use Rattle.pb_place_types.specs.World.{Map, Answers, AgreeBut}
 use Rattle.pb_record.specs.declared.record.Record.{Record}
 use Rattle.pb_store_soundness.specs.Inputs.{Judge}
-use Rattle.pb_store_soundness.specs.Records.{Reading, is_key, out_of, place_of, record_at, number_of, needs_of}
-use Rattle.pb_store_soundness.specs.Grounded.{Standing}
+use Rattle.pb_store_soundness.specs.Records.{RecordParser, is_key, out_of, place_of, record_at, number_of, needs_of}
+use Rattle.pb_store_soundness.specs.Grounded.{RecordMap}
 use Rattle.pb_store_soundness.specs.Sound.{Sound, IsTrueRecord}
 
 -- no record that counts names this unit with this number
-abbrev pub Unnamed : Standing → List ℕ → ℕ → Type 0
+abbrev pub Unnamed : RecordMap → List ℕ → ℕ → Type 0
 Unnamed at key number = (other : List ℕ) (r : Record) → at other ≡ Some r → Contains (needs_of r) (key, number) → ⊥
 
 -- what happened to a unit: no record counts for it; or its record and its files are unchanged; or it has a record for
 -- which `Said` is true, with a number that no record named for it
-pub data Became (read : Reading) (folder : List ℕ) (old new : Map) (Said : List ℕ → Record → Type 0) (key : List ℕ) : Type 0 where
+pub data Became (read : RecordParser) (folder : List ℕ) (old new : Map) (Said : List ℕ → Record → Type 0) (key : List ℕ) : Type 0 where
   gone : record_at read folder new key ≡ None → Became read folder old new Said key
   stays : record_at read folder new key ≡ record_at read folder old key → files_in (out_of folder key) new ≡ files_in (out_of folder key) old → Became read folder old new Said key
   renewed : (r : Record) (number : ℕ) → record_at read folder new key ≡ Some r → number_of r ≡ Some number → Unnamed (record_at read folder old) key number → Said key r → Became read folder old new Said key
 
 -- A folder stays sound if each record is gone, is unchanged, or is a true one with a number of its own.
 abbrev pub StaysSound : Type 0
-StaysSound = (read : Reading) (judge : Judge) (child : Answers) (folder : List ℕ) (old new : Map)
+StaysSound = (read : RecordParser) (judge : Judge) (child : Answers) (folder : List ℕ) (old new : Map)
     → ((key : List ℕ) → Became read folder old new (IsTrueRecord judge child folder (record_at read folder new) new) key) → Sound read judge child folder old → Sound read judge child folder new
 
 -- It stays sound after a change outside the folder.
 abbrev pub OutsideLaw : Type 0
-OutsideLaw = (read : Reading) (judge : Judge) (child : Answers) (folder : List ℕ) (old new : Map) → ((q : List ℕ) → is_at_or_below folder q ≡ true → finite.get new q ≡ finite.get old q)
+OutsideLaw = (read : RecordParser) (judge : Judge) (child : Answers) (folder : List ℕ) (old new : Map) → ((q : List ℕ) → is_at_or_below folder q ≡ true → finite.get new q ≡ finite.get old q)
     → Sound read judge child folder old → Sound read judge child folder new
 
 -- It stays sound after a change at or below the output folder of a unit without a record that counts.
 abbrev pub InOutputLaw : Type 0
-InOutputLaw = (read : Reading) (judge : Judge) (child : Answers) (folder : List ℕ) (old new : Map) (key : List ℕ) → is_path folder ≡ true → is_key key ≡ true
+InOutputLaw = (read : RecordParser) (judge : Judge) (child : Answers) (folder : List ℕ) (old new : Map) (key : List ℕ) → is_path folder ≡ true → is_key key ≡ true
     → record_at read folder old key ≡ None → AgreeBut (is_at_or_below (out_of folder key)) old new → Sound read judge child folder old → Sound read judge child folder new
 
 -- It stays sound if the text of a record is removed, or becomes one that does not count.
 abbrev pub WithoutRecordLaw : Type 0
-WithoutRecordLaw = (read : Reading) (judge : Judge) (child : Answers) (folder : List ℕ) (old new : Map) (key : List ℕ) → is_path folder ≡ true → is_key key ≡ true
+WithoutRecordLaw = (read : RecordParser) (judge : Judge) (child : Answers) (folder : List ℕ) (old new : Map) (key : List ℕ) → is_path folder ≡ true → is_key key ≡ true
     → record_at read folder new key ≡ None → AgreeBut (is_at_or_below (place_of folder key)) old new → Sound read judge child folder old → Sound read judge child folder new
 
 -- It stays sound if a true record of format 2 is written, with a number by which no record that counts names its unit.
 abbrev pub PutLaw : Type 0
-PutLaw = (read : Reading) (judge : Judge) (child : Answers) (folder : List ℕ) (old new : Map) (key : List ℕ) (r : Record) (number : ℕ) → is_path folder ≡ true → is_key key ≡ true
+PutLaw = (read : RecordParser) (judge : Judge) (child : Answers) (folder : List ℕ) (old new : Map) (key : List ℕ) (r : Record) (number : ℕ) → is_path folder ≡ true → is_key key ≡ true
     → record_at read folder new key ≡ Some r → number_of r ≡ Some number → Unnamed (record_at read folder old) key number → AgreeBut (is_at_or_below (place_of folder key)) old new
     → IsTrueRecord judge child folder (record_at read folder new) new key r → Sound read judge child folder old → Sound read judge child folder new

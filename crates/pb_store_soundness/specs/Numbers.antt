@@ -2,16 +2,16 @@
 use Rattle.std.specs.Prelude.{◌≡◌, ◌≢◌, ◌⊎◌, ◌<◌, ◌==◌, ◌+◌, if◌then◌else◌, ℕ, List, Option, Some, None, Contains}
 use Rattle.pb_record.specs.declared.record.Record.{Record}
 use Rattle.pb_store_soundness.specs.Records.{number_of, needs_of}
-use Rattle.pb_store_soundness.specs.Grounded.{Standing}
+use Rattle.pb_store_soundness.specs.Grounded.{RecordMap}
 
 -- no record that counts has this number, or names a unit by it
-abbrev pub NoneNames : Standing → ℕ → Type 0
+abbrev pub NoneNames : RecordMap → ℕ → Type 0
 NoneNames at number = (other : List ℕ) (r : Record) → at other ≡ Some r → (number_of r ≢ Some number) × ((need : List ℕ) → Contains (needs_of r) (need, number) → ⊥)
 
 -- A number that was taken and not yet used stays unused if the record of another unit is dropped. It also does if that
 -- record is replaced by one that has another number and names only present records.
 abbrev pub NumberWaitsLaw : Type 0
-NumberWaitsLaw = (old new : Standing) (key : List ℕ) (number : ℕ) → ((l : List ℕ) → l ≢ key → new l ≡ old l)
+NumberWaitsLaw = (old new : RecordMap) (key : List ℕ) (number : ℕ) → ((l : List ℕ) → l ≢ key → new l ≡ old l)
     → NoneNames old number → ((r : Record) → new key ≡ Some r → (number_of r ≢ Some number) × ((need : List ℕ) (n : ℕ) → Contains (needs_of r) (need, n) → (s : Record) × (old need ≡ Some s) × (number_of s ≡ Some n))) → NoneNames new number
 
 -- the number after this one, if one is left: the last is the greatest number of 64 bits
@@ -29,17 +29,17 @@ pub record NamesBefore (next : Option ℕ) (r : Record) : Type 0 where
   pub named : (need : List ℕ) (n : ℕ) → Contains (needs_of r) (need, n) → IsBefore next n
 
 -- the same for each record that counts
-abbrev pub IsAhead : Standing → Option ℕ → Type 0
+abbrev pub IsAhead : RecordMap → Option ℕ → Type 0
 IsAhead at next = (key : List ℕ) (r : Record) → at key ≡ Some r → NamesBefore next r
 
 -- It stays so if each record is gone, is unchanged, or has and names only numbers below the next one,
 abbrev pub StaysAheadLaw : Type 0
-StaysAheadLaw = (old new : Standing) (next : Option ℕ) → ((key : List ℕ) → (new key ≡ None) ⊎ ((new key ≡ old key) ⊎ ((r : Record) → new key ≡ Some r → NamesBefore next r))) → IsAhead old next → IsAhead new next
+StaysAheadLaw = (old new : RecordMap) (next : Option ℕ) → ((key : List ℕ) → (new key ≡ None) ⊎ ((new key ≡ old key) ⊎ ((r : Record) → new key ≡ Some r → NamesBefore next r))) → IsAhead old next → IsAhead new next
 
 -- and if the next number is taken and the one after it is next.
 abbrev pub GivenAheadLaw : Type 0
-GivenAheadLaw = (at : Standing) (number : ℕ) → IsAhead at (Some number) → IsAhead at (after number) × IsBefore (after number) number
+GivenAheadLaw = (at : RecordMap) (number : ℕ) → IsAhead at (Some number) → IsAhead at (after number) × IsBefore (after number) number
 
 -- No record names the next number, and it is greater than the number of each record that counts.
 abbrev pub NextIsNewLaw : Type 0
-NextIsNewLaw = (at : Standing) (number : ℕ) → IsAhead at (Some number) → NoneNames at number × ((key : List ℕ) (r : Record) (n : ℕ) → at key ≡ Some r → number_of r ≡ Some n → n < number)
+NextIsNewLaw = (at : RecordMap) (number : ℕ) → IsAhead at (Some number) → NoneNames at number × ((key : List ℕ) (r : Record) (n : ℕ) → at key ≡ Some r → number_of r ≡ Some n → n < number)

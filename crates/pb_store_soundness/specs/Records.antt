@@ -26,10 +26,10 @@ abbrev pub place_of : List ℕ → List ℕ → List ℕ
 place_of folder key = below folder (key ++ codes ".record")
 
 -- a function from texts to records: none if a text is not that of a record
-abbrev pub Reading : Type 0
-Reading = List ℕ → Option Record
+abbrev pub RecordParser : Type 0
+RecordParser = List ℕ → Option Record
 
-abbrev pub read_text : Reading → Option (List ℕ) → Option Record
+abbrev pub read_text : RecordParser → Option (List ℕ) → Option Record
 read_text read None = None
 read_text read (Some text) = read text
 
@@ -39,7 +39,7 @@ if_of_key key None = None
 if_of_key key (Some r) = if bytes_eq r.key key then Some r else None
 
 -- the record that counts for a key
-unfoldable pub record_at : Reading → List ℕ → Map → List ℕ → Option Record
+unfoldable pub record_at : RecordParser → List ℕ → Map → List ℕ → Option Record
 record_at read folder files key = if is_key key then if_of_key key (read_text read (finite.get files (place_of folder key))) else None
 
 -- the record that counts for each key, in a folder of a world

@@ -9,8 +9,8 @@ use Rattle.pb_record.specs.declared.record.Needed.{Needed}
 use Rattle.pb_record.specs.declared.record.Needed.TheVariants.{Copies, Numbers}
 use Rattle.pb_record.specs.declared.record.Record.{Record}
 use Rattle.pb_store_soundness.specs.Inputs.{Judge, Agrees, IsHonest, reply_in}
-use Rattle.pb_store_soundness.specs.Records.{Reading, is_key, out_of, place_of, record_at, number_of, needs_of}
-use Rattle.pb_store_soundness.specs.Grounded.{Standing, Grounded, Reaches}
+use Rattle.pb_store_soundness.specs.Records.{RecordParser, is_key, out_of, place_of, record_at, number_of, needs_of}
+use Rattle.pb_store_soundness.specs.Grounded.{RecordMap, Grounded, Reaches}
 use Rattle.pb_store_soundness.specs.Sound.{Sound, Backs, HoldsCopies}
 use Rattle.pb_store_soundness.specs.Laws.{Unnamed}
 
@@ -21,47 +21,47 @@ number_if (Some r) = number_of r
 
 -- the needed units are as the record names them: by the present numbers of their records; in format 1, by their present
 -- files
-abbrev pub NeededNow : List ℕ → Standing → Map → Needed → Type 0
+abbrev pub NeededNow : List ℕ → RecordMap → Map → Needed → Type 0
 NeededNow folder at files (Copies copies) = HoldsCopies folder copies files
 NeededNow folder at files (Numbers number needs) = (need : List ℕ) (n : ℕ) → Contains needs (need, n) → number_if (at need) ≡ Some n
 
 -- nothing differs: a record counts, it is that of the command, its inputs have their present values, and the needed
 -- units are as it names them
-pub record IsSame (read : Reading) (folder key : List ℕ) (c : Command) (w : World) (r : Record) : Type 0 where
+pub record IsSame (read : RecordParser) (folder key : List ℕ) (c : Command) (w : World) (r : Record) : Type 0 where
   pub stands : record_at read folder w.files key ≡ Some r
   pub asked : command_of r.asked ≡ c
   pub inputs : Agrees c.target r.inputs w
   pub needed : NeededNow folder (record_at read folder w.files) w.files r.needed
 
 -- each unit whose folder is among these is grounded
-abbrev pub AreGrounded : Standing → List ℕ → List (List ℕ) → Type 0
+abbrev pub AreGrounded : RecordMap → List ℕ → List (List ℕ) → Type 0
 AreGrounded at folder reads = (v : List ℕ) → Contains reads (out_of folder v) → (n : ℕ) × Grounded at v n
 
 -- If nothing differs, and each unit that the command reads is grounded, then the unit is grounded if its record is of
 -- format 2.
 abbrev pub GroundsLaw : Type 0
-GroundsLaw = (read : Reading) (judge : Judge) (child : Answers) (folder key : List ℕ) (c : Command) (w : World) (r : Record) (number : ℕ) → Sound read judge child folder w.files
+GroundsLaw = (read : RecordParser) (judge : Judge) (child : Answers) (folder key : List ℕ) (c : Command) (w : World) (r : Record) (number : ℕ) → Sound read judge child folder w.files
     → IsSame read folder key c w r → AreGrounded (record_at read folder w.files) folder c.reads → number_of r ≡ Some number → Grounded (record_at read folder w.files) key number
 
 -- And the child's reply in the present view is that of the record, with the files in the unit's folder.
 abbrev pub ReuseLaw : Type 0
-ReuseLaw = (read : Reading) (judge : Judge) (child : Answers) (folder key : List ℕ) (c : Command) (w : World) (r : Record) → Sound read judge child folder w.files
+ReuseLaw = (read : RecordParser) (judge : Judge) (child : Answers) (folder key : List ℕ) (c : Command) (w : World) (r : Record) → Sound read judge child folder w.files
     → IsSame read folder key c w r → AreGrounded (record_at read folder w.files) folder c.reads → Backs judge r (out_of folder key) (files_in (out_of folder key) w.files) (reply_in child c w)
 
 -- the folder of a unit that is named, or a folder that the record of such a unit reads
-pub data ReadByNeeds (at : Standing) (folder : List ℕ) (needs : List (List ℕ × ℕ)) (f : List ℕ) : Type 0 where
+pub data ReadByNeeds (at : RecordMap) (folder : List ℕ) (needs : List (List ℕ × ℕ)) (f : List ℕ) : Type 0 where
   own : (need : List ℕ) (n : ℕ) → Contains needs (need, n) → f ≡ out_of folder need → ReadByNeeds at folder needs f
   beyond : (need : List ℕ) (n : ℕ) (s : Record) → Contains needs (need, n) → at need ≡ Some s → Contains s.asked.reads f → ReadByNeeds at folder needs f
 
 -- what a record names: units with the numbers of their records, which are less than its own; it reads their folders and
 -- what their records read
-pub record NamesNeeds (at : Standing) (folder : List ℕ) (r : Record) (number : ℕ) : Type 0 where
+pub record NamesNeeds (at : RecordMap) (folder : List ℕ) (r : Record) (number : ℕ) : Type 0 where
   pub stand : (need : List ℕ) (n : ℕ) → Contains (needs_of r) (need, n) → (s : Record) × (at need ≡ Some s) × (number_of s ≡ Some n)
   pub less : (need : List ℕ) (n : ℕ) → Contains (needs_of r) (need, n) → n < number
   pub reads : (f : List ℕ) → Contains r.asked.reads f ↔ ReadByNeeds at folder (needs_of r) f
 
 -- a record was written, with a number by which no record named its unit, and nothing else has changed
-pub record IsPut (read : Reading) (folder key : List ℕ) (r : Record) (number : ℕ) (old new : Map) : Type 0 where
+pub record IsPut (read : RecordParser) (folder key : List ℕ) (r : Record) (number : ℕ) (old new : Map) : Type 0 where
   pub path : is_path folder ≡ true
   pub key_is : is_key key ≡ true
   pub there : record_at read folder new key ≡ Some r
@@ -72,15 +72,15 @@ pub record IsPut (read : Reading) (folder key : List ℕ) (r : Record) (number :
 -- A folder stays sound if a new record of format 2 contains the reply of an honest child in the present view, and the
 -- present values of the inputs, whatever was there before.
 abbrev pub RenewLaw : Type 0
-RenewLaw = (read : Reading) (judge : Judge) (child : Answers) (folder key : List ℕ) (w : World) (new : Map) (r : Record) (number : ℕ) → IsHonest judge child (command_of r.asked) w
+RenewLaw = (read : RecordParser) (judge : Judge) (child : Answers) (folder key : List ℕ) (w : World) (new : Map) (r : Record) (number : ℕ) → IsHonest judge child (command_of r.asked) w
     → Agrees r.asked.target r.inputs w → Backs judge r (out_of folder key) (files_in (out_of folder key) w.files) (reply_in child (command_of r.asked) w)
     → NamesNeeds (record_at read folder w.files) folder r number → IsPut read folder key r number w.files new → Sound read judge child folder w.files → Sound read judge child folder new
 
 -- A grounded unit that does not reach another unit stays grounded if only the record of that other unit changes.
 abbrev pub SparesLaw : Type 0
-SparesLaw = (old new : Standing) (key v : List ℕ) (n : ℕ) → ((l : List ℕ) → l ≢ key → new l ≡ old l) → Grounded old v n → v ≢ key → (Reaches old v key → ⊥) → Grounded new v n
+SparesLaw = (old new : RecordMap) (key v : List ℕ) (n : ℕ) → ((l : List ℕ) → l ≢ key → new l ≡ old l) → Grounded old v n → v ≢ key → (Reaches old v key → ⊥) → Grounded new v n
 
 -- A new record is grounded if the units that it names were, and its unit was not grounded before.
 abbrev pub PutGroundsLaw : Type 0
-PutGroundsLaw = (old new : Standing) (key : List ℕ) (r : Record) (number : ℕ) → ((l : List ℕ) → l ≢ key → new l ≡ old l) → new key ≡ Some r → number_of r ≡ Some number → ((n : ℕ) → Grounded old key n → ⊥)
+PutGroundsLaw = (old new : RecordMap) (key : List ℕ) (r : Record) (number : ℕ) → ((l : List ℕ) → l ≢ key → new l ≡ old l) → new key ≡ Some r → number_of r ≡ Some number → ((n : ℕ) → Grounded old key n → ⊥)
     → ((need : List ℕ) (n : ℕ) → Contains (needs_of r) (need, n) → (n < number) × Grounded old need n) → Grounded new key number

@@ -9,8 +9,8 @@ use Rattle.pb_record.specs.declared.record.Needed.{Needed}
 use Rattle.pb_record.specs.declared.record.Needed.TheVariants.{Copies, Numbers}
 use Rattle.pb_record.specs.declared.record.Record.{Record}
 use Rattle.pb_store_soundness.specs.Inputs.{Judge, Agrees, SameBelow, contents, name_of, reply_in}
-use Rattle.pb_store_soundness.specs.Records.{Reading, out_of, record_at}
-use Rattle.pb_store_soundness.specs.Grounded.{Standing, Grounded, Reaches}
+use Rattle.pb_store_soundness.specs.Records.{RecordParser, out_of, record_at}
+use Rattle.pb_store_soundness.specs.Grounded.{RecordMap, Grounded, Reaches}
 
 -- the files of a reply in an output folder that was empty before
 abbrev pub replied_files : List ℕ → Reply → Map
@@ -36,25 +36,25 @@ pub record TrueCopies (judge : Judge) (child : Answers) (folder : List ℕ) (mad
 
 -- a grounded record: its `reads` are the folders of the units that it reaches; and the child's reply backs it in each
 -- view that agrees with the inputs and has the present files below `reads`
-pub record Rests (judge : Judge) (child : Answers) (folder : List ℕ) (at : Standing) (files : Map) (key : List ℕ) (r : Record) : Type 0 where
+pub record Rests (judge : Judge) (child : Answers) (folder : List ℕ) (at : RecordMap) (files : Map) (key : List ℕ) (r : Record) : Type 0 where
   pub reads : (f : List ℕ) → Contains r.asked.reads f ↔ ((v : List ℕ) × Reaches at key v × (f ≡ out_of folder v))
   pub gives : (x : World) → Agrees r.asked.target r.inputs x → SameBelow r.asked.reads files x.files → Backs judge r (out_of folder key) (files_in (out_of folder key) files) (reply_in child (command_of r.asked) x)
 
 -- a true record with numbers: the folder of each named unit is among the `reads`, and its number is less than the
 -- record's; and if the record is grounded, it rests on the present files
-pub record TrueNumbers (judge : Judge) (child : Answers) (folder : List ℕ) (at : Standing) (files : Map) (key : List ℕ) (r : Record) (number : ℕ) (needs : List (List ℕ × ℕ)) : Type 0 where
+pub record TrueNumbers (judge : Judge) (child : Answers) (folder : List ℕ) (at : RecordMap) (files : Map) (key : List ℕ) (r : Record) (number : ℕ) (needs : List (List ℕ × ℕ)) : Type 0 where
   pub read : (need : List ℕ) (n : ℕ) → Contains needs (need, n) → Contains r.asked.reads (out_of folder need)
   pub less : (need : List ℕ) (n : ℕ) → Contains needs (need, n) → n < number
   pub rests : Grounded at key number → Rests judge child folder at files key r
 
-abbrev pub TrueBy : Judge → Answers → List ℕ → Standing → Map → List ℕ → Record → Needed → Type 0
+abbrev pub TrueBy : Judge → Answers → List ℕ → RecordMap → Map → List ℕ → Record → Needed → Type 0
 TrueBy judge child folder at files key r (Copies copies) = TrueCopies judge child folder (files_in (out_of folder key) files) r (out_of folder key) copies
 TrueBy judge child folder at files key r (Numbers number needs) = TrueNumbers judge child folder at files key r number needs
 
 -- a record is true as the record of this key
-pub record IsTrueRecord (judge : Judge) (child : Answers) (folder : List ℕ) (at : Standing) (files : Map) (key : List ℕ) (r : Record) : Type 0 where
+pub record IsTrueRecord (judge : Judge) (child : Answers) (folder : List ℕ) (at : RecordMap) (files : Map) (key : List ℕ) (r : Record) : Type 0 where
   pub says : TrueBy judge child folder at files key r r.needed
 
 -- every record that counts in a profile folder is true
-pub record Sound (read : Reading) (judge : Judge) (child : Answers) (folder : List ℕ) (files : Map) : Type 0 where
+pub record Sound (read : RecordParser) (judge : Judge) (child : Answers) (folder : List ℕ) (files : Map) : Type 0 where
   pub each : (key : List ℕ) (r : Record) → record_at read folder files key ≡ Some r → IsTrueRecord judge child folder (record_at read folder files) files key r

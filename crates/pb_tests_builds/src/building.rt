@@ -2,12 +2,12 @@
 
 ghost use Rattle.std.specs.Prelude.{◌≡◌, []};
 
-use pb_build_result::result_line;
 use pb_build::build;
-use pb_tests_files::{Shown, no_options};
+use pb_build_result::result_line;
 use pb_data::{Items, Text};
-use pb_workspace_types::Options;
 use pb_place_types::{Over, Place};
+use pb_tests_files::{Shown, no_options};
+use pb_workspace_types::Options;
 use std::alloc::{AllocError, Global};
 use std::test::Fail;
 

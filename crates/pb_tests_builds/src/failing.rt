@@ -5,10 +5,10 @@ ghost use Rattle.pb_place.specs.Memory.{counts_in};
 
 use crate::building::{afresh, built, last_line, lines_but_last};
 use crate::old::OLD_FOLDER;
-use pb_tests_files::{Shown, put_files};
-use pb_place::Memory;
 use pb_mini::Mini;
+use pb_place::Memory;
 use pb_place_types::Place;
+use pb_tests_files::{Shown, put_files};
 use std::alloc::{AllocError, Global};
 use std::test::Fail;
 

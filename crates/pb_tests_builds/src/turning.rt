@@ -4,14 +4,14 @@ ghost use Rattle.std.specs.Prelude.{◌≡◌, []};
 ghost use Rattle.pb_place.specs.Memory.{counts_in};
 
 use crate::building::{afresh, built, joined, last_line, lines_but_last, options};
-use pb_build_result::result_line;
 use pb_build::build_turns;
-use pb_tests_files::put_files;
-use pb_run_flight::{Step, Turn};
-use pb_place::Memory;
+use pb_build_result::result_line;
 use pb_mini::Mini;
-use pb_workspace_types::Options;
+use pb_place::Memory;
 use pb_place_types::{Over, Place};
+use pb_run_flight::{Step, Turn};
+use pb_tests_files::put_files;
+use pb_workspace_types::Options;
 use std::alloc::{AllocError, Global};
 use std::test::Fail;
 

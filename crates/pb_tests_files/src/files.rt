@@ -3,9 +3,9 @@
 ghost use Rattle.std.specs.Prelude.{◌≡◌};
 
 use pb_place::Memory;
-use pb_workspace_types::{LoadFault, SettledWorkspace};
 use pb_place_types::{Child, PathFault, PathText};
 use pb_workspace::load;
+use pb_workspace_types::{LoadFault, SettledWorkspace};
 use std::alloc::Global;
 
 /// Puts the files of a text, each behind a line `@ PATH`.

@@ -1,8 +1,8 @@
 //! The options of a build.
 
 use pb_data::{Items, Text};
-use pb_workspace_types::Options;
 use pb_place_types::{PathFault, PathText};
+use pb_workspace_types::Options;
 use std::alloc::Global;
 
 /// The options of a build of the workspace in `/w` for which nothing is asked.

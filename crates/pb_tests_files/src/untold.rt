@@ -17,7 +17,7 @@ impl<C: Child> Place for Untold<C> {
     ghost use Rattle.std.specs.Prelude.{◌≡◌, false, true};
     ghost use Rattle.pb_place.specs.Memory.{at_in, may_fail};
 
-    ghost tells = { false };
+    ghost is_modelled = { false };
 
     ghost at = { λ p. at_in p.inside };
 

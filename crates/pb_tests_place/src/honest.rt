@@ -22,8 +22,8 @@ fn written_then_read<P: Place>(
     path: &PathText,
     bytes: &[u8],
 ) -> Result<Option<Bytes>, PlaceFault>
-    ensures found { IsTrue P.tells → IfOk result (λ found. found ≡ Some bytes.now) }
-    ensures world { IsTrue P.tells → OnOk result
+    ensures found { IsTrue P.is_modelled → IfOk result (λ found. found ≡ Some bytes.now) }
+    ensures world { IsTrue P.is_modelled → OnOk result
         ((P.at place.new).world ≡ written path.now bytes.now (P.at place.old).world) }
     ensures starts { OnOk result ((P.at place.new).counts.starts ≡ (P.at place.old).counts.starts) }
     ensures quiet { OnOk result
@@ -41,10 +41,10 @@ fn removed_then_read<P: Place>(
     removed_path: &PathText,
     path: &PathText,
 ) -> Result<Option<Bytes>, PlaceFault>
-    ensures found { IsTrue P.tells → IfOk result (λ found. found
+    ensures found { IsTrue P.is_modelled → IfOk result (λ found. found
         ≡ (if not (is_at_or_below removed_path.now path.now)
         then map.get (P.at place.old).world.files path.now else None)) }
-    ensures world { IsTrue P.tells → OnOk result
+    ensures world { IsTrue P.is_modelled → OnOk result
         ((P.at place.new).world ≡ removed removed_path.now (P.at place.old).world) }
     ensures starts { OnOk result ((P.at place.new).counts.starts ≡ (P.at place.old).counts.starts) }
     ensures quiet { OnOk result
@@ -62,7 +62,7 @@ fn written_then_listed<P: Place>(
     path: &PathText,
     folder: &PathText,
 ) -> Result<Items<PathText>, PlaceFault>
-    ensures listed { IsTrue P.tells → IfOk result
+    ensures listed { IsTrue P.is_modelled → IfOk result
         (λ paths. list_any (is_same_path path.now) paths ≡ is_below folder.now path.now) }
     ensures quiet { OnOk result
         ((P.at place.new).counts.failures ≡ (P.at place.old).counts.failures) }
@@ -79,13 +79,13 @@ fn started_then_read<P: Place>(
     command: &Command,
     path: &PathText,
 ) -> Result<(Ended, Option<Bytes>), Fail>
-    ensures stdout { IsTrue P.tells → IfOk result (λ answer. answer.0.stdout
+    ensures stdout { IsTrue P.is_modelled → IfOk result (λ answer. answer.0.stdout
         ≡ (P.child command.now (seen_by command.now (P.at place.old).world)).stdout) }
-    ensures found { IsTrue P.tells → IfOk result (λ answer. answer.1
+    ensures found { IsTrue P.is_modelled → IfOk result (λ answer. answer.1
         ≡ map.get (put_reply command.now.out
         (P.child command.now (seen_by command.now (P.at place.old).world)).files
         (P.at place.old).world).files path.now) }
-    ensures world { IsTrue P.tells → OnOk result ((P.at place.new).world ≡ put_reply command.now.out
+    ensures world { IsTrue P.is_modelled → OnOk result ((P.at place.new).world ≡ put_reply command.now.out
         (P.child command.now (seen_by command.now (P.at place.old).world)).files
         (P.at place.old).world) }
     ensures starts { OnOk result
@@ -107,9 +107,9 @@ fn written_started_removed<P: Place>(
     bytes: &[u8],
     command: &Command,
 ) -> Result<Ended, Fail>
-    ensures stdout { IsTrue P.tells → IfOk result (λ ended. ended.stdout ≡ (P.child command.now
+    ensures stdout { IsTrue P.is_modelled → IfOk result (λ ended. ended.stdout ≡ (P.child command.now
         (seen_by command.now (written path.now bytes.now (P.at place.old).world))).stdout) }
-    ensures world { IsTrue P.tells → OnOk result ((P.at place.new).world ≡ removed path.now
+    ensures world { IsTrue P.is_modelled → OnOk result ((P.at place.new).world ≡ removed path.now
         (put_reply command.now.out (P.child command.now
         (seen_by command.now (written path.now bytes.now (P.at place.old).world))).files
         (written path.now bytes.now (P.at place.old).world))) }
@@ -155,7 +155,7 @@ fn torn_in_memory<C: Child>(
 ) -> Result<(), PlaceFault>
     ensures half { IfErr result (λ e. e ≡ PlaceFault.Write → memory.new.world
         ≡ written path.now (take (length bytes.now / 2) bytes.now) memory.old.world) }
-    ensures burns { IfOk result (λ _. ⊥) }
+    ensures fails_now { IfOk result (λ _. ⊥) }
     ensures used { IfErr result (λ e. e ≡ PlaceFault.Write → memory.new.fuse ≡ 0) }
     ensures kept { IfErr result (λ e. e ≡ PlaceFault.OutOfMemory
         → memory.new.world ≡ memory.old.world) }

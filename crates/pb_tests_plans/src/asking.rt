@@ -1,8 +1,8 @@
 //! The parts of a case, workspaces of tests, and what is asked of them.
 
-use pb_tests_files::{Silent, no_options, put_files, workspace_in};
 use pb_data::Text;
 use pb_place::Memory;
+use pb_tests_files::{Silent, no_options, put_files, workspace_in};
 use pb_workspace_types::{Options, SettledWorkspace};
 use std::alloc::{AllocError, Global};
 use std::test::Fail;

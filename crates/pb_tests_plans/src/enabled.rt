@@ -1,7 +1,7 @@
 //! What is on, as text.
 
-use pb_tests_files::Shown;
 use pb_feature::Features;
+use pb_tests_files::Shown;
 use pb_workspace_types::{DependencyKind, Entry, Package, Side};
 
 /// Puts the entries that are enabled, each by its key: `>KEY` of `[dependencies]`, `>>KEY` of `[build-dependencies]`.

@@ -3,10 +3,10 @@
 use crate::asking::{options_of, parts_of, workspace_of};
 use crate::enabled::put_enabled;
 use crate::resolutions::RESOLUTIONS;
-use pb_tests_files::Shown;
 use pb_feature::{FeatureFault, Features, resolve};
-use pb_workspace_types::{Options, SelectedWorkspace, SettledWorkspace, Workspace};
+use pb_tests_files::Shown;
 use pb_workspace::selected;
+use pb_workspace_types::{Options, SelectedWorkspace, SettledWorkspace, Workspace};
 use std::alloc::Global;
 use std::process::Abort;
 use std::test::Fail;

@@ -1,7 +1,7 @@
 //! Plans and refusals as text.
 
-use pb_tests_files::Shown;
 use pb_data::Text;
+use pb_tests_files::Shown;
 use pb_unit::{Plan, PlanFault, Planned};
 
 /// Puts places with commas between them.

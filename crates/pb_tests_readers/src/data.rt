@@ -1,7 +1,7 @@
 //! Orders, mentions, tables and copies, against worked examples.
 
+use pb_data::{Bytes, Items, OrderedSet, Table, Text, TryCopy};
 use pb_tests_files::holds;
-use pb_data::{Bytes, Items, Mentions, Table, Text, TryCopy};
 use std::alloc::{AllocError, Global};
 use std::cmp::Ordering;
 
@@ -49,14 +49,14 @@ static ORDERS: &[(&str, &str, Ordering)] = &[
 ];
 
 /// Mentions a word.
-fn mention(alloc: Global, mentions: &mut Mentions, word: &str) -> Result<(), AllocError> {
+fn mention(alloc: Global, mentions: &mut OrderedSet, word: &str) -> Result<(), AllocError> {
     let word = Text::from_str(alloc, word)?;
     mentions.insert(word)?;
     Ok(())
 }
 
 /// Mentions the words of a text, one after another.
-fn mention_all(alloc: Global, mentions: &mut Mentions, words: &str) -> Result<(), AllocError> {
+fn mention_all(alloc: Global, mentions: &mut OrderedSet, words: &str) -> Result<(), AllocError> {
     for word in words.split_whitespace() {
         mention(alloc, mentions, word)?;
     }
@@ -64,7 +64,7 @@ fn mention_all(alloc: Global, mentions: &mut Mentions, words: &str) -> Result<()
 }
 
 /// Whether a text is mentioned.
-fn mentions_text(alloc: Global, mentions: &Mentions, text: &str) -> Result<bool, AllocError> {
+fn mentions_text(alloc: Global, mentions: &OrderedSet, text: &str) -> Result<bool, AllocError> {
     let text = Text::from_str(alloc, text)?;
     Ok(mentions.contains(&text))
 }
@@ -72,7 +72,7 @@ fn mentions_text(alloc: Global, mentions: &Mentions, text: &str) -> Result<bool,
 /// Whether a text is mentioned, and another is not.
 fn mentions_one(
     alloc: Global,
-    mentions: &Mentions,
+    mentions: &OrderedSet,
     one: &str,
     other: &str,
 ) -> Result<bool, AllocError> {
@@ -80,14 +80,14 @@ fn mentions_one(
 }
 
 /// Whether mentions become these items.
-fn become_items(alloc: Global, mentions: Mentions, wanted: &str) -> Result<bool, AllocError> {
+fn become_items(alloc: Global, mentions: OrderedSet, wanted: &str) -> Result<bool, AllocError> {
     let items = mentions.into_items(alloc)?;
     Ok(are(&items, wanted))
 }
 
 /// Whether words that are mentioned stand once.
 fn words_stand_once(alloc: Global) -> Result<bool, AllocError> {
-    let mut mentions = Mentions::new(alloc);
+    let mut mentions = OrderedSet::new(alloc);
     let mentioned = mention_all(alloc, &mut mentions, "b a b c a");
     let is_one = mentions_one(alloc, &mentions, "a", "d");
     let is_all = become_items(alloc, mentions, "b a c");

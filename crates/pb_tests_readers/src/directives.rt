@@ -2,11 +2,11 @@
 
 use crate::texts::of_bytes;
 use crate::wording::reads;
-use pb_tests_files::{Shown, holds};
 use pb_data::{Text, TryCopy};
 use pb_directive::{
     DepInfo, Directive, Directives, LineFault, laws, read_dep_info, read_directives,
 };
+use pb_tests_files::{Shown, holds};
 use std::alloc::{AllocError, Global};
 use std::process::Abort;
 use std::test::Fail;
@@ -255,7 +255,7 @@ static RULES: &[(&[u8], &str)] = &[
 ];
 
 /// Whether dep-info names this.
-pub fn tells(alloc: Global, dep_info: &[u8], wanted: &str) -> bool {
+pub fn is_modelled(alloc: Global, dep_info: &[u8], wanted: &str) -> bool {
     let mut shown = Shown::new(alloc);
     match read_dep_info(alloc, dep_info) {
         Ok(info) => {
@@ -280,7 +280,7 @@ fn outputs_and_dep_info(rt: HostRuntime) {
     for (place, case) in RULES.iter().enumerate() {
         let (dep_info, wanted) = *case;
         assert!(rt;
-            tells(rt.alloc(), dep_info, wanted),
+            is_modelled(rt.alloc(), dep_info, wanted),
             "case {place}: {wanted}"
         );
     }
@@ -289,7 +289,7 @@ fn outputs_and_dep_info(rt: HostRuntime) {
 /// Whether a line of so many bytes that is no directive says nothing as output, and is refused as dep-info.
 fn plain_line_is_read(alloc: Global, length: usize) -> Result<bool, AllocError> {
     let plain = of_bytes(alloc, b"", b'a', length)?;
-    Ok(says(alloc, plain.as_slice(), "") && tells(alloc, plain.as_slice(), "BadValue 1"))
+    Ok(says(alloc, plain.as_slice(), "") && is_modelled(alloc, plain.as_slice(), "BadValue 1"))
 }
 
 /// Whether directives are one warning, of this length.

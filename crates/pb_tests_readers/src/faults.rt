@@ -2,15 +2,15 @@
 
 use crate::texts::texts_of;
 use pb_build_result::{BuildFault, DeviceFault, Refusal};
+use pb_command_types::UnitFault;
 use pb_data::Text;
 use pb_directive::LineFault;
 use pb_feature::FeatureFault;
 use pb_manifest_types::ManifestFault;
-use pb_workspace_types::LoadFault;
 use pb_place_types::{PathFault, PathText, PlaceFault, StartFault};
 use pb_profile::ProfileFault;
-use pb_command_types::UnitFault;
 use pb_unit::PlanFault;
+use pb_workspace_types::LoadFault;
 use std::alloc::Global;
 
 /// A fault of a unit.

@@ -1,7 +1,7 @@
 //! JSON strings, against worked examples.
 
-use pb_tests_files::is_said;
 use pb_json::json_string;
+use pb_tests_files::is_said;
 
 /// Texts, and each as a JSON string.
 static STRINGS: &[(&str, &str)] = &[

@@ -7,14 +7,14 @@ mod show;
 use crate::texts::of_bytes;
 use crate::wording::reads;
 use cases::CASES;
-use pb_tests_files::{Shown, holds, is_text};
 use pb_data::{Items, Text, TryCopy};
+use pb_manifest::read_manifest;
 use pb_manifest_types::letters::{has_zero, is_crate_name, is_feature_name, is_name};
 use pb_manifest_types::{
     CrateType, Edition, Key, Library, ManifestFault, PathSource, Readme, Requirement, Version,
     WrittenPath, crate_name, crate_type_texts, library_name,
 };
-use pb_manifest::read_manifest;
+use pb_tests_files::{Shown, holds, is_text};
 use show::put_manifest;
 use std::alloc::{AllocError, Global};
 use std::process::Abort;

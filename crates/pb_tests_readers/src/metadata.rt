@@ -1,8 +1,8 @@
 //! The metadata that scripts pass on, against a worked example.
 
-use pb_tests_files::Shown;
 use pb_data::{Items, Table, Text};
 use pb_directive::{dep_pairs, read_directives};
+use pb_tests_files::Shown;
 use std::alloc::{AllocError, Global};
 use std::test::Fail;
 

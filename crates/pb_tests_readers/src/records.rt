@@ -1,8 +1,8 @@
 //! Records as text: worked examples, texts that are none, and texts made at random.
 
 use crate::dice::Dice;
-use pb_tests_files::{Shown, holds};
 use pb_record::{Needed, Record, read_record, write_record};
+use pb_tests_files::{Shown, holds};
 use std::alloc::{AllocError, Global};
 
 /// Whether a record is written as this text.

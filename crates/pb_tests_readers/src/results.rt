@@ -6,14 +6,14 @@ ghost use Rattle.pb_build_result.specs.Faults.{is_outside};
 use crate::faults::{Bad, Ending, build_fault, unit_fault};
 use crate::texts::texts_of;
 use pb_build_result::{BuildFault, Summary, result_line};
-use pb_tests_files::{holds, is_said};
+use pb_command_types::UnitFault;
 use pb_data::{Bytes, Items, Text};
 use pb_directive::LineFault;
 use pb_feature::FeatureFault;
 use pb_manifest_types::{Key, ManifestFault};
 use pb_place_types::{PathFault, PlaceFault, StartFault};
 use pb_profile::ProfileFault;
-use pb_command_types::UnitFault;
+use pb_tests_files::{holds, is_said};
 use std::alloc::Global;
 
 /// Whether the line of a build is this.

@@ -1,11 +1,11 @@
 //! What session files say, against worked examples.
 
 use crate::wording::reads;
-use pb_tests_files::{Shown, holds};
-use pb_data::Text;
-use pb_workspace_types::Options;
-use pb_place_types::StartFault;
 use pb_build_session::{BadSession, Death, PickBy, SessionStep, read_session};
+use pb_data::Text;
+use pb_place_types::StartFault;
+use pb_tests_files::{Shown, holds};
+use pb_workspace_types::Options;
 use std::alloc::{AllocError, Global};
 use std::process::Abort;
 

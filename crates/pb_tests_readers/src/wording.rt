@@ -1,10 +1,10 @@
 //! What faults are in words, against worked examples.
 
 use crate::faults::{Bad, Ending, build_fault, unit_fault};
-use pb_tests_files::{Shown, holds};
 use pb_directive::LineFault;
 use pb_manifest_types::{Key, ManifestFault};
 use pb_place_types::PathFault;
+use pb_tests_files::{Shown, holds};
 use std::alloc::Global;
 use std::fmt::Display;
 

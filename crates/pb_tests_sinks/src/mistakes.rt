@@ -8,10 +8,10 @@ mod workspaces;
 ghost use Rattle.std.specs.Prelude.{◌≡◌, [], IfOk};
 
 use crate::told::Unguarded;
-use pb_tests_files::put_files;
-use pb_place::Memory;
 use pb_mini::Mini;
+use pb_place::Memory;
 use pb_place_types::{Over, PathText};
+use pb_tests_files::put_files;
 use pb_tool_program::{Here, Rendered, Spoken, page_of_errors, run};
 use std::alloc::{AllocError, Global};
 use std::process::Abort;

@@ -1,7 +1,9 @@
 //! A place of which the variables are chosen.
 
 use pb_data::{Bytes, Items, Text, TryCopy};
-use pb_place_types::{Command, Ended, Moved, Out, PathFault, PathText, Place, PlaceFault, StartFault};
+use pb_place_types::{
+    Command, Ended, Moved, Out, PathFault, PathText, Place, PlaceFault, StartFault,
+};
 use pb_tool_program::Guard;
 use std::alloc::{AllocError, Global};
 
@@ -18,7 +20,7 @@ pub(crate) struct Told<P> {
 impl<P: Place> Place for Told<P> {
     ghost use Rattle.std.specs.Prelude.{false};
 
-    ghost tells = { false };
+    ghost is_modelled = { false };
 
     ghost at = { λ p. P.at p.inside };
 

@@ -13,12 +13,12 @@ use Rattle.pb_place_types.specs.Paths.{joined}
 use Rattle.pb_place_types.specs.declared.path.PathFault.{PathFault}
 use Rattle.pb_workspace_types.specs.declared.options.Options.{Options}
 use Rattle.pb_tool_arguments.specs.Description.{IsJson, program}
-use Rattle.pb_tool_arguments.specs.declared.asked.Asked.{Asked}
-use Rattle.pb_tool_arguments.specs.declared.asked.Asked.TheVariants.{Session, Build, Explain}
-use Rattle.pb_tool_arguments.specs.declared.asked.Shown.{Shown}
+use Rattle.pb_tool_arguments.specs.declared.invocation.Invocation.{Invocation}
+use Rattle.pb_tool_arguments.specs.declared.invocation.Invocation.TheVariants.{Session, Build, Explain}
+use Rattle.pb_tool_arguments.specs.declared.invocation.Shown.{Shown}
 use Rattle.pb_tool_arguments.specs.declared.here.Here.{Here}
-use Rattle.pb_tool_arguments.specs.declared.asked.Unasked.{Unasked}
-use Rattle.pb_tool_arguments.specs.declared.asked.Unasked.TheVariants.{Help, Wrong, OutOfMemory}
+use Rattle.pb_tool_arguments.specs.declared.invocation.ArgumentsError.{ArgumentsError}
+use Rattle.pb_tool_arguments.specs.declared.invocation.ArgumentsError.TheVariants.{Help, Wrong, OutOfMemory}
 
 -- an option without a value was given, or was not
 pub record IsFlag (name : Text) (rows : List Row) (given : Bool) : Type 0 where
@@ -93,7 +93,7 @@ pub record IsShown (rows : List Row) (shown : Shown) : Type 0 where
   pub verbose : IsFlag (codes "verbose") rows shown.verbose
 
 -- a subcommand with these values requests this
-abbrev pub AsksBy : Text → Here → Option (Text × List Row) → Asked → Type 0
+abbrev pub AsksBy : Text → Here → Option (Text × List Row) → Invocation → Type 0
 AsksBy tool here given (Build options shown) = (rows : List Row) × (given ≡ Some (codes "build", rows)) × IsOptions tool here rows options × IsShown rows shown
 AsksBy tool here given (Session path) = (rows : List Row) × (given ≡ Some (codes "session", rows)) × (joined here.folder (file_of rows) ≡ Ok path)
 AsksBy tool here given (Explain name) = (rows : List Row) × (given ≡ Some (codes "explain", rows)) × (name ≡ name_of rows)
@@ -108,7 +108,7 @@ abbrev pub IsTaken : ValueParser → List Text → Type 0
 IsTaken formats words = fault_of (program formats) words ≡ []
 
 -- the words request this, by the description of the command line
-abbrev pub Asks : List Text → Here → Asked → Type 0
+abbrev pub Asks : List Text → Here → Invocation → Type 0
 Asks words here asked = (formats : ValueParser) × IsJson formats × IsTaken formats words × AsksBy (tool_of words) here (subcommand_of (program formats) words) asked
 
 -- Why the words request nothing.
@@ -158,7 +158,7 @@ IsRefused formats words = (found : ErrorKind) × (is_help found ≡ false) × Is
 
 -- why the words request nothing, and the text that is reported; nothing is said about the texts of `clap`;
 -- wrong values are reported only for words that `clap` accepts, so never if help is requested
-abbrev pub Unasks : List Text → Text → Unasked → Type 0
+abbrev pub Unasks : List Text → Text → ArgumentsError → Type 0
 Unasks words folder (Help text) = (formats : ValueParser) × IsJson formats × AsksForHelp formats words
 Unasks words folder (Wrong text) = (formats : ValueParser) × IsJson formats × (IsRefused formats words ⊎ IsTaken formats words × AsksWrongly folder (subcommand_of (program formats) words) text)
 Unasks words folder OutOfMemory = Unit {0}

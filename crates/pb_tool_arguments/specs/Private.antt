@@ -6,23 +6,23 @@ use Rattle.clap.specs.declared.error.kind.ErrorKind.{ErrorKind}
 use Rattle.clap.specs.declared.error.kind.ErrorKind.TheVariants as kind
 use Rattle.pb_tool_arguments.specs.Asking.{AsksForHelp, IsRefused, is_help}
 use Rattle.pb_tool_arguments.specs.Description.{IsJson}
-use Rattle.pb_tool_arguments.specs.declared.asked.Unasked.{Unasked}
-use Rattle.pb_tool_arguments.specs.declared.asked.Unasked.TheVariants.{Help, Wrong, OutOfMemory}
+use Rattle.pb_tool_arguments.specs.declared.invocation.ArgumentsError.{ArgumentsError}
+use Rattle.pb_tool_arguments.specs.declared.invocation.ArgumentsError.TheVariants.{Help, Wrong, OutOfMemory}
 
 -- if the words are reported as wrong, this is true of the text
-abbrev pub ToldWrong : (Text → Type 0) → Unasked → Type 0
+abbrev pub ToldWrong : (Text → Type 0) → ArgumentsError → Type 0
 ToldWrong why (Help text) = ⊥
 ToldWrong why (Wrong text) = why text
 ToldWrong why OutOfMemory = Unit {0}
 
 -- an error of this kind is reported in this way
-abbrev pub TellsKind : ErrorKind → Unasked → Type 0
+abbrev pub TellsKind : ErrorKind → ArgumentsError → Type 0
 TellsKind k (Help text) = is_help k ≡ true
 TellsKind k (Wrong text) = (is_help k ≡ false) × (k ≢ kind.OutOfMemory)
 TellsKind k OutOfMemory = Unit {0}
 
 -- the description does not accept the words
-abbrev pub RefusedBy : List Text → Unasked → Type 0
+abbrev pub RefusedBy : List Text → ArgumentsError → Type 0
 RefusedBy words (Help text) = (formats : ValueParser) × IsJson formats × AsksForHelp formats words
 RefusedBy words (Wrong text) = (formats : ValueParser) × IsJson formats × IsRefused formats words
 RefusedBy words OutOfMemory = Unit {0}

@@ -3,12 +3,12 @@
 //! session. `clap` reads the words, and none of its types is passed on.
 #![tactic(auto)]
 
-pub mod asked;
 mod description;
 mod here;
+pub mod invocation;
 mod reading;
 mod unknown;
 
-pub use asked::{Asked, Shown, Unasked};
 pub use here::Here;
+pub use invocation::{ArgumentsError, Invocation, Shown};
 pub use reading::read_command_line;

@@ -12,16 +12,16 @@ ghost use Rattle.pb_tool_arguments.specs.Description.{IsJson, program};
 ghost use Rattle.pb_tool_arguments.specs.Asking.{IsFlag, HasTwoProfiles, IsProfile, IsNumber, IsJobs, HasBadJobs, IsOptions, IsShown, IsTaken, BuildsWrongly, AsksBy, Asks, AsksWrongly, Unasks, manifest_of, values_of, tool_of, path_told, profiles_told, jobs_told};
 ghost use Rattle.pb_tool_arguments.specs.Private.{ToldWrong, RefusedBy};
 
-use crate::asked::{
-    Asked, Shown, Unasked, bad_jobs, bad_path, no_command, two_profiles, unasked_of,
-};
 use crate::description::program;
 use crate::here::Here;
+use crate::invocation::{
+    ArgumentsError, Invocation, Shown, bad_jobs, bad_path, no_command, two_profiles, unasked_of,
+};
 use clap::ArgMatches;
 use pb_data::{Items, Text, with_next};
 use pb_directive::words::words_of;
-use pb_workspace_types::Options;
 use pb_place_types::PathText;
+use pb_workspace_types::Options;
 use std::alloc::{AllocError, Global};
 use std::convert::AsStr;
 
@@ -83,7 +83,7 @@ fn value_of(alloc: Global, matches: &ArgMatches<'_>, name: &str) -> Result<Optio
 /// Returns the profile: `release` for `--release`, else what `--profile` says, else `dev`.
 ///
 /// Errors: `Wrong`, if both are given.
-fn profile_of(alloc: Global, matches: &ArgMatches<'_>) -> Result<Text, Unasked>
+fn profile_of(alloc: Global, matches: &ArgMatches<'_>) -> Result<Text, ArgumentsError>
     ensures profile { IfOk result (IsProfile (rows_of (found_of matches.now))) }
     ensures wrong { IfErr result (ToldWrong (λ told. HasTwoProfiles (rows_of (found_of matches.now)) × (told ≡ profiles_told))) }
 {
@@ -113,7 +113,7 @@ fn number_in(text: &str) -> Option<u64>
 /// Returns the value of `--jobs`; the number of processors for `default`; 1 if it was not given.
 ///
 /// Errors: `Wrong`, if the value is neither a number nor `default`.
-fn jobs_of(alloc: Global, processors: u64, matches: &ArgMatches<'_>) -> Result<u64, Unasked>
+fn jobs_of(alloc: Global, processors: u64, matches: &ArgMatches<'_>) -> Result<u64, ArgumentsError>
     ensures jobs { IfOk result (IsJobs processors (first_of (codes "jobs") (rows_of (found_of matches.now)))) }
     ensures wrong { IfErr result (ToldWrong (λ told. HasBadJobs (rows_of (found_of matches.now)) × (told ≡ jobs_told))) }
 {
@@ -139,7 +139,7 @@ fn parted(alloc: Global, text: &str) -> Result<Items<Text>, AllocError>
 }
 
 /// Returns the path that a text of the command line means. A relative one starts at the folder.
-fn path_of(alloc: Global, folder: &PathText, text: &str) -> Result<PathText, Unasked>
+fn path_of(alloc: Global, folder: &PathText, text: &str) -> Result<PathText, ArgumentsError>
     ensures path { IfOk result (λ path. joined folder.now text.now ≡ Ok path) }
     ensures wrong { IfErr result (ToldWrong (λ told. (fault : PathFault) × (joined folder.now text.now ≡ Err fault) × (told ≡ path_told))) }
 {
@@ -186,7 +186,7 @@ struct Flags {
 
 /// Returns the options of a build that may be wrong. A relative
 /// path of the manifest starts at the folder.
-fn judged_of(alloc: Global, here: &Here, matches: &ArgMatches<'_>) -> Result<Judged, Unasked>
+fn judged_of(alloc: Global, here: &Here, matches: &ArgMatches<'_>) -> Result<Judged, ArgumentsError>
     ensures manifest { IfOk result (λ judged. joined here.now.folder (manifest_of (rows_of (found_of matches.now))) ≡ Ok judged.manifest) }
     ensures profile { IfOk result (λ judged. IsProfile (rows_of (found_of matches.now)) judged.profile) }
     ensures jobs { IfOk result (λ judged. IsJobs here.now.processors (first_of (codes "jobs") (rows_of (found_of matches.now))) judged.jobs) }
@@ -310,7 +310,7 @@ fn options_of(
     tool: &str,
     here: &Here,
     matches: &ArgMatches<'_>,
-) -> Result<Options, Unasked>
+) -> Result<Options, ArgumentsError>
     ensures options { IfOk result (IsOptions tool.now here.now (rows_of (found_of matches.now))) }
     ensures wrong { IfErr result (ToldWrong (BuildsWrongly here.now.folder (rows_of (found_of matches.now)))) }
 {
@@ -340,13 +340,13 @@ fn asked_by(
     tool: &str,
     here: &Here,
     matches: &ArgMatches<'_>,
-) -> Result<Asked, Unasked>
+) -> Result<Invocation, ArgumentsError>
     ensures asked { IfOk result (AsksBy tool.now here.now (subcommand_rows_of matches.now)) }
     ensures wrong { IfErr result (ToldWrong (AsksWrongly here.now.folder (subcommand_rows_of matches.now))) }
 {
     if let Some(build) = matches.subcommand_matches("build") {
         return match options_of(alloc, tool, here, build) {
-            Ok(options) => Ok(Asked::Build {
+            Ok(options) => Ok(Invocation::Build {
                 options,
                 shown: shown_of(build),
             }),
@@ -355,13 +355,13 @@ fn asked_by(
     }
     if let Some(explain) = matches.subcommand_matches("explain") {
         return match Text::from_str(alloc, first_or(explain, "NAME", "")) {
-            Ok(name) => Ok(Asked::Explain(name)),
-            Err(_) => Err(Unasked::OutOfMemory),
+            Ok(name) => Ok(Invocation::Explain(name)),
+            Err(_) => Err(ArgumentsError::OutOfMemory),
         };
     }
     match matches.subcommand_matches("session") {
         Some(session) => match path_of(alloc, &here.folder, first_or(session, "FILE", "")) {
-            Ok(path) => Ok(Asked::Session(path)),
+            Ok(path) => Ok(Invocation::Session(path)),
             Err(unasked) => Err(unasked),
         },
         None => Err(no_command(alloc)),
@@ -370,7 +370,7 @@ fn asked_by(
 
 /// Returns the words as the description of the command line
 /// reads them, or why it does not accept them.
-fn matches_of<'a, S: AsStr>(alloc: Global, words: &'a [S]) -> Result<ArgMatches<'a>, Unasked>
+fn matches_of<'a, S: AsStr>(alloc: Global, words: &'a [S]) -> Result<ArgMatches<'a>, ArgumentsError>
     ensures matches { IfOk result (λ matches. (formats : ValueParser) × IsJson formats × IsTaken formats (map S.text words.now)
         × (subcommand_rows_of matches ≡ subcommand_of (program formats) (map S.text words.now))) }
     ensures refused { IfErr result (RefusedBy (map S.text words.now)) }
@@ -402,7 +402,7 @@ pub fn read_command_line<S: AsStr>(
     alloc: Global,
     words: &[S],
     here: &Here,
-) -> Result<Asked, Unasked>
+) -> Result<Invocation, ArgumentsError>
     ensures asked { IfOk result (Asks (map S.text words.now) here.now) }
     ensures unasked { IfErr result (Unasks (map S.text words.now) here.now.folder) }
 {

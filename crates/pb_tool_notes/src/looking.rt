@@ -21,10 +21,10 @@ use crate::toml_fault::{tell_not_toml, tell_too_large};
 use crate::unsupported::{tell_crate_types, tell_resolver, tell_sources, tell_tables, tell_unused};
 use pb_feature::FeatureFault;
 use pb_manifest_types::ManifestFault;
-use pb_workspace_types::{LoadFault, Options};
 use pb_place_types::{PathText, Place, PlaceFault};
 use pb_profile::ProfileFault;
 use pb_unit::PlanFault;
+use pb_workspace_types::{LoadFault, Options};
 use std::alloc::{AllocError, Global};
 use toml::Table;
 

@@ -2,7 +2,7 @@
 
 ghost use Rattle.pb_tool_notes.specs.Looks.{LooksAgain};
 
-use crate::page::GREATEST_LENGTH;
+use crate::page::MAX_MANIFEST_BYTES;
 use pb_data::{Bytes, Items};
 use pb_place_types::{PathText, Place, PlaceFault};
 use std::alloc::Global;
@@ -16,7 +16,7 @@ pub(crate) fn read<P: Place>(
 ) -> Result<Option<Bytes>, PlaceFault>
     ensures { LooksAgain (P.at place.old) (P.at place.new) }
 {
-    place.read_first(alloc, path, GREATEST_LENGTH + 1)
+    place.read_first(alloc, path, MAX_MANIFEST_BYTES + 1)
 }
 
 /// Returns whether a file is at a path.

@@ -6,7 +6,7 @@ use std::alloc::{AllocError, Global};
 use toml::{Table, Value};
 
 /// The greatest number of bytes of a manifest that is read.
-pub(crate) const GREATEST_LENGTH: usize = 1_048_576;
+pub(crate) const MAX_MANIFEST_BYTES: usize = 1_048_576;
 
 /// A manifest that was read again.
 #[derive(Drop)]
@@ -29,7 +29,7 @@ fn text_in(bytes: &[u8]) -> &str {
 
 /// Returns the document of some bytes, if they are TOML.
 fn table_in(alloc: Global, bytes: &[u8]) -> Result<Option<Table>, AllocError> {
-    if bytes.len() > GREATEST_LENGTH {
+    if bytes.len() > MAX_MANIFEST_BYTES {
         return Ok(None);
     }
     match toml::table_from_str(alloc, text_in(bytes)) {

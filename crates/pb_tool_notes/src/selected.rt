@@ -11,8 +11,8 @@ use crate::page::{Page, text_at};
 use crate::pages::Pages;
 use crate::teller::{tell_key, tell_page};
 use pb_data::Text;
-use pb_workspace_types::Options;
 use pb_place_types::{PathText, Place, PlaceFault};
+use pb_workspace_types::Options;
 use std::alloc::{AllocError, Global};
 use toml::Value;
 

@@ -1,7 +1,7 @@
 //! Notes on a manifest that is not TOML, or too large.
 
 use crate::note::{Note, Notes};
-use crate::page::{GREATEST_LENGTH, Page};
+use crate::page::{MAX_MANIFEST_BYTES, Page};
 use crate::teller::tell_page;
 use std::alloc::{AllocError, Global};
 
@@ -83,6 +83,6 @@ pub(crate) fn tell_too_large(
     notes: &mut Notes,
     page: &Page,
 ) -> Result<(), AllocError> {
-    let text = format!(in alloc; "it has more than {GREATEST_LENGTH} bytes")?;
+    let text = format!(in alloc; "it has more than {MAX_MANIFEST_BYTES} bytes")?;
     tell_page(alloc, notes, page, text.as_str())
 }

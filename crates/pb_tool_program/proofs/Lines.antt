@@ -5,20 +5,20 @@ use Rattle.std.proofs.lemmas.Bool.Decides.{Decides-eqb}
 use Rattle.std.specs.Io.KnownBytes.{Appends}
 use Rattle.pb_build_result.specs.Explanation.{ended, said_by_bad}
 use Rattle.pb_place_types.specs.Counts.{up}
-use Rattle.pb_place_types.specs.Sinks.{Heard, TakesPart}
+use Rattle.pb_place_types.specs.Sinks.{SinkState, TakesPart}
 use Rattle.pb_place.specs.Memory.{Held, no_held}
 use Rattle.pb_command_types.specs.declared.fault.UnitFault.{UnitFault}
 use Rattle.pb_build_session.specs.Sessions.{session_of}
 use Rattle.pb_build_session.specs.declared.step.SessionStep.{SessionStep}
 use Rattle.pb_build.specs.Session.{Breaks, Course, Point, point}
-use Rattle.pb_build.specs.declared.sessions.Answer.{Answer}
+use Rattle.pb_build.specs.declared.sessions.BuildOutcome.{BuildOutcome}
 use Rattle.pb_tool_program.specs.Session.{SessionStopped, SessionWritten, small_compiler, lines_of}
 use Rattle.pb_place_types.specs.declared.moved.Moved.{Moved}
 use Rattle.pb_tool_notes.specs.Notes.{lines_of as note_lines}
 use Rattle.pb_tool_program.specs.Building.{notes_of, moved_notes}
 use Rattle.pb_tool_program.specs.Writing.{Tells, TellsOr, Writes}
 
-pub session_written : (whole : Bool) (bytes : List ℕ) (read steps : List SessionStep) (first last : Held) (old mid new : Heard) (answers told : List Answer)
+pub session_written : (whole : Bool) (bytes : List ℕ) (read steps : List SessionStep) (first last : Held) (old mid new : SinkState) (answers told : List BuildOutcome)
     → session_of bytes ≡ Ok read → steps ≡ read
     → first ≡ no_held
     → Course small_compiler steps (point first old []) (point last mid answers) → told ≡ answers → Writes whole (lines_of told) mid new
@@ -30,11 +30,11 @@ session_written whole bytes read steps first last old mid new answers told is_re
     point last mid answers,
     subst (λ (h : Held). Course small_compiler read (point h old []) (point last mid answers)) is_first
         (subst (λ (s : List SessionStep). Course small_compiler s (point first old []) (point last mid answers)) is_steps course),
-    subst (λ (a : List Answer). Writes whole (lines_of a) mid new) is_told writes,
+    subst (λ (a : List BuildOutcome). Writes whole (lines_of a) mid new) is_told writes,
   ),
 )
 
-pub session_broken : (bytes : List ℕ) (read steps : List SessionStep) (first : Held) (old : Heard) (left : Point)
+pub session_broken : (bytes : List ℕ) (read steps : List SessionStep) (first : Held) (old : SinkState) (left : Point)
     → session_of bytes ≡ Ok read → steps ≡ read → first ≡ no_held → Breaks small_compiler steps (point first old []) left → SessionStopped bytes old left.moment.heard
 session_broken bytes read steps first old left is_read is_steps is_first breaks = inr (
   read,
@@ -46,7 +46,7 @@ session_broken bytes read steps first old left is_read is_steps is_first breaks 
   ),
 )
 
-pub session_untold : (bytes : List ℕ) (read steps : List SessionStep) (first last : Held) (old mid new : Heard) (answers : List Answer)
+pub session_untold : (bytes : List ℕ) (read steps : List SessionStep) (first last : Held) (old mid new : SinkState) (answers : List BuildOutcome)
     → session_of bytes ≡ Ok read → steps ≡ read → first ≡ no_held → Course small_compiler steps (point first old []) (point last mid answers) → new ≡ mid
     → SessionStopped bytes old new
 session_untold bytes read steps first last old mid new answers is_read is_steps is_first course is_new = inr (
@@ -61,7 +61,7 @@ session_untold bytes read steps first last old mid new answers is_read is_steps 
 )
 
 -- What a sink was given, by the clauses of the call that gave it.
-pub tells_by : (result : Bool) (bytes told : List ℕ) (old new : Heard) → told ≡ bytes
+pub tells_by : (result : Bool) (bytes told : List ℕ) (old new : SinkState) → told ≡ bytes
     → (IsTrue result → Appends old.taken new.taken told) → (IsTrue result → new.faults ≡ old.faults) → (result ≡ false → TakesPart told old.taken new.taken) → (result ≡ false → new.faults ≡ up old.faults)
     → Tells bytes old new
 tells_by true bytes told old new same all whole part fault = (true, (subst (Appends old.taken new.taken) same (all refl), whole refl))
@@ -69,7 +69,7 @@ tells_by false bytes told old new same all whole part fault =
     (false, (subst (λ (bs : List ℕ). TakesPart bs old.taken new.taken) same (part refl), fault refl))
 
 -- There is something to tell.
-pub tells_some : (lost bytes : List ℕ) (old new : Heard) → bytes ≢ [] → Tells bytes old new ⊎ Tells lost old new → TellsOr lost bytes old new
+pub tells_some : (lost bytes : List ℕ) (old new : SinkState) → bytes ≢ [] → Tells bytes old new ⊎ Tells lost old new → TellsOr lost bytes old new
 tells_some lost [] old new some tells = absurd (some refl)
 tells_some lost (byte ∷ bytes) old new some tells = tells
 

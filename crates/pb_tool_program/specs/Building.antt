@@ -13,8 +13,8 @@ use Rattle.pb_workspace_types.specs.declared.options.Options.{Options}
 use Rattle.pb_build.specs.AnyPlan.{BuildsOnFirst}
 use Rattle.pb_build.specs.Ending.{BuildsFirst, PlansFrom}
 use Rattle.pb_build.specs.declared.builder.BuildPlan.{BuildPlan}
-use Rattle.pb_place_types.specs.Sinks.{Heard}
-use Rattle.pb_build_turns.specs.Crew.{Moment}
+use Rattle.pb_place_types.specs.Sinks.{SinkState}
+use Rattle.pb_build_turns.specs.Executor.{BuildState}
 use Rattle.pb_tool_notes.specs.Notes.{AreNotes, lines_of}
 use Rattle.pb_tool_program.specs.Details.{detail}
 use Rattle.pb_tool_program.specs.Writing.{Tells, TellsOr}
@@ -71,58 +71,58 @@ abbrev pub look_lost : List ℕ
 look_lost = codes "note: out of memory for the notes\n"
 
 -- what is written after a build: nothing if all its units are good; else why it failed, or that memory ran out for that
-abbrev pub TellsWhy : ℕ → Result Summary BuildFault → Heard → Heard → Type 0
+abbrev pub TellsWhy : ℕ → Result Summary BuildFault → SinkState → SinkState → Type 0
 TellsWhy zero answer old new = new ≡ old
 TellsWhy (suc status) answer old new = Tells (error_of answer) old new ⊎ Tells why_lost old new
 
 -- what is written if a build ended without a fault and its reasons are requested: why it started what it started, or
 -- that memory ran out for that; else nothing
-abbrev pub TellsReasons : Bool → Result Summary BuildFault → Heard → Heard → Type 0
+abbrev pub TellsReasons : Bool → Result Summary BuildFault → SinkState → SinkState → Type 0
 TellsReasons false answer old new = new ≡ old
 TellsReasons true (Err fault) old new = new ≡ old
 TellsReasons true (Ok summary) old new = Tells (explanation summary) old new ⊎ Tells reasons_lost old new
 
 -- what is written if a build ended without a fault: what its bad unit's child printed that no message line contains, or
 -- that memory ran out for that; nothing if it printed nothing
-abbrev pub TellsSaid : Result Summary BuildFault → Heard → Heard → Type 0
+abbrev pub TellsSaid : Result Summary BuildFault → SinkState → SinkState → Type 0
 TellsSaid (Err fault) old new = new ≡ old
 TellsSaid (Ok summary) old new = TellsOr said_lost (said_by_bad summary.bad summary.said) old new
 
 -- what is written about the fault of a build: its detail, or that memory ran out for that; nothing if it has no more
 -- than a name
-abbrev pub TellsDetail : Result Summary BuildFault → Heard → Heard → Type 0
+abbrev pub TellsDetail : Result Summary BuildFault → SinkState → SinkState → Type 0
 TellsDetail answer old new = TellsOr detail_lost (detail answer) old new
 
 -- how a build with this answer ends: with its status; and beside the output, why children were started if that is
 -- requested, what a failing child printed, the detail of the fault, and why the build failed
-pub record Concludes (explain : Bool) (answer : Result Summary BuildFault) (notes : List (List ℕ)) (status : ℕ) (old new : Heard) : Type 0 where
+pub record Concludes (explain : Bool) (answer : Result Summary BuildFault) (notes : List (List ℕ)) (status : ℕ) (old new : SinkState) : Type 0 where
   pub told : status ≡ status_of answer
-  pub explained : Heard
+  pub explained : SinkState
   pub reasons : TellsReasons explain answer old explained
-  pub repeated : Heard
+  pub repeated : SinkState
   pub said : TellsSaid answer explained repeated
-  pub detailed : Heard
+  pub detailed : SinkState
   pub detail : TellsDetail answer repeated detailed
-  pub told_again : Heard
+  pub told_again : SinkState
   pub again : TellsOr look_lost (lines_of notes) detailed told_again
   pub reason : TellsWhy status answer told_again new
 
 -- a look at the place: nothing has changed but the counters of calls and of failures, so no child was started
-pub record Looked (old new : Moment) : Type 0 where
+pub record Looked (old new : BuildState) : Type 0 where
   pub world : new.world ≡ old.world
   pub starts : new.counts.starts ≡ old.counts.starts
   pub most : new.most ≡ old.most
   pub heard : new.heard ≡ old.heard
 
 -- A second look, for notes on a build that was refused or ended without a fault. After any other fault there is none.
-abbrev pub LooksOver : Result Summary BuildFault → List (List ℕ) → Moment → Moment → Type 0
+abbrev pub LooksOver : Result Summary BuildFault → List (List ℕ) → BuildState → BuildState → Type 0
 LooksOver (Ok summary) notes old new = Looked old new
 LooksOver (Err (build.Plan refusal)) notes old new = Looked old new
 LooksOver (Err fault) notes old new = (new ≡ old) × (notes ≡ [])
 
 -- what is written before a build: notes on the packages without a library in its plan, or that memory ran out for them;
 -- nothing if there are no such packages, or no plan
-abbrev pub NotesOf : Result BuildPlan BuildFault → Heard → Heard → Type 0
+abbrev pub NotesOf : Result BuildPlan BuildFault → SinkState → SinkState → Type 0
 NotesOf (Ok plan) old new = TellsOr notes_lost (notes_of plan.project.plan.without_library) old new
 NotesOf (Err fault) old new = new ≡ old
 
@@ -133,30 +133,30 @@ folder_of (Err fault) = None
 
 -- A build was planned, that plan was carried out, and no further call was made but those of a second look. `moved` is
 -- the list of the place after it.
-pub record BuildsTold (tells : Bool) (child : Answers) (Guards : Option (List ℕ) → Counts → Heard → Heard → Type 0) (moved : List Moved) (options : Options) (explain : Bool) (status : ℕ) (old new : Moment) (said_before said_after : Heard) : Type 0 where
+pub record BuildsTold (is_modelled : Bool) (child : Answers) (Guards : Option (List ℕ) → Counts → SinkState → SinkState → Type 0) (moved : List Moved) (options : Options) (explain : Bool) (status : ℕ) (old new : BuildState) (said_before said_after : SinkState) : Type 0 where
   -- its plan
   pub plan : Result BuildPlan BuildFault
-  pub planned : Moment
-  pub plans : PlansFrom tells options plan old planned
+  pub planned : BuildState
+  pub plans : PlansFrom is_modelled options plan old planned
   -- what was written beside the output first: notes on its packages without a library
-  pub noted : Heard
+  pub noted : SinkState
   pub notes : NotesOf plan said_before noted
   -- then its target folder was guarded: the place's counters were as the plan had left them, so no child was started
   -- yet
-  pub held : Heard
+  pub held : SinkState
   pub guards : Guards (folder_of plan) planned.counts noted held
   -- the plan was carried out
   pub answer : Result Summary BuildFault
-  pub built : Moment
-  pub on : BuildsOnFirst tells child options plan answer planned built
-  pub builds : BuildsFirst tells child options answer old built
+  pub built : BuildState
+  pub on : BuildsOnFirst is_modelled child options plan answer planned built
+  pub builds : BuildsFirst is_modelled child options answer old built
   -- a second look at it, for at most ten notes
   pub notes_again : List (List ℕ)
   pub are_notes : AreNotes notes_again
   pub looked : LooksOver answer notes_again built new
   -- all that has changed while a child was at work is reported. Over a place that tells its maps nothing has.
-  pub stood : IsTrue tells → moved ≡ []
-  pub marked : Heard
+  pub stood : IsTrue is_modelled → moved ≡ []
+  pub marked : SinkState
   pub marks : TellsOr moved_lost (moved_notes moved) held marked
   -- what is written after the build
   pub concluded : Concludes explain answer notes_again status marked said_after

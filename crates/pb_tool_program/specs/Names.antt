@@ -3,12 +3,12 @@ use Rattle.std.specs.Prelude.{◌≡◌, ◌⊎◌, ℕ, Bool, if◌then◌else�
 use Rattle.pb_build_result.specs.declared.fault.BuildFault.TheVariants as build_fault
 use Rattle.pb_tool_explain.specs.Entries.{near_in, text_in}
 use Rattle.pb_tool_explain.specs.declared.entry.Page.{Page}
-use Rattle.pb_place_types.specs.Sinks.{Heard}
+use Rattle.pb_place_types.specs.Sinks.{SinkState}
 use Rattle.pb_tool_program.specs.Building.{error_of}
 use Rattle.pb_tool_program.specs.Writing.{Writes, Tells}
 
 -- a text is written as output; the status is 0, or 1 if that fails
-abbrev pub Prints : List ℕ → ℕ → Heard → Heard → Type 0
+abbrev pub Prints : List ℕ → ℕ → SinkState → SinkState → Type 0
 Prints text status old new = (whole : Bool) × Writes whole text old new × (status ≡ (if whole then 0 else 1))
 
 -- the most similar name, if there is one
@@ -21,14 +21,14 @@ abbrev pub no_such_name : Option (List ℕ) → List ℕ → List ℕ
 no_such_name near name = codes "error: no error has the name " ++ name ++ near_told near ++ codes "\n"
 
 -- no error has this name: that is written, or that memory ran out for it
-abbrev pub Unmeant : Option (List ℕ) → List ℕ → ℕ → Heard → Heard → Type 0
+abbrev pub Unmeant : Option (List ℕ) → List ℕ → ℕ → SinkState → SinkState → Type 0
 Unmeant near name status said_before said_after =
     (status ≡ 1) × Tells (no_such_name near name) said_before said_after ⊎ (status ≡ 101) × Tells (error_of (Err build_fault.OutOfMemory)) said_before said_after
 
 -- the text of a page about a name is output; if the page has none, that is written beside the output
-abbrev pub MeansText : Option (List ℕ) → Option (List ℕ) → List ℕ → ℕ → Heard → Heard → Heard → Heard → Type 0
+abbrev pub MeansText : Option (List ℕ) → Option (List ℕ) → List ℕ → ℕ → SinkState → SinkState → SinkState → SinkState → Type 0
 MeansText (Some text) near name status old new said_before said_after = (said_after ≡ said_before) × Prints text status old new
 MeansText None near name status old new said_before said_after = (new ≡ old) × Unmeant near name status said_before said_after
 
-abbrev pub Means : Page → List ℕ → ℕ → Heard → Heard → Heard → Heard → Type 0
+abbrev pub Means : Page → List ℕ → ℕ → SinkState → SinkState → SinkState → SinkState → Type 0
 Means page name status old new said_before said_after = MeansText (text_in page name) (near_in page name) name status old new said_before said_after

@@ -8,17 +8,17 @@ use Rattle.pb_place_types.specs.declared.moved.Moved.{Moved}
 use Rattle.pb_place_types.specs.declared.place.PlaceFault.{PlaceFault}
 use Rattle.pb_build_result.specs.declared.fault.BuildFault.TheVariants as build_fault
 use Rattle.pb_tool_arguments.specs.Asking.{Asks, Unasks}
-use Rattle.pb_tool_arguments.specs.declared.asked.Asked.{Asked}
-use Rattle.pb_tool_arguments.specs.declared.asked.Asked.TheVariants.{Build, Session, Explain}
-use Rattle.pb_tool_arguments.specs.declared.asked.Shown.{Shown}
-use Rattle.pb_tool_arguments.specs.declared.asked.Unasked.{Unasked}
-use Rattle.pb_tool_arguments.specs.declared.asked.Unasked.TheVariants.{Help, Wrong, OutOfMemory}
+use Rattle.pb_tool_arguments.specs.declared.invocation.Invocation.{Invocation}
+use Rattle.pb_tool_arguments.specs.declared.invocation.Invocation.TheVariants.{Build, Session, Explain}
+use Rattle.pb_tool_arguments.specs.declared.invocation.Shown.{Shown}
+use Rattle.pb_tool_arguments.specs.declared.invocation.ArgumentsError.{ArgumentsError}
+use Rattle.pb_tool_arguments.specs.declared.invocation.ArgumentsError.TheVariants.{Help, Wrong, OutOfMemory}
 use Rattle.pb_tool_arguments.specs.declared.here.Here.{Here}
 use Rattle.pb_tool_explain.specs.declared.entry.Page.{Page}
 use Rattle.pb_build_session.specs.Sessions.{session_of}
 use Rattle.pb_build_session.specs.declared.fault.BadSession.TheVariants.{BadForm}
-use Rattle.pb_place_types.specs.Sinks.{Heard}
-use Rattle.pb_build_turns.specs.Crew.{Moment}
+use Rattle.pb_place_types.specs.Sinks.{SinkState}
+use Rattle.pb_build_turns.specs.Executor.{BuildState}
 use Rattle.pb_tool_program.specs.Building.{BuildsTold, error_of}
 use Rattle.pb_tool_program.specs.Names.{Means, Prints}
 use Rattle.pb_tool_program.specs.Session.{Refused, SessionStopped, SessionWritten}
@@ -28,7 +28,7 @@ use Rattle.pb_tool_program.specs.Writing.{Tells}
 
 -- the session of these bytes was run. With status 0 its lines were written, and nothing beside them. With status 1 it
 -- is reported as bad, and only the lines from before memory ran out or the sink failed were written
-pub record RunsSession (bytes : List ℕ) (status : ℕ) (old new said_before said_after : Heard) : Type 0 where
+pub record RunsSession (bytes : List ℕ) (status : ℕ) (old new said_before said_after : SinkState) : Type 0 where
   pub ends : (status ≡ 0) ⊎ (status ≡ 1)
   pub written : status ≡ 0 → SessionWritten true bytes old new
   pub cut : status ≡ 1 → SessionStopped bytes old new ⊎ SessionWritten false bytes old new
@@ -37,30 +37,30 @@ pub record RunsSession (bytes : List ℕ) (status : ℕ) (old new said_before sa
   pub told : status ≡ 1 → Refused said_before said_after
 
 -- a bad session: it is reported as bad, and nothing is output
-abbrev pub IsBad : ℕ → Heard → Heard → Heard → Heard → Type 0
+abbrev pub IsBad : ℕ → SinkState → SinkState → SinkState → SinkState → Type 0
 IsBad status old new said_before said_after = (status ≡ 1) × (new ≡ old) × Refused said_before said_after
 
 -- what follows when a session's file was read with this result: a file that does not exist, or cannot be read, is a bad
 -- session
-abbrev pub RunsFound : Result (Option (List ℕ)) PlaceFault → ℕ → Heard → Heard → Heard → Heard → Type 0
+abbrev pub RunsFound : Result (Option (List ℕ)) PlaceFault → ℕ → SinkState → SinkState → SinkState → SinkState → Type 0
 RunsFound (Ok (Some bytes)) status old new said_before said_after = RunsSession bytes status old new said_before said_after
 RunsFound (Ok None) status old new said_before said_after = IsBad status old new said_before said_after
 RunsFound (Err fault) status old new said_before said_after = IsBad status old new said_before said_after
 
 -- the session of a file was run: the file was read once, and no further call was made
-pub record RunsFile (tells : Bool) (path : List ℕ) (status : ℕ) (old new : Moment) (said_before said_after : Heard) : Type 0 where
-  pub same : IsTrue tells → new.world ≡ old.world
+pub record RunsFile (is_modelled : Bool) (path : List ℕ) (status : ℕ) (old new : BuildState) (said_before said_after : SinkState) : Type 0 where
+  pub same : IsTrue is_modelled → new.world ≡ old.world
   pub most : new.most ≡ old.most
   pub found : Result (Option (List ℕ)) PlaceFault
   pub once : new.counts ≡ counted (call.Read path) found old.counts
-  pub is_file : IsTrue tells → IfOk found (λ bytes. bytes ≡ map.get old.world.files path)
+  pub is_file : IsTrue is_modelled → IfOk found (λ bytes. bytes ≡ map.get old.world.files path)
   pub comes : RunsFound found status old.heard new.heard said_before said_after
 
 -- Arguments that request nothing.
 
 -- what is written for arguments that request nothing: help or the version, as output; what is wrong with them, or that
 -- memory ran out, beside the output
-abbrev pub Explains : Unasked → ℕ → Heard → Heard → Heard → Heard → Type 0
+abbrev pub Explains : ArgumentsError → ℕ → SinkState → SinkState → SinkState → SinkState → Type 0
 Explains (Help text) status old new said_before said_after = (said_after ≡ said_before) × Prints text status old new
 Explains (Wrong text) status old new said_before said_after = (status ≡ 1) × (new ≡ old) × Tells text said_before said_after
 Explains OutOfMemory status old new said_before said_after = (status ≡ 101) × (new ≡ old) × Tells (error_of (Err build_fault.OutOfMemory)) said_before said_after
@@ -73,20 +73,20 @@ abbrev pub IsTold : {P O : Type 0} → (P → Bool → P → Type 0) → (O → 
 IsTold {P} {O} Speaks Shows place out shown = ((told : P) × Speaks place shown.verbose told) × ((told : O) × Shows out shown.render told)
 
 -- what arguments request, or why they request nothing
-abbrev pub AsksOrNot : List (List ℕ) → Here → Result Asked Unasked → Type 0
+abbrev pub AsksOrNot : List (List ℕ) → Here → Result Invocation ArgumentsError → Type 0
 AsksOrNot words here (Ok asked) = Asks words here asked
 AsksOrNot words here (Err unasked) = Unasks words here.folder unasked
 
 -- what follows from that: the requested build or session; else the place is not used. Only a build asks the guard for a
 -- folder. What it shows beside its lines changes nothing else: `BuildsTold` depends on `explain` only.
-abbrev pub Does : Bool → Answers → (Option (List ℕ) → Counts → Heard → Heard → Type 0) → (Shown → Type 0) → Page → List Moved → Result Asked Unasked → ℕ → Moment → Moment → Heard → Heard → Type 0
-Does tells child Guards Told page moved (Ok (Build options shown)) status old new said_before said_after = Told shown × BuildsTold tells child Guards moved options shown.explain status old new said_before said_after
-Does tells child Guards Told page moved (Ok (Session path)) status old new said_before said_after = RunsFile tells path status old new said_before said_after × Guards None old.counts said_before said_before
-Does tells child Guards Told page moved (Ok (Explain name)) status old new said_before said_after = (new ≡ record old { heard = new.heard }) × Means page name status old.heard new.heard said_before said_after × Guards None old.counts said_before said_before
-Does tells child Guards Told page moved (Err unasked) status old new said_before said_after = (new ≡ record old { heard = new.heard }) × Explains unasked status old.heard new.heard said_before said_after × Guards None old.counts said_before said_before
+abbrev pub Does : Bool → Answers → (Option (List ℕ) → Counts → SinkState → SinkState → Type 0) → (Shown → Type 0) → Page → List Moved → Result Invocation ArgumentsError → ℕ → BuildState → BuildState → SinkState → SinkState → Type 0
+Does is_modelled child Guards Told page moved (Ok (Build options shown)) status old new said_before said_after = Told shown × BuildsTold is_modelled child Guards moved options shown.explain status old new said_before said_after
+Does is_modelled child Guards Told page moved (Ok (Session path)) status old new said_before said_after = RunsFile is_modelled path status old new said_before said_after × Guards None old.counts said_before said_before
+Does is_modelled child Guards Told page moved (Ok (Explain name)) status old new said_before said_after = (new ≡ record old { heard = new.heard }) × Means page name status old.heard new.heard said_before said_after × Guards None old.counts said_before said_before
+Does is_modelled child Guards Told page moved (Err unasked) status old new said_before said_after = (new ≡ record old { heard = new.heard }) × Explains unasked status old.heard new.heard said_before said_after × Guards None old.counts said_before said_before
 
 -- the program did what these arguments request, with the folder and the processors of `here`; `moved` is the list of
 -- its place afterwards
-abbrev pub Runs : Bool → Answers → (Option (List ℕ) → Counts → Heard → Heard → Type 0) → (Shown → Type 0) → Page → List Moved → List (List ℕ) → Here → ℕ → Moment → Moment → Heard → Heard → Type 0
-Runs tells child Guards Told page moved words here status old new said_before said_after =
-    (meant : Result Asked Unasked) × AsksOrNot words here meant × Does tells child Guards Told page moved meant status old new said_before said_after
+abbrev pub Runs : Bool → Answers → (Option (List ℕ) → Counts → SinkState → SinkState → Type 0) → (Shown → Type 0) → Page → List Moved → List (List ℕ) → Here → ℕ → BuildState → BuildState → SinkState → SinkState → Type 0
+Runs is_modelled child Guards Told page moved words here status old new said_before said_after =
+    (meant : Result Invocation ArgumentsError) × AsksOrNot words here meant × Does is_modelled child Guards Told page moved meant status old new said_before said_after

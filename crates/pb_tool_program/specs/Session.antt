@@ -4,10 +4,10 @@ use Rattle.std.specs.Io.KnownBytes.{Appends}
 use Rattle.std.specs.FinMap as map
 use Rattle.pb_mini.specs.Answer.{answered}
 use Rattle.pb_place_types.specs.Counts.{up, no_calls}
-use Rattle.pb_place_types.specs.Sinks.{Heard, TakesPart}
+use Rattle.pb_place_types.specs.Sinks.{SinkState, TakesPart}
 use Rattle.pb_place_types.specs.World.{Answers}
 use Rattle.pb_build.specs.Session.{Point, Course, Breaks}
-use Rattle.pb_build.specs.declared.sessions.Answer.{Answer}
+use Rattle.pb_build.specs.declared.sessions.BuildOutcome.{BuildOutcome}
 use Rattle.pb_build_result.specs.ResultLine.{result_line}
 use Rattle.pb_build_session.specs.Sessions.{session_of}
 use Rattle.pb_build_session.specs.declared.step.SessionStep.{SessionStep}
@@ -18,11 +18,11 @@ abbrev pub bad_session : List ℕ
 bad_session = codes "error: bad session\n"
 
 -- the session is reported as bad; or the sink failed, and took some first bytes of that, not all
-abbrev pub Refused : Heard → Heard → Type 0
+abbrev pub Refused : SinkState → SinkState → Type 0
 Refused old new = (Appends old.taken new.taken bad_session × (new.faults ≡ old.faults)) ⊎ (TakesPart bad_session old.taken new.taken × (new.faults ≡ up old.faults))
 
 -- a result line for each answer, each followed by a line feed
-abbrev pub lines_of : List Answer → List ℕ
+abbrev pub lines_of : List BuildOutcome → List ℕ
 lines_of [] = []
 lines_of (answer ∷ answers) = result_line answer.result ++ codes "\n" ++ lines_of answers
 
@@ -31,25 +31,25 @@ abbrev pub small_compiler : Answers
 small_compiler c w = answered c.words c.pairs w
 
 -- before the first step: no file, no variable, no call of the place, no answer, and no injected failure
-abbrev pub at_first : Heard → Point
+abbrev pub at_first : SinkState → Point
 at_first heard = record { moment = record { world = record { files = map.empty; variables = map.empty }; counts = no_calls; most = 0; heard = heard }; answers = []; fuse = 0; deaths = [] }
 
 -- the steps were taken in turn, and each build wrote its message lines; then a result line for each build was written:
 -- all these lines, or some first bytes, not all, at which the sink failed
-abbrev pub Written : Bool → List SessionStep → Heard → Heard → Type 0
+abbrev pub Written : Bool → List SessionStep → SinkState → SinkState → Type 0
 Written whole steps before after = (end : Point) × Course small_compiler steps (at_first before) end × Writes whole (lines_of end.answers) end.moment.heard after
 
 -- the bytes are those of a session, and its lines were written
-abbrev pub SessionWritten : Bool → List ℕ → Heard → Heard → Type 0
+abbrev pub SessionWritten : Bool → List ℕ → SinkState → SinkState → Type 0
 SessionWritten whole bytes before after = (steps : List SessionStep) × (session_of bytes ≡ Ok steps) × Written whole steps before after
 
 -- memory ran out: at a step, after those before it were taken in turn; or after the last step, and no result line was
 -- written
-abbrev pub Stopped : List SessionStep → Heard → Heard → Type 0
+abbrev pub Stopped : List SessionStep → SinkState → SinkState → Type 0
 Stopped steps before after =
     ((left : Point) × Breaks small_compiler steps (at_first before) left × (after ≡ left.moment.heard))
     ⊎ ((end : Point) × Course small_compiler steps (at_first before) end × (after ≡ end.moment.heard))
 
 -- nothing was written; or the bytes are those of a session, which was run until memory ran out
-abbrev pub SessionStopped : List ℕ → Heard → Heard → Type 0
+abbrev pub SessionStopped : List ℕ → SinkState → SinkState → Type 0
 SessionStopped bytes before after = (after ≡ before) ⊎ ((steps : List SessionStep) × (session_of bytes ≡ Ok steps) × Stopped steps before after)

@@ -2,19 +2,19 @@
 use Rattle.std.specs.Prelude.{◌≡◌, ◌⊎◌, ℕ, Bool, true, false, List, [], ◌∷◌}
 use Rattle.std.specs.Io.KnownBytes.{Appends}
 use Rattle.pb_place_types.specs.Counts.{up}
-use Rattle.pb_place_types.specs.Sinks.{Heard, TakesPart}
+use Rattle.pb_place_types.specs.Sinks.{SinkState, TakesPart}
 
 -- all of these bytes were written; or some first bytes, not all, and the sink failed
-abbrev pub Writes : Bool → List ℕ → Heard → Heard → Type 0
+abbrev pub Writes : Bool → List ℕ → SinkState → SinkState → Type 0
 Writes true bytes old new = Appends old.taken new.taken bytes × (new.faults ≡ old.faults)
 Writes false bytes old new = TakesPart bytes old.taken new.taken × (new.faults ≡ up old.faults)
 
 -- these bytes were written, as far as the sink took them
-abbrev pub Tells : List ℕ → Heard → Heard → Type 0
+abbrev pub Tells : List ℕ → SinkState → SinkState → Type 0
 Tells bytes old new = (whole : Bool) × Writes whole bytes old new
 
 -- these bytes were written, or, if memory ran out for them, this line, which needs no memory; nothing if there are no
 -- bytes
-abbrev pub TellsOr : List ℕ → List ℕ → Heard → Heard → Type 0
+abbrev pub TellsOr : List ℕ → List ℕ → SinkState → SinkState → Type 0
 TellsOr lost [] old new = new ≡ old
 TellsOr lost (byte ∷ bytes) old new = Tells (byte ∷ bytes) old new ⊎ Tells lost old new

@@ -4,8 +4,8 @@ ghost use Rattle.std.specs.Prelude.{◌≡◌, [], ◌++◌, IfOk, OnOk, Result,
 ghost use Rattle.std.specs.Io.KnownBytes.{Appends};
 ghost use Rattle.pb_build.specs.Ending.{BuildsFirst};
 ghost use Rattle.pb_place_types.specs.Paths.{last_part};
-ghost use Rattle.pb_place_types.specs.Sinks.{Heard};
-ghost use Rattle.pb_build_turns.specs.Crew.{Moment, moment};
+ghost use Rattle.pb_place_types.specs.Sinks.{SinkState};
+ghost use Rattle.pb_build_turns.specs.Executor.{BuildState, moment};
 ghost use Rattle.pb_build_result.specs.ResultLine.{result_line};
 ghost use Rattle.pb_build_result.specs.declared.fault.BuildFault.{BuildFault};
 ghost use Rattle.pb_build_result.specs.declared.summary.Summary.{Summary};
@@ -17,12 +17,12 @@ ghost use Rattle.pb_tool_program.specs.Writing.{Tells, TellsOr};
 
 use crate::details::detail;
 use crate::guard::Guard;
-use pb_build_result::{BuildFault, Refusal, Summary, explanation, result_line, said};
 use pb_build::{BuildPlan, build_plan, plan_build};
+use pb_build_result::{BuildFault, Refusal, Summary, explanation, result_line, said};
 use pb_data::Text;
-use pb_workspace_types::Options;
 use pb_place_types::{Moved, Out, PathText, Place, write_all};
 use pb_tool_notes::{Notes, notes_on_build, notes_on_features, notes_on_load, notes_on_plan};
+use pb_workspace_types::Options;
 use std::alloc::{AllocError, Global};
 
 /// Returns the status of a build: 0 if all its units are good, else 101.
@@ -262,7 +262,7 @@ fn look<P: Place>(
     options: &Options,
     answer: &Result<Summary, BuildFault>,
 ) -> Notes
-    ensures { (heard : Heard) → LooksOver answer.now result
+    ensures { (heard : SinkState) → LooksOver answer.now result
         (moment (P.at place.old) heard) (moment (P.at place.new) heard) }
 {
     match answer {
@@ -331,7 +331,7 @@ pub fn build_options<P: Place, G: Guard<P, E>, O: Out, E: Out>(
     explain: bool,
 ) -> u8
     requires none { (P.at place.old).counts.starts.flying ≡ [] }
-    ensures { BuildsTold P.tells P.child (Guarded G.asks G.waits guard.old guard.new)
+    ensures { BuildsTold P.is_modelled P.child (Guarded G.asks G.waits guard.old guard.new)
         (P.at place.new).moved options.now explain result
         (moment (P.at place.old) (O.heard out.old)) (moment (P.at place.new) (O.heard out.new))
         (E.heard err.old) (E.heard err.new) }

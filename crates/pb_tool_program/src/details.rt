@@ -4,13 +4,13 @@ ghost use Rattle.std.specs.Prelude.{◌≡◌, ◌≢◌, [], ◌++◌, IfOk, If
 ghost use Rattle.pb_tool_program.specs.Details.{line_note, line_detail, unit_detail, bad_detail, key_note, manifest_detail, load_detail, spaced, circle_note, plan_detail, refusal_detail, place_detail, device_detail, fault_detail, detail};
 
 use pb_build_result::{BuildFault, DeviceFault, Refusal, Summary};
+use pb_command_types::UnitFault;
 use pb_data::Text;
 use pb_directive::LineFault;
 use pb_manifest_types::ManifestFault;
-use pb_workspace_types::LoadFault;
 use pb_place_types::{PathText, PlaceFault};
-use pb_command_types::UnitFault;
 use pb_unit::PlanFault;
+use pb_workspace_types::LoadFault;
 use std::alloc::{AllocError, Global};
 
 /// Returns the note on a line of a script's output.

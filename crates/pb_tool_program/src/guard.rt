@@ -2,7 +2,7 @@
 
 ghost use Rattle.std.specs.Prelude.{ℕ, List, Bool};
 ghost use Rattle.pb_place_types.specs.Counts.{Counts};
-ghost use Rattle.pb_place_types.specs.Sinks.{Heard};
+ghost use Rattle.pb_place_types.specs.Sinks.{SinkState};
 
 use pb_place_types::{Out, PathText, Place};
 
@@ -12,11 +12,11 @@ use pb_place_types::{Out, PathText, Place};
 pub trait Guard<P: Place, E: Out> {
     /// How a folder is requested: the guard before, the folder, the place's counters, what `err`
     /// has received, whether another build has the folder, and the guard after.
-    ghost asks: { Self → List ℕ → Counts → Heard → Bool → Self → Type 0 };
+    ghost asks: { Self → List ℕ → Counts → SinkState → Bool → Self → Type 0 };
 
     /// How a folder is waited for: the guard before, the place's counters, what `err` has received,
     /// and the guard after.
-    ghost waits: { Self → Counts → Heard → Self → Type 0 };
+    ghost waits: { Self → Counts → SinkState → Self → Type 0 };
 
     /// Requests a folder, takes it if it is free, and returns whether another build has it. A
     /// folder that cannot be guarded counts as free.

@@ -3,10 +3,10 @@
 use crate::folder_lock::FolderLock;
 use crate::processors::processors;
 use crate::running::{BAD_COMMAND_LINE, FAILED, run};
-use pb_tool_arguments::Here;
-use pb_tool_explain::page_of_errors;
 use pb_place_host::HostPlace;
 use pb_place_types::{Over, PathFault, PathText, write_all};
+use pb_tool_arguments::Here;
+use pb_tool_explain::page_of_errors;
 use pb_tool_screen::{Rendered, Spoken};
 use std::io::ErrorKind;
 use std::{env, io};

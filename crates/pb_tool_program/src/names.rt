@@ -5,8 +5,8 @@ ghost use Rattle.pb_tool_explain.specs.Entries.{near_in};
 ghost use Rattle.pb_tool_program.specs.Names.{Means, Unmeant, near_told, no_such_name};
 
 use crate::running::{BAD_COMMAND_LINE, FAILED};
-use pb_tool_explain::{Page, meaning, near};
 use pb_place_types::{Out, write_all};
+use pb_tool_explain::{Page, meaning, near};
 use std::alloc::{AllocError, Global};
 
 /// Returns the text that names the most similar name.

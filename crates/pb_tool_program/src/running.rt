@@ -1,7 +1,7 @@
 //! The whole program over any place.
 
 ghost use Rattle.std.specs.Prelude.{◌≡◌, [], map};
-ghost use Rattle.pb_build_turns.specs.Crew.{moment};
+ghost use Rattle.pb_build_turns.specs.Executor.{moment};
 ghost use Rattle.pb_tool_program.specs.Guarding.{Guarded};
 ghost use Rattle.pb_tool_program.specs.Building.{BuildsTold};
 ghost use Rattle.pb_tool_program.specs.Running.{RunsFile, Explains, IsTold, Runs};
@@ -10,11 +10,11 @@ use crate::building::build_options;
 use crate::guard::Guard;
 use crate::names::mean;
 use crate::session::{refuse, run_session};
-use pb_tool_arguments::{Asked, Here, Shown, Unasked, read_command_line};
-use pb_tool_explain::Page;
-use pb_workspace_types::Options;
 use pb_place_types::{Out, PathText, Place, write_all};
+use pb_tool_arguments::{ArgumentsError, Here, Invocation, Shown, read_command_line};
+use pb_tool_explain::Page;
 use pb_tool_screen::{Screen, Speaking};
+use pb_workspace_types::Options;
 use std::alloc::Global;
 use std::convert::AsStr;
 
@@ -32,7 +32,7 @@ fn run_file<P: Place, O: Out, E: Out>(
     out: &mut O,
     err: &mut E,
 ) -> u8
-    ensures { RunsFile P.tells path.now result
+    ensures { RunsFile P.is_modelled path.now result
         (moment (P.at place.old) (O.heard out.old)) (moment (P.at place.new) (O.heard out.new))
         (E.heard err.old) (E.heard err.new) }
 {
@@ -43,24 +43,24 @@ fn run_file<P: Place, O: Out, E: Out>(
 }
 
 /// Prints the text for a command line that requests nothing: help to `out`, what is wrong to `err`.
-fn explain<O: Out, E: Out>(unasked: &Unasked, out: &mut O, err: &mut E) -> u8
+fn explain<O: Out, E: Out>(unasked: &ArgumentsError, out: &mut O, err: &mut E) -> u8
     ensures { Explains unasked.now result
         (O.heard out.old) (O.heard out.new)
         (E.heard err.old) (E.heard err.new) }
 {
     match unasked {
-        Unasked::Help(text) => {
+        ArgumentsError::Help(text) => {
             if write_all(out, text.as_str().as_bytes()) {
                 0
             } else {
                 BAD_COMMAND_LINE
             }
         }
-        Unasked::Wrong(text) => {
+        ArgumentsError::Wrong(text) => {
             let _ = write_all(err, text.as_str().as_bytes());
             BAD_COMMAND_LINE
         }
-        Unasked::OutOfMemory => {
+        ArgumentsError::OutOfMemory => {
             let _ = write_all(err, b"error: fault memory OutOfMemory\n");
             FAILED
         }
@@ -79,7 +79,7 @@ fn build<P: Speaking, G: Guard<P, E>, O: Screen, E: Out>(
 ) -> u8
     requires none { (P.at place.old).counts.starts.flying ≡ [] }
     ensures told { IsTold P.speaks O.shows place.old out.old shown }
-    ensures builds { BuildsTold P.tells P.child (Guarded G.asks G.waits guard.old guard.new)
+    ensures builds { BuildsTold P.is_modelled P.child (Guarded G.asks G.waits guard.old guard.new)
         (P.at place.new).moved options.now shown.explain result
         (moment (P.at place.old) (O.heard out.old)) (moment (P.at place.new) (O.heard out.new))
         (E.heard err.old) (E.heard err.new) }
@@ -113,18 +113,18 @@ pub fn run<S: AsStr, P: Speaking, G: Guard<P, E>, O: Screen, E: Out>(
     err: &mut E,
 ) -> u8
     requires none { (P.at place.old).counts.starts.flying ≡ [] }
-    ensures { Runs P.tells P.child (Guarded G.asks G.waits guard.old guard.new)
+    ensures { Runs P.is_modelled P.child (Guarded G.asks G.waits guard.old guard.new)
         (IsTold P.speaks O.shows place.old out.old) page.now (P.at place.new).moved
         (map S.text words.now) here.now result
         (moment (P.at place.old) (O.heard out.old)) (moment (P.at place.new) (O.heard out.new))
         (E.heard err.old) (E.heard err.new) }
 {
     match read_command_line(alloc, words, here) {
-        Ok(Asked::Build { options, shown }) => {
+        Ok(Invocation::Build { options, shown }) => {
             build(alloc, place, guard, out, err, &options, shown)
         }
-        Ok(Asked::Session(path)) => run_file(alloc, place, &path, out, err),
-        Ok(Asked::Explain(name)) => mean(alloc, page, name.as_str(), out, err),
+        Ok(Invocation::Session(path)) => run_file(alloc, place, &path, out, err),
+        Ok(Invocation::Explain(name)) => mean(alloc, page, name.as_str(), out, err),
         Err(unasked) => explain(&unasked, out, err),
     }
 }

@@ -6,12 +6,12 @@ ghost use Rattle.pb_build_session.specs.declared.fault.BadSession.TheVariants.{B
 ghost use Rattle.pb_tool_program.specs.Session.{Refused, SessionStopped, SessionWritten, lines_of};
 ghost use Rattle.pb_tool_program.specs.Writing.{Writes};
 
+use pb_build::{BuildOutcome, session};
 use pb_build_result::result_line;
-use pb_build::{Answer, session};
-use pb_place::Memory;
-use pb_mini::Mini;
-use pb_place_types::{Out, write_all};
 use pb_build_session::{BadSession, read_session};
+use pb_mini::Mini;
+use pb_place::Memory;
+use pb_place_types::{Out, write_all};
 use std::alloc::{AllocError, Global};
 
 /// Writes that a session is bad, and returns the status for it.
@@ -24,7 +24,7 @@ pub fn refuse<E: Out>(err: &mut E) -> u8
 }
 
 /// Returns the result lines of builds, each followed by a line feed.
-fn result_lines(alloc: Global, answers: &[Answer]) -> Result<String, AllocError>
+fn result_lines(alloc: Global, answers: &[BuildOutcome]) -> Result<String, AllocError>
     ensures { IfOk result (λ lines. string_bytes lines ≡ lines_of answers.now) }
 {
     let mut lines = String::new(alloc);
@@ -41,7 +41,7 @@ fn result_lines(alloc: Global, answers: &[Answer]) -> Result<String, AllocError>
 /// Errors: only out of memory, before anything is written.
 pub fn write_results<O: Out>(
     alloc: Global,
-    answers: &[Answer],
+    answers: &[BuildOutcome],
     out: &mut O,
 ) -> Result<bool, AllocError>
     ensures written { IfOk result (λ whole. Writes whole (lines_of answers.now) (O.heard out.old) (O.heard out.new)) }

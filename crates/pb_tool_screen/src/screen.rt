@@ -2,7 +2,7 @@
 
 ghost use Rattle.std.specs.Prelude.{◌≡◌, ◌≤◌, ◌++◌, Bool, false, length, take, MatchOption, OnOk};
 ghost use Rattle.std.specs.Io.KnownBytes.{Keeps, Appends};
-ghost use Rattle.pb_place_types.specs.Sinks.{Heard, sunk};
+ghost use Rattle.pb_place_types.specs.Sinks.{SinkState, sunk};
 
 use crate::rendering::line_shown;
 use pb_place_types::{Out, write_all};

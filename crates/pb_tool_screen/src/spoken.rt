@@ -102,7 +102,7 @@ impl<P: Place, S: Out> Speaking for Spoken<P, S> {
 }
 
 impl<P: Place, S: Out> Place for Spoken<P, S> {
-    ghost tells = { P.tells };
+    ghost is_modelled = { P.is_modelled };
 
     ghost at = { λ p. P.at p.inside };
 

@@ -8,7 +8,7 @@ use Rattle.std.specs.declared.cmp.Ordering.{Ordering}
 use Rattle.std.specs.Cmp.Lexicographic.{slice_cmp}
 use Rattle.pb_graph.specs.Closure.{is_on}
 use Rattle.pb_graph.specs.Placed.{placed}
-use Rattle.pb_data.specs.Mentions.{is_mentioned}
+use Rattle.pb_data.specs.OrderedSet.{is_mentioned}
 use Rattle.pb_place_types.specs.Paths.{below}
 use Rattle.pb_graph.specs.declared.graph.Node.{Node}
 use Rattle.pb_graph.specs.declared.graph.Step.{Step}

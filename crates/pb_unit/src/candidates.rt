@@ -4,7 +4,7 @@ ghost use Rattle.std.specs.Prelude.{◌≡◌, ◌++◌, ◌↔◌, [], ◌∷�
 ghost use Rattle.std.specs.List.{list_all};
 ghost use Rattle.std.specs.List.Sorted.{IsStrictlySortedBy};
 ghost use Rattle.pb_graph.specs.Placed.{placed};
-ghost use Rattle.pb_data.specs.Mentions.{is_mentioned};
+ghost use Rattle.pb_data.specs.OrderedSet.{is_mentioned};
 ghost use Rattle.pb_feature_types.specs.Features.{features_at};
 ghost use Rattle.pb_workspace_types.specs.declared.package.Side.TheVariants.{Target};
 ghost use Rattle.pb_unit.specs.Units.{asks_all, asks_libraries, asks_binary};
@@ -12,9 +12,9 @@ ghost use Rattle.pb_unit.specs.Drawing.{six, fixed, binaries_of, named_by, named
 
 use crate::unit::{Unit, What};
 use pb_data::{Text, TryCopy};
+use pb_feature_types::Features;
 use pb_graph::sort_once;
 use pb_workspace_types::{Binary, Package, Selection, Side, Workspace};
-use pb_feature_types::Features;
 use std::alloc::{AllocError, Global};
 
 /// A binary that is a root.

@@ -5,8 +5,8 @@ ghost use Rattle.pb_unit.specs.declared.unit.What.TheVariants.{Lib, Script, Run}
 ghost use Rattle.pb_unit.specs.Units.{unit, has_library, has_script, hands_on, is_normal, is_build, entries_at, own_library, own_run};
 ghost use Rattle.pb_unit.specs.Drawing.{number, needed, leads, all_numbers};
 
-use pb_workspace_types::{DependencyKind, Entry, SettledWorkspace, Side, Workspace};
 use pb_feature_types::Features;
+use pb_workspace_types::{DependencyKind, Entry, SettledWorkspace, Side, Workspace};
 use std::alloc::AllocError;
 
 /// What a unit needs of the package to which an enabled entry leads.

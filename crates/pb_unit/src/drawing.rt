@@ -9,9 +9,9 @@ use crate::needed::needed_by;
 use crate::roots::roots;
 use crate::unit::Unit;
 use pb_data::Items;
+use pb_feature_types::Features;
 use pb_graph::Node;
 use pb_workspace_types::{SelectedWorkspace, SettledWorkspace};
-use pb_feature_types::Features;
 use std::alloc::{AllocError, Global};
 
 /// The units that a plan may have, as the nodes of a graph, and which of them are roots.

@@ -10,9 +10,9 @@ ghost use Rattle.pb_unit.specs.Drawing.{missing_by, missing_at, all_missing, nam
 use crate::dependencies::has_library;
 use crate::unit::{Unit, name_at};
 use pb_data::{Items, Text};
+use pb_feature_types::Features;
 use pb_graph::sort_once;
 use pb_workspace_types::{Entry, Side, Workspace};
-use pb_feature_types::Features;
 use std::alloc::{AllocError, Global};
 
 /// Returns names in byte order, each once.

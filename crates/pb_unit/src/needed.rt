@@ -7,8 +7,8 @@ ghost use Rattle.pb_unit.specs.Drawing.{number};
 
 use crate::dependencies::{Need, add_needed, add_own_library, add_own_run, script_number};
 use crate::unit::{Unit, What};
-use pb_workspace_types::{SettledWorkspace, Side};
 use pb_feature_types::Features;
+use pb_workspace_types::{SettledWorkspace, Side};
 use std::alloc::{AllocError, Global};
 
 /// Returns what a library needs.

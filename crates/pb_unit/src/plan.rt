@@ -20,16 +20,16 @@ use crate::fault::PlanFault;
 use crate::names::{names_behind, without_library};
 use crate::unit::Unit;
 use pb_data::{Items, Text, TryCopy};
+use pb_feature_types::Features;
 use pb_graph::order::order;
 use pb_graph::{OrderFault, Step};
-use pb_workspace_types::{SelectedWorkspace, Workspace};
 use pb_place_types::{PathText, RelativePath};
 use pb_profile::{Ancestor, ProfileFault, Settings, folder_of, line_of, settings_along};
-use pb_feature_types::Features;
+use pb_workspace_types::{SelectedWorkspace, Workspace};
 use std::alloc::{AllocError, Global};
 
 /// How many units a plan may have.
-const MOST_UNITS: usize = 4096;
+const MAX_UNITS: usize = 4096;
 
 /// A unit of a plan.
 #[derive(Drop)]
@@ -76,7 +76,7 @@ fn workspace_of<'a>(selected: &'a SelectedWorkspace<'_>) -> &'a Workspace
 
 /// The line of the requested profile, and its folder.
 #[derive(Drop)]
-struct Frame<'a> {
+struct ProfileContext<'a> {
     line: Vec<Ancestor<'a>>,
     folder: PathText,
 }
@@ -106,7 +106,7 @@ fn framed<'a>(
     alloc: Global,
     workspace: &'a Workspace,
     profile: &'a str,
-) -> Result<Frame<'a>, PlanFault>
+) -> Result<ProfileContext<'a>, PlanFault>
     ensures line { IfOk result (λ frame. profile_line workspace.now profile.now ≡ Ok (map seen frame.line.items)) }
     ensures folder { IfOk result (λ frame. frame.folder ≡ profile_folder workspace.now profile.now) }
     ensures path { IfOk result (λ frame. is_path frame.folder ≡ true) }
@@ -118,7 +118,7 @@ fn framed<'a>(
         Err(fault) => return Err(PlanFault::Profile(fault)),
     };
     match folder_in(alloc, workspace, profile)? {
-        Some(folder) => Ok(Frame { line, folder }),
+        Some(folder) => Ok(ProfileContext { line, folder }),
         None => Err(PlanFault::Profile(ProfileFault::NoSuchProfile)),
     }
 }
@@ -154,7 +154,7 @@ fn ordered(
 {
     let workspace = workspace_of(selected);
     let nodes = drawing.nodes.as_slice();
-    let steps = match order(alloc, nodes, drawing.roots.as_slice(), MOST_UNITS) {
+    let steps = match order(alloc, nodes, drawing.roots.as_slice(), MAX_UNITS) {
         Ok(steps) => steps,
         Err(fault) => return Err(refusal(alloc, workspace, drawing.units.as_slice(), fault)),
     };
@@ -165,7 +165,7 @@ fn ordered(
 }
 
 /// Returns the output folder of a key, in the folder of the profile.
-fn out_of(alloc: Global, frame: &Frame<'_>, key: &Text) -> Result<PathText, AllocError>
+fn out_of(alloc: Global, frame: &ProfileContext<'_>, key: &Text) -> Result<PathText, AllocError>
     requires { is_relative key.now ≡ true }
     ensures { IfOk result (λ out. out ≡ below frame.now.folder key.now) }
 {
@@ -175,7 +175,7 @@ fn out_of(alloc: Global, frame: &Frame<'_>, key: &Text) -> Result<PathText, Allo
 }
 
 /// Returns the settings of a unit's package in its role.
-fn settings_of(workspace: &Workspace, frame: &Frame<'_>, unit: &Unit) -> Settings
+fn settings_of(workspace: &Workspace, frame: &ProfileContext<'_>, unit: &Unit) -> Settings
     requires { unit.now.owner < length workspace.now.packages }
     ensures { (owner : Package) × (slice_get workspace.now.packages unit.now.owner ≡ Some owner) × (result ≡ settings_along owner (role_of unit.now) (map seen frame.now.line.items)) }
 {
@@ -187,7 +187,7 @@ fn settings_of(workspace: &Workspace, frame: &Frame<'_>, unit: &Unit) -> Setting
 fn made(
     alloc: Global,
     workspace: &Workspace,
-    frame: &Frame<'_>,
+    frame: &ProfileContext<'_>,
     units: &[Unit],
     step: Step,
 ) -> Result<Planned, AllocError>
@@ -214,7 +214,7 @@ fn made(
 fn all_made(
     alloc: Global,
     workspace: &Workspace,
-    frame: &Frame<'_>,
+    frame: &ProfileContext<'_>,
     units: &[Unit],
     steps: Vec<Step>,
 ) -> Result<Vec<Planned>, AllocError>

@@ -2,7 +2,7 @@
 use Rattle.std.proofs.Common.{◌≡◌, ◌∙◌, ◌++◌, ◌∷◌, ◌&&◌, [], Bool, true, false, if◌then◌else◌, List, map, Option, Some, None, Result, Ok, Err, refl, sym, ap}
 use Rattle.std.specs.List.{cons_option, filter_map, flat_map, list_all}
 use Rattle.std.specs.Option.{option_to_list}
-use Rattle.pb_data.specs.Gives.{◌>>=◌}
+use Rattle.pb_data.specs.UnlessOom.{◌>>=◌}
 use Rattle.pb_manifest_types.specs.declared.profile.Profile.{Profile}
 use Rattle.pb_manifest_types.specs.declared.profile.ProfileKeys.{ProfileKeys}
 use Rattle.pb_manifest_types.specs.declared.profile.ProfileOverride.{ProfileOverride}

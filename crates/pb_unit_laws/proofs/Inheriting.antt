@@ -3,7 +3,7 @@ use Rattle.std.proofs.Common.{◌≡◌, ◌⊎◌, inl, inr, ℕ, zero, suc, �
 use Rattle.std.specs.Option.{option_map}
 use Rattle.std.specs.Str.{bytes_eq}
 use Rattle.std.proofs.lemmas.Slice.Eq.{bytes_eq-Decides}
-use Rattle.pb_data.specs.Gives.{◌>>=◌}
+use Rattle.pb_data.specs.UnlessOom.{◌>>=◌}
 use Rattle.pb_manifest_types.specs.declared.profile.Profile.{Profile}
 use Rattle.pb_profile.specs.Laws.{InheritsFrom, IsLine as SeenLine, last as seen_last, further as seen_further, IsAncestor as SeenAncestor, itself as seen_itself, higher as seen_higher, IsMissing, ComesBack}
 use Rattle.pb_profile.specs.Line.{Seen, above, custom_parent, inherited, is_either, line_of, line_within, named, parent_of, seen_at, then_above}

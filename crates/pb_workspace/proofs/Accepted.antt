@@ -2,7 +2,7 @@
 use Rattle.std.proofs.Common.{◌≡◌, ◌∙◌, ℕ, Bool, true, false, if◌then◌else◌, List, [], map, Option, Some, None, Result, Ok, Err, refl, sym, ap, subst}
 use Rattle.std.specs.List.{IsDistinct}
 use Rattle.std.specs.Str.{bytes_eq}
-use Rattle.pb_data.specs.Gives.{◌>>=◌}
+use Rattle.pb_data.specs.UnlessOom.{◌>>=◌}
 use Rattle.pb_manifest_types.specs.declared.manifest.WorkspaceTable.{WorkspaceTable}
 use Rattle.pb_manifest_types.specs.declared.profile.Profile.{Profile}
 use Rattle.pb_place_types.specs.Paths.{folder_of}
@@ -16,13 +16,13 @@ use Rattle.pb_workspace.specs.Frames.{frame_of}
 use Rattle.pb_workspace.specs.Laws.{NamesDiffer, HasTarget, HasRoot, LooksAtSources}
 use Rattle.pb_workspace.specs.Loaded.{packages_read, root_parts, unless, workspace_from, workspace_in, workspace_of}
 use Rattle.pb_workspace.specs.Places.{places_of}
-use Rattle.pb_workspace_package.specs.declared.draft.Draft.{Draft}
+use Rattle.pb_workspace_package.specs.declared.unresolved_package.UnresolvedPackage.{UnresolvedPackage}
 use Rattle.pb_workspace_types.specs.declared.fault.LoadFault.{LoadFault}
 use Rattle.pb_workspace_types.specs.declared.fault.LoadFault.TheVariants.{SameName}
-use Rattle.pb_workspace.specs.declared.frame.Frame.{Frame}
+use Rattle.pb_workspace.specs.declared.workspace_root.WorkspaceRoot.{WorkspaceRoot}
 use Rattle.pb_workspace_types.specs.declared.package.Package.{Package}
 use Rattle.pb_workspace.specs.declared.rounds.Parts.{Parts}
-use Rattle.pb_workspace.specs.declared.rounds.Reading.{Reading}
+use Rattle.pb_workspace.specs.declared.rounds.LoadState.{LoadState}
 use Rattle.pb_workspace_types.specs.declared.workspace.Workspace.{Workspace}
 
 -- what came after a step that went well
@@ -30,12 +30,12 @@ bound : {A B : Type 0} (m : Result A LoadFault) (next : A → Result B LoadFault
 bound (Ok x) next y is = (x, is)
 bound (Err e) next y is = let no : Err e ≡ Ok y = is in cc
 
-names_of_drafts : (target : List ℕ) (f : Frame) (profiles : List Profile) (drafts : List Draft) → has_same_names drafts ≡ false → IsDistinct bytes_eq (map (λ (p : Package). p.name) (assembled target f profiles drafts).packages)
+names_of_drafts : (target : List ℕ) (f : WorkspaceRoot) (profiles : List Profile) (drafts : List UnresolvedPackage) → has_same_names drafts ≡ false → IsDistinct bytes_eq (map (λ (p : Package). p.name) (assembled target f profiles drafts).packages)
 unfolding assembled
 names_of_drafts target f profiles drafts apart =
-    subst (IsDistinct bytes_eq) (sym (map_twice (λ (p : Package). p.name) (package_at (places_of drafts)) drafts)) (none_again [] (map (λ (d : Draft). d.name) drafts) apart).1
+    subst (IsDistinct bytes_eq) (sym (map_twice (λ (p : Package). p.name) (package_at (places_of drafts)) drafts)) (none_again [] (map (λ (d : UnresolvedPackage). d.name) drafts) apart).1
 
-no_fault : (drafts : List Draft) → fault_of drafts ≡ None → has_same_names drafts ≡ false
+no_fault : (drafts : List UnresolvedPackage) → fault_of drafts ≡ None → has_same_names drafts ≡ false
 unfolding fault_of
 no_fault drafts is = by _ (has_same_names drafts) refl is
   where
@@ -43,7 +43,7 @@ no_fault drafts is = by _ (has_same_names drafts) refl is
     by X true at h = let no : Some SameName ≡ None = h in cc
     by X false at h = at
 
-names_from : (target : List ℕ) (f : Frame) (profiles : List Profile) (drafts : List Draft) (ws : Workspace) → workspace_from target f profiles drafts ≡ Ok ws → IsDistinct bytes_eq (map (λ (p : Package). p.name) ws.packages)
+names_from : (target : List ℕ) (f : WorkspaceRoot) (profiles : List Profile) (drafts : List UnresolvedPackage) (ws : Workspace) → workspace_from target f profiles drafts ≡ Ok ws → IsDistinct bytes_eq (map (λ (p : Package). p.name) ws.packages)
 unfolding workspace_from
 names_from target f profiles drafts ws made = by (fault_of drafts) refl made
   where
@@ -56,11 +56,11 @@ unfolding workspace_of workspace_in
 names_apart manifest target w ws is =
     let frame = λ (parts : Parts). frame_of (folder_of manifest) manifest parts.workspace in
     let (parts, inside) = bound (root_parts (from_nothing target w) manifest) (λ (parts : Parts). workspace_in (from_nothing target w) target (frame parts) parts.profiles parts.tables parts.found) ws is in
-    let (read, made) = bound (packages_read (from_nothing target w) (frame parts) parts.tables parts.found) (λ (read : Reading). workspace_from target (frame parts) parts.profiles (values_of read.found)) ws inside in
+    let (read, made) = bound (packages_read (from_nothing target w) (frame parts) parts.tables parts.found) (λ (read : LoadState). workspace_from target (frame parts) parts.profiles (values_of read.found)) ws inside in
     names_from target (frame parts) parts.profiles (values_of read.found) ws made
 
 -- what is made of the packages has the target folder and the root
-module _ (target : List ℕ) (f : Frame) (profiles : List Profile) (drafts : List Draft) (ws : Workspace) (made : workspace_from target f profiles drafts ≡ Ok ws) where
+module _ (target : List ℕ) (f : WorkspaceRoot) (profiles : List Profile) (drafts : List UnresolvedPackage) (ws : Workspace) (made : workspace_from target f profiles drafts ≡ Ok ws) where
   made_so : assembled target f profiles drafts ≡ ws
   unfolding workspace_from
   made_so = by (fault_of drafts) made
@@ -78,11 +78,11 @@ module _ (target : List ℕ) (f : Frame) (profiles : List Profile) (drafts : Lis
   root_from = ap (λ (x : Workspace). x.root) (sym made_so)
 
 module _ (manifest target : List ℕ) (w : World) (ws : Workspace) (is : workspace_of manifest target w ≡ Ok ws) where
-  where_from : (parts : Parts) × (read : Reading) × (workspace_from target (frame_of (folder_of manifest) manifest parts.workspace) parts.profiles (values_of read.found) ≡ Ok ws)
+  where_from : (parts : Parts) × (read : LoadState) × (workspace_from target (frame_of (folder_of manifest) manifest parts.workspace) parts.profiles (values_of read.found) ≡ Ok ws)
   unfolding workspace_of workspace_in
   where_from =
       let (parts, inside) = bound (root_parts (from_nothing target w) manifest) (λ (parts : Parts). workspace_in (from_nothing target w) target (frame_of (folder_of manifest) manifest parts.workspace) parts.profiles parts.tables parts.found) ws is in
-      let (read, made) = bound (packages_read (from_nothing target w) (frame_of (folder_of manifest) manifest parts.workspace) parts.tables parts.found) (λ (read : Reading). workspace_from target (frame_of (folder_of manifest) manifest parts.workspace) parts.profiles (values_of read.found)) ws inside in
+      let (read, made) = bound (packages_read (from_nothing target w) (frame_of (folder_of manifest) manifest parts.workspace) parts.tables parts.found) (λ (read : LoadState). workspace_from target (frame_of (folder_of manifest) manifest parts.workspace) parts.profiles (values_of read.found)) ws inside in
       (parts, read, made)
 
 pub target_kept : HasTarget

@@ -4,31 +4,31 @@ use Rattle.std.specs.Prelude.{nat_le}
 use Rattle.std.specs.List.{AllByRecursion}
 use Rattle.pb_graph.specs.Closure.{Reached, start, onward}
 use Rattle.pb_graph.proofs.Membership.{none, head, tail, cases}
-use Rattle.pb_data.specs.Gives.{◌>>=◌}
-use Rattle.pb_workspace_package.specs.declared.draft.Draft.{Draft}
+use Rattle.pb_data.specs.UnlessOom.{◌>>=◌}
+use Rattle.pb_workspace_package.specs.declared.unresolved_package.UnresolvedPackage.{UnresolvedPackage}
 use Rattle.pb_workspace_types.specs.declared.fault.LoadFault.{LoadFault}
 use Rattle.pb_workspace_types.specs.declared.fault.LoadFault.TheVariants.{TooMany}
-use Rattle.pb_workspace.specs.declared.rounds.Reading.{Reading}
+use Rattle.pb_workspace.specs.declared.rounds.LoadState.{LoadState}
 use Rattle.pb_workspace.specs.ByFolder.{folders_of, has}
 use Rattle.pb_workspace.specs.Rounds.{all_read, leads_to, one_read, round, rounds, with_draft}
 use Rattle.pb_workspace_package.proofs.Puttings.{with_entry_all}
 use Rattle.pb_workspace.proofs.FoldersPut.{Path, opened, has_there, put_only, put_old, put_new, with_only, with_old, with_new}
 
 -- a folder whose package was read, that is still to be read in this round, or that is read in the next
-abbrev pub IsKnown : Reading → List Path → Path → Type 0
+abbrev pub IsKnown : LoadState → List Path → Path → Type 0
 IsKnown r queue x = Contains (folders_of r.found) x ⊎ (Contains queue x ⊎ Contains (folders_of r.ahead) x)
 
 -- `pack` is the package of a folder, and `Leads` says where it leads
-module _ (pack : Path → Result Draft LoadFault) (First : Path → Type 0) (Leads : Path → Path → Type 0)
-    (shows : (x y : Path) (d : Draft) → pack x ≡ Ok d → Leads x y ↔ Contains (leads_to d.wanted) y) where
-  pub record Sofar (r : Reading) (queue : List Path) : Type 0 where
+module _ (pack : Path → Result UnresolvedPackage LoadFault) (First : Path → Type 0) (Leads : Path → Path → Type 0)
+    (shows : (x y : Path) (d : UnresolvedPackage) → pack x ≡ Ok d → Leads x y ↔ Contains (leads_to d.wanted) y) where
+  pub record Sofar (r : LoadState) (queue : List Path) : Type 0 where
     pub sound : (x : Path) → IsKnown r queue x → Reached First Leads x
     pub seeds : (x : Path) → First x → IsKnown r queue x
     pub closed : (x y : Path) → Contains (folders_of r.found) x → Leads x y → IsKnown r queue y
     pub packs : AllByRecursion (λ e. pack e.0 ≡ Ok e.1) r.found
 
   -- one package more
-  pub with_one : (r : Reading) (folder : Path) (queue : List Path) (d : Draft) → Sofar r (folder ∷ queue) → pack folder ≡ Ok d → Sofar (with_draft r folder d) queue
+  pub with_one : (r : LoadState) (folder : Path) (queue : List Path) (d : UnresolvedPackage) → Sofar r (folder ∷ queue) → pack folder ≡ Ok d → Sofar (with_draft r folder d) queue
   with_one r folder queue d so is = record {
     sound = sound;
     seeds = λ x first. still x (so.seeds x first);
@@ -62,7 +62,7 @@ module _ (pack : Path → Result Draft LoadFault) (First : Path → Type 0) (Lea
       ]
 
   -- one that was read before
-  pub with_none : (r : Reading) (folder : Path) (queue : List Path) → Sofar r (folder ∷ queue) → has folder r.found ≡ true → Sofar r queue
+  pub with_none : (r : LoadState) (folder : Path) (queue : List Path) → Sofar r (folder ∷ queue) → has folder r.found ≡ true → Sofar r queue
   with_none r folder queue so there = record {
     sound = λ x known. so.sound x (wider x known);
     seeds = λ x first. still x (so.seeds x first);
@@ -83,8 +83,8 @@ module _ (pack : Path → Result Draft LoadFault) (First : Path → Type 0) (Lea
       ]
       still x (inr (inr ahead)) = inr (inr ahead)
 
-  module _ (read : Path → Result Draft LoadFault) (agrees : (x : Path) (d : Draft) → read x ≡ Ok d → pack x ≡ Ok d) where
-    pub one_more : (r made : Reading) (folder : Path) (queue : List Path) → Sofar r (folder ∷ queue) → one_read read r folder ≡ Ok made → Sofar made queue
+  module _ (read : Path → Result UnresolvedPackage LoadFault) (agrees : (x : Path) (d : UnresolvedPackage) → read x ≡ Ok d → pack x ≡ Ok d) where
+    pub one_more : (r made : LoadState) (folder : Path) (queue : List Path) → Sofar r (folder ∷ queue) → one_read read r folder ≡ Ok made → Sofar made queue
     one_more r made folder queue so is = by (has folder r.found) refl is
       where
         full : (b : Bool) → (if b then Err TooMany else read folder >>= (λ d. Ok (with_draft r folder d))) ≡ Ok made → Sofar made queue
@@ -98,14 +98,14 @@ module _ (pack : Path → Result Draft LoadFault) (First : Path → Type 0) (Lea
         by true at h = let same : r ≡ made = cc in subst (λ x. Sofar x queue) same (with_none r folder queue so at)
         by false at h = full (nat_le 256 (length r.found)) h
 
-    pub all_more : (folders : List Path) (r made : Reading) → Sofar r folders → all_read read r folders ≡ Ok made → Sofar made []
+    pub all_more : (folders : List Path) (r made : LoadState) → Sofar r folders → all_read read r folders ≡ Ok made → Sofar made []
     all_more [] r made so is = let same : r ≡ made = cc in subst (λ x. Sofar x []) same so
     all_more (folder ∷ folders) r made so is =
         let o = opened (one_read read r folder) (λ now. all_read read now folders) made is in
         all_more folders o.0 made (one_more r o.0 folder folders so o.1) o.2
 
     -- the next round begins
-    pub turned : (r : Reading) → Sofar r [] → Sofar (record { found = r.found; ahead = [] }) (folders_of r.ahead)
+    pub turned : (r : LoadState) → Sofar r [] → Sofar (record { found = r.found; ahead = [] }) (folders_of r.ahead)
     turned r so = record {
       sound = λ x known. so.sound x (back x known);
       seeds = λ x first. on x (so.seeds x first);
@@ -123,7 +123,7 @@ module _ (pack : Path → Result Draft LoadFault) (First : Path → Type 0) (Lea
         on x (inr (inl waits)) = absurd (none x waits)
         on x (inr (inr ahead)) = inr (inl ahead)
 
-    pub rounds_more : (n : ℕ) (r made : Reading) → Sofar r [] → rounds n read r ≡ Ok made → Sofar made []
+    pub rounds_more : (n : ℕ) (r made : LoadState) → Sofar r [] → rounds n read r ≡ Ok made → Sofar made []
     unfolding rounds
     rounds_more zero r made so is = let same : r ≡ made = cc in subst (λ x. Sofar x []) same so
     rounds_more (suc n) r made so is =
@@ -131,7 +131,7 @@ module _ (pack : Path → Result Draft LoadFault) (First : Path → Type 0) (Lea
         rounds_more n o.0 made (all_more (folders_of r.ahead) (record { found = r.found; ahead = [] }) o.0 (turned r so) o.1) o.2
 
   -- nothing is ahead
-  pub at_end : (r : Reading) → Sofar r [] → r.ahead ≡ [] → (x : Path) → Contains (folders_of r.found) x ↔ Reached First Leads x
+  pub at_end : (r : LoadState) → Sofar r [] → r.ahead ≡ [] → (x : Path) → Contains (folders_of r.found) x ↔ Reached First Leads x
   at_end r so nothing x = (λ found. so.sound x (inl found), whole x)
     where
       settled : (y : Path) → IsKnown r [] y → Contains (folders_of r.found) y

@@ -8,7 +8,7 @@ use Rattle.std.specs.Ordering.{is_eq, match_ordering}
 use Rattle.std.proofs.lemmas.List.{length-append}
 use Rattle.pb_graph.proofs.Membership.{none, cases}
 use Rattle.pb_place_types.proofs.MapLemmas.{exact}
-use Rattle.pb_workspace_package.specs.declared.draft.Draft.{Draft}
+use Rattle.pb_workspace_package.specs.declared.unresolved_package.UnresolvedPackage.{UnresolvedPackage}
 use Rattle.pb_workspace.specs.ByFolder.{folders_of, value_of}
 use Rattle.pb_workspace.specs.Places.{numbered, places_of}
 use Rattle.pb_workspace_package.specs.Sorted.{with_entry}
@@ -63,14 +63,14 @@ value_there {V} (e ∷ es) q is = elim (cases e.0 (folders_of es) q is) [
     by false rest = rest
 
 -- the place that a folder has is that of a package there
-abbrev pub ArePlaces : List Draft → List (Path × ℕ) → Type 0
-ArePlaces all places = (q : Path) (k : ℕ) → value_of q places ≡ Some k → (d : Draft) × (slice_get all k ≡ Some d) × (d.folder ≡ q)
+abbrev pub ArePlaces : List UnresolvedPackage → List (Path × ℕ) → Type 0
+ArePlaces all places = (q : Path) (k : ℕ) → value_of q places ≡ Some k → (d : UnresolvedPackage) × (slice_get all k ≡ Some d) × (d.folder ≡ q)
 
-here_in : (before : List Draft) (d : Draft) (ds : List Draft) → slice_get (before ++ d ∷ ds) (length before) ≡ Some d
+here_in : (before : List UnresolvedPackage) (d : UnresolvedPackage) (ds : List UnresolvedPackage) → slice_get (before ++ d ∷ ds) (length before) ≡ Some d
 here_in [] d ds = refl
 here_in (b ∷ before) d ds = here_in before d ds
 
-all_places : (all before ds : List Draft) (n : ℕ) (places : List (Path × ℕ)) → before ++ ds ≡ all → n ≡ length before → ArePlaces all places → ArePlaces all (numbered places n ds)
+all_places : (all before ds : List UnresolvedPackage) (n : ℕ) (places : List (Path × ℕ)) → before ++ ds ≡ all → n ≡ length before → ArePlaces all places → ArePlaces all (numbered places n ds)
 all_places all before [] n places parts long are = are
 all_places all before (d ∷ ds) n places parts long are =
     let next : n + 1 ≡ length (before ++ d ∷ []) = omega (arith, length-append before (d ∷ [])) in
@@ -82,24 +82,24 @@ all_places all before (d ∷ ds) n places parts long are =
       | inr old ↦ are q k old
     ]
 
-some_place : (ds : List Draft) (n : ℕ) (places : List (Path × ℕ)) (q : Path) → Contains (folders_of places) q ⊎ Contains (map (λ (d : Draft). d.folder) ds) q → Contains (folders_of (numbered places n ds)) q
+some_place : (ds : List UnresolvedPackage) (n : ℕ) (places : List (Path × ℕ)) (q : Path) → Contains (folders_of places) q ⊎ Contains (map (λ (d : UnresolvedPackage). d.folder) ds) q → Contains (folders_of (numbered places n ds)) q
 some_place [] n places q (inl is) = is
 some_place [] n places q (inr is) = absurd (none q is)
 some_place (d ∷ ds) n places q (inl is) = some_place ds (n + 1) (with_entry places d.folder n) q (inl (put_old places d.folder n q is))
-some_place (d ∷ ds) n places q (inr is) = elim (cases d.folder (map (λ (x : Draft). x.folder) ds) q is) [
+some_place (d ∷ ds) n places q (inr is) = elim (cases d.folder (map (λ (x : UnresolvedPackage). x.folder) ds) q is) [
   | inl here ↦ some_place ds (n + 1) (with_entry places d.folder n) q (inl (subst (Contains (folders_of (with_entry places d.folder n))) here (put_new places d.folder n)))
   | inr there ↦ some_place ds (n + 1) (with_entry places d.folder n) q (inr there)
 ]
 
 -- where a folder has a place, a package in that folder stands there
-pub places_are : (ds : List Draft) → ArePlaces ds (places_of ds)
+pub places_are : (ds : List UnresolvedPackage) → ArePlaces ds (places_of ds)
 places_are ds = all_places ds [] ds 0 [] refl refl none_yet
   where
     none_yet : ArePlaces ds []
     none_yet q k is = cc
 
 -- a folder of one of the packages has the place of a package there
-pub place_there : (ds : List Draft) (q : Path) → Contains (map (λ (d : Draft). d.folder) ds) q → (k : ℕ) × (d : Draft) × (value_of q (places_of ds) ≡ Some k) × (slice_get ds k ≡ Some d) × (d.folder ≡ q)
+pub place_there : (ds : List UnresolvedPackage) (q : Path) → Contains (map (λ (d : UnresolvedPackage). d.folder) ds) q → (k : ℕ) × (d : UnresolvedPackage) × (value_of q (places_of ds) ≡ Some k) × (slice_get ds k ≡ Some d) × (d.folder ≡ q)
 place_there ds q is =
     let v = value_there (places_of ds) q (some_place ds 0 [] q (inr is)) in
     let at = places_are ds q v.0 v.1 in

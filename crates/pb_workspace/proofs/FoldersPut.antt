@@ -5,7 +5,7 @@ use Rattle.std.specs.Map.{lookup}
 use Rattle.std.specs.Cmp.Lexicographic.{slice_cmp}
 use Rattle.std.specs.Ordering.{is_eq, nat_cmp, match_ordering}
 use Rattle.pb_graph.proofs.Membership.{none, head, tail, cases}
-use Rattle.pb_data.specs.Gives.{◌>>=◌}
+use Rattle.pb_data.specs.UnlessOom.{◌>>=◌}
 use Rattle.pb_place_types.proofs.MapLemmas.{exact}
 use Rattle.pb_workspace.specs.ByFolder.{folders_of, has, with_folders}
 use Rattle.pb_workspace_package.specs.Sorted.{with_entry}

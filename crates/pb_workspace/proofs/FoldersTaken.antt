@@ -24,7 +24,7 @@ use Rattle.pb_workspace.specs.GlobWords.{Matches}
 use Rattle.pb_workspace.specs.Globs.{is_glob, matches}
 use Rattle.pb_workspace.specs.MemberFolders.{folders_taken, has_manifest, is_fixed, is_kept, led_to, one_step}
 use Rattle.pb_workspace.specs.Members.{further, is_excluded, part_matches, parts_match, parts_meant, plain_parts, start_of}
-use Rattle.pb_workspace.specs.declared.frame.Frame.{Frame}
+use Rattle.pb_workspace.specs.declared.workspace_root.WorkspaceRoot.{WorkspaceRoot}
 use Rattle.pb_workspace.specs.declared.member.Part.{Part}
 
 -- what a filter keeps
@@ -317,13 +317,13 @@ module _ (sources : World) where
         (flat_each (one_step sources part) folders from (below from name) there (step_each part from name names (and_left _ _ match) all file)) (and_right _ _ match) all.1 file
 
 -- a folder that a glob takes
-pub record IsTaken (sources : World) (f : Frame) (parts : List Part) (folder : Path) : Type 0 where
+pub record IsTaken (sources : World) (f : WorkspaceRoot) (parts : List Part) (folder : Path) : Type 0 where
   pub path : is_path folder ≡ true
   pub file : has_file (below folder (codes "Cargo.toml")) sources ≡ true
   pub match : parts_match parts (names_in folder) ≡ true
   pub kept : is_excluded f.root f.exclude folder ≡ false
 
-module _ (sources : World) (paths : FilesHavePaths sources) (f : Frame) (text folder : List ℕ) where
+module _ (sources : World) (paths : FilesHavePaths sources) (f : WorkspaceRoot) (text folder : List ℕ) where
   pub taken_only : Contains (folders_taken sources f (parts_meant f.root text)) folder → IsTaken sources f (parts_meant f.root text) folder
   taken_only among =
       let parts = parts_meant f.root text in

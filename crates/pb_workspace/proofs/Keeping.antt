@@ -11,17 +11,17 @@ use Rattle.std.specs.BTreeMap.{is_at}
 use Rattle.std.specs.Cmp.Lexicographic.{slice_cmp}
 use Rattle.std.specs.Ordering.{nat_cmp}
 use Rattle.std.specs.Str.{bytes_eq}
-use Rattle.pb_data.specs.Mentions.{is_mentioned}
+use Rattle.pb_data.specs.OrderedSet.{is_mentioned}
 use Rattle.pb_data.proofs.MentionLemmas.{bytes_eq_comm}
 use Rattle.pb_manifest_types.specs.Letters.{is_name}
 use Rattle.pb_manifest_types.specs.declared.profile.Profile.{Profile}
-use Rattle.pb_workspace_package.specs.declared.draft.Draft.{Draft}
+use Rattle.pb_workspace_package.specs.declared.unresolved_package.UnresolvedPackage.{UnresolvedPackage}
 use Rattle.pb_workspace_types.specs.declared.fault.LoadFault.{LoadFault}
 use Rattle.pb_workspace_types.specs.declared.fault.LoadFault.TheVariants.{SameName}
-use Rattle.pb_workspace.specs.declared.frame.Frame.{Frame}
+use Rattle.pb_workspace.specs.declared.workspace_root.WorkspaceRoot.{WorkspaceRoot}
 use Rattle.pb_workspace_types.specs.declared.package.Entry.{Entry}
 use Rattle.pb_workspace_types.specs.declared.package.Package.{Package}
-use Rattle.pb_workspace.specs.declared.rounds.Reading.{Reading}
+use Rattle.pb_workspace.specs.declared.rounds.LoadState.{LoadState}
 use Rattle.pb_workspace_package.specs.declared.wanted.Wanted.{Wanted}
 use Rattle.pb_workspace_types.specs.declared.workspace.DefaultMembers.TheVariants.{Named, Unknown}
 use Rattle.pb_workspace_types.specs.declared.workspace.Workspace.{Workspace}
@@ -41,11 +41,11 @@ use Rattle.pb_workspace.proofs.Chosen.{places_below}
 use Rattle.pb_workspace_package.proofs.Puttings.{with_entry_all, with_entry_length, all_map, all_given, map_twice}
 
 -- packages that are read
-pub few_kept : (r made : Reading) (folder : List ℕ) (d : Draft) → length r.found < 256 → made ≡ with_draft r folder d → length made.found ≤ 256
-few_kept r made folder d few same = let h = with_entry_length r.found folder d in let found : made.found ≡ with_entry r.found folder d = ap (λ (x : Reading). x.found) same in subst (λ es. length es ≤ 256) (sym found) (omega arith)
+pub few_kept : (r made : LoadState) (folder : List ℕ) (d : UnresolvedPackage) → length r.found < 256 → made ≡ with_draft r folder d → length made.found ≤ 256
+few_kept r made folder d few same = let h = with_entry_length r.found folder d in let found : made.found ≡ with_entry r.found folder d = ap (λ (x : LoadState). x.found) same in subst (λ es. length es ≤ 256) (sym found) (omega arith)
 
-pub each_kept : (r made : Reading) (folder : List ℕ) (d : Draft) → AllByRecursion IsPut r.found → d.folder ≡ folder → IsDraft d → made ≡ with_draft r folder d → AllByRecursion IsPut made.found
-each_kept r made folder d all at good same = let found : made.found ≡ with_entry r.found folder d = ap (λ (x : Reading). x.found) same in subst (AllByRecursion IsPut) (sym found) (with_entry_all IsPut r.found folder d all (at, good))
+pub each_kept : (r made : LoadState) (folder : List ℕ) (d : UnresolvedPackage) → AllByRecursion IsPut r.found → d.folder ≡ folder → IsDraft d → made ≡ with_draft r folder d → AllByRecursion IsPut made.found
+each_kept r made folder d all at good same = let found : made.found ≡ with_entry r.found folder d = ap (λ (x : LoadState). x.found) same in subst (AllByRecursion IsPut) (sym found) (with_entry_all IsPut r.found folder d all (at, good))
 
 pub ruleset draft_laws = (few_kept, each_kept)
 
@@ -74,7 +74,7 @@ none_again before (name ∷ names) is = by (is_mentioned before name) refl is (n
 abbrev Below : ℕ → List ℕ × ℕ → Type 0
 Below count e = e.1 < count
 
-numbered_below : (count : ℕ) (places : List (List ℕ × ℕ)) (n : ℕ) (ds : List Draft) → AllByRecursion (Below count) places → n + length ds ≤ count → AllByRecursion (Below count) (numbered places n ds)
+numbered_below : (count : ℕ) (places : List (List ℕ × ℕ)) (n : ℕ) (ds : List UnresolvedPackage) → AllByRecursion (Below count) places → n + length ds ≤ count → AllByRecursion (Below count) (numbered places n ds)
 numbered_below count places n [] all fits = all
 numbered_below count places n (d ∷ ds) all fits = numbered_below count (with_entry places d.folder n) (n + 1) ds (with_entry_all (Below count) places d.folder n all (omega arith)) (omega arith)
 
@@ -87,7 +87,7 @@ value_below count test (e ∷ es) some all = by (test e.0) (value_below count te
     by false rest = rest
 
 -- a package of a workspace
-pub package_kept : (count : ℕ) (places : List (List ℕ × ℕ)) (d : Draft) → 0 < count → AllByRecursion (Below count) places → IsDraft d → IsPackage count (package_at places d)
+pub package_kept : (count : ℕ) (places : List (List ℕ × ℕ)) (d : UnresolvedPackage) → 0 < count → AllByRecursion (Below count) places → IsDraft d → IsPackage count (package_at places d)
 package_kept count places d some below is = record {
   name = is.0;
   crate_name = is.1;
@@ -103,12 +103,12 @@ package_kept count places d some below is = record {
     each [] = tt
     each (w ∷ ws) = (value_below count (is_at (slice_cmp nat_cmp w.folder)) places some below, each ws)
 
-abbrev draft_of_entry : List ℕ × Draft → Draft
+abbrev draft_of_entry : List ℕ × UnresolvedPackage → UnresolvedPackage
 draft_of_entry e = e.1
 
-own_folders : (es : List (List ℕ × Draft)) → AllByRecursion IsPut es → map (λ e. e.1.folder) es ≡ map (λ e. e.0) es
+own_folders : (es : List (List ℕ × UnresolvedPackage)) → AllByRecursion IsPut es → map (λ e. e.1.folder) es ≡ map (λ e. e.0) es
 own_folders [] all = refl
-own_folders (e ∷ es) all = ap (λ p. p ∷ map (λ (x : List ℕ × Draft). x.1.folder) es) all.0.0 ∙ ap (λ ps. e.0 ∷ ps) (own_folders es all.1)
+own_folders (e ∷ es) all = ap (λ p. p ∷ map (λ (x : List ℕ × UnresolvedPackage). x.1.folder) es) all.0.0 ∙ ap (λ ps. e.0 ∷ ps) (own_folders es all.1)
 
 some_there : {A : Type 0} (P : A → Type 0) (xs : List A) → (0 < length xs → AllByRecursion P xs) → AllByRecursion P xs
 some_there P [] made = tt
@@ -122,18 +122,18 @@ defaults_below root packages (Some texts) = by (list_all (is_known root packages
     by true = All-from_recursion _ _ (places_below (is_default root texts) 0 (length packages) packages (omega arith))
     by false = tt
 
-pub assembled_settled : (target : List ℕ) (f : Frame) (profiles : List Profile) (es : List (List ℕ × Draft)) → length es ≤ 256 → AllByRecursion IsPut es → IsAscending (folders_of es) → has_same_names (values_of es) ≡ false
+pub assembled_settled : (target : List ℕ) (f : WorkspaceRoot) (profiles : List Profile) (es : List (List ℕ × UnresolvedPackage)) → length es ≤ 256 → AllByRecursion IsPut es → IsAscending (folders_of es) → has_same_names (values_of es) ≡ false
     → IsSettled (assembled target f profiles (values_of es))
 unfolding assembled
 assembled_settled target f profiles es few all order names =
-    let drafts : List Draft = values_of es in
+    let drafts : List UnresolvedPackage = values_of es in
     let places = places_of drafts in
     let long : length (map (package_at places) drafts) ≡ length drafts = length-map drafts (package_at places) in
     let same : length drafts ≡ length es = length-map es draft_of_entry in
     record {
       few = omega arith;
-      folders = subst IsAscending (sym (map_twice (λ (p : Package). p.folder) (package_at places) drafts ∙ map_twice (λ (d : Draft). d.folder) draft_of_entry es ∙ own_folders es all)) order;
-      names = subst (IsDistinct bytes_eq) (sym (map_twice (λ (p : Package). p.name) (package_at places) drafts)) (none_again [] (map (λ (d : Draft). d.name) drafts) names).1;
+      folders = subst IsAscending (sym (map_twice (λ (p : Package). p.folder) (package_at places) drafts ∙ map_twice (λ (d : UnresolvedPackage). d.folder) draft_of_entry es ∙ own_folders es all)) order;
+      names = subst (IsDistinct bytes_eq) (sym (map_twice (λ (p : Package). p.name) (package_at places) drafts)) (none_again [] (map (λ (d : UnresolvedPackage). d.name) drafts) names).1;
       packages = subst (λ n. All (IsPackage n) (map (package_at places) drafts)) (sym long)
           (All-from_recursion _ _ (all_map (IsPackage (length drafts)) (package_at places) drafts
           (some_there _ drafts (λ some. all_map (λ d. IsPackage (length drafts) (package_at places d)) draft_of_entry es
@@ -143,7 +143,7 @@ assembled_settled target f profiles es few all order names =
       defaults = defaults_below f.root (map (package_at places) drafts) f.default_members;
     }
 
-no_fault : (drafts : List Draft) → fault_of drafts ≡ None → has_same_names drafts ≡ false
+no_fault : (drafts : List UnresolvedPackage) → fault_of drafts ≡ None → has_same_names drafts ≡ false
 unfolding fault_of
 no_fault drafts is = by _ (has_same_names drafts) refl is
   where
@@ -151,7 +151,7 @@ no_fault drafts is = by _ (has_same_names drafts) refl is
     by X true at h = cc
     by X false at h = at
 
-pub workspace_settled : (target : List ℕ) (f : Frame) (profiles : List Profile) (r : Reading) (ws : Workspace) → IsReading r → IsAscending (folders_of r.found)
+pub workspace_settled : (target : List ℕ) (f : WorkspaceRoot) (profiles : List Profile) (r : LoadState) (ws : Workspace) → IsReading r → IsAscending (folders_of r.found)
     → workspace_from target f profiles (values_of r.found) ≡ Ok ws → IsSettled ws
 unfolding workspace_from
 workspace_settled target f profiles r ws is order made = by (fault_of (values_of r.found)) refl made

@@ -1,13 +1,13 @@
 -- What the readings of folders, rounds and a whole workspace look at, step for step.
 use Rattle.std.proofs.Common.{◌≡◌, ◌∙◌, ◌++◌, ◌<◌, ◌≤◌, ◌+◌, ◌-◌, ℕ, suc, true, false, List, ◌∷◌, Result, Ok, Err, refl, sym, ap, subst, arith}
-use Rattle.pb_data.specs.Gives.{◌>>=◌}
+use Rattle.pb_data.specs.UnlessOom.{◌>>=◌}
 use Rattle.pb_place_types.specs.CallsInTurn.{past_calls}
 use Rattle.pb_place_types.specs.declared.call.Call.{Call}
 use Rattle.pb_place_types.specs.Counts.{Counts}
 use Rattle.pb_place_types.specs.World.{World, from_nothing}
 use Rattle.pb_workspace_types.specs.declared.fault.LoadFault.{LoadFault}
-use Rattle.pb_workspace.specs.declared.frame.Frame.{Frame}
-use Rattle.pb_workspace.specs.declared.rounds.Reading.{Reading}
+use Rattle.pb_workspace.specs.declared.workspace_root.WorkspaceRoot.{WorkspaceRoot}
+use Rattle.pb_workspace.specs.declared.rounds.LoadState.{LoadState}
 use Rattle.pb_workspace.specs.ByFolder.{folders_of}
 use Rattle.pb_workspace_package.specs.Causes.{is_failure, is_outside}
 use Rattle.pb_workspace.specs.MemberFolders.{member_folders}
@@ -27,9 +27,9 @@ pub looks_stop : {A : Type 0} (e : LoadFault) (next : World → A → List Call)
 looks_stop e next answer look w first old new one told before =
     looks_no_further e (answer w) (next w) (look w) old new (λ inside. subst (λ v. answer v ≡ Err e) one (told inside)) (subst (λ v. Ends e (look v) old new) one before)
 
-module _ (target : List ℕ) (f : Frame) (meant : List (List ℕ × Unit {0})) (w now : World) where
+module _ (target : List ℕ) (f : WorkspaceRoot) (meant : List (List ℕ × Unit {0})) (w now : World) where
   -- one folder of some
-  pub all_looks : (r next : Reading) (folder : List ℕ) (rest items : List (List ℕ)) (result : Result Reading LoadFault) (old mid new : Counts) → items ≡ folder ∷ rest → now ≡ w
+  pub all_looks : (r next : LoadState) (folder : List ℕ) (rest items : List (List ℕ)) (result : Result LoadState LoadFault) (old mid new : Counts) → items ≡ folder ∷ rest → now ≡ w
       → one_read (draft_at (from_nothing target now) f meant) r folder ≡ Ok next → mid ≡ past_calls (one_looked (folder_looked target (from_nothing target now) f) r folder) old
       → Looks result (all_looked (draft_at (from_nothing target w) f meant) (folder_looked target (from_nothing target w) f) next rest) mid new
       → Looks result (all_looked (draft_at (from_nothing target w) f meant) (folder_looked target (from_nothing target w) f) r items) old new
@@ -37,7 +37,7 @@ module _ (target : List ℕ) (f : Frame) (meant : List (List ℕ × Unit {0})) (
       subst (λ xs. Looks result (all_looked (draft_at (from_nothing target w) f meant) (folder_looked target (from_nothing target w) f) r xs) old new) (sym cut)
       (looks_step result (λ v n. all_looked (draft_at (from_nothing target w) f meant) (folder_looked target (from_nothing target w) f) n rest) (λ v. one_read (draft_at (from_nothing target v) f meant) r folder) (λ v. one_looked (folder_looked target (from_nothing target v) f) r folder) next w now w old mid new same refl is before more)
 
-  pub all_stop : (r : Reading) (folder : List ℕ) (rest items : List (List ℕ)) (e : LoadFault) (old new : Counts) → items ≡ folder ∷ rest → now ≡ w
+  pub all_stop : (r : LoadState) (folder : List ℕ) (rest items : List (List ℕ)) (e : LoadFault) (old new : Counts) → items ≡ folder ∷ rest → now ≡ w
       → (is_outside e ≡ false → one_read (draft_at (from_nothing target now) f meant) r folder ≡ Err e) → Ends e (one_looked (folder_looked target (from_nothing target now) f) r folder) old new
       → Ends e (all_looked (draft_at (from_nothing target w) f meant) (folder_looked target (from_nothing target w) f) r items) old new
   all_stop r folder rest items e old new cut same told before =
@@ -45,7 +45,7 @@ module _ (target : List ℕ) (f : Frame) (meant : List (List ℕ × Unit {0})) (
       (looks_stop e (λ v n. all_looked (draft_at (from_nothing target w) f meant) (folder_looked target (from_nothing target w) f) n rest) (λ v. one_read (draft_at (from_nothing target v) f meant) r folder) (λ v. one_looked (folder_looked target (from_nothing target v) f) r folder) w now old new same told before)
 
   -- one round of those that are left
-  pub round_looks : (count done : ℕ) (r next : Reading) (result : Result Reading LoadFault) (old mid new : Counts) → done < count → now ≡ w
+  pub round_looks : (count done : ℕ) (r next : LoadState) (result : Result LoadState LoadFault) (old mid new : Counts) → done < count → now ≡ w
       → round (draft_at (from_nothing target now) f meant) r ≡ Ok next → mid ≡ past_calls (round_looked (draft_at (from_nothing target now) f meant) (folder_looked target (from_nothing target now) f) r) old
       → Looks result (rounds_looked (count - (done + 1)) (draft_at (from_nothing target w) f meant) (folder_looked target (from_nothing target w) f) next) mid new
       → Looks result (rounds_looked (count - done) (draft_at (from_nothing target w) f meant) (folder_looked target (from_nothing target w) f) r) old new
@@ -55,7 +55,7 @@ module _ (target : List ℕ) (f : Frame) (meant : List (List ℕ × Unit {0})) (
       subst (λ n. Looks result (rounds_looked n (draft_at (from_nothing target w) f meant) (folder_looked target (from_nothing target w) f) r) old new) (sym left)
       (looks_step result (λ v n. rounds_looked (count - (done + 1)) (draft_at (from_nothing target w) f meant) (folder_looked target (from_nothing target w) f) n) (λ v. round (draft_at (from_nothing target v) f meant) r) (λ v. round_looked (draft_at (from_nothing target v) f meant) (folder_looked target (from_nothing target v) f) r) next w now w old mid new same refl is before more)
 
-  pub round_stop : (count done : ℕ) (r : Reading) (e : LoadFault) (old new : Counts) → done < count → now ≡ w
+  pub round_stop : (count done : ℕ) (r : LoadState) (e : LoadFault) (old new : Counts) → done < count → now ≡ w
       → (is_outside e ≡ false → round (draft_at (from_nothing target now) f meant) r ≡ Err e) → Ends e (round_looked (draft_at (from_nothing target now) f meant) (folder_looked target (from_nothing target now) f) r) old new
       → Ends e (rounds_looked (count - done) (draft_at (from_nothing target w) f meant) (folder_looked target (from_nothing target w) f) r) old new
   unfolding rounds_looked
@@ -65,34 +65,34 @@ module _ (target : List ℕ) (f : Frame) (meant : List (List ℕ × Unit {0})) (
       (looks_stop e (λ v n. rounds_looked (count - (done + 1)) (draft_at (from_nothing target w) f meant) (folder_looked target (from_nothing target w) f) n) (λ v. round (draft_at (from_nothing target v) f meant) r) (λ v. round_looked (draft_at (from_nothing target v) f meant) (folder_looked target (from_nothing target v) f) r) w now old new same told before)
 
   -- no round is left
-  pub rounds_end : (count done : ℕ) (r : Reading) (c : Counts) → count ≤ done → Looks {T = Reading} (Ok r) (rounds_looked (count - done) (draft_at (from_nothing target w) f meant) (folder_looked target (from_nothing target w) f) r) c c
+  pub rounds_end : (count done : ℕ) (r : LoadState) (c : Counts) → count ≤ done → Looks {T = LoadState} (Ok r) (rounds_looked (count - done) (draft_at (from_nothing target w) f meant) (folder_looked target (from_nothing target w) f) r) c c
   unfolding rounds_looked
   rounds_end count done r c end =
       let none : count - done ≡ 0 = omega arith in
-      subst (λ n. Looks {T = Reading} (Ok r) (rounds_looked n (draft_at (from_nothing target w) f meant) (folder_looked target (from_nothing target w) f) r) c c) (sym none) refl
+      subst (λ n. Looks {T = LoadState} (Ok r) (rounds_looked n (draft_at (from_nothing target w) f meant) (folder_looked target (from_nothing target w) f) r) c c) (sym none) refl
 
   -- what is left to be read comes to the same
-  pub all_gives : (r next : Reading) (folder : List ℕ) (rest items : List (List ℕ)) (whole : Result Reading LoadFault) → items ≡ folder ∷ rest → now ≡ w
+  pub all_gives : (r next : LoadState) (folder : List ℕ) (rest items : List (List ℕ)) (whole : Result LoadState LoadFault) → items ≡ folder ∷ rest → now ≡ w
       → one_read (draft_at (from_nothing target now) f meant) r folder ≡ Ok next → all_read (draft_at (from_nothing target w) f meant) r items ≡ whole → all_read (draft_at (from_nothing target w) f meant) next rest ≡ whole
   all_gives r next folder rest items whole cut same is before =
       let here : one_read (draft_at (from_nothing target w) f meant) r folder ≡ Ok next = subst (λ v. one_read (draft_at (from_nothing target v) f meant) r folder ≡ Ok next) same is in
       sym (ap (λ x. x >>= (λ n. all_read (draft_at (from_nothing target w) f meant) n rest)) here) ∙ sym (ap (all_read (draft_at (from_nothing target w) f meant) r) cut) ∙ before
 
 -- the members, what is read of them, and the rounds
-module _ (target : List ℕ) (f : Frame) (begun : Reading) (w : World) where
+module _ (target : List ℕ) (f : WorkspaceRoot) (begun : LoadState) (w : World) where
   abbrev Members : Type 0
   Members = List (List ℕ × Unit {0})
 
-  abbrev all_of : World → Members → Result Reading LoadFault
+  abbrev all_of : World → Members → Result LoadState LoadFault
   all_of v meant = all_read (draft_at (from_nothing target v) f meant) begun (folders_of meant)
 
   abbrev all_at : World → Members → List Call
   all_at v meant = all_looked (draft_at (from_nothing target v) f meant) (folder_looked target (from_nothing target v) f) begun (folders_of meant)
 
-  abbrev rounds_at : World → Members → Reading → List Call
+  abbrev rounds_at : World → Members → LoadState → List Call
   rounds_at v meant read = rounds_looked 257 (draft_at (from_nothing target v) f meant) (folder_looked target (from_nothing target v) f) read
 
-  pub others_looks : (meant : Members) (folders : List (List ℕ)) (one two : World) (read : Reading) (result : Result Reading LoadFault) (old first mid new : Counts)
+  pub others_looks : (meant : Members) (folders : List (List ℕ)) (one two : World) (read : LoadState) (result : Result LoadState LoadFault) (old first mid new : Counts)
       → meant ≡ member_folders (from_nothing target w) f → folders ≡ folders_of meant → one ≡ w → two ≡ w → first ≡ past_calls (members_looked target (from_nothing target w) f) old
       → all_read (draft_at (from_nothing target one) f meant) begun folders ≡ Ok read
       → mid ≡ past_calls (all_looked (draft_at (from_nothing target one) f meant) (folder_looked target (from_nothing target one) f) begun folders) first

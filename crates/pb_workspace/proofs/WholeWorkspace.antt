@@ -6,21 +6,21 @@ use Rattle.std.proofs.lemmas.Slice.Eq.{bytes_eq-Decides}
 use Rattle.std.proofs.lemmas.List.Elements.{Contains-append_left, Contains-append_right, Contains-append_cases}
 use Rattle.pb_graph.specs.Closure.{start, onward}
 use Rattle.pb_graph.proofs.Membership.{none, head, tail, cases}
-use Rattle.pb_data.specs.Gives.{◌>>=◌}
+use Rattle.pb_data.specs.UnlessOom.{◌>>=◌}
 use Rattle.pb_manifest_types.specs.declared.package.Package.{Package as WrittenPackage}
 use Rattle.pb_place_types.specs.Paths.{below, folder_of, is_path, last_part}
 use Rattle.pb_place_types.specs.World.{World, from_nothing}
 use Rattle.pb_place_types.proofs.TakenApart.{ends_with_last_part}
-use Rattle.pb_workspace_package.specs.declared.draft.Draft.{Draft}
-use Rattle.pb_workspace_package.specs.declared.draft.Tables.{Tables}
+use Rattle.pb_workspace_package.specs.declared.unresolved_package.UnresolvedPackage.{UnresolvedPackage}
+use Rattle.pb_workspace_package.specs.declared.unresolved_package.Tables.{Tables}
 use Rattle.pb_workspace_types.specs.declared.fault.LoadFault.{LoadFault}
 use Rattle.pb_workspace_types.specs.declared.fault.LoadFault.TheVariants.{NoManifest}
-use Rattle.pb_workspace.specs.declared.frame.Frame.{Frame}
+use Rattle.pb_workspace.specs.declared.workspace_root.WorkspaceRoot.{WorkspaceRoot}
 use Rattle.pb_workspace_types.specs.declared.package.Package.{Package}
 use Rattle.pb_workspace.specs.declared.rounds.Parts.{Parts}
-use Rattle.pb_workspace.specs.declared.rounds.Reading.{Reading}
+use Rattle.pb_workspace.specs.declared.rounds.LoadState.{LoadState}
 use Rattle.pb_workspace_package.specs.declared.settling.Given.{Given}
-use Rattle.pb_workspace_package.specs.declared.wanted.Standing.{Standing}
+use Rattle.pb_workspace_package.specs.declared.wanted.PackageLocation.{PackageLocation}
 use Rattle.pb_workspace_package.specs.declared.wanted.Wanted.{Wanted}
 use Rattle.pb_workspace_types.specs.declared.workspace.Workspace.{Workspace}
 use Rattle.pb_workspace.specs.Assembled.{assembled, package_at, packages_of}
@@ -70,24 +70,24 @@ map_each f (w ∷ xs) x is = elim (cases w xs x is) [
 ]
 
 -- members
-pub members_only : (sources : World) (f : Frame) (folder : Path) → Contains (folders_of (member_folders sources f)) folder → (text : Path) × Contains f.members text × Contains (folders_meant sources f text) folder
+pub members_only : (sources : World) (f : WorkspaceRoot) (folder : Path) → Contains (folders_of (member_folders sources f)) folder → (text : Path) × Contains f.members text × Contains (folders_meant sources f text) folder
 members_only sources f folder is = elim (with_only [] (flat_map (folders_meant sources f) f.members) folder is) [
   | inl old ↦ absurd (none folder old)
   | inr new ↦ flat_only (folders_meant sources f) f.members folder new
 ]
 
-pub members_each : (sources : World) (f : Frame) (text folder : Path) → Contains f.members text → Contains (folders_meant sources f text) folder → Contains (folders_of (member_folders sources f)) folder
+pub members_each : (sources : World) (f : WorkspaceRoot) (text folder : Path) → Contains f.members text → Contains (folders_meant sources f text) folder → Contains (folders_of (member_folders sources f)) folder
 members_each sources f text folder written means = with_new [] (flat_map (folders_meant sources f) f.members) folder (flat_each (folders_meant sources f) f.members text folder written means)
 
 -- the package of a folder stands there
-pub stands_there : (sources : World) (at : Standing) (b : Bool) (given : Given) (p : WrittenPackage) (t : Tables) (d : Draft) → draft_of sources at b given p t ≡ Ok d → d.folder ≡ at.folder
+pub stands_there : (sources : World) (at : PackageLocation) (b : Bool) (given : Given) (p : WrittenPackage) (t : Tables) (d : UnresolvedPackage) → draft_of sources at b given p t ≡ Ok d → d.folder ≡ at.folder
 unfolding draft_of draft_with
 stands_there sources at b given p t d is =
     let keys = opened (keys_of sources at given.package p) (λ k. draft_with sources at b given t k) d is in
     let lists = opened (lists_of at given t.dependencies t.build_dependencies t.features t.binaries) _ d keys.2 in
     cc (lists.2)
 
-pub in_file_there : (sources : World) (f : Frame) (b : Bool) (at : Standing) (d : Draft) → draft_in_file sources f b at ≡ Ok d → d.folder ≡ at.folder
+pub in_file_there : (sources : World) (f : WorkspaceRoot) (b : Bool) (at : PackageLocation) (d : UnresolvedPackage) → draft_in_file sources f b at ≡ Ok d → d.folder ≡ at.folder
 unfolding draft_in_file draft_if
 in_file_there sources f b at d is = let o = opened (parts_at sources at.manifest) (λ parts. draft_if sources f b at parts.tables parts.found) d is in by o.0.found o.0.tables o.2
   where
@@ -96,7 +96,7 @@ in_file_there sources f b at d is = let o = opened (parts_at sources at.manifest
     by (Some p) t h = stands_there sources at b (given_to f b) p t d h
 
 -- what is read of a folder is its package
-pub reads_package : (sources : World) (f : Frame) (folder : Path) (d : Draft) → draft_at sources f (member_folders sources f) folder ≡ Ok d → package_in sources f folder ≡ Ok d
+pub reads_package : (sources : World) (f : WorkspaceRoot) (folder : Path) (d : UnresolvedPackage) → draft_at sources f (member_folders sources f) folder ≡ Ok d → package_in sources f folder ≡ Ok d
 unfolding draft_at
 reads_package sources f folder d is = by (bytes_eq folder f.root) is
   where
@@ -109,7 +109,7 @@ or_on true b on = refl
 or_on false b on = cc
 
 -- and the root package is that of the root folder
-pub root_package : (sources : World) (f : Frame) (parts : Parts) (p : WrittenPackage) (d : Draft) → f.manifest ≡ below f.root (codes "Cargo.toml") → parts_at sources f.manifest ≡ Ok parts → parts.found ≡ Some p
+pub root_package : (sources : World) (f : WorkspaceRoot) (parts : Parts) (p : WrittenPackage) (d : UnresolvedPackage) → f.manifest ≡ below f.root (codes "Cargo.toml") → parts_at sources f.manifest ≡ Ok parts → parts.found ≡ Some p
     → draft_of sources (at_root f) true f.given p parts.tables ≡ Ok d → package_in sources f f.root ≡ Ok d
 unfolding draft_in_file draft_if
 root_package sources f parts p d at read found is =
@@ -120,17 +120,17 @@ root_package sources f parts p d at read found is =
     ∙ ap (λ r. r >>= (λ ps. draft_if sources f true (at_root f) ps.tables ps.found)) read ∙ ap (λ o. draft_if sources f true (at_root f) parts.tables o) found ∙ is
 
 -- where a package leads
-pub shows : (sources : World) (f : Frame) (x y : Path) (d : Draft) → package_in sources f x ≡ Ok d → LeadsTo sources f x y ↔ Contains (leads_to d.wanted) y
+pub shows : (sources : World) (f : WorkspaceRoot) (x y : Path) (d : UnresolvedPackage) → package_in sources f x ≡ Ok d → LeadsTo sources f x y ↔ Contains (leads_to d.wanted) y
 shows sources f x y d is = (there, back)
   where
     there : LeadsTo sources f x y → Contains (leads_to d.wanted) y
-    there l = let same : l.owner ≡ d = cc (sym l.package_at ∙ is) in subst (λ z. Contains (leads_to d.wanted) z) l.leads (map_each (λ (w : Wanted). w.folder) d.wanted l.entry (subst (λ (o : Draft). Contains o.wanted l.entry) same l.is_there))
+    there l = let same : l.owner ≡ d = cc (sym l.package_at ∙ is) in subst (λ z. Contains (leads_to d.wanted) z) l.leads (map_each (λ (w : Wanted). w.folder) d.wanted l.entry (subst (λ (o : UnresolvedPackage). Contains o.wanted l.entry) same l.is_there))
 
     back : Contains (leads_to d.wanted) y → LeadsTo sources f x y
     back has_it = let m = map_only (λ (w : Wanted). w.folder) d.wanted y has_it in record { owner = d; entry = m.0; package_at = is; is_there = m.1; leads = m.2 }
 
-module _ (sources : World) (f : Frame) (parts : Parts) (at : f.manifest ≡ below f.root (codes "Cargo.toml")) (read : parts_at sources f.manifest ≡ Ok parts) where
-  abbrev pub So : Reading → List Path → Type 0
+module _ (sources : World) (f : WorkspaceRoot) (parts : Parts) (at : f.manifest ≡ below f.root (codes "Cargo.toml")) (read : parts_at sources f.manifest ≡ Ok parts) where
+  abbrev pub So : LoadState → List Path → Type 0
   So = Sofar (package_in sources f) (IsRootOrMember sources f parts.found) (LeadsTo sources f) (shows sources f)
 
   abbrev In : Path → Type 0
@@ -158,7 +158,7 @@ module _ (sources : World) (f : Frame) (parts : Parts) (at : f.manifest ≡ belo
       seed _ (member text x written means) = members_each sources f text x written means
 
   -- after it, what it leads to is read later
-  pub one_begun : (p : WrittenPackage) (d : Draft) → parts.found ≡ Some p → package_in sources f f.root ≡ Ok d → So (with_draft nothing_read f.root d) (folders_of (member_folders sources f))
+  pub one_begun : (p : WrittenPackage) (d : UnresolvedPackage) → parts.found ≡ Some p → package_in sources f f.root ≡ Ok d → So (with_draft nothing_read f.root d) (folders_of (member_folders sources f))
   one_begun p d some is = record {
     sound = sound;
     seeds = seed;
@@ -187,7 +187,7 @@ module _ (sources : World) (f : Frame) (parts : Parts) (at : f.manifest ≡ belo
         | inr there ↦ absurd (none x there)
       ]
 
-  pub begun : (r : Reading) → root_read sources f parts.tables parts.found ≡ Ok r → So r (folders_of (member_folders sources f)) × (length r.found ≤ 256)
+  pub begun : (r : LoadState) → root_read sources f parts.tables parts.found ≡ Ok r → So r (folders_of (member_folders sources f)) × (length r.found ≤ 256)
   unfolding root_read
   begun r is = by parts.found refl is
     where
@@ -199,7 +199,7 @@ module _ (sources : World) (f : Frame) (parts : Parts) (at : f.manifest ≡ belo
           subst (λ x. So x (folders_of (member_folders sources f)) × (length x.found ≤ 256)) same (one_begun p o.0 some (root_package sources f parts p o.0 at read some o.1), omega arith)
 
   -- all packages
-  pub all_found : (r : Reading) → packages_read sources f parts.tables parts.found ≡ Ok r → ((x : Path) → Contains (folders_of r.found) x ↔ In x) × AllByRecursion (λ e. package_in sources f e.0 ≡ Ok e.1) r.found
+  pub all_found : (r : LoadState) → packages_read sources f parts.tables parts.found ≡ Ok r → ((x : Path) → Contains (folders_of r.found) x ↔ In x) × AllByRecursion (λ e. package_in sources f e.0 ≡ Ok e.1) r.found
   unfolding packages_read others_read
   all_found r is =
       let o = opened (root_read sources f parts.tables parts.found) (λ begun. others_read sources f begun) r is in
@@ -234,8 +234,8 @@ manifest_there sources manifest parts path is = by (is_manifest manifest) refl i
     by false named h = cc
 
 -- what was read of a package
-pub record IsOfItsFolder (sources : World) (f : Frame) (p : Package) : Type 0 where
-  pub owner : Draft
+pub record IsOfItsFolder (sources : World) (f : WorkspaceRoot) (p : Package) : Type 0 where
+  pub owner : UnresolvedPackage
   pub places : List (List ℕ × ℕ)
   pub read : package_in sources f p.folder ≡ Ok owner
   pub same : p ≡ package_at places owner
@@ -244,19 +244,19 @@ all_at : {A : Type 0} (P : A → Type 0) (xs : List A) (x : A) → AllByRecursio
 all_at P [] x all is = absurd (none x is)
 all_at P (w ∷ xs) x all is = elim (cases w xs x is) [ inl here ↦ subst P here all.0 | inr there ↦ all_at P xs x all.1 there ]
 
-module _ (sources : World) (f : Frame) where
-  package_there : (folder : Path) (d : Draft) → package_in sources f folder ≡ Ok d → d.folder ≡ folder
+module _ (sources : World) (f : WorkspaceRoot) where
+  package_there : (folder : Path) (d : UnresolvedPackage) → package_in sources f folder ≡ Ok d → d.folder ≡ folder
   package_there folder d is = in_file_there sources f (is_member f (member_folders sources f) folder) (standing_in f folder) d is
 
-  pub own_folders : (es : List (Path × Draft)) → AllByRecursion (λ e. package_in sources f e.0 ≡ Ok e.1) es → map (λ (d : Draft). d.folder) (values_of es) ≡ folders_of es
+  pub own_folders : (es : List (Path × UnresolvedPackage)) → AllByRecursion (λ e. package_in sources f e.0 ≡ Ok e.1) es → map (λ (d : UnresolvedPackage). d.folder) (values_of es) ≡ folders_of es
   own_folders [] all = refl
-  own_folders (e ∷ es) all = ap (λ p. p ∷ map (λ (d : Draft). d.folder) (values_of es)) (package_there e.0 e.1 all.0) ∙ ap (λ ps. e.0 ∷ ps) (own_folders es all.1)
+  own_folders (e ∷ es) all = ap (λ p. p ∷ map (λ (d : UnresolvedPackage). d.folder) (values_of es)) (package_there e.0 e.1 all.0) ∙ ap (λ ps. e.0 ∷ ps) (own_folders es all.1)
 
-  pub each_theirs : (es : List (Path × Draft)) (places : List (Path × ℕ)) (p : Package) → AllByRecursion (λ e. package_in sources f e.0 ≡ Ok e.1) es → Contains (map (package_at places) (values_of es)) p
-      → (d : Draft) × (package_in sources f p.folder ≡ Ok d) × (p ≡ package_at places d)
+  pub each_theirs : (es : List (Path × UnresolvedPackage)) (places : List (Path × ℕ)) (p : Package) → AllByRecursion (λ e. package_in sources f e.0 ≡ Ok e.1) es → Contains (map (package_at places) (values_of es)) p
+      → (d : UnresolvedPackage) × (package_in sources f p.folder ≡ Ok d) × (p ≡ package_at places d)
   each_theirs es places p all is =
       let m = map_only (package_at places) (values_of es) p is in
-      let v = map_only (λ (e : Path × Draft). e.1) es m.0 m.1 in
+      let v = map_only (λ (e : Path × UnresolvedPackage). e.1) es m.0 m.1 in
       let whole : package_in sources f v.0.0 ≡ Ok v.0.1 = all_at (λ e. package_in sources f e.0 ≡ Ok e.1) es v.0 all v.1 in
       let own : package_in sources f v.0.0 ≡ Ok m.0 = whole ∙ ap (λ d. Ok d) v.2 in
       let there : m.0.folder ≡ v.0.0 = package_there v.0.0 m.0 own in
@@ -267,22 +267,22 @@ module _ (manifest target : Path) (w : World) (parts : Parts) (ws : Workspace) (
   abbrev sources : World
   sources = from_nothing target w
 
-  abbrev f : Frame
+  abbrev f : WorkspaceRoot
   f = frame_at manifest parts
 
   -- what was read of it
-  record IsMadeOf (r : Reading) : Type 0 where
+  record IsMadeOf (r : LoadState) : Type 0 where
     packages : packages_read sources f parts.tables parts.found ≡ Ok r
     whole : ws.packages ≡ packages_of (values_of r.found)
 
-  made_of : (r : Reading) × IsMadeOf r
+  made_of : (r : LoadState) × IsMadeOf r
   unfolding workspace_of workspace_in workspace_from assembled
   made_of =
       let here : workspace_in sources target f parts.profiles parts.tables parts.found ≡ Ok ws = sym (ap (λ x. x >>= (λ ps. workspace_in sources target (frame_of (folder_of manifest) manifest ps.workspace) ps.profiles ps.tables ps.found)) read) ∙ made in
       let o = opened (packages_read sources f parts.tables parts.found) (λ r. workspace_from target f parts.profiles (values_of r.found)) ws here in
       (o.0, record { packages = o.1; whole = by (fault_of (values_of o.0.found)) (values_of o.0.found) o.2 })
     where
-      by : (o : Option LoadFault) (ds : List Draft) → unless o (assembled target (frame_of (folder_of manifest) manifest parts.workspace) parts.profiles ds) ≡ Ok ws → ws.packages ≡ packages_of ds
+      by : (o : Option LoadFault) (ds : List UnresolvedPackage) → unless o (assembled target (frame_of (folder_of manifest) manifest parts.workspace) parts.profiles ds) ≡ Ok ws → ws.packages ≡ packages_of ds
       by None ds h = let same : assembled target (frame_of (folder_of manifest) manifest parts.workspace) parts.profiles ds ≡ ws = cc in ap (λ (x : Workspace). x.packages) (sym same)
       by (Some fault) ds h = cc
 
@@ -296,7 +296,7 @@ module _ (manifest target : Path) (w : World) (parts : Parts) (ws : Workspace) (
   least folder =
       let m = made_of in
       let all = all_found sources f parts stands there m.0 m.1.packages in
-      let drafts : List Draft = values_of m.0.found in
+      let drafts : List UnresolvedPackage = values_of m.0.found in
       let same : map (λ (p : Package). p.folder) ws.packages ≡ folders_of m.0.found = ap (map (λ (p : Package). p.folder)) m.1.whole ∙ map_twice (λ (p : Package). p.folder) (package_at (places_of drafts)) drafts ∙ own_folders sources f m.0.found all.1 in
       (λ is. (all.0 folder).0 (subst (λ xs. Contains xs folder) same is), λ is. subst (λ xs. Contains xs folder) (sym same) ((all.0 folder).1 is))
 

@@ -2,8 +2,8 @@
 use Rattle.std.specs.Prelude.{ℕ, Bool, ◌&&◌, ◌||◌, if◌then◌else◌, List, map, Option, Some, None, unwrap_or}
 use Rattle.std.specs.List.{list_all, list_any}
 use Rattle.pb_manifest_types.specs.declared.profile.Profile.{Profile}
-use Rattle.pb_workspace_package.specs.declared.draft.Draft.{Draft}
-use Rattle.pb_workspace.specs.declared.frame.Frame.{Frame}
+use Rattle.pb_workspace_package.specs.declared.unresolved_package.UnresolvedPackage.{UnresolvedPackage}
+use Rattle.pb_workspace.specs.declared.workspace_root.WorkspaceRoot.{WorkspaceRoot}
 use Rattle.pb_workspace_types.specs.declared.package.Entry.{Entry}
 use Rattle.pb_workspace_types.specs.declared.package.Package.{Package}
 use Rattle.pb_workspace_package.specs.declared.wanted.Wanted.{Wanted}
@@ -29,7 +29,7 @@ entry_at places w = record {
 }
 
 -- a package whose entries have the indices of the packages to which they lead
-abbrev pub package_at : List (List ℕ × ℕ) → Draft → Package
+abbrev pub package_at : List (List ℕ × ℕ) → UnresolvedPackage → Package
 package_at places d = record {
   name = d.name;
   version = d.version;
@@ -47,7 +47,7 @@ package_at places d = record {
   development = d.development;
 }
 
-abbrev pub packages_of : List Draft → List Package
+abbrev pub packages_of : List UnresolvedPackage → List Package
 packages_of drafts = map (package_at (places_of drafts)) drafts
 
 -- the package is a member that this text means
@@ -69,7 +69,7 @@ default_members_of root packages (Some texts) =
     if list_all (is_known root packages) texts then Named (places_where (is_default root texts) packages) else Unknown
 
 -- the workspace of these packages
-unfoldable pub assembled : List ℕ → Frame → List Profile → List Draft → Workspace
+unfoldable pub assembled : List ℕ → WorkspaceRoot → List Profile → List UnresolvedPackage → Workspace
 assembled target f profiles drafts = record {
   root = f.root;
   target = target;

@@ -3,7 +3,7 @@ use Rattle.std.specs.Prelude.{ℕ, Bool, true, not, is_some, ◌&&◌, if◌then
 use Rattle.std.specs.List.{filter_map, list_any}
 use Rattle.std.specs.Str.{bytes_eq}
 use Rattle.pb_manifest_types.specs.Versions.{matches}
-use Rattle.pb_workspace_package.specs.declared.draft.Draft.{Draft}
+use Rattle.pb_workspace_package.specs.declared.unresolved_package.UnresolvedPackage.{UnresolvedPackage}
 use Rattle.pb_workspace_types.specs.declared.fault.LoadFault.{LoadFault}
 use Rattle.pb_workspace_types.specs.declared.fault.LoadFault.TheVariants.{SameName, NameMismatch, VersionMismatch, LinksTwice, LinksWithoutScript, SameBinary}
 use Rattle.pb_workspace_package.specs.declared.wanted.Wanted.{Wanted}
@@ -11,11 +11,11 @@ use Rattle.pb_workspace.specs.Places.{draft_in}
 use Rattle.pb_workspace_package.specs.Settling.{comes_again}
 
 -- two packages have the same name
-abbrev pub has_same_names : List Draft → Bool
-has_same_names drafts = comes_again [] (map (λ (d : Draft). d.name) drafts)
+abbrev pub has_same_names : List UnresolvedPackage → Bool
+has_same_names drafts = comes_again [] (map (λ (d : UnresolvedPackage). d.name) drafts)
 
 -- the package that was found has a different name than the entry requests
-abbrev pub has_other_name : Wanted → Option Draft → Bool
+abbrev pub has_other_name : Wanted → Option UnresolvedPackage → Bool
 has_other_name w None = true
 has_other_name w (Some d) = not (bytes_eq w.name d.name)
 
@@ -24,28 +24,28 @@ matches_if None version = true
 matches_if (Some requirement) version = matches requirement version
 
 -- the version of the package does not match what the entry requests
-abbrev pub has_other_version : Wanted → Option Draft → Bool
+abbrev pub has_other_version : Wanted → Option UnresolvedPackage → Bool
 has_other_version w None = true
 has_other_version w (Some d) = not (matches_if w.version d.version)
 
 -- an entry of some package leads to a package for which the test is true
-abbrev pub some_leads : (Wanted → Option Draft → Bool) → List Draft → Bool
-some_leads test drafts = list_any (λ (d : Draft). list_any (λ (w : Wanted). test w (draft_in drafts w.folder)) d.wanted) drafts
+abbrev pub some_leads : (Wanted → Option UnresolvedPackage → Bool) → List UnresolvedPackage → Bool
+some_leads test drafts = list_any (λ (d : UnresolvedPackage). list_any (λ (w : Wanted). test w (draft_in drafts w.folder)) d.wanted) drafts
 
 -- two packages link the same native library
-abbrev pub links_twice : List Draft → Bool
-links_twice drafts = comes_again [] (filter_map (λ (d : Draft). d.links) drafts)
+abbrev pub links_twice : List UnresolvedPackage → Bool
+links_twice drafts = comes_again [] (filter_map (λ (d : UnresolvedPackage). d.links) drafts)
 
 -- the package links a native library but has no build script
-abbrev pub links_without_script : Draft → Bool
+abbrev pub links_without_script : UnresolvedPackage → Bool
 links_without_script d = is_some d.links && not (is_some d.script)
 
 -- the first of these faults that some package has
-unfoldable pub fault_of : List Draft → Option LoadFault
+unfoldable pub fault_of : List UnresolvedPackage → Option LoadFault
 fault_of drafts =
     if has_same_names drafts then Some SameName
     else (if some_leads has_other_name drafts then Some NameMismatch
     else (if some_leads has_other_version drafts then Some VersionMismatch
     else (if links_twice drafts then Some LinksTwice
     else (if list_any links_without_script drafts then Some LinksWithoutScript
-    else (if list_any (λ (d : Draft). d.has_same_binaries) drafts then Some SameBinary else None)))))
+    else (if list_any (λ (d : UnresolvedPackage). d.has_same_binaries) drafts then Some SameBinary else None)))))

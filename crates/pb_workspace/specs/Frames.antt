@@ -4,7 +4,7 @@ use Rattle.std.specs.Str.{bytes_eq}
 use Rattle.pb_place_types.specs.Paths.{is_at_or_below}
 use Rattle.pb_manifest_types.specs.declared.manifest.WorkspacePackage.{WorkspacePackage}
 use Rattle.pb_manifest_types.specs.declared.manifest.WorkspaceTable.{WorkspaceTable}
-use Rattle.pb_workspace.specs.declared.frame.Frame.{Frame}
+use Rattle.pb_workspace.specs.declared.workspace_root.WorkspaceRoot.{WorkspaceRoot}
 use Rattle.pb_workspace_package.specs.declared.settling.Given.{Given}
 use Rattle.pb_workspace.specs.ByFolder.{has}
 use Rattle.pb_workspace.specs.Members.{is_excluded}
@@ -22,15 +22,15 @@ keys_or_none None = no_keys
 keys_or_none (Some keys) = keys
 
 -- the workspace of a root manifest; without `[workspace]` it is the root package only
-abbrev pub frame_of : List ℕ → List ℕ → Option WorkspaceTable → Frame
+abbrev pub frame_of : List ℕ → List ℕ → Option WorkspaceTable → WorkspaceRoot
 frame_of root manifest None = record { root = root; manifest = manifest; is_workspace = false; members = []; exclude = []; default_members = None; given = nothing }
 frame_of root manifest (Some w) = record { root = root; manifest = manifest; is_workspace = true; members = w.members; exclude = w.exclude; default_members = w.default_members; given = record { «package» = keys_or_none w.package; dependencies = w.dependencies } }
 
 -- A member is the root package or, in a workspace, a folder that `members` means.
 -- A folder inside the root folder is also a member of the workspace, unless `exclude` lists it.
-abbrev pub is_member : Frame → List (List ℕ × Unit {0}) → List ℕ → Bool
+abbrev pub is_member : WorkspaceRoot → List (List ℕ × Unit {0}) → List ℕ → Bool
 is_member f meant folder = bytes_eq folder f.root || (f.is_workspace && (has folder meant || (is_at_or_below f.root folder && not (is_excluded f.root f.exclude folder))))
 
 -- only members inherit from their workspace
-abbrev pub given_to : Frame → Bool → Given
+abbrev pub given_to : WorkspaceRoot → Bool → Given
 given_to f member = if member then f.given else nothing

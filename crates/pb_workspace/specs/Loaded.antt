@@ -1,18 +1,18 @@
 -- The workspace of a manifest (The Cargo Book, Workspaces).
 use Rattle.std.specs.Prelude.{ℕ, true, if◌then◌else◌, List, [], Option, Some, None, Result, Ok, Err}
-use Rattle.pb_data.specs.Gives.{◌>>=◌}
+use Rattle.pb_data.specs.UnlessOom.{◌>>=◌}
 use Rattle.pb_place_types.specs.Paths.{folder_of}
 use Rattle.pb_place_types.specs.World.{World, from_nothing}
 use Rattle.pb_manifest_types.specs.declared.package.Package.{Package}
 use Rattle.pb_manifest_types.specs.declared.profile.Profile.{Profile}
-use Rattle.pb_workspace_package.specs.declared.draft.Draft.{Draft}
-use Rattle.pb_workspace_package.specs.declared.draft.Tables.{Tables}
+use Rattle.pb_workspace_package.specs.declared.unresolved_package.UnresolvedPackage.{UnresolvedPackage}
+use Rattle.pb_workspace_package.specs.declared.unresolved_package.Tables.{Tables}
 use Rattle.pb_workspace_types.specs.declared.fault.LoadFault.{LoadFault}
 use Rattle.pb_workspace_types.specs.declared.fault.LoadFault.TheVariants.{NoManifest}
-use Rattle.pb_workspace.specs.declared.frame.Frame.{Frame}
+use Rattle.pb_workspace.specs.declared.workspace_root.WorkspaceRoot.{WorkspaceRoot}
 use Rattle.pb_workspace.specs.declared.rounds.Parts.{Parts}
-use Rattle.pb_workspace.specs.declared.rounds.Reading.{Reading}
-use Rattle.pb_workspace_package.specs.declared.wanted.Standing.{Standing}
+use Rattle.pb_workspace.specs.declared.rounds.LoadState.{LoadState}
+use Rattle.pb_workspace_package.specs.declared.wanted.PackageLocation.{PackageLocation}
 use Rattle.pb_workspace_types.specs.declared.workspace.Workspace.{Workspace}
 use Rattle.pb_workspace.specs.Assembled.{assembled}
 use Rattle.pb_workspace.specs.ByFolder.{folders_of, values_of}
@@ -26,24 +26,24 @@ use Rattle.pb_workspace.specs.Rounds.{all_read, draft_at, parts_at, rounds, with
 abbrev pub root_parts : World → List ℕ → Result Parts LoadFault
 root_parts sources path = if is_manifest path then parts_at sources path else Err (NoManifest path)
 
-abbrev pub at_root : Frame → Standing
+abbrev pub at_root : WorkspaceRoot → PackageLocation
 at_root f = record { root = f.root; folder = f.root; manifest = f.manifest }
 
-abbrev pub nothing_read : Reading
+abbrev pub nothing_read : LoadState
 nothing_read = record { found = []; ahead = [] }
 
 -- the root package, which is a member, is read first if there is one
-unfoldable pub root_read : World → Frame → Tables → Option Package → Result Reading LoadFault
+unfoldable pub root_read : World → WorkspaceRoot → Tables → Option Package → Result LoadState LoadFault
 root_read sources f tables None = Ok nothing_read
 root_read sources f tables (Some p) = draft_of sources (at_root f) true f.given p tables >>= (λ d. Ok (with_draft nothing_read f.root d))
 
 -- then the members are read, and then, round by round, the packages to which path dependencies lead
-unfoldable pub others_read : World → Frame → Reading → Result Reading LoadFault
+unfoldable pub others_read : World → WorkspaceRoot → LoadState → Result LoadState LoadFault
 others_read sources f begun =
     all_read (draft_at sources f (member_folders sources f)) begun (folders_of (member_folders sources f)) >>= (λ read.
     rounds 257 (draft_at sources f (member_folders sources f)) read)
 
-unfoldable pub packages_read : World → Frame → Tables → Option Package → Result Reading LoadFault
+unfoldable pub packages_read : World → WorkspaceRoot → Tables → Option Package → Result LoadState LoadFault
 packages_read sources f tables p = root_read sources f tables p >>= (λ begun. others_read sources f begun)
 
 -- finally the packages are checked together
@@ -51,11 +51,11 @@ abbrev pub unless : Option LoadFault → Workspace → Result Workspace LoadFaul
 unless None ws = Ok ws
 unless (Some fault) ws = Err fault
 
-unfoldable pub workspace_from : List ℕ → Frame → List Profile → List Draft → Result Workspace LoadFault
+unfoldable pub workspace_from : List ℕ → WorkspaceRoot → List Profile → List UnresolvedPackage → Result Workspace LoadFault
 workspace_from target f profiles drafts = unless (fault_of drafts) (assembled target f profiles drafts)
 
 -- the workspace of a frame and its root package, if there is one
-unfoldable pub workspace_in : World → List ℕ → Frame → List Profile → Tables → Option Package → Result Workspace LoadFault
+unfoldable pub workspace_in : World → List ℕ → WorkspaceRoot → List Profile → Tables → Option Package → Result Workspace LoadFault
 workspace_in sources target f profiles tables p = packages_read sources f tables p >>= (λ read. workspace_from target f profiles (values_of read.found))
 
 -- the workspace of a manifest, which depends only on the sources: files at or below the target folder are ignored

@@ -10,12 +10,12 @@ use Rattle.pb_place_types.specs.Paths.{below, folder_of}
 use Rattle.pb_place_types.specs.World.{World, from_nothing}
 use Rattle.pb_manifest_types.specs.declared.package.Package.{Package}
 use Rattle.pb_workspace_types.specs.declared.fault.LoadFault.{LoadFault}
-use Rattle.pb_workspace_package.specs.declared.draft.Draft.{Draft}
-use Rattle.pb_workspace_package.specs.declared.draft.Tables.{Tables}
-use Rattle.pb_workspace.specs.declared.frame.Frame.{Frame}
+use Rattle.pb_workspace_package.specs.declared.unresolved_package.UnresolvedPackage.{UnresolvedPackage}
+use Rattle.pb_workspace_package.specs.declared.unresolved_package.Tables.{Tables}
+use Rattle.pb_workspace.specs.declared.workspace_root.WorkspaceRoot.{WorkspaceRoot}
 use Rattle.pb_workspace.specs.declared.member.Part.{Part}
-use Rattle.pb_workspace.specs.declared.rounds.Reading.{Reading}
-use Rattle.pb_workspace_package.specs.declared.wanted.Standing.{Standing}
+use Rattle.pb_workspace.specs.declared.rounds.LoadState.{LoadState}
+use Rattle.pb_workspace_package.specs.declared.wanted.PackageLocation.{PackageLocation}
 use Rattle.pb_workspace.specs.ByFolder.{folders_of, has}
 use Rattle.pb_workspace.specs.Frames.{frame_of}
 use Rattle.pb_workspace.specs.Globs.{is_glob}
@@ -31,25 +31,25 @@ package_looked target folder None = []
 package_looked target folder (Some p) = listings_at target folder
 
 -- a manifest is read, and then its folder is looked at
-unfoldable pub file_looked : List ℕ → World → Standing → List Call
+unfoldable pub file_looked : List ℕ → World → PackageLocation → List Call
 file_looked target sources at = looked target (call.Read at.manifest) ++ after (parts_at sources at.manifest) (λ parts. package_looked target at.folder parts.found)
 
 -- the same for a folder, except the root's, whose manifest has been read
-unfoldable pub folder_looked : List ℕ → World → Frame → List ℕ → List Call
+unfoldable pub folder_looked : List ℕ → World → WorkspaceRoot → List ℕ → List Call
 folder_looked target sources f folder = if bytes_eq folder f.root then [] else file_looked target sources (standing_in f folder)
 
 -- no folder is looked at twice, and no more than 256 are
-abbrev pub one_looked : (List ℕ → List Call) → Reading → List ℕ → List Call
+abbrev pub one_looked : (List ℕ → List Call) → LoadState → List ℕ → List Call
 one_looked look r folder = if has folder r.found then [] else (if nat_le 256 (length r.found) then [] else look folder)
 
-abbrev pub all_looked : (List ℕ → Result Draft LoadFault) → (List ℕ → List Call) → Reading → List (List ℕ) → List Call
+abbrev pub all_looked : (List ℕ → Result UnresolvedPackage LoadFault) → (List ℕ → List Call) → LoadState → List (List ℕ) → List Call
 all_looked read look r [] = []
 all_looked read look r (folder ∷ folders) = one_looked look r folder ++ after (one_read read r folder) (λ now. all_looked read look now folders)
 
-abbrev pub round_looked : (List ℕ → Result Draft LoadFault) → (List ℕ → List Call) → Reading → List Call
+abbrev pub round_looked : (List ℕ → Result UnresolvedPackage LoadFault) → (List ℕ → List Call) → LoadState → List Call
 round_looked read look r = all_looked read look (record { found = r.found; ahead = [] }) (folders_of r.ahead)
 
-unfoldable pub rounds_looked : ℕ → (List ℕ → Result Draft LoadFault) → (List ℕ → List Call) → Reading → List Call
+unfoldable pub rounds_looked : ℕ → (List ℕ → Result UnresolvedPackage LoadFault) → (List ℕ → List Call) → LoadState → List Call
 rounds_looked zero read look r = []
 rounds_looked (suc n) read look r = round_looked read look r ++ after (round read r) (λ now. rounds_looked n read look now)
 
@@ -67,26 +67,26 @@ abbrev pub manifest_looked : List ℕ → List ℕ → List Call
 manifest_looked target folder = looked target (call.IsFile (below folder (codes "Cargo.toml")))
 
 -- a glob is walked, and then the place is asked for a manifest in each folder that `exclude` does not list
-abbrev pub glob_looked : List ℕ → World → Frame → List Part → List Call
+abbrev pub glob_looked : List ℕ → World → WorkspaceRoot → List Part → List Call
 glob_looked target sources f parts = walk_looked target sources parts (codes "/" ∷ []) ++ flat_map (manifest_looked target) (folders_kept sources f parts)
 
 -- no call is made for a folder that is written out
-abbrev pub text_looked : List ℕ → World → Frame → List ℕ → List Call
+abbrev pub text_looked : List ℕ → World → WorkspaceRoot → List ℕ → List Call
 text_looked target sources f text = if is_glob text then glob_looked target sources f (parts_meant f.root text) else []
 
 -- the calls of the texts of `members` in turn
-abbrev pub members_looked : List ℕ → World → Frame → List Call
+abbrev pub members_looked : List ℕ → World → WorkspaceRoot → List Call
 members_looked target sources f = flat_map (text_looked target sources f) f.members
 
 -- the calls for the members, and then for the packages to which path dependencies lead
-unfoldable pub others_looked : List ℕ → World → Frame → Reading → List Call
+unfoldable pub others_looked : List ℕ → World → WorkspaceRoot → LoadState → List Call
 others_looked target sources f begun =
     members_looked target sources f
     ++ (all_looked (draft_at sources f (member_folders sources f)) (folder_looked target sources f) begun (folders_of (member_folders sources f))
     ++ after (all_read (draft_at sources f (member_folders sources f)) begun (folders_of (member_folders sources f))) (λ read. rounds_looked 257 (draft_at sources f (member_folders sources f)) (folder_looked target sources f) read))
 
 -- the calls for all packages, first those for the root package if there is one
-unfoldable pub packages_looked : List ℕ → World → Frame → Tables → Option Package → List Call
+unfoldable pub packages_looked : List ℕ → World → WorkspaceRoot → Tables → Option Package → List Call
 packages_looked target sources f tables p = package_looked target f.root p ++ after (root_read sources f tables p) (λ begun. others_looked target sources f begun)
 
 abbrev pub root_looked : List ℕ → List ℕ → List Call

@@ -5,7 +5,7 @@ use Rattle.std.specs.List.{flat_map}
 use Rattle.std.specs.Str.{bytes_eq}
 use Rattle.pb_place_types.specs.Paths.{below, last_part}
 use Rattle.pb_place_types.specs.World.{World, listed_folders}
-use Rattle.pb_workspace.specs.declared.frame.Frame.{Frame}
+use Rattle.pb_workspace.specs.declared.workspace_root.WorkspaceRoot.{WorkspaceRoot}
 use Rattle.pb_workspace.specs.declared.member.Part.{Part}
 use Rattle.pb_workspace.specs.ByFolder.{with_folders}
 use Rattle.pb_workspace.specs.Globs.{is_glob, matches}
@@ -32,11 +32,11 @@ led_to sources [] folders = folders
 led_to sources (part ∷ parts) folders = led_to sources parts (flat_map (one_step sources part) folders)
 
 -- `exclude` does not list the folder
-abbrev pub is_kept : Frame → List ℕ → Bool
+abbrev pub is_kept : WorkspaceRoot → List ℕ → Bool
 is_kept f folder = not (is_excluded f.root f.exclude folder)
 
 -- the folders to which a glob leads from `/`, without those that `exclude` lists
-abbrev pub folders_kept : World → Frame → List Part → List (List ℕ)
+abbrev pub folders_kept : World → WorkspaceRoot → List Part → List (List ℕ)
 folders_kept sources f parts = filter (is_kept f) (led_to sources parts (codes "/" ∷ []))
 
 -- the folder has a file `Cargo.toml` among the sources
@@ -44,13 +44,13 @@ abbrev pub has_manifest : World → List ℕ → Bool
 has_manifest sources folder = has_own_file folder sources (codes "Cargo.toml")
 
 -- the folders to which a glob leads that have a manifest
-abbrev pub folders_taken : World → Frame → List Part → List (List ℕ)
+abbrev pub folders_taken : World → WorkspaceRoot → List Part → List (List ℕ)
 folders_taken sources f parts = filter (has_manifest sources) (folders_kept sources f parts)
 
 -- a glob means the folders that it leads to; a written folder is meant even if it does not exist, and is never excluded
-abbrev pub folders_meant : World → Frame → List ℕ → List (List ℕ)
+abbrev pub folders_meant : World → WorkspaceRoot → List ℕ → List (List ℕ)
 folders_meant sources f text = if is_glob text then folders_taken sources f (parts_meant f.root text) else resolved f.root text ∷ []
 
 -- the folders of all texts, in byte order without repeats
-abbrev pub member_folders : World → Frame → List (List ℕ × Unit {0})
+abbrev pub member_folders : World → WorkspaceRoot → List (List ℕ × Unit {0})
 member_folders sources f = with_folders [] (flat_map (folders_meant sources f) f.members)

@@ -8,41 +8,41 @@ use Rattle.pb_place_types.specs.Paths.{folder_of}
 use Rattle.pb_place_types.specs.World.{World}
 use Rattle.pb_manifest_types.specs.declared.package.Package.{Package as WrittenPackage}
 use Rattle.pb_graph.specs.Closure.{Reached}
-use Rattle.pb_workspace_package.specs.declared.draft.Draft.{Draft}
+use Rattle.pb_workspace_package.specs.declared.unresolved_package.UnresolvedPackage.{UnresolvedPackage}
 use Rattle.pb_workspace_types.specs.declared.fault.LoadFault.{LoadFault}
-use Rattle.pb_workspace.specs.declared.frame.Frame.{Frame}
+use Rattle.pb_workspace.specs.declared.workspace_root.WorkspaceRoot.{WorkspaceRoot}
 use Rattle.pb_workspace.specs.declared.rounds.Parts.{Parts}
-use Rattle.pb_workspace.specs.declared.rounds.Reading.{Reading}
+use Rattle.pb_workspace.specs.declared.rounds.LoadState.{LoadState}
 use Rattle.pb_workspace_package.specs.declared.wanted.Wanted.{Wanted}
 use Rattle.pb_workspace.specs.Frames.{frame_of, is_member}
 use Rattle.pb_workspace.specs.MemberFolders.{folders_meant, member_folders}
 use Rattle.pb_workspace.specs.Rounds.{draft_in_file, rounds, standing_in}
 
 -- the package of a folder, read from the manifest in it
-abbrev pub package_in : World → Frame → List ℕ → Result Draft LoadFault
+abbrev pub package_in : World → WorkspaceRoot → List ℕ → Result UnresolvedPackage LoadFault
 package_in sources f folder = draft_in_file sources f (is_member f (member_folders sources f) folder) (standing_in f folder)
 
 -- an entry of the package in one folder leads to another folder
-pub record LeadsTo (sources : World) (f : Frame) (from to : List ℕ) : Type 0 where
-  pub owner : Draft
+pub record LeadsTo (sources : World) (f : WorkspaceRoot) (from to : List ℕ) : Type 0 where
+  pub owner : UnresolvedPackage
   pub entry : Wanted
   pub package_at : package_in sources f from ≡ Ok owner
   pub is_there : Contains owner.wanted entry
   pub leads : entry.folder ≡ to
 
 -- a folder is the root package's, if there is one, or is meant by a text of `members`
-pub data IsRootOrMember (sources : World) (f : Frame) (found : Option WrittenPackage) : List ℕ → Type 0 where
+pub data IsRootOrMember (sources : World) (f : WorkspaceRoot) (found : Option WrittenPackage) : List ℕ → Type 0 where
   root : (p : WrittenPackage) (is : found ≡ Some p) → IsRootOrMember sources f found f.root
   member : (text folder : List ℕ) (written : Contains f.members text) (means : Contains (folders_meant sources f text) folder) → IsRootOrMember sources f found folder
 
 -- the least set that contains these folders and all to which entries lead from it
-abbrev pub IsPackageFolder : World → Frame → Option WrittenPackage → List ℕ → Type 0
+abbrev pub IsPackageFolder : World → WorkspaceRoot → Option WrittenPackage → List ℕ → Type 0
 IsPackageFolder sources f found = Reached (IsRootOrMember sources f found) (LeadsTo sources f)
 
 -- the frame of the workspace with this root manifest
-abbrev pub frame_at : List ℕ → Parts → Frame
+abbrev pub frame_at : List ℕ → Parts → WorkspaceRoot
 frame_at manifest parts = frame_of (folder_of manifest) manifest parts.workspace
 
 -- 257 rounds are enough, since at most 256 packages are read: more rounds read nothing more and find no other fault
 abbrev pub FuelIsEnough : Type 0
-FuelIsEnough = (read : List ℕ → Result Draft LoadFault) (r : Reading) (more : ℕ) → length r.found ≤ 256 → rounds (257 + more) read r ≡ rounds 257 read r
+FuelIsEnough = (read : List ℕ → Result UnresolvedPackage LoadFault) (r : LoadState) (more : ℕ) → length r.found ≤ 256 → rounds (257 + more) read r ≡ rounds 257 read r

@@ -1,25 +1,25 @@
 -- Packages by the indices of their folders.
 use Rattle.std.specs.Prelude.{ℕ, ◌+◌, List, [], ◌∷◌, slice_get, Option, Some, None}
-use Rattle.pb_workspace_package.specs.declared.draft.Draft.{Draft}
+use Rattle.pb_workspace_package.specs.declared.unresolved_package.UnresolvedPackage.{UnresolvedPackage}
 use Rattle.pb_workspace.specs.ByFolder.{value_of}
 use Rattle.pb_workspace_package.specs.Sorted.{with_entry}
 
 -- each folder with its index, if the first has the given index
-abbrev pub numbered : List (List ℕ × ℕ) → ℕ → List Draft → List (List ℕ × ℕ)
+abbrev pub numbered : List (List ℕ × ℕ) → ℕ → List UnresolvedPackage → List (List ℕ × ℕ)
 numbered places n [] = places
 numbered places n (d ∷ ds) = numbered (with_entry places d.folder n) (n + 1) ds
 
-abbrev pub places_of : List Draft → List (List ℕ × ℕ)
+abbrev pub places_of : List UnresolvedPackage → List (List ℕ × ℕ)
 places_of drafts = numbered [] 0 drafts
 
 -- the index of the package of a folder
-abbrev pub place_of : List Draft → List ℕ → Option ℕ
+abbrev pub place_of : List UnresolvedPackage → List ℕ → Option ℕ
 place_of drafts folder = value_of folder (places_of drafts)
 
-abbrev pub at_place : List Draft → Option ℕ → Option Draft
+abbrev pub at_place : List UnresolvedPackage → Option ℕ → Option UnresolvedPackage
 at_place drafts None = None
 at_place drafts (Some n) = slice_get drafts n
 
 -- the package of a folder
-abbrev pub draft_in : List Draft → List ℕ → Option Draft
+abbrev pub draft_in : List UnresolvedPackage → List ℕ → Option UnresolvedPackage
 draft_in drafts folder = at_place drafts (place_of drafts folder)

@@ -7,9 +7,9 @@ use Rattle.pb_manifest_types.specs.Letters.{is_name}
 use Rattle.pb_manifest_types.specs.declared.dependency.WorkspaceDependency.{WorkspaceDependency}
 use Rattle.pb_manifest_types.specs.declared.manifest.WorkspaceTable.{WorkspaceTable}
 use Rattle.pb_manifest_types.specs.declared.package.Package.{Package}
-use Rattle.pb_workspace_package.specs.declared.draft.Draft.{Draft}
-use Rattle.pb_workspace_package.specs.declared.draft.Tables.{Tables}
-use Rattle.pb_workspace.specs.declared.rounds.Reading.{Reading}
+use Rattle.pb_workspace_package.specs.declared.unresolved_package.UnresolvedPackage.{UnresolvedPackage}
+use Rattle.pb_workspace_package.specs.declared.unresolved_package.Tables.{Tables}
+use Rattle.pb_workspace.specs.declared.rounds.LoadState.{LoadState}
 use Rattle.pb_workspace_types.specs.Settled.{IsAscending}
 use Rattle.pb_workspace_package.specs.Drafted.{ArePromised, IsDraft}
 
@@ -24,8 +24,8 @@ pub record AreRead (tables : Tables) (found : Option Package) : Type 0 where
   pub promised : ArePromised tables
 
 -- a package is stored under its own folder
-abbrev pub IsPut : List ℕ × Draft → Type 0
+abbrev pub IsPut : List ℕ × UnresolvedPackage → Type 0
 IsPut e = (e.1.folder ≡ e.0) × IsDraft e.1
 
-abbrev pub IsReading : Reading → Type 0
+abbrev pub IsReading : LoadState → Type 0
 IsReading r = (length r.found ≤ 256) × AllByRecursion IsPut r.found

@@ -4,7 +4,7 @@
 use Rattle.std.specs.Prelude.{ℕ, zero, suc, Bool, nat_le, if◌then◌else◌, codes, List, [], ◌∷◌, length, map, Option, Some, None, Result, Ok, Err}
 use Rattle.std.specs.FinMap as finite
 use Rattle.std.specs.Str.{bytes_eq}
-use Rattle.pb_data.specs.Gives.{◌>>=◌, lifted}
+use Rattle.pb_data.specs.UnlessOom.{◌>>=◌, lifted}
 use Rattle.pb_place_types.specs.Paths.{below}
 use Rattle.pb_place_types.specs.World.{World}
 use Rattle.pb_manifest.specs.Document.{manifest_of}
@@ -12,14 +12,14 @@ use Rattle.pb_manifest_types.specs.declared.fault.ManifestFault.TheVariants.{Bad
 use Rattle.pb_manifest_types.specs.declared.key.Key.TheVariants as key
 use Rattle.pb_manifest_types.specs.declared.manifest.Manifest.{Manifest as ManifestRead}
 use Rattle.pb_manifest_types.specs.declared.package.Package.{Package}
-use Rattle.pb_workspace_package.specs.declared.draft.Draft.{Draft}
-use Rattle.pb_workspace_package.specs.declared.draft.Tables.{Tables}
+use Rattle.pb_workspace_package.specs.declared.unresolved_package.UnresolvedPackage.{UnresolvedPackage}
+use Rattle.pb_workspace_package.specs.declared.unresolved_package.Tables.{Tables}
 use Rattle.pb_workspace_types.specs.declared.fault.LoadFault.{LoadFault}
 use Rattle.pb_workspace_types.specs.declared.fault.LoadFault.TheVariants.{NoManifest, Manifest, TooMany}
-use Rattle.pb_workspace.specs.declared.frame.Frame.{Frame}
+use Rattle.pb_workspace.specs.declared.workspace_root.WorkspaceRoot.{WorkspaceRoot}
 use Rattle.pb_workspace.specs.declared.rounds.Parts.{Parts}
-use Rattle.pb_workspace.specs.declared.rounds.Reading.{Reading}
-use Rattle.pb_workspace_package.specs.declared.wanted.Standing.{Standing}
+use Rattle.pb_workspace.specs.declared.rounds.LoadState.{LoadState}
+use Rattle.pb_workspace_package.specs.declared.wanted.PackageLocation.{PackageLocation}
 use Rattle.pb_workspace_package.specs.declared.wanted.Wanted.{Wanted}
 use Rattle.pb_workspace.specs.ByFolder.{folders_of, has, with_folders}
 use Rattle.pb_workspace_package.specs.Drafts.{draft_of}
@@ -48,19 +48,19 @@ abbrev pub no_package : List ℕ → LoadFault
 no_package manifest = Manifest manifest (BadKind key.Package)
 
 -- the package of a manifest that was read, if it has one
-unfoldable pub draft_if : World → Frame → Bool → Standing → Tables → Option Package → Result Draft LoadFault
+unfoldable pub draft_if : World → WorkspaceRoot → Bool → PackageLocation → Tables → Option Package → Result UnresolvedPackage LoadFault
 draft_if sources f member at tables None = Err (no_package at.manifest)
 draft_if sources f member at tables (Some p) = draft_of sources at member (given_to f member) p tables
 
-abbrev pub standing_in : Frame → List ℕ → Standing
+abbrev pub standing_in : WorkspaceRoot → List ℕ → PackageLocation
 standing_in f folder = record { root = f.root; folder = folder; manifest = below folder (codes "Cargo.toml") }
 
 -- the package of the manifest at this location
-unfoldable pub draft_in_file : World → Frame → Bool → Standing → Result Draft LoadFault
+unfoldable pub draft_in_file : World → WorkspaceRoot → Bool → PackageLocation → Result UnresolvedPackage LoadFault
 draft_in_file sources f member at = parts_at sources at.manifest >>= (λ parts. draft_if sources f member at parts.tables parts.found)
 
 -- the package of a folder; the root's manifest is not read again, since its package was read first if it has one
-unfoldable pub draft_at : World → Frame → List (List ℕ × Unit {0}) → List ℕ → Result Draft LoadFault
+unfoldable pub draft_at : World → WorkspaceRoot → List (List ℕ × Unit {0}) → List ℕ → Result UnresolvedPackage LoadFault
 draft_at sources f meant folder =
     if bytes_eq folder f.root then Err (no_package f.manifest)
     else draft_in_file sources f (is_member f meant folder) (standing_in f folder)
@@ -70,26 +70,26 @@ abbrev pub leads_to : List Wanted → List (List ℕ)
 leads_to wanted = map (λ (w : Wanted). w.folder) wanted
 
 -- the reading with one more package; the folders to which its entries lead are read in the next round
-abbrev pub with_draft : Reading → List ℕ → Draft → Reading
+abbrev pub with_draft : LoadState → List ℕ → UnresolvedPackage → LoadState
 with_draft r folder d = record { found = with_entry r.found folder d; ahead = with_folders r.ahead (leads_to d.wanted) }
 
 -- the reading after one folder: a folder that was read is skipped, and no more than 256 are read
-abbrev pub one_read : (List ℕ → Result Draft LoadFault) → Reading → List ℕ → Result Reading LoadFault
+abbrev pub one_read : (List ℕ → Result UnresolvedPackage LoadFault) → LoadState → List ℕ → Result LoadState LoadFault
 one_read read r folder =
     if has folder r.found then Ok r
     else (if nat_le 256 (length r.found) then Err TooMany else read folder >>= (λ d. Ok (with_draft r folder d)))
 
 -- the reading after these folders in turn, up to the first fault
-abbrev pub all_read : (List ℕ → Result Draft LoadFault) → Reading → List (List ℕ) → Result Reading LoadFault
+abbrev pub all_read : (List ℕ → Result UnresolvedPackage LoadFault) → LoadState → List (List ℕ) → Result LoadState LoadFault
 all_read read r [] = Ok r
 all_read read r (folder ∷ folders) = one_read read r folder >>= (λ now. all_read read now folders)
 
 -- one round reads the folders to which the packages of the last round lead, in byte order
-abbrev pub round : (List ℕ → Result Draft LoadFault) → Reading → Result Reading LoadFault
+abbrev pub round : (List ℕ → Result UnresolvedPackage LoadFault) → LoadState → Result LoadState LoadFault
 round read r = all_read read (record { found = r.found; ahead = [] }) (folders_of r.ahead)
 
 -- The reading after n rounds.
 -- A round that reads nothing leaves nothing ahead, so 257 rounds are enough for 256 packages: see `PackageFolders`.
-unfoldable pub rounds : ℕ → (List ℕ → Result Draft LoadFault) → Reading → Result Reading LoadFault
+unfoldable pub rounds : ℕ → (List ℕ → Result UnresolvedPackage LoadFault) → LoadState → Result LoadState LoadFault
 rounds zero read r = Ok r
 rounds (suc n) read r = round read r >>= (λ now. rounds n read now)

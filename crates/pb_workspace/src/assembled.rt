@@ -10,14 +10,14 @@ ghost use Rattle.pb_workspace.specs.Places.{places_of};
 ghost use Rattle.pb_workspace.specs.Selected.{places_where};
 
 use crate::by_folder::ByFolder;
-use crate::frame::Frame;
 use crate::glob::is_glob;
 use crate::member::{is_meant, parts_meant};
+use crate::workspace_root::WorkspaceRoot;
 use pb_data::{Items, TryCopy};
-use pb_workspace_package::{Draft, Wanted, WantedByKey};
 use pb_manifest_types::{Profile, WrittenPath};
-use pb_workspace_types::{DefaultMembers, EntriesByKey, Entry, Package, Workspace};
 use pb_place_types::PathText;
+use pb_workspace_package::{UnresolvedPackage, Wanted, WantedByKey};
+use pb_workspace_types::{DefaultMembers, EntriesByKey, Entry, Package, Workspace};
 use std::alloc::{AllocError, Global};
 
 /// Returns the index of the package of a folder.
@@ -76,10 +76,14 @@ fn entries_in_order(
 }
 
 /// Returns a package whose entries have the indices of the packages to which they lead.
-fn package_at(alloc: Global, places: &ByFolder<usize>, draft: Draft) -> Result<Package, AllocError>
+fn package_at(
+    alloc: Global,
+    places: &ByFolder<usize>,
+    draft: UnresolvedPackage,
+) -> Result<Package, AllocError>
     ensures { IfOk result (λ made. made ≡ package_at places.now draft) }
 {
-    let Draft {
+    let UnresolvedPackage {
         folder,
         manifest,
         is_member,
@@ -118,7 +122,7 @@ fn package_at(alloc: Global, places: &ByFolder<usize>, draft: Draft) -> Result<P
 fn packages_of(
     alloc: Global,
     places: &ByFolder<usize>,
-    drafts: Items<Draft>,
+    drafts: Items<UnresolvedPackage>,
 ) -> Result<Items<Package>, AllocError>
     ensures { IfOk result (λ made. made ≡ map (package_at places.now) drafts) }
 {
@@ -240,9 +244,9 @@ fn default_members_of(
 /// Returns the packages of these drafts, and their default members.
 fn members_of(
     alloc: Global,
-    frame: &Frame,
+    frame: &WorkspaceRoot,
     places: &ByFolder<usize>,
-    drafts: Items<Draft>,
+    drafts: Items<UnresolvedPackage>,
 ) -> Result<(Items<Package>, DefaultMembers), AllocError>
     requires { places.now ≡ places_of drafts }
     ensures packages { IfOk result (λ made. made.0 ≡ packages_of drafts) }
@@ -275,10 +279,10 @@ fn both(alloc: Global, one: &PathText, other: &PathText) -> Result<(PathText, Pa
 pub fn assembled(
     alloc: Global,
     target: &PathText,
-    frame: &Frame,
+    frame: &WorkspaceRoot,
     profiles: Items<Profile>,
     places: &ByFolder<usize>,
-    drafts: Items<Draft>,
+    drafts: Items<UnresolvedPackage>,
 ) -> Result<Workspace, AllocError>
     requires { places.now ≡ places_of drafts }
     ensures { IfOk result (λ made. made ≡ assembled target.now frame.now profiles drafts) }

@@ -3,7 +3,7 @@
 ghost use Rattle.std.specs.Prelude.{◌≡◌, IfOk, IfSome, false, map};
 ghost use Rattle.std.specs.List.{filter_map, list_any};
 ghost use Rattle.pb_workspace_package.specs.Causes.{is_failure};
-ghost use Rattle.pb_workspace_package.specs.declared.draft.Draft.{Draft};
+ghost use Rattle.pb_workspace_package.specs.declared.unresolved_package.UnresolvedPackage.{UnresolvedPackage};
 ghost use Rattle.pb_workspace.specs.Checks.{has_same_names, has_other_name, matches_if, has_other_version, some_leads, links_twice, links_without_script, fault_of};
 ghost use Rattle.pb_workspace.specs.Places.{places_of, draft_in};
 ghost use Rattle.pb_workspace_package.specs.Settling.{comes_again};
@@ -11,20 +11,20 @@ ghost use Rattle.pb_workspace_package.specs.declared.wanted.Wanted.{Wanted};
 
 use crate::by_folder::ByFolder;
 use crate::places::draft_in;
-use pb_data::Mentions;
-use pb_workspace_package::{Draft, Wanted, was_mentioned};
+use pb_data::OrderedSet;
 use pb_manifest_types::{Requirement, Version};
+use pb_workspace_package::{UnresolvedPackage, Wanted, was_mentioned};
 use pb_workspace_types::LoadFault;
 use std::alloc::{AllocError, Global};
 
 /// Returns whether a name of these packages is repeated, or was mentioned before.
 fn names_come_again(
     alloc: Global,
-    seen: &mut Mentions,
-    drafts: &[Draft],
+    seen: &mut OrderedSet,
+    drafts: &[UnresolvedPackage],
 ) -> Result<bool, AllocError>
     ensures { IfOk result
-        (λ answer. answer ≡ comes_again seen.old (map (λ (d : Draft). d.name) drafts.now)) }
+        (λ answer. answer ≡ comes_again seen.old (map (λ (d : UnresolvedPackage). d.name) drafts.now)) }
 {
     for draft in drafts {
         if was_mentioned(alloc, seen, &draft.name)? {
@@ -35,10 +35,10 @@ fn names_come_again(
 }
 
 /// Returns whether two packages have the same name.
-fn has_same_names(alloc: Global, drafts: &[Draft]) -> Result<bool, AllocError>
+fn has_same_names(alloc: Global, drafts: &[UnresolvedPackage]) -> Result<bool, AllocError>
     ensures { IfOk result (λ answer. answer ≡ has_same_names drafts.now) }
 {
-    let mut seen = Mentions::new(alloc);
+    let mut seen = OrderedSet::new(alloc);
     let again = names_come_again(alloc, &mut seen, drafts);
     drop(seen);
     again
@@ -47,11 +47,11 @@ fn has_same_names(alloc: Global, drafts: &[Draft]) -> Result<bool, AllocError>
 /// Returns whether a native library that these packages link is repeated, or was mentioned before.
 fn links_come_again(
     alloc: Global,
-    seen: &mut Mentions,
-    drafts: &[Draft],
+    seen: &mut OrderedSet,
+    drafts: &[UnresolvedPackage],
 ) -> Result<bool, AllocError>
     ensures { IfOk result
-        (λ answer. answer ≡ comes_again seen.old (filter_map (λ (d : Draft). d.links) drafts.now)) }
+        (λ answer. answer ≡ comes_again seen.old (filter_map (λ (d : UnresolvedPackage). d.links) drafts.now)) }
 {
     for draft in drafts {
         if let Some(links) = &draft.links {
@@ -64,10 +64,10 @@ fn links_come_again(
 }
 
 /// Returns whether two packages link the same native library.
-fn links_twice(alloc: Global, drafts: &[Draft]) -> Result<bool, AllocError>
+fn links_twice(alloc: Global, drafts: &[UnresolvedPackage]) -> Result<bool, AllocError>
     ensures { IfOk result (λ answer. answer ≡ links_twice drafts.now) }
 {
-    let mut seen = Mentions::new(alloc);
+    let mut seen = OrderedSet::new(alloc);
     let again = links_come_again(alloc, &mut seen, drafts);
     drop(seen);
     again
@@ -84,7 +84,11 @@ fn matches_if(requirement: &Option<Requirement>, version: &Version) -> bool
 }
 
 /// Returns whether an entry leads to a package with another name.
-fn leads_to_other_name(drafts: &[Draft], places: &ByFolder<usize>, wanted: &Wanted) -> bool
+fn leads_to_other_name(
+    drafts: &[UnresolvedPackage],
+    places: &ByFolder<usize>,
+    wanted: &Wanted,
+) -> bool
     requires { places.now ≡ places_of drafts.now }
     ensures { result ≡ has_other_name wanted.now (draft_in drafts.now wanted.now.folder) }
 {
@@ -95,7 +99,11 @@ fn leads_to_other_name(drafts: &[Draft], places: &ByFolder<usize>, wanted: &Want
 }
 
 /// Returns whether an entry leads to a package whose version does not match its requirement.
-fn leads_to_other_version(drafts: &[Draft], places: &ByFolder<usize>, wanted: &Wanted) -> bool
+fn leads_to_other_version(
+    drafts: &[UnresolvedPackage],
+    places: &ByFolder<usize>,
+    wanted: &Wanted,
+) -> bool
     requires { places.now ≡ places_of drafts.now }
     ensures { result ≡ has_other_version wanted.now (draft_in drafts.now wanted.now.folder) }
 {
@@ -106,7 +114,7 @@ fn leads_to_other_version(drafts: &[Draft], places: &ByFolder<usize>, wanted: &W
 }
 
 /// Returns whether one of these entries leads to a package with another name.
-fn one_other_name(drafts: &[Draft], places: &ByFolder<usize>, wanted: &[Wanted]) -> bool
+fn one_other_name(drafts: &[UnresolvedPackage], places: &ByFolder<usize>, wanted: &[Wanted]) -> bool
     requires { places.now ≡ places_of drafts.now }
     ensures { result
         ≡ list_any (λ (w : Wanted). has_other_name w (draft_in drafts.now w.folder)) wanted.now }
@@ -120,7 +128,7 @@ fn one_other_name(drafts: &[Draft], places: &ByFolder<usize>, wanted: &[Wanted])
 }
 
 /// Returns whether an entry of some package leads to a package with another name.
-fn some_other_name(drafts: &[Draft], places: &ByFolder<usize>) -> bool
+fn some_other_name(drafts: &[UnresolvedPackage], places: &ByFolder<usize>) -> bool
     requires { places.now ≡ places_of drafts.now }
     ensures { result ≡ some_leads has_other_name drafts.now }
 {
@@ -133,7 +141,11 @@ fn some_other_name(drafts: &[Draft], places: &ByFolder<usize>) -> bool
 }
 
 /// Returns whether one of these entries leads to a package whose version does not match.
-fn one_other_version(drafts: &[Draft], places: &ByFolder<usize>, wanted: &[Wanted]) -> bool
+fn one_other_version(
+    drafts: &[UnresolvedPackage],
+    places: &ByFolder<usize>,
+    wanted: &[Wanted],
+) -> bool
     requires { places.now ≡ places_of drafts.now }
     ensures { result
         ≡ list_any (λ (w : Wanted). has_other_version w (draft_in drafts.now w.folder)) wanted.now }
@@ -147,7 +159,7 @@ fn one_other_version(drafts: &[Draft], places: &ByFolder<usize>, wanted: &[Wante
 }
 
 /// Returns whether an entry of some package leads to a package whose version does not match.
-fn some_other_version(drafts: &[Draft], places: &ByFolder<usize>) -> bool
+fn some_other_version(drafts: &[UnresolvedPackage], places: &ByFolder<usize>) -> bool
     requires { places.now ≡ places_of drafts.now }
     ensures { result ≡ some_leads has_other_version drafts.now }
 {
@@ -160,22 +172,22 @@ fn some_other_version(drafts: &[Draft], places: &ByFolder<usize>) -> bool
 }
 
 /// Returns whether a package links a native library but has no build script.
-fn links_without_script(draft: &Draft) -> bool
+fn links_without_script(draft: &UnresolvedPackage) -> bool
     ensures { result ≡ links_without_script draft.now }
 {
     draft.links.is_some() && !draft.script.is_some()
 }
 
 /// Returns whether some package links a native library but has no build script.
-fn some_without_script(drafts: &[Draft]) -> bool
+fn some_without_script(drafts: &[UnresolvedPackage]) -> bool
     ensures { result ≡ list_any links_without_script drafts.now }
 {
     drafts.iter().any(|draft| links_without_script(draft))
 }
 
 /// Returns whether some package has two `[[bin]]` with the same name.
-fn some_same_binaries(drafts: &[Draft]) -> bool
-    ensures { result ≡ list_any (λ (d : Draft). d.has_same_binaries) drafts.now }
+fn some_same_binaries(drafts: &[UnresolvedPackage]) -> bool
+    ensures { result ≡ list_any (λ (d : UnresolvedPackage). d.has_same_binaries) drafts.now }
 {
     drafts.iter().any(|draft| draft.has_same_binaries)
 }
@@ -187,7 +199,7 @@ fn some_same_binaries(drafts: &[Draft]) -> bool
 #[tactic(auto, unfolding(crate::specs::Checks::fault_of))]
 pub fn fault_of(
     alloc: Global,
-    drafts: &[Draft],
+    drafts: &[UnresolvedPackage],
     places: &ByFolder<usize>,
 ) -> Result<Option<LoadFault>, AllocError>
     requires { places.now ≡ places_of drafts.now }

@@ -5,7 +5,6 @@
 mod assembled;
 mod by_folder;
 mod checks;
-pub mod frame;
 mod glob;
 mod laws;
 mod loading;
@@ -15,6 +14,7 @@ mod normal_paths;
 mod places;
 pub mod rounds;
 mod selecting;
+pub mod workspace_root;
 
 pub use laws::{
     globs_stand_for_names, rounds_are_enough, workspaces_are_settled, workspaces_look_at_sources,

@@ -5,11 +5,11 @@ ghost use Rattle.pb_place_types.specs.Paths.{folder_of};
 ghost use Rattle.pb_workspace.specs.Rounds.{with_draft};
 ghost use Rattle.pb_place_types.specs.World.{from_nothing};
 ghost use Rattle.pb_workspace.specs.ByFolder.{values_of};
-ghost use Rattle.pb_data.specs.Gives.{Gives};
+ghost use Rattle.pb_data.specs.UnlessOom.{UnlessOom};
 ghost use Rattle.pb_workspace_types.specs.declared.fault.LoadFault.TheVariants as load_fault;
 ghost use Rattle.pb_workspace_package.specs.Looks.{Looks, listings_at};
 ghost use Rattle.pb_workspace.specs.LookedAt.{package_looked, root_looked, others_looked, packages_looked, looked_at};
-ghost use Rattle.pb_workspace_package.specs.Causes.{is_failure, Told, OnlyLooks};
+ghost use Rattle.pb_workspace_package.specs.Causes.{is_failure, UnlessFailed, OnlyLooks};
 ghost use Rattle.pb_workspace.specs.Frames.{frame_of};
 ghost use Rattle.pb_workspace.specs.Loaded.{root_parts, at_root, nothing_read, root_read, others_read, packages_read, workspace_from, workspace_in, workspace_of};
 ghost use Rattle.pb_workspace.specs.Readings.{AreRead, HasSharedInOrder, IsReading};
@@ -18,18 +18,18 @@ ghost use Rattle.pb_workspace.specs.NormalPaths.{HasNormalPaths};
 use crate::assembled::assembled;
 use crate::by_folder::ByFolder;
 use crate::checks::fault_of;
-use crate::frame::{Frame, frame_of};
 use crate::member_folders::{is_manifest, member_folders};
 use crate::normal_paths::workspace_has_paths;
 use crate::places::places_of;
 use crate::rounds::{
-    ENOUGH_ROUNDS, Parts, Reading, all_read, no_manifest, parts_at, rounds, with_draft,
+    LoadState, MAX_ROUNDS, Parts, all_read, no_manifest, parts_at, rounds, with_draft,
 };
+use crate::workspace_root::{WorkspaceRoot, frame_of};
 use pb_data::{Items, TryCopy, with_next};
-use pb_workspace_package::{Draft, Standing, Tables, draft_of};
 use pb_manifest_types::{Package, Profile, WorkspaceTable};
-use pb_workspace_types::{LoadFault, SettledWorkspace, Workspace};
 use pb_place_types::{PathText, Place};
+use pb_workspace_package::{PackageLocation, Tables, UnresolvedPackage, draft_of};
+use pb_workspace_types::{LoadFault, SettledWorkspace, Workspace};
 use std::alloc::{AllocError, Global};
 
 /// Returns the parts of the root manifest.
@@ -42,7 +42,7 @@ fn root_parts<P: Place>(
     target: &PathText,
     path: &PathText,
 ) -> Result<Parts, LoadFault>
-    ensures ok { IsTrue P.tells → Told result
+    ensures ok { IsTrue P.is_modelled → UnlessFailed result
         (root_parts (from_nothing target.now (P.at place.old).world) path.now) }
     ensures read { IfOk result (λ parts. AreRead parts.tables parts.found) }
     ensures shared { IfOk result (λ parts. IfSome parts.workspace HasSharedInOrder) }
@@ -57,13 +57,13 @@ fn root_parts<P: Place>(
 }
 
 /// Returns the location of the root package.
-fn at_root(alloc: Global, frame: &Frame) -> Result<Standing, AllocError>
+fn at_root(alloc: Global, frame: &WorkspaceRoot) -> Result<PackageLocation, AllocError>
     ensures { IfOk result (λ at. at ≡ at_root frame.now) }
 {
     let root = frame.root.copy(alloc)?;
     let folder = frame.root.copy(alloc)?;
     let manifest = frame.manifest.copy(alloc)?;
-    Ok(Standing {
+    Ok(PackageLocation {
         root,
         folder,
         manifest,
@@ -71,17 +71,21 @@ fn at_root(alloc: Global, frame: &Frame) -> Result<Standing, AllocError>
 }
 
 /// Returns a reading without packages. It takes no memory.
-fn nothing_read(alloc: Global) -> Reading
+fn nothing_read(alloc: Global) -> LoadState
     ensures { result ≡ nothing_read }
 {
-    Reading {
+    LoadState {
         found: ByFolder::new(alloc),
         ahead: ByFolder::new(alloc),
     }
 }
 
 /// Returns a reading with only the root package.
-fn begun_with(alloc: Global, frame: &Frame, draft: Draft) -> Result<Reading, AllocError>
+fn begun_with(
+    alloc: Global,
+    frame: &WorkspaceRoot,
+    draft: UnresolvedPackage,
+) -> Result<LoadState, AllocError>
     ensures { IfOk result (λ begun. begun ≡ with_draft nothing_read frame.now.root draft) }
 {
     frame.root.copy(alloc).and_then(|folder| with_draft(alloc, nothing_read(alloc), folder, draft))
@@ -93,12 +97,12 @@ fn root_package_read<P: Place>(
     alloc: Global,
     place: &mut P,
     target: &PathText,
-    frame: &Frame,
+    frame: &WorkspaceRoot,
     tables: Tables,
     found: &Package,
-) -> Result<Reading, LoadFault>
+) -> Result<LoadState, LoadFault>
     requires { AreRead tables (Some found.now) }
-    ensures ok { IsTrue P.tells → Told result
+    ensures ok { IsTrue P.is_modelled → UnlessFailed result
         (root_read (from_nothing target.now (P.at place.old).world) frame.now tables
         (Some found.now)) }
     ensures kept { IfOk result IsReading }
@@ -118,12 +122,12 @@ fn root_read<P: Place>(
     alloc: Global,
     place: &mut P,
     target: &PathText,
-    frame: &Frame,
+    frame: &WorkspaceRoot,
     tables: Tables,
     found: Option<Package>,
-) -> Result<Reading, LoadFault>
+) -> Result<LoadState, LoadFault>
     requires { AreRead tables found }
-    ensures ok { IsTrue P.tells → Told result
+    ensures ok { IsTrue P.is_modelled → UnlessFailed result
         (root_read (from_nothing target.now (P.at place.old).world) frame.now tables found) }
     ensures kept { IfOk result IsReading }
     ensures quiet { OnlyLooks result (P.at place.old) (P.at place.new) }
@@ -149,22 +153,22 @@ fn others_read<P: Place>(
     alloc: Global,
     place: &mut P,
     target: &PathText,
-    frame: &Frame,
-    begun: Reading,
-) -> Result<Reading, LoadFault>
+    frame: &WorkspaceRoot,
+    begun: LoadState,
+) -> Result<LoadState, LoadFault>
     requires { IsReading begun }
-    ensures ok { IsTrue P.tells → Told result
+    ensures ok { IsTrue P.is_modelled → UnlessFailed result
         (others_read (from_nothing target.now (P.at place.old).world) frame.now begun) }
     ensures kept { IfOk result IsReading }
     ensures quiet { OnlyLooks result (P.at place.old) (P.at place.new) }
-    ensures looks { IsTrue P.tells → Looks result
+    ensures looks { IsTrue P.is_modelled → Looks result
         (others_looked target.now (from_nothing target.now (P.at place.old).world) frame.now begun)
         (P.at place.old).counts (P.at place.new).counts }
 {
     let meant = member_folders(alloc, place, target, frame)?;
     let folders = meant.folders(alloc)?;
     let read = all_read(alloc, place, target, frame, &meant, begun, folders)?;
-    rounds(alloc, place, target, frame, &meant, read, ENOUGH_ROUNDS)
+    rounds(alloc, place, target, frame, &meant, read, MAX_ROUNDS)
 }
 
 /// Returns the packages of a workspace, by their folders.
@@ -173,17 +177,17 @@ fn packages_read<P: Place>(
     alloc: Global,
     place: &mut P,
     target: &PathText,
-    frame: &Frame,
+    frame: &WorkspaceRoot,
     tables: Tables,
     found: Option<Package>,
-) -> Result<Reading, LoadFault>
+) -> Result<LoadState, LoadFault>
     requires { AreRead tables found }
-    ensures ok { IsTrue P.tells → Told result
+    ensures ok { IsTrue P.is_modelled → UnlessFailed result
         (packages_read (from_nothing target.now (P.at place.old).world) frame.now tables found) }
     ensures kept { IfOk result IsReading }
     ensures quiet { OnlyLooks result (P.at place.old) (P.at place.new) }
     ensures looks { let sources = from_nothing target.now (P.at place.old).world in
-        IsTrue P.tells → Looks result (packages_looked target.now sources frame.now tables found)
+        IsTrue P.is_modelled → Looks result (packages_looked target.now sources frame.now tables found)
         (P.at place.old).counts (P.at place.new).counts }
 {
     let begun = root_read(alloc, place, target, frame, tables, found)?;
@@ -195,11 +199,11 @@ fn packages_read<P: Place>(
 fn workspace_from(
     alloc: Global,
     target: &PathText,
-    frame: &Frame,
+    frame: &WorkspaceRoot,
     profiles: Items<Profile>,
-    drafts: Items<Draft>,
+    drafts: Items<UnresolvedPackage>,
 ) -> Result<Workspace, LoadFault>
-    ensures told { Gives load_fault.OutOfMemory (λ ws. ws) result
+    ensures told { UnlessOom load_fault.OutOfMemory (λ ws. ws) result
         (workspace_from target.now frame.now profiles drafts) }
     ensures here { IfErr result (λ e. is_failure e ≡ false) }
 {
@@ -215,12 +219,12 @@ fn workspace_from(
 fn finished(
     alloc: Global,
     target: &PathText,
-    frame: &Frame,
+    frame: &WorkspaceRoot,
     profiles: Items<Profile>,
-    read: Reading,
+    read: LoadState,
 ) -> Result<SettledWorkspace, LoadFault>
     requires { IsReading read }
-    ensures told { Gives load_fault.OutOfMemory (λ ws. ws) result
+    ensures told { UnlessOom load_fault.OutOfMemory (λ ws. ws) result
         (workspace_from target.now frame.now profiles (values_of read.found)) }
     ensures paths { IfOk result HasNormalPaths }
     ensures here { IfErr result (λ e. is_failure e ≡ false) }
@@ -237,19 +241,19 @@ fn workspace_in<P: Place>(
     alloc: Global,
     place: &mut P,
     target: &PathText,
-    frame: &Frame,
+    frame: &WorkspaceRoot,
     profiles: Items<Profile>,
     tables: Tables,
     found: Option<Package>,
 ) -> Result<SettledWorkspace, LoadFault>
     requires { AreRead tables found }
-    ensures ok { IsTrue P.tells → Told result
+    ensures ok { IsTrue P.is_modelled → UnlessFailed result
         (workspace_in (from_nothing target.now (P.at place.old).world) target.now frame.now
         profiles tables found) }
     ensures paths { IfOk result HasNormalPaths }
     ensures quiet { OnlyLooks result (P.at place.old) (P.at place.new) }
     ensures looks { let sources = from_nothing target.now (P.at place.old).world in
-        IsTrue P.tells → Looks result (packages_looked target.now sources frame.now tables found)
+        IsTrue P.is_modelled → Looks result (packages_looked target.now sources frame.now tables found)
         (P.at place.old).counts (P.at place.new).counts }
 {
     let read = packages_read(alloc, place, target, frame, tables, found)?;
@@ -286,11 +290,11 @@ pub fn load<P: Place>(
     manifest: &PathText,
     target: &PathText,
 ) -> Result<SettledWorkspace, LoadFault>
-    ensures ok { IsTrue P.tells → Told result
+    ensures ok { IsTrue P.is_modelled → UnlessFailed result
         (workspace_of manifest.now target.now (P.at place.old).world) }
     ensures paths { IfOk result HasNormalPaths }
     ensures quiet { OnlyLooks result (P.at place.old) (P.at place.new) }
-    ensures looks { IsTrue P.tells → Looks result
+    ensures looks { IsTrue P.is_modelled → Looks result
         (looked_at manifest.now target.now (P.at place.old).world)
         (P.at place.old).counts (P.at place.new).counts }
 {

@@ -8,10 +8,10 @@ ghost use Rattle.pb_workspace.specs.Members.{is_excluded, plain_parts, further, 
 ghost use Rattle.pb_workspace_package.specs.Sources.{resolved};
 
 use crate::glob::matches;
-use pb_workspace_package::source::resolved;
-use pb_workspace_package::{cut_at_slashes, names_in};
 use pb_manifest_types::WrittenPath;
 use pb_place_types::{PathText, RelativePath};
+use pb_workspace_package::source::resolved;
+use pb_workspace_package::{cut_at_slashes, names_in};
 use std::alloc::{AllocError, Global};
 
 /// A part that a folder must match for a text to mean it.

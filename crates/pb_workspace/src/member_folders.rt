@@ -12,14 +12,14 @@ ghost use Rattle.pb_workspace.specs.LookedAt.{glob_looked, manifest_looked, memb
 ghost use Rattle.pb_workspace.specs.MemberFolders.{folders_meant, folders_taken, has_manifest, is_fixed, is_kept, is_manifest, led_to, member_folders, one_step};
 
 use crate::by_folder::{ByFolder, put_folders};
-use crate::frame::Frame;
 use crate::glob::{is_glob, matches};
 use crate::member::{Part, is_excluded, parts_meant};
+use crate::workspace_root::WorkspaceRoot;
 use pb_data::Items;
-use pb_workspace_package::source::{is_source, own_path, resolved, source_folders};
 use pb_manifest_types::WrittenPath;
-use pb_workspace_types::LoadFault;
 use pb_place_types::{PathText, Place};
+use pb_workspace_package::source::{is_source, own_path, resolved, source_folders};
+use pb_workspace_types::LoadFault;
 use std::alloc::{AllocError, Global};
 
 /// Returns whether a path ends with the name `Cargo.toml`.
@@ -94,7 +94,7 @@ fn one_step<P: Place>(
     part: &Part,
     folder: &PathText,
 ) -> Result<Items<PathText>, LoadFault>
-    ensures ok { IsTrue P.tells → IfOk result (λ folders. folders
+    ensures ok { IsTrue P.is_modelled → IfOk result (λ folders. folders
         ≡ one_step (from_nothing target.now (P.at place.old).world) part.now folder.now) }
     ensures outside { IfErr result (λ e. is_outside e ≡ true) }
     ensures quiet { OnlyLooks result (P.at place.old) (P.at place.new) }
@@ -131,7 +131,7 @@ fn all_steps<P: Place>(
     folders: &[PathText],
 ) -> Result<Items<PathText>, LoadFault>
     ensures ok { let sources = from_nothing target.now (P.at place.old).world in
-        IsTrue P.tells → IfOk result
+        IsTrue P.is_modelled → IfOk result
         (λ led. led ≡ flat_map (one_step sources part.now) folders.now) }
     ensures outside { IfErr result (λ e. is_outside e ≡ true) }
     ensures quiet { OnlyLooks result (P.at place.old) (P.at place.new) }
@@ -157,11 +157,11 @@ fn led_to<P: Place>(
     begun: Items<PathText>,
 ) -> Result<Items<PathText>, LoadFault>
     ensures ok { let sources = from_nothing target.now (P.at place.old).world in
-        IsTrue P.tells → IfOk result (λ led. led ≡ led_to sources parts.now begun) }
+        IsTrue P.is_modelled → IfOk result (λ led. led ≡ led_to sources parts.now begun) }
     ensures outside { IfErr result (λ e. is_outside e ≡ true) }
     ensures quiet { OnlyLooks result (P.at place.old) (P.at place.new) }
     ensures looks { let sources = from_nothing target.now (P.at place.old).world in
-        IsTrue P.tells → Looks result (walk_looked target.now sources parts.now begun)
+        IsTrue P.is_modelled → Looks result (walk_looked target.now sources parts.now begun)
         (P.at place.old).counts (P.at place.new).counts }
 {
     let mut led = begun;
@@ -188,7 +188,7 @@ fn root_alone(alloc: Global) -> Result<Items<PathText>, AllocError>
 /// Errors: out of memory only.
 fn kept_among(
     alloc: Global,
-    frame: &Frame,
+    frame: &WorkspaceRoot,
     folders: Items<PathText>,
 ) -> Result<Items<PathText>, AllocError>
     ensures { IfOk result (λ kept. kept ≡ filter (is_kept frame.now) folders) }
@@ -211,7 +211,7 @@ fn has_manifest<P: Place>(
     target: &PathText,
     folder: &PathText,
 ) -> Result<bool, LoadFault>
-    ensures ok { IsTrue P.tells → IfOk result (λ answer. answer
+    ensures ok { IsTrue P.is_modelled → IfOk result (λ answer. answer
         ≡ has_manifest (from_nothing target.now (P.at place.old).world) folder.now) }
     ensures outside { IfErr result (λ e. is_outside e ≡ true) }
     ensures quiet { OnlyLooks result (P.at place.old) (P.at place.new) }
@@ -232,7 +232,7 @@ fn with_manifests<P: Place>(
     folders: Items<PathText>,
 ) -> Result<Items<PathText>, LoadFault>
     ensures ok { let sources = from_nothing target.now (P.at place.old).world in
-        IsTrue P.tells → IfOk result (λ taken. taken ≡ filter (has_manifest sources) folders) }
+        IsTrue P.is_modelled → IfOk result (λ taken. taken ≡ filter (has_manifest sources) folders) }
     ensures outside { IfErr result (λ e. is_outside e ≡ true) }
     ensures quiet { OnlyLooks result (P.at place.old) (P.at place.new) }
     ensures looks { Looks result (flat_map (manifest_looked target.now) folders)
@@ -258,15 +258,15 @@ fn folders_taken<P: Place>(
     alloc: Global,
     place: &mut P,
     target: &PathText,
-    frame: &Frame,
+    frame: &WorkspaceRoot,
     parts: &[Part],
 ) -> Result<Items<PathText>, LoadFault>
-    ensures ok { IsTrue P.tells → IfOk result (λ folders. folders
+    ensures ok { IsTrue P.is_modelled → IfOk result (λ folders. folders
         ≡ folders_taken (from_nothing target.now (P.at place.old).world) frame.now parts.now) }
     ensures outside { IfErr result (λ e. is_outside e ≡ true) }
     ensures quiet { OnlyLooks result (P.at place.old) (P.at place.new) }
     ensures looks { let sources = from_nothing target.now (P.at place.old).world in
-        IsTrue P.tells → Looks result (glob_looked target.now sources frame.now parts.now)
+        IsTrue P.is_modelled → Looks result (glob_looked target.now sources frame.now parts.now)
         (P.at place.old).counts (P.at place.new).counts }
 {
     let begun = root_alone(alloc)?;
@@ -296,15 +296,15 @@ fn folders_meant<P: Place>(
     alloc: Global,
     place: &mut P,
     target: &PathText,
-    frame: &Frame,
+    frame: &WorkspaceRoot,
     text: &WrittenPath,
 ) -> Result<Items<PathText>, LoadFault>
-    ensures ok { IsTrue P.tells → IfOk result (λ folders. folders
+    ensures ok { IsTrue P.is_modelled → IfOk result (λ folders. folders
         ≡ folders_meant (from_nothing target.now (P.at place.old).world) frame.now text.now) }
     ensures outside { IfErr result (λ e. is_outside e ≡ true) }
     ensures quiet { OnlyLooks result (P.at place.old) (P.at place.new) }
     ensures looks { let sources = from_nothing target.now (P.at place.old).world in
-        IsTrue P.tells → Looks result (text_looked target.now sources frame.now text.now)
+        IsTrue P.is_modelled → Looks result (text_looked target.now sources frame.now text.now)
         (P.at place.old).counts (P.at place.new).counts }
 {
     if is_glob(text.as_str()) {
@@ -322,16 +322,16 @@ fn folders_of_texts<P: Place>(
     alloc: Global,
     place: &mut P,
     target: &PathText,
-    frame: &Frame,
+    frame: &WorkspaceRoot,
     texts: &[WrittenPath],
 ) -> Result<Items<PathText>, LoadFault>
     ensures ok { let sources = from_nothing target.now (P.at place.old).world in
-        IsTrue P.tells → IfOk result
+        IsTrue P.is_modelled → IfOk result
         (λ folders. folders ≡ flat_map (folders_meant sources frame.now) texts.now) }
     ensures outside { IfErr result (λ e. is_outside e ≡ true) }
     ensures quiet { OnlyLooks result (P.at place.old) (P.at place.new) }
     ensures looks { let sources = from_nothing target.now (P.at place.old).world in
-        IsTrue P.tells → Looks result
+        IsTrue P.is_modelled → Looks result
         (flat_map (text_looked target.now sources frame.now) texts.now)
         (P.at place.old).counts (P.at place.new).counts }
 {
@@ -356,14 +356,14 @@ pub fn member_folders<P: Place>(
     alloc: Global,
     place: &mut P,
     target: &PathText,
-    frame: &Frame,
+    frame: &WorkspaceRoot,
 ) -> Result<ByFolder<()>, LoadFault>
-    ensures ok { IsTrue P.tells → IfOk result (λ folders. folders
+    ensures ok { IsTrue P.is_modelled → IfOk result (λ folders. folders
         ≡ member_folders (from_nothing target.now (P.at place.old).world) frame.now) }
     ensures outside { IfErr result (λ e. is_outside e ≡ true) }
     ensures quiet { OnlyLooks result (P.at place.old) (P.at place.new) }
     ensures looks { let sources = from_nothing target.now (P.at place.old).world in
-        IsTrue P.tells → Looks result (members_looked target.now sources frame.now)
+        IsTrue P.is_modelled → Looks result (members_looked target.now sources frame.now)
         (P.at place.old).counts (P.at place.new).counts }
 {
     let folders = folders_of_texts(alloc, place, target, frame, frame.members.as_slice())?;

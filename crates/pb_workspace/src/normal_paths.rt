@@ -5,8 +5,8 @@ ghost use Rattle.std.specs.Prelude.{◌≡◌, All, IfSome, true};
 ghost use Rattle.pb_place_types.specs.Paths.{is_path};
 ghost use Rattle.pb_workspace.specs.NormalPaths.{HasSource, HasOwnPaths, HasNormalPaths};
 
-use pb_workspace_types::{Binary, Library, Package, Workspace};
 use pb_place_types::PathText;
+use pb_workspace_types::{Binary, Library, Package, Workspace};
 
 /// A path is normalised and absolute.
 fn is_normal(path: &PathText)

@@ -6,14 +6,14 @@ ghost use Rattle.pb_workspace.specs.Places.{places_of, draft_in};
 
 use crate::by_folder::ByFolder;
 use pb_data::TryCopy;
-use pb_workspace_package::Draft;
 use pb_place_types::PathText;
+use pb_workspace_package::UnresolvedPackage;
 use std::alloc::{AllocError, Global};
 
 /// Returns each folder with the index of its package.
 ///
 /// Errors: out of memory only.
-pub fn places_of(alloc: Global, drafts: &[Draft]) -> Result<ByFolder<usize>, AllocError>
+pub fn places_of(alloc: Global, drafts: &[UnresolvedPackage]) -> Result<ByFolder<usize>, AllocError>
     ensures { IfOk result (λ places. places ≡ places_of drafts.now) }
 {
     let mut places = ByFolder::new(alloc);
@@ -25,10 +25,10 @@ pub fn places_of(alloc: Global, drafts: &[Draft]) -> Result<ByFolder<usize>, All
 
 /// Returns the package of a folder.
 pub fn draft_in<'a>(
-    drafts: &'a [Draft],
+    drafts: &'a [UnresolvedPackage],
     places: &ByFolder<usize>,
     folder: &PathText,
-) -> Option<&'a Draft>
+) -> Option<&'a UnresolvedPackage>
     requires { places.now ≡ places_of drafts.now }
     ensures { option_copied result ≡ draft_in drafts.now folder.now }
 {

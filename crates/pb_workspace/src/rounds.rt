@@ -8,7 +8,7 @@ ghost use Rattle.pb_manifest.specs.Promises.{IsManifest};
 ghost use Rattle.pb_workspace.specs.ByFolder.{folders_of, with_folders};
 ghost use Rattle.pb_workspace_package.specs.Looks.{Looks, looked};
 ghost use Rattle.pb_workspace.specs.LookedAt.{package_looked, file_looked, folder_looked, one_looked, all_looked, round_looked, rounds_looked};
-ghost use Rattle.pb_workspace_package.specs.Causes.{is_failure, is_outside, Told, OnlyLooks};
+ghost use Rattle.pb_workspace_package.specs.Causes.{is_failure, is_outside, UnlessFailed, OnlyLooks};
 ghost use Rattle.pb_workspace.specs.Frames.{given_to, nothing};
 ghost use Rattle.pb_workspace_types.specs.declared.fault.LoadFault.TheVariants as load_fault;
 ghost use Rattle.pb_workspace.specs.Rounds.{read_found, manifest_at, tables_in, parts_in, parts_at, no_package, draft_if, standing_in, draft_in_file, draft_at, leads_to, with_draft, one_read, all_read, round, rounds};
@@ -16,28 +16,28 @@ ghost use Rattle.pb_workspace_package.specs.Drafted.{IsDraft};
 ghost use Rattle.pb_workspace.specs.Readings.{AreRead, HasSharedInOrder, IsReading};
 
 use crate::by_folder::{ByFolder, put_folders};
-use crate::frame::{Frame, is_member, nothing};
+use crate::workspace_root::{WorkspaceRoot, is_member, nothing};
 use pb_data::{Bytes, Items, TryCopy};
-use pb_workspace_package::source::{own_path, source};
-use pb_workspace_package::{Draft, Given, Standing, Tables, Wanted, draft_of};
+use pb_manifest::{MAX_MANIFEST_BYTES, read_manifest};
 use pb_manifest_types::{Key, Manifest, ManifestFault, Package, Profile, WorkspaceTable};
-use pb_manifest::{GREATEST_LENGTH, read_manifest};
-use pb_workspace_types::LoadFault;
 use pb_place_types::{PathText, Place};
+use pb_workspace_package::source::{own_path, source};
+use pb_workspace_package::{Given, PackageLocation, Tables, UnresolvedPackage, Wanted, draft_of};
+use pb_workspace_types::LoadFault;
 use std::alloc::{AllocError, Global};
 
 /// The greatest number of packages.
-pub const GREATEST_NUMBER: usize = 256;
+pub const MAX_PACKAGES: usize = 256;
 
 /// The number of rounds that is enough for that number of packages: a round that reads nothing
 /// leaves nothing ahead.
-pub const ENOUGH_ROUNDS: usize = 257;
+pub const MAX_ROUNDS: usize = 257;
 
 /// Packages that were read, and the folders of the next round.
 #[derive(Drop)]
-pub struct Reading {
+pub struct LoadState {
     /// The packages by their folders.
-    pub found: ByFolder<Draft>,
+    pub found: ByFolder<UnresolvedPackage>,
     /// The folders to which the entries of the packages of this round lead.
     pub ahead: ByFolder<()>,
 }
@@ -67,7 +67,7 @@ fn refused(alloc: Global, path: &PathText, fault: ManifestFault) -> LoadFault
 /// The manifest in some bytes.
 
 fn read_found(alloc: Global, path: &PathText, found: Option<Bytes>) -> Result<Manifest, LoadFault>
-    ensures told { Told result (read_found path.now found) }
+    ensures told { UnlessFailed result (read_found path.now found) }
     ensures promised { IfOk result IsManifest }
     ensures here { IfErr result (λ e. is_failure e ≡ false) }
 {
@@ -93,20 +93,20 @@ fn manifest_at<P: Place>(
     target: &PathText,
     path: &PathText,
 ) -> Result<Manifest, LoadFault>
-    ensures ok { IsTrue P.tells → Told result
+    ensures ok { IsTrue P.is_modelled → UnlessFailed result
         (manifest_at (from_nothing target.now (P.at place.old).world) path.now) }
     ensures promised { IfOk result IsManifest }
     ensures quiet { OnlyLooks result (P.at place.old) (P.at place.new) }
     ensures looks { Looks result (looked target.now (call.Read path.now))
         (P.at place.old).counts (P.at place.new).counts }
 {
-    let found = source(alloc, place, target, path, GREATEST_LENGTH + 1)?;
+    let found = source(alloc, place, target, path, MAX_MANIFEST_BYTES + 1)?;
     let manifest = read_found(alloc, path, found)?;
     Ok(manifest)
 }
 
 /// Returns what a package may inherit from its workspace: nothing if it is no member.
-fn given_to<'a>(frame: &'a Frame, none: &'a Given, is_member: bool) -> &'a Given
+fn given_to<'a>(frame: &'a WorkspaceRoot, none: &'a Given, is_member: bool) -> &'a Given
     requires { none.now ≡ nothing }
     ensures { result.now ≡ given_to frame.now is_member }
 {
@@ -122,14 +122,14 @@ pub fn draft_if<P: Place>(
     alloc: Global,
     place: &mut P,
     target: &PathText,
-    frame: &Frame,
+    frame: &WorkspaceRoot,
     is_member: bool,
-    at: Standing,
+    at: PackageLocation,
     tables: Tables,
     found: Option<Package>,
-) -> Result<Draft, LoadFault>
+) -> Result<UnresolvedPackage, LoadFault>
     requires { AreRead tables found }
-    ensures ok { IsTrue P.tells → Told result
+    ensures ok { IsTrue P.is_modelled → UnlessFailed result
         (draft_if (from_nothing target.now (P.at place.old).world) frame.now is_member at
         tables found) }
     ensures draft { IfOk result IsDraft }
@@ -155,13 +155,17 @@ pub fn draft_if<P: Place>(
 }
 
 /// Returns the location of a folder's package.
-fn standing_in(alloc: Global, frame: &Frame, folder: &PathText) -> Result<Standing, AllocError>
+fn standing_in(
+    alloc: Global,
+    frame: &WorkspaceRoot,
+    folder: &PathText,
+) -> Result<PackageLocation, AllocError>
     ensures { IfOk result (λ at. at ≡ standing_in frame.now folder.now) }
 {
     let manifest = own_path(alloc, folder, "Cargo.toml")?;
     let root = frame.root.copy(alloc)?;
     let folder = folder.copy(alloc)?;
-    Ok(Standing {
+    Ok(PackageLocation {
         root,
         folder,
         manifest,
@@ -214,7 +218,7 @@ pub fn parts_at<P: Place>(
     target: &PathText,
     path: &PathText,
 ) -> Result<Parts, LoadFault>
-    ensures ok { IsTrue P.tells → Told result
+    ensures ok { IsTrue P.is_modelled → UnlessFailed result
         (parts_at (from_nothing target.now (P.at place.old).world) path.now) }
     ensures read { IfOk result (λ parts. AreRead parts.tables parts.found) }
     ensures shared { IfOk result (λ parts. IfSome parts.workspace HasSharedInOrder) }
@@ -232,16 +236,16 @@ fn draft_in_file<P: Place>(
     alloc: Global,
     place: &mut P,
     target: &PathText,
-    frame: &Frame,
+    frame: &WorkspaceRoot,
     is_member: bool,
-    at: Standing,
-) -> Result<Draft, LoadFault>
-    ensures ok { IsTrue P.tells → Told result
+    at: PackageLocation,
+) -> Result<UnresolvedPackage, LoadFault>
+    ensures ok { IsTrue P.is_modelled → UnlessFailed result
         (draft_in_file (from_nothing target.now (P.at place.old).world) frame.now is_member at) }
     ensures draft { IfOk result IsDraft }
     ensures folder { IfOk result (λ draft. draft.folder ≡ at.folder) }
     ensures quiet { OnlyLooks result (P.at place.old) (P.at place.new) }
-    ensures looks { IsTrue P.tells → Looks result
+    ensures looks { IsTrue P.is_modelled → Looks result
         (file_looked target.now (from_nothing target.now (P.at place.old).world) at)
         (P.at place.old).counts (P.at place.new).counts }
 {
@@ -269,17 +273,17 @@ fn draft_at<P: Place>(
     alloc: Global,
     place: &mut P,
     target: &PathText,
-    frame: &Frame,
+    frame: &WorkspaceRoot,
     meant: &ByFolder<()>,
     folder: &PathText,
-) -> Result<Draft, LoadFault>
-    ensures ok { IsTrue P.tells → Told result
+) -> Result<UnresolvedPackage, LoadFault>
+    ensures ok { IsTrue P.is_modelled → UnlessFailed result
         (draft_at (from_nothing target.now (P.at place.old).world) frame.now meant.now folder.now) }
     ensures draft { IfOk result IsDraft }
     ensures folder { IfOk result (λ draft. draft.folder ≡ folder.now) }
     ensures quiet { OnlyLooks result (P.at place.old) (P.at place.new) }
     ensures looks { let sources = from_nothing target.now (P.at place.old).world in
-        IsTrue P.tells → Looks result (folder_looked target.now sources frame.now folder.now)
+        IsTrue P.is_modelled → Looks result (folder_looked target.now sources frame.now folder.now)
         (P.at place.old).counts (P.at place.new).counts }
 {
     if *folder == frame.root {
@@ -302,7 +306,11 @@ fn leads_to(alloc: Global, wanted: &[Wanted]) -> Result<Items<PathText>, AllocEr
 }
 
 /// Inserts the folders to which the entries of a package lead.
-fn put_led(alloc: Global, ahead: &mut ByFolder<()>, draft: &Draft) -> Result<(), AllocError>
+fn put_led(
+    alloc: Global,
+    ahead: &mut ByFolder<()>,
+    draft: &UnresolvedPackage,
+) -> Result<(), AllocError>
     ensures { OnOk result (ahead.new ≡ with_folders ahead.old (leads_to draft.now.wanted)) }
 {
     let folders = leads_to(alloc, draft.wanted.as_slice())?;
@@ -313,9 +321,9 @@ fn put_led(alloc: Global, ahead: &mut ByFolder<()>, draft: &Draft) -> Result<(),
 /// Adds a package that was read.
 fn add_draft(
     alloc: Global,
-    reading: &mut Reading,
+    reading: &mut LoadState,
     folder: PathText,
-    draft: Draft,
+    draft: UnresolvedPackage,
 ) -> Result<(), AllocError>
     ensures { OnOk result (reading.new ≡ with_draft reading.old folder draft) }
 {
@@ -327,10 +335,10 @@ fn add_draft(
 /// Returns the reading with one more package.
 pub fn with_draft(
     alloc: Global,
-    reading: Reading,
+    reading: LoadState,
     folder: PathText,
-    draft: Draft,
-) -> Result<Reading, AllocError>
+    draft: UnresolvedPackage,
+) -> Result<LoadState, AllocError>
     ensures { IfOk result (λ made. made ≡ with_draft reading folder draft) }
 {
     let mut made = reading;
@@ -345,26 +353,26 @@ fn one_read<P: Place>(
     alloc: Global,
     place: &mut P,
     target: &PathText,
-    frame: &Frame,
+    frame: &WorkspaceRoot,
     meant: &ByFolder<()>,
-    reading: Reading,
+    reading: LoadState,
     folder: PathText,
-) -> Result<Reading, LoadFault>
+) -> Result<LoadState, LoadFault>
     requires { IsReading reading }
     ensures ok { let sources = from_nothing target.now (P.at place.old).world in
-        IsTrue P.tells → Told result
+        IsTrue P.is_modelled → UnlessFailed result
         (one_read (draft_at sources frame.now meant.now) reading folder) }
     ensures kept { IfOk result IsReading }
     ensures quiet { OnlyLooks result (P.at place.old) (P.at place.new) }
     ensures looks { let sources = from_nothing target.now (P.at place.old).world in
-        IsTrue P.tells → Looks result
+        IsTrue P.is_modelled → Looks result
         (one_looked (folder_looked target.now sources frame.now) reading folder)
         (P.at place.old).counts (P.at place.new).counts }
 {
     if reading.found.contains(&folder) {
         return Ok(reading);
     }
-    if GREATEST_NUMBER <= reading.found.len() {
+    if MAX_PACKAGES <= reading.found.len() {
         drop(reading);
         return Err(LoadFault::TooMany);
     }
@@ -384,19 +392,19 @@ pub fn all_read<P: Place>(
     alloc: Global,
     place: &mut P,
     target: &PathText,
-    frame: &Frame,
+    frame: &WorkspaceRoot,
     meant: &ByFolder<()>,
-    reading: Reading,
+    reading: LoadState,
     folders: Items<PathText>,
-) -> Result<Reading, LoadFault>
+) -> Result<LoadState, LoadFault>
     requires { IsReading reading }
     ensures ok { let sources = from_nothing target.now (P.at place.old).world in
-        IsTrue P.tells → Told result
+        IsTrue P.is_modelled → UnlessFailed result
         (all_read (draft_at sources frame.now meant.now) reading folders) }
     ensures kept { IfOk result IsReading }
     ensures quiet { OnlyLooks result (P.at place.old) (P.at place.new) }
     ensures looks { let sources = from_nothing target.now (P.at place.old).world in
-        IsTrue P.tells → Looks result
+        IsTrue P.is_modelled → Looks result
         (all_looked (draft_at sources frame.now meant.now)
         (folder_looked target.now sources frame.now) reading folders)
         (P.at place.old).counts (P.at place.new).counts }
@@ -413,24 +421,24 @@ fn round<P: Place>(
     alloc: Global,
     place: &mut P,
     target: &PathText,
-    frame: &Frame,
+    frame: &WorkspaceRoot,
     meant: &ByFolder<()>,
-    reading: Reading,
-) -> Result<Reading, LoadFault>
+    reading: LoadState,
+) -> Result<LoadState, LoadFault>
     requires { IsReading reading }
     ensures ok { let sources = from_nothing target.now (P.at place.old).world in
-        IsTrue P.tells → Told result (round (draft_at sources frame.now meant.now) reading) }
+        IsTrue P.is_modelled → UnlessFailed result (round (draft_at sources frame.now meant.now) reading) }
     ensures kept { IfOk result IsReading }
     ensures quiet { OnlyLooks result (P.at place.old) (P.at place.new) }
     ensures looks { let sources = from_nothing target.now (P.at place.old).world in
-        IsTrue P.tells → Looks result
+        IsTrue P.is_modelled → Looks result
         (round_looked (draft_at sources frame.now meant.now)
         (folder_looked target.now sources frame.now) reading)
         (P.at place.old).counts (P.at place.new).counts }
 {
-    let Reading { found, ahead } = reading;
+    let LoadState { found, ahead } = reading;
     let folders = ahead.folders(alloc)?;
-    let begun = Reading {
+    let begun = LoadState {
         found,
         ahead: ByFolder::new(alloc),
     };
@@ -443,19 +451,19 @@ pub fn rounds<P: Place>(
     alloc: Global,
     place: &mut P,
     target: &PathText,
-    frame: &Frame,
+    frame: &WorkspaceRoot,
     meant: &ByFolder<()>,
-    reading: Reading,
+    reading: LoadState,
     count: usize,
-) -> Result<Reading, LoadFault>
+) -> Result<LoadState, LoadFault>
     requires { IsReading reading }
     ensures ok { let sources = from_nothing target.now (P.at place.old).world in
-        IsTrue P.tells → Told result
+        IsTrue P.is_modelled → UnlessFailed result
         (rounds count (draft_at sources frame.now meant.now) reading) }
     ensures kept { IfOk result IsReading }
     ensures quiet { OnlyLooks result (P.at place.old) (P.at place.new) }
     ensures looks { let sources = from_nothing target.now (P.at place.old).world in
-        IsTrue P.tells → Looks result
+        IsTrue P.is_modelled → Looks result
         (rounds_looked count (draft_at sources frame.now meant.now)
         (folder_looked target.now sources frame.now) reading)
         (P.at place.old).counts (P.at place.new).counts }

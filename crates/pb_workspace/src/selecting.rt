@@ -2,8 +2,8 @@
 
 ghost use Rattle.std.specs.Prelude.{◌≡◌, ◌++◌, ◌==◌, IfOk, OnOk, map, filter};
 ghost use Rattle.std.specs.List.{flat_map, list_any, slice_split};
-ghost use Rattle.pb_data.specs.Gives.{Gives};
-ghost use Rattle.pb_data.specs.Mentions.{is_mentioned};
+ghost use Rattle.pb_data.specs.UnlessOom.{UnlessOom};
+ghost use Rattle.pb_data.specs.OrderedSet.{is_mentioned};
 ghost use Rattle.pb_workspace.specs.Selected.{places_where, members_of, is_member_named, is_named_member, name_members, named_members, root_or_members, by_default, selected_packages, spaced_words, feature_words, selection_of, selected};
 ghost use Rattle.pb_workspace_package.specs.Between.{is_word};
 ghost use Rattle.pb_workspace_types.specs.declared.fault.LoadFault.TheVariants as load_fault;
@@ -87,7 +87,7 @@ fn named_members(
     names: &[Text],
     packages: &[Package],
 ) -> Result<Items<usize>, LoadFault>
-    ensures { Gives load_fault.OutOfMemory (λ places. places) result
+    ensures { UnlessOom load_fault.OutOfMemory (λ places. places) result
         (named_members names.now packages.now) }
 {
     if !name_members(names, packages) {
@@ -117,7 +117,7 @@ fn root_or_members(
 
 /// Returns the packages that are selected if the options name none.
 fn by_default(alloc: Global, workspace: &Workspace) -> Result<Items<usize>, LoadFault>
-    ensures { Gives load_fault.OutOfMemory (λ places. places) result
+    ensures { UnlessOom load_fault.OutOfMemory (λ places. places) result
         (by_default workspace.now.default_members workspace.now.root_package
         workspace.now.packages) }
 {
@@ -148,7 +148,7 @@ fn selected_packages(
     workspace: &Workspace,
     options: &Options,
 ) -> Result<Items<usize>, LoadFault>
-    ensures { Gives load_fault.OutOfMemory (λ places. places) result
+    ensures { UnlessOom load_fault.OutOfMemory (λ places. places) result
         (selected_packages workspace.now options.now.workspace options.now.packages) }
 {
     let packages = workspace.packages.as_slice();
@@ -269,7 +269,7 @@ pub fn selected<'a>(
     workspace: &'a SettledWorkspace,
     options: &Options,
 ) -> Result<SelectedWorkspace<'a>, LoadFault>
-    ensures told { Gives load_fault.OutOfMemory (λ chosen. chosen.selection) result
+    ensures told { UnlessOom load_fault.OutOfMemory (λ chosen. chosen.selection) result
         (selected workspace.now options.now) }
     ensures workspace { IfOk result (λ chosen. chosen.workspace ≡ workspace.now) }
 {

@@ -22,9 +22,9 @@ use Rattle.pb_workspace.specs.MemberFolders.{member_folders}
 use Rattle.pb_workspace.specs.PackageFolders as drafts
 use Rattle.pb_workspace.specs.Rounds.{standing_in}
 use Rattle.pb_workspace_package.specs.Sources.{resolved}
-use Rattle.pb_workspace_package.specs.declared.draft.Draft.{Draft}
-use Rattle.pb_workspace.specs.declared.frame.Frame.{Frame}
-use Rattle.pb_workspace.specs.declared.rounds.Reading.{Reading}
+use Rattle.pb_workspace_package.specs.declared.unresolved_package.UnresolvedPackage.{UnresolvedPackage}
+use Rattle.pb_workspace.specs.declared.workspace_root.WorkspaceRoot.{WorkspaceRoot}
+use Rattle.pb_workspace.specs.declared.rounds.LoadState.{LoadState}
 use Rattle.pb_workspace_package.specs.declared.wanted.Wanted.{Wanted}
 use Rattle.pb_workspace.proofs.WholeWorkspace.{map_only, map_each}
 use Rattle.pb_workspace_laws.specs.Folders.{IsFirst, LeadsTo, IsPackageFolder, root, member}
@@ -70,7 +70,7 @@ module _ (base folder : List ℕ) (entries : List WorkspaceDependency) (up : Key
         features_are = ap (λ (x : WorkspaceDependency). x.features ++ d.features) one;
       }
 
-module _ (sources : World) (f : Frame) (up : Keyed f.given.dependencies) where
+module _ (sources : World) (f : WorkspaceRoot) (up : Keyed f.given.dependencies) where
   -- what is taken from the workspace is taken from its entries
   widened : (b : Bool) (x : List ℕ) (d : Dependency) (to : List ℕ) (s : PathSource) (default : Bool) (features : List (List ℕ)) → Asks f.root x (given_to f b).dependencies d to s default features
       → Asks f.root x f.given.dependencies d to s default features
@@ -79,7 +79,7 @@ module _ (sources : World) (f : Frame) (up : Keyed f.given.dependencies) where
   widened false x d _ _ _ _ (workspace default is w there same s has) = absurd (none w there)
 
   -- a draft leads where the dependencies of its manifest ask for
-  leads_only : (x y : List ℕ) (d : Draft) → drafts.package_in sources f x ≡ Ok d → Contains (map (λ (w : Wanted). w.folder) d.wanted) y → LeadsTo sources f x y
+  leads_only : (x y : List ℕ) (d : UnresolvedPackage) → drafts.package_in sources f x ≡ Ok d → Contains (map (λ (w : Wanted). w.folder) d.wanted) y → LeadsTo sources f x y
   leads_only x y d is there =
       let own = drafted sources f x d is in
       let b : Bool = is_member f (member_folders sources f) x in
@@ -103,7 +103,7 @@ module _ (sources : World) (f : Frame) (up : Keyed f.given.dependencies) where
             leads e.0 (Contains-append_right own.own.dependencies own.own.build_dependencies e.0 e.1) e.2.s e.2.asks)
       ]
 
-  leads_each : (x y : List ℕ) (d : Draft) → drafts.package_in sources f x ≡ Ok d → LeadsTo sources f x y → Contains (map (λ (w : Wanted). w.folder) d.wanted) y
+  leads_each : (x y : List ℕ) (d : UnresolvedPackage) → drafts.package_in sources f x ≡ Ok d → LeadsTo sources f x y → Contains (map (λ (w : Wanted). w.folder) d.wanted) y
   leads_each x y d is l =
       let own = drafted sources f x d is in
       let b : Bool = is_member f (member_folders sources f) x in
@@ -122,12 +122,12 @@ module _ (sources : World) (f : Frame) (up : Keyed f.given.dependencies) where
       ]
 
   -- so both sets of folders are one
-  module _ (r : Manifest) (reading : Reading) (found : (x : List ℕ) → Contains (folders_of reading.found) x ↔ drafts.IsPackageFolder sources f r.package x)
-      (packs : AllByRecursion (λ (e : List ℕ × Draft). drafts.package_in sources f e.0 ≡ Ok e.1) reading.found) where
-    its_draft : (x : List ℕ) → Contains (folders_of reading.found) x → (d : Draft) × (drafts.package_in sources f x ≡ Ok d)
+  module _ (r : Manifest) (reading : LoadState) (found : (x : List ℕ) → Contains (folders_of reading.found) x ↔ drafts.IsPackageFolder sources f r.package x)
+      (packs : AllByRecursion (λ (e : List ℕ × UnresolvedPackage). drafts.package_in sources f e.0 ≡ Ok e.1) reading.found) where
+    its_draft : (x : List ℕ) → Contains (folders_of reading.found) x → (d : UnresolvedPackage) × (drafts.package_in sources f x ≡ Ok d)
     its_draft x there =
-        let m = map_only (λ (e : List ℕ × Draft). e.0) reading.found x there in
-        (m.0.1, ap (drafts.package_in sources f) (sym m.2) ∙ all_at (λ (e : List ℕ × Draft). drafts.package_in sources f e.0 ≡ Ok e.1) reading.found m.0 packs m.1)
+        let m = map_only (λ (e : List ℕ × UnresolvedPackage). e.0) reading.found x there in
+        (m.0.1, ap (drafts.package_in sources f) (sym m.2) ∙ all_at (λ (e : List ℕ × UnresolvedPackage). drafts.package_in sources f e.0 ≡ Ok e.1) reading.found m.0 packs m.1)
 
     first_to : (x : List ℕ) → drafts.IsRootOrMember sources f r.package x → IsFirst sources f r x
     first_to _ (drafts.root p is) = root p is refl

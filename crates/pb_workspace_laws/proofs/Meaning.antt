@@ -9,11 +9,11 @@ use Rattle.pb_workspace.proofs.FoldersTaken.{taken_each, taken_only}
 use Rattle.pb_workspace.specs.Globs.{is_glob}
 use Rattle.pb_workspace.specs.MemberFolders.{folders_meant, folders_taken}
 use Rattle.pb_workspace.specs.Members.{part_matches, parts_match, parts_meant}
-use Rattle.pb_workspace.specs.declared.frame.Frame.{Frame}
+use Rattle.pb_workspace.specs.declared.workspace_root.WorkspaceRoot.{WorkspaceRoot}
 use Rattle.pb_workspace.specs.declared.member.Part.{Part}
 use Rattle.pb_workspace_laws.specs.Members.{IsMeant, PartsMatchNames, TextsMeanFolders, written, matched}
 
-module _ (sources : World) (f : Frame) (text folder : List ℕ) (paths : FilesHavePaths sources) where
+module _ (sources : World) (f : WorkspaceRoot) (text folder : List ℕ) (paths : FilesHavePaths sources) where
   meant_only : Contains (folders_meant sources f text) folder → IsMeant sources f text folder
   meant_only among = by (is_glob text) refl among
     where

@@ -15,7 +15,7 @@ use Rattle.pb_workspace.specs.ByFolder.{folders_of, has}
 use Rattle.pb_workspace.specs.Frames.{is_member}
 use Rattle.pb_workspace.specs.MemberFolders.{member_folders}
 use Rattle.pb_workspace.specs.Members.{is_excluded}
-use Rattle.pb_workspace.specs.declared.frame.Frame.{Frame}
+use Rattle.pb_workspace.specs.declared.workspace_root.WorkspaceRoot.{WorkspaceRoot}
 use Rattle.pb_workspace.proofs.FoldersPut.{has_there}
 use Rattle.pb_workspace.proofs.WholeWorkspace.{members_only, members_each}
 use Rattle.pb_workspace_laws.specs.Members.{IsMember, root, meant, inside}
@@ -32,7 +32,7 @@ there_has {V} (e ∷ es) k is = elim (cases e.0 (folders_of es) k is) [
     by true rest = refl
     by false rest = rest
 
-module _ (sources : World) (f : Frame) (folder : List ℕ) where
+module _ (sources : World) (f : WorkspaceRoot) (folder : List ℕ) where
   abbrev among : Bool
   among = has folder (member_folders sources f)
 

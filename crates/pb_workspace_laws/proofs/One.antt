@@ -30,7 +30,7 @@ use Rattle.pb_place_types.specs.Paths.{below}
 use Rattle.pb_place_types.specs.World.{World, FilesHavePaths}
 use Rattle.pb_workspace.specs.Assembled.{default_members_of}
 use Rattle.pb_workspace.specs.Frames.{given_to}
-use Rattle.pb_workspace.specs.declared.frame.Frame.{Frame}
+use Rattle.pb_workspace.specs.declared.workspace_root.WorkspaceRoot.{WorkspaceRoot}
 use Rattle.pb_workspace_package.specs.declared.settling.Given.{Given}
 use Rattle.pb_workspace_laws.specs.Binaries.{IsBinary, HasBinaries}
 use Rattle.pb_workspace_laws.specs.Files.{first_file, IsManifestAt}
@@ -225,7 +225,7 @@ module _ (sources : World) (root : List ℕ) (v w : Workspace) (v_up : Rises (ma
 
 -- the workspace
 module _ (sources : World) (manifest : List ℕ) (r : Manifest) (v w : Workspace) (paths : FilesHavePaths sources) (one : IsWorkspaceOf sources manifest r v) (other : IsWorkspaceOf sources manifest r w) where
-  abbrev f : Frame
+  abbrev f : WorkspaceRoot
   f = frame_in manifest r
 
   abbrev folder : Package → List ℕ

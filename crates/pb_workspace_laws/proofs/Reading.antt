@@ -3,7 +3,7 @@ use Rattle.std.proofs.Common.{inl, inr, ◌≡◌, ◌∙◌, ℕ, Bool, List, [
 use Rattle.std.specs.FinMap as finite
 use Rattle.std.specs.List.{AllByRecursion}
 use Rattle.pb_graph.proofs.Membership.{none, cases}
-use Rattle.pb_data.specs.Gives.{◌>>=◌, lifted}
+use Rattle.pb_data.specs.UnlessOom.{◌>>=◌, lifted}
 use Rattle.pb_manifest.specs.Document.{manifest_of}
 use Rattle.pb_manifest_types.specs.declared.manifest.Manifest.{Manifest}
 use Rattle.pb_manifest_types.specs.declared.package.Package.{Package as Written}
@@ -20,12 +20,12 @@ use Rattle.pb_workspace.specs.PackageFolders.{package_in}
 use Rattle.pb_workspace.specs.Rounds.{draft_if, draft_in_file, manifest_at, parts_at, parts_in, read_found, standing_in, tables_in}
 use Rattle.pb_workspace_package.specs.Settling.{has_same_binaries, targets_of, wanted_in}
 use Rattle.pb_workspace_package.specs.Wanted.{each_wanted, wanted_of}
-use Rattle.pb_workspace_package.specs.declared.draft.Draft.{Draft}
-use Rattle.pb_workspace_package.specs.declared.draft.Lists.{Lists}
-use Rattle.pb_workspace.specs.declared.frame.Frame.{Frame}
+use Rattle.pb_workspace_package.specs.declared.unresolved_package.UnresolvedPackage.{UnresolvedPackage}
+use Rattle.pb_workspace_package.specs.declared.unresolved_package.Lists.{Lists}
+use Rattle.pb_workspace.specs.declared.workspace_root.WorkspaceRoot.{WorkspaceRoot}
 use Rattle.pb_workspace.specs.declared.rounds.Parts.{Parts}
 use Rattle.pb_workspace_package.specs.declared.settling.Given.{Given}
-use Rattle.pb_workspace_package.specs.declared.wanted.Standing.{Standing}
+use Rattle.pb_workspace_package.specs.declared.wanted.PackageLocation.{PackageLocation}
 use Rattle.pb_workspace_package.specs.declared.wanted.Wanted.{Wanted}
 use Rattle.pb_workspace.proofs.FoldersPut.{opened}
 use Rattle.pb_workspace_laws.specs.Files.{IsManifestAt}
@@ -66,18 +66,18 @@ parts_read sources path parts h =
     record { m = o.0; there = in_file sources path o.0 o.1; same = same }
 
 -- the manifest of a package in a folder
-pub record IsDrafted (sources : World) (f : Frame) (folder : List ℕ) (member : Bool) (d : Draft) : Type 0 where
+pub record IsDrafted (sources : World) (f : WorkspaceRoot) (folder : List ℕ) (member : Bool) (d : UnresolvedPackage) : Type 0 where
   pub own : Manifest
   pub read : IsManifestAt sources (below folder (codes "Cargo.toml")) own
   pub written : Written
   pub is_package : own.package ≡ Some written
   pub made : draft_of sources (standing_in f folder) member (given_to f member) written (tables_in own) ≡ Ok d
 
-pub drafted : (sources : World) (f : Frame) (folder : List ℕ) (d : Draft) → package_in sources f folder ≡ Ok d → IsDrafted sources f folder (is_member f (member_folders sources f) folder) d
+pub drafted : (sources : World) (f : WorkspaceRoot) (folder : List ℕ) (d : UnresolvedPackage) → package_in sources f folder ≡ Ok d → IsDrafted sources f folder (is_member f (member_folders sources f) folder) d
 unfolding draft_in_file draft_if
 drafted sources f folder d h =
     let member : Bool = is_member f (member_folders sources f) folder in
-    let at : Standing = standing_in f folder in
+    let at : PackageLocation = standing_in f folder in
     let o = opened (parts_at sources at.manifest) (λ parts. draft_if sources f member at parts.tables parts.found) d h in
     let r = parts_read sources at.manifest o.0 o.1 in
     let again : draft_if sources f member at (tables_in r.m) r.m.package ≡ Ok d = ap (λ (parts : Parts). draft_if sources f member at parts.tables parts.found) r.same ∙ o.2 in
@@ -89,14 +89,14 @@ drafted sources f folder d h =
     by m there (Some w) is h = record { own = m; read = there; written = w; is_package = is; made = h }
 
 -- its entries
-pub record AreWanted (at : Standing) (given : Given) (m : Manifest) (wanted : List Wanted) : Type 0 where
+pub record AreWanted (at : PackageLocation) (given : Given) (m : Manifest) (wanted : List Wanted) : Type 0 where
   pub normal : List Wanted
   pub for_script : List Wanted
   pub of_dependencies : each_wanted (wanted_of at.root at.folder at.manifest given.dependencies Normal) m.dependencies ≡ Ok normal
   pub of_build_dependencies : each_wanted (wanted_of at.root at.folder at.manifest given.dependencies ForScript) m.build_dependencies ≡ Ok for_script
   pub whole : normal ++ for_script ≡ wanted
 
-pub wanted_so : (sources : World) (at : Standing) (member : Bool) (given : Given) (w : Written) (m : Manifest) (d : Draft) → draft_of sources at member given w (tables_in m) ≡ Ok d → AreWanted at given m d.wanted
+pub wanted_so : (sources : World) (at : PackageLocation) (member : Bool) (given : Given) (w : Written) (m : Manifest) (d : UnresolvedPackage) → draft_of sources at member given w (tables_in m) ≡ Ok d → AreWanted at given m d.wanted
 unfolding draft_of draft_with
 wanted_so sources at member given w m d h =
     let k = opened (keys_of sources at given.package w) (λ k. draft_with sources at member given (tables_in m) k) d h in
@@ -114,5 +114,5 @@ wanted_so sources at member given w m d h =
       for_script = s.0;
       of_dependencies = n.1;
       of_build_dependencies = s.1;
-      whole = both ∙ ap (λ (x : Lists). x.wanted) lists ∙ ap (λ (x : Draft). x.wanted) same;
+      whole = both ∙ ap (λ (x : Lists). x.wanted) lists ∙ ap (λ (x : UnresolvedPackage). x.wanted) same;
     }

@@ -24,9 +24,9 @@ use Rattle.pb_workspace_package.specs.Features.{feature_of, features_of, with_ma
 use Rattle.pb_workspace_package.specs.FoundBinaries.{bin_folder, found_binaries}
 use Rattle.pb_workspace_package.specs.Settling.{discovered}
 use Rattle.pb_workspace_package.specs.Sources.{has_own_file, library_of, own_source}
-use Rattle.pb_workspace_package.specs.declared.draft.Draft.{Draft}
+use Rattle.pb_workspace_package.specs.declared.unresolved_package.UnresolvedPackage.{UnresolvedPackage}
 use Rattle.pb_workspace_package.specs.declared.settling.Given.{Given}
-use Rattle.pb_workspace_package.specs.declared.wanted.Standing.{Standing}
+use Rattle.pb_workspace_package.specs.declared.wanted.PackageLocation.{PackageLocation}
 use Rattle.pb_workspace_laws.proofs.Binaries.{nothing_rises, rises_on}
 use Rattle.pb_workspace_laws.proofs.Features.{features_rise}
 use Rattle.pb_workspace_laws.proofs.Reading.{AreWanted}
@@ -61,7 +61,7 @@ module _ (folder : List ℕ) (sources : World) (name : List ℕ) (named : is_nam
   library_so (Some l) promised = library_named name (Some l) (library_name name (Some l)) named promised refl
 
 -- of these parts a package keeps to all that is promised of it
-pub draft_kept : (sources : World) (at : Standing) (given : Given) (w : Written) (m : Manifest) (d : Draft) → IsManifest m → m.package ≡ Some w → d.name ≡ w.name → d.library ≡ library_of at.folder sources w.name m.library
+pub draft_kept : (sources : World) (at : PackageLocation) (given : Given) (w : Written) (m : Manifest) (d : UnresolvedPackage) → IsManifest m → m.package ≡ Some w → d.name ≡ w.name → d.library ≡ library_of at.folder sources w.name m.library
     → d.binaries ≡ binaries_of (discovered at.folder sources w.name w.autobins) (map (written_binary at.folder sources w.name) m.binaries) → d.features ≡ features_of m.features m.dependencies m.build_dependencies → AreWanted at given m d.wanted → IsDraft d
 draft_kept sources at given w m d kept is_package name library binaries features wanted =
     let named : is_name w.name ≡ true = (subst (λ o. IfSome o IsPackage) is_package kept.found).name in (

@@ -8,7 +8,7 @@ use Rattle.std.specs.Option.{option_map}
 use Rattle.std.specs.Str.{bytes_eq}
 use Rattle.pb_graph.specs.Closure.{onward}
 use Rattle.std.proofs.lemmas.List.Elements.{Contains-append_left, Contains-append_right}
-use Rattle.pb_data.specs.Gives.{◌>>=◌}
+use Rattle.pb_data.specs.UnlessOom.{◌>>=◌}
 use Rattle.pb_manifest.proofs.Manifests.{manifest_is}
 use Rattle.pb_manifest.specs.Promises.{IsManifest, IsPackage}
 use Rattle.pb_manifest_types.specs.declared.dependency.Dependency.{Dependency}
@@ -40,14 +40,14 @@ use Rattle.pb_workspace_package.specs.Settling.{discovered, has_same_binaries, r
 use Rattle.pb_workspace_package.specs.Sources.{library_of}
 use Rattle.pb_workspace_package.specs.Taken.{about_of, own_or_given}
 use Rattle.pb_workspace_package.specs.Wanted.{each_wanted, wanted_of}
-use Rattle.pb_workspace_package.specs.declared.draft.Draft.{Draft}
-use Rattle.pb_workspace_package.specs.declared.draft.Lists.{Lists}
-use Rattle.pb_workspace.specs.declared.frame.Frame.{Frame}
+use Rattle.pb_workspace_package.specs.declared.unresolved_package.UnresolvedPackage.{UnresolvedPackage}
+use Rattle.pb_workspace_package.specs.declared.unresolved_package.Lists.{Lists}
+use Rattle.pb_workspace.specs.declared.workspace_root.WorkspaceRoot.{WorkspaceRoot}
 use Rattle.pb_workspace_package.specs.declared.keys.Keys.{Keys}
 use Rattle.pb_workspace.specs.declared.rounds.Parts.{Parts}
-use Rattle.pb_workspace.specs.declared.rounds.Reading.{Reading}
+use Rattle.pb_workspace.specs.declared.rounds.LoadState.{LoadState}
 use Rattle.pb_workspace_package.specs.declared.settling.Given.{Given}
-use Rattle.pb_workspace_package.specs.declared.wanted.Standing.{Standing}
+use Rattle.pb_workspace_package.specs.declared.wanted.PackageLocation.{PackageLocation}
 use Rattle.pb_workspace_package.specs.declared.wanted.Wanted.{Wanted}
 use Rattle.pb_workspace.proofs.Accepted.{root_kept, target_kept}
 use Rattle.pb_workspace.proofs.FoldersPlaced.{place_there, places_are}
@@ -81,7 +81,7 @@ use Rattle.pb_workspace_laws.proofs.Keys.{own_or_taken, about_is, IsAbout, scrip
 use Rattle.pb_workspace_laws.proofs.Position.{position_is}
 
 -- the keys
-record AreKeys (sources : World) (at : Standing) (given : WorkspacePackage) (w : Written) (k : Keys) : Type 0 where
+record AreKeys (sources : World) (at : PackageLocation) (given : WorkspacePackage) (w : Written) (k : Keys) : Type 0 where
   name : k.name ≡ w.name
   version : IsOwnOrTaken w.version given.version k.version
   edition : IsOwnOrTaken w.edition given.edition k.edition
@@ -90,7 +90,7 @@ record AreKeys (sources : World) (at : Standing) (given : WorkspacePackage) (w :
   autobins : k.autobins ≡ w.autobins
   build : k.build ≡ w.build
 
-keys_are : (sources : World) (at : Standing) (given : WorkspacePackage) (w : Written) (k : Keys) → keys_of sources at given w ≡ Ok k → AreKeys sources at given w k
+keys_are : (sources : World) (at : PackageLocation) (given : WorkspacePackage) (w : Written) (k : Keys) → keys_of sources at given w ≡ Ok k → AreKeys sources at given w k
 keys_are sources at given w k h =
     let a = opened (own_or_given w.version given.version) (λ version. own_or_given w.edition given.edition >>= (λ edition. about_of at.root at.folder (readme_found at.folder sources w.readme) w given >>= (λ about.
     Ok record { name = w.name; version = version; edition = edition; about = about; links = w.links; autobins = w.autobins; build = w.build }))) k h in
@@ -109,8 +109,8 @@ keys_are sources at given w k h =
     })
 
 -- the package of a manifest
-module _ (sources : World) (at : Standing) (member : Bool) (given : Given) (ws : Workspace) (places : List (List ℕ × ℕ)) (m : Manifest) (kept : IsManifest m) (w : Written) where
-  abbrev Says : Draft → Type 0
+module _ (sources : World) (at : PackageLocation) (member : Bool) (given : Given) (ws : Workspace) (places : List (List ℕ × ℕ)) (m : Manifest) (kept : IsManifest m) (w : Written) where
+  abbrev Says : UnresolvedPackage → Type 0
   Says d = IsPackageOf sources at.root given ws m w (package_at places d)
 
   abbrev Is : DependencyKind → Dependency → Entry → Type 0
@@ -119,7 +119,7 @@ module _ (sources : World) (at : Standing) (member : Bool) (given : Given) (ws :
   abbrev Asked : DependencyKind × Dependency → Entry → Type 0
   Asked asked e = Is asked.0 asked.1 e
 
-  draft_says : (d : Draft) → draft_of sources at member given w (tables_in m) ≡ Ok d → ((x : Wanted) → Contains d.wanted x → Leads places ws x) → Says d
+  draft_says : (d : UnresolvedPackage) → draft_of sources at member given w (tables_in m) ≡ Ok d → ((x : Wanted) → Contains d.wanted x → Leads places ws x) → Says d
   unfolding draft_of draft_with
   draft_says d h leads =
       let k = opened (keys_of sources at given.package w) (λ k. draft_with sources at member given (tables_in m) k) d h in
@@ -135,7 +135,7 @@ module _ (sources : World) (at : Standing) (member : Bool) (given : Given) (ws :
       let lists : made ≡ l.0 = (λ i. record { wanted = both i; features = features_of m.features m.dependencies m.build_dependencies; has_same_binaries = has_same_binaries m.binaries }) ∙ cc (o.2) in
       let same : draft_from at member k.0 made m.dev_dependencies (targets_of at.folder sources k.0.name k.0.autobins k.0.build m.library m.binaries) ≡ d =
       (λ i. draft_from at member k.0 (lists i) m.dev_dependencies (targets_of at.folder sources k.0.name k.0.autobins k.0.build m.library m.binaries)) ∙ cc (l.2) in
-      let all = subst (λ (x : Draft). (y : Wanted) → Contains x.wanted y → Leads places ws y) (sym same) leads in
+      let all = subst (λ (x : UnresolvedPackage). (y : Wanted) → Contains x.wanted y → Leads places ws y) (sym same) leads in
       subst Says same (record {
         name = keys.name;
         version = keys.version;
@@ -162,7 +162,7 @@ module _ (sources : World) (at : Standing) (member : Bool) (given : Given) (ws :
       })
 
 -- it stands where it is said to, with these binaries
-record Stands (sources : World) (at : Standing) (member : Bool) (w : Written) (m : Manifest) (d : Draft) : Type 0 where
+record Stands (sources : World) (at : PackageLocation) (member : Bool) (w : Written) (m : Manifest) (d : UnresolvedPackage) : Type 0 where
   folder : d.folder ≡ at.folder
   manifest : d.manifest ≡ at.manifest
   is_member : d.is_member ≡ member
@@ -172,7 +172,7 @@ record Stands (sources : World) (at : Standing) (member : Bool) (w : Written) (m
   library : d.library ≡ library_of at.folder sources w.name m.library
   features : d.features ≡ features_of m.features m.dependencies m.build_dependencies
 
-stands_so : (sources : World) (at : Standing) (member : Bool) (given : Given) (w : Written) (m : Manifest) (d : Draft) → draft_of sources at member given w (tables_in m) ≡ Ok d → Stands sources at member w m d
+stands_so : (sources : World) (at : PackageLocation) (member : Bool) (given : Given) (w : Written) (m : Manifest) (d : UnresolvedPackage) → draft_of sources at member given w (tables_in m) ≡ Ok d → Stands sources at member w m d
 unfolding draft_of draft_with
 stands_so sources at member given w m d h =
     let k = opened (keys_of sources at given.package w) (λ k. draft_with sources at member given (tables_in m) k) d h in
@@ -194,7 +194,7 @@ stands_so sources at member given w m d h =
     })
 
 -- a package that was read
-record IsMade (sources : World) (f : Frame) (ws : Workspace) (places : List (List ℕ × ℕ)) (folder : List ℕ) (d : Draft) : Type 0 where
+record IsMade (sources : World) (f : WorkspaceRoot) (ws : Workspace) (places : List (List ℕ × ℕ)) (folder : List ℕ) (d : UnresolvedPackage) : Type 0 where
   own : Manifest
   read : IsManifestAt sources (below folder (codes "Cargo.toml")) own
   written : Written
@@ -202,7 +202,7 @@ record IsMade (sources : World) (f : Frame) (ws : Workspace) (places : List (Lis
   stands : Stands sources (standing_in f folder) (is_member f (member_folders sources f) folder) written own d
   says : IsPackageOf sources f.root (given_to f d.is_member) ws own written (package_at places d)
 
-package_says : (sources : World) (f : Frame) (ws : Workspace) (places : List (List ℕ × ℕ)) (folder : List ℕ) (d : Draft) → package_in sources f folder ≡ Ok d → ((x : Wanted) → Contains d.wanted x → Leads places ws x)
+package_says : (sources : World) (f : WorkspaceRoot) (ws : Workspace) (places : List (List ℕ × ℕ)) (folder : List ℕ) (d : UnresolvedPackage) → package_in sources f folder ≡ Ok d → ((x : Wanted) → Contains d.wanted x → Leads places ws x)
     → IsMade sources f ws places folder d
 package_says sources f ws places folder d h leads =
     let b : Bool = is_member f (member_folders sources f) folder in
@@ -218,27 +218,27 @@ package_says sources f ws places folder d h leads =
           (draft_says sources (standing_in f folder) b (given_to f b) ws places own.own (manifest_is own.read.bytes own.own own.read.says) own.written d own.made leads);
     }
 
-module _ (sources : World) (f : Frame) (parts : Parts) (ws : Workspace) (r : Reading) (drafts_are : ws.packages ≡ packages_of (values_of r.found)) (fine : AreFine (values_of r.found))
-    (folders : (x : List ℕ) → Contains (folders_of r.found) x ↔ IsPackageFolder sources f parts.found x) (packages : AllByRecursion (λ (e : List ℕ × Draft). package_in sources f e.0 ≡ Ok e.1) r.found) where
-  abbrev drafts : List Draft
+module _ (sources : World) (f : WorkspaceRoot) (parts : Parts) (ws : Workspace) (r : LoadState) (drafts_are : ws.packages ≡ packages_of (values_of r.found)) (fine : AreFine (values_of r.found))
+    (folders : (x : List ℕ) → Contains (folders_of r.found) x ↔ IsPackageFolder sources f parts.found x) (packages : AllByRecursion (λ (e : List ℕ × UnresolvedPackage). package_in sources f e.0 ≡ Ok e.1) r.found) where
+  abbrev drafts : List UnresolvedPackage
   drafts = values_of r.found
 
   abbrev places : List (List ℕ × ℕ)
   places = places_of drafts
 
-  leads_so : (e : List ℕ × Draft) → Contains r.found e → (x : Wanted) → Contains e.1.wanted x → Leads places ws x
+  leads_so : (e : List ℕ × UnresolvedPackage) → Contains r.found e → (x : Wanted) → Contains e.1.wanted x → Leads places ws x
   leads_so e among x there =
-      let own : package_in sources f e.0 ≡ Ok e.1 = all_at (λ (e : List ℕ × Draft). package_in sources f e.0 ≡ Ok e.1) r.found e packages among in
-      let from : IsPackageFolder sources f parts.found e.0 = (folders e.0).0 (map_each (λ (e : List ℕ × Draft). e.0) r.found e among) in
+      let own : package_in sources f e.0 ≡ Ok e.1 = all_at (λ (e : List ℕ × UnresolvedPackage). package_in sources f e.0 ≡ Ok e.1) r.found e packages among in
+      let from : IsPackageFolder sources f parts.found e.0 = (folders e.0).0 (map_each (λ (e : List ℕ × UnresolvedPackage). e.0) r.found e among) in
       let onto : LeadsTo sources f e.0 x.folder = record { owner = e.1; entry = x; package_at = own; is_there = there; leads = refl } in
       let known : Contains (folders_of r.found) x.folder = (folders x.folder).1 (onward e.0 x.folder from onto) in
       let h = place_there drafts x.folder (subst (λ xs. Contains xs x.folder) (sym (own_folders sources f r.found packages)) known) in
-      let in_drafts : Contains drafts e.1 = map_each (λ (e : List ℕ × Draft). e.1) r.found e among in
+      let in_drafts : Contains drafts e.1 = map_each (λ (e : List ℕ × UnresolvedPackage). e.1) r.found e among in
       let drafted : draft_in drafts x.folder ≡ Some h.1 = ap (at_place drafts) h.2 ∙ h.3 in
       let same_name : has_other_name x (draft_in drafts x.folder) ≡ false =
-      none_meets (λ (w : Wanted). has_other_name w (draft_in drafts w.folder)) e.1.wanted (none_meets (λ (d : Draft). list_any (λ (w : Wanted). has_other_name w (draft_in drafts w.folder)) d.wanted) drafts fine.names e.1 in_drafts) x there in
+      none_meets (λ (w : Wanted). has_other_name w (draft_in drafts w.folder)) e.1.wanted (none_meets (λ (d : UnresolvedPackage). list_any (λ (w : Wanted). has_other_name w (draft_in drafts w.folder)) d.wanted) drafts fine.names e.1 in_drafts) x there in
       let same_version : has_other_version x (draft_in drafts x.folder) ≡ false =
-      none_meets (λ (w : Wanted). has_other_version w (draft_in drafts w.folder)) e.1.wanted (none_meets (λ (d : Draft). list_any (λ (w : Wanted). has_other_version w (draft_in drafts w.folder)) d.wanted) drafts fine.versions e.1 in_drafts) x there in
+      none_meets (λ (w : Wanted). has_other_version w (draft_in drafts w.folder)) e.1.wanted (none_meets (λ (d : UnresolvedPackage). list_any (λ (w : Wanted). has_other_version w (draft_in drafts w.folder)) d.wanted) drafts fine.versions e.1 in_drafts) x there in
       let named : bytes_eq x.name h.1.name ≡ true = not_off (bytes_eq x.name h.1.name) (sym (ap (has_other_name x) drafted) ∙ same_name) in
       let right : matches_if x.version h.1.version ≡ true = not_off (matches_if x.version h.1.version) (sym (ap (has_other_version x) drafted) ∙ same_version) in
       record {
@@ -249,12 +249,12 @@ module _ (sources : World) (f : Frame) (parts : Parts) (ws : Workspace) (r : Rea
         version = matched x.version h.1.version right;
       }
 
-  all_made : (p : Package) → Contains ws.packages p → (folder : List ℕ) × (d : Draft) × IsMade sources f ws places folder d × (package_at places d ≡ p) × (d.has_same_binaries ≡ false)
+  all_made : (p : Package) → Contains ws.packages p → (folder : List ℕ) × (d : UnresolvedPackage) × IsMade sources f ws places folder d × (package_at places d ≡ p) × (d.has_same_binaries ≡ false)
   all_made p is =
       let m = map_only (package_at places) drafts p (subst (λ ps. Contains ps p) drafts_are is) in
-      let v = map_only (λ (e : List ℕ × Draft). e.1) r.found m.0 m.1 in
-      let own : package_in sources f v.0.0 ≡ Ok v.0.1 = all_at (λ (e : List ℕ × Draft). package_in sources f e.0 ≡ Ok e.1) r.found v.0 packages v.1 in
-      (v.0.0, v.0.1, package_says sources f ws places v.0.0 v.0.1 own (leads_so v.0 v.1), ap (package_at places) v.2 ∙ m.2, none_meets (λ (d : Draft). d.has_same_binaries) drafts fine.binaries v.0.1 (map_each (λ (e : List ℕ × Draft). e.1) r.found v.0 v.1))
+      let v = map_only (λ (e : List ℕ × UnresolvedPackage). e.1) r.found m.0 m.1 in
+      let own : package_in sources f v.0.0 ≡ Ok v.0.1 = all_at (λ (e : List ℕ × UnresolvedPackage). package_in sources f e.0 ≡ Ok e.1) r.found v.0 packages v.1 in
+      (v.0.0, v.0.1, package_says sources f ws places v.0.0 v.0.1 own (leads_so v.0 v.1), ap (package_at places) v.2 ∙ m.2, none_meets (λ (d : UnresolvedPackage). d.has_same_binaries) drafts fine.binaries v.0.1 (map_each (λ (e : List ℕ × UnresolvedPackage). e.1) r.found v.0 v.1))
 
 frame_root : (manifest : List ℕ) (o : Option WorkspaceTable) → ((frame_of (folder_of manifest) manifest o).root ≡ folder_of manifest) × ((frame_of (folder_of manifest) manifest o).manifest ≡ manifest)
 frame_root manifest None = (refl, refl)
@@ -265,11 +265,11 @@ module _ (manifest target : List ℕ) (w : World) (ws : Workspace) (path : is_pa
   sources = from_nothing target w
 
   module _ (root : Manifest) (there : IsManifestAt sources manifest root) (read : root_parts sources manifest ≡ Ok (parts_in root)) (made : workspace_of manifest target w ≡ Ok ws) where
-    abbrev f : Frame
+    abbrev f : WorkspaceRoot
     f = frame_at manifest (parts_in root)
 
     record Came : Type 0 where
-      r : Reading
+      r : LoadState
       packages : packages_read sources f (tables_in root) root.package ≡ Ok r
       whole : assembled target f root.profiles (values_of r.found) ≡ ws
       fine : AreFine (values_of r.found)
@@ -283,14 +283,14 @@ module _ (manifest target : List ℕ) (w : World) (ws : Workspace) (path : is_pa
         let both = by (values_of o.0.found) (fault_of (values_of o.0.found)) refl o.2 in
         record { r = o.0; packages = o.1; whole = both.0; fine = both.1 }
       where
-        by : (ds : List Draft) (o : Option LoadFault) → fault_of ds ≡ o → unless o (assembled target f root.profiles ds) ≡ Ok ws → (assembled target f root.profiles ds ≡ ws) × AreFine ds
+        by : (ds : List UnresolvedPackage) (o : Option LoadFault) → fault_of ds ≡ o → unless o (assembled target f root.profiles ds) ≡ Ok ws → (assembled target f root.profiles ds ≡ ws) × AreFine ds
         by ds None at h = (cc, fine_so ds at)
         by ds (Some fault) at h = cc
 
-    abbrev r : Reading
+    abbrev r : LoadState
     r = came.r
 
-    abbrev drafts_read : List Draft
+    abbrev drafts_read : List UnresolvedPackage
     drafts_read = values_of r.found
 
     drafts_are : ws.packages ≡ packages_of drafts_read
@@ -312,7 +312,7 @@ module _ (manifest target : List ℕ) (w : World) (ws : Workspace) (path : is_pa
     stands_there : (f.root ≡ folder_of manifest) × (f.manifest ≡ manifest)
     stands_there = frame_root manifest root.workspace
 
-    all_so : ((x : List ℕ) → Contains (folders_of r.found) x ↔ IsPackageFolder sources f root.package x) × AllByRecursion (λ (e : List ℕ × Draft). package_in sources f e.0 ≡ Ok e.1) r.found
+    all_so : ((x : List ℕ) → Contains (folders_of r.found) x ↔ IsPackageFolder sources f root.package x) × AllByRecursion (λ (e : List ℕ × UnresolvedPackage). package_in sources f e.0 ≡ Ok e.1) r.found
     all_so =
         let file = manifest_there sources manifest (parts_in root) path read in
         let at = stands_there in
@@ -355,7 +355,7 @@ module _ (manifest target : List ℕ) (w : World) (ws : Workspace) (path : is_pa
         root_is : ws.root ≡ f.root
         root_is = root_kept manifest target w ws made ∙ sym stands_there.0
 
-        package_so : (k : ℕ) (d : Draft) → slice_get drafts_read k ≡ Some d → slice_get ws.packages k ≡ Some (package_at (places_of drafts_read) d)
+        package_so : (k : ℕ) (d : UnresolvedPackage) → slice_get drafts_read k ≡ Some d → slice_get ws.packages k ≡ Some (package_at (places_of drafts_read) d)
         package_so k d at = ap (λ ps. slice_get ps k) drafts_are ∙ slice_get-map (package_at (places_of drafts_read)) drafts_read k ∙ ap (option_map (package_at (places_of drafts_read))) at
 
         onto : ws.root_package ≡ Some place → IsRootPackage place
@@ -372,7 +372,7 @@ module _ (manifest target : List ℕ) (w : World) (ws : Workspace) (path : is_pa
             root_place ∙ h.2 ∙ ap (λ k. Some k) same
 
     -- what is promised of each package
-    put_so : (es : List (List ℕ × Draft)) → AllByRecursion (λ (e : List ℕ × Draft). package_in sources f e.0 ≡ Ok e.1) es → AllByRecursion IsPut es
+    put_so : (es : List (List ℕ × UnresolvedPackage)) → AllByRecursion (λ (e : List ℕ × UnresolvedPackage). package_in sources f e.0 ≡ Ok e.1) es → AllByRecursion IsPut es
     put_so [] all = tt
     put_so (e ∷ es) all =
         let b : Bool = is_member f (member_folders sources f) e.0 in
@@ -392,7 +392,7 @@ module _ (manifest target : List ℕ) (w : World) (ws : Workspace) (path : is_pa
         subst IsSettled came.whole (assembled_settled target f root.profiles r.found few_so all (packages_up sources f (tables_in root) root.package r came.packages) came.fine.apart)
 
     abbrev Made : Package → Type 0
-    Made p = (places : List (List ℕ × ℕ)) × (folder : List ℕ) × (d : Draft) × IsMade sources f ws places folder d × (package_at places d ≡ p) × (d.has_same_binaries ≡ false)
+    Made p = (places : List (List ℕ × ℕ)) × (folder : List ℕ) × (d : UnresolvedPackage) × IsMade sources f ws places folder d × (package_at places d ≡ p) × (d.has_same_binaries ≡ false)
 
     each_made : (p : Package) → Contains ws.packages p → Made p
     each_made p is =
@@ -405,7 +405,7 @@ module _ (manifest target : List ℕ) (w : World) (ws : Workspace) (path : is_pa
         subst (λ (q : Package). (q.is_member ≡ true) ↔ IsMember sources f q.folder) a.4
         (subst (λ b. (b ≡ true) ↔ IsMember sources f a.2.folder) (sym a.3.stands.is_member) (subst (λ x. (is_member f (member_folders sources f) a.1 ≡ true) ↔ IsMember sources f x) (sym a.3.stands.folder) (member_is sources f a.1)))
 
-    binaries_so : FilesHavePaths sources → (at : List (List ℕ × ℕ)) (folder : List ℕ) (d : Draft) (m : IsMade sources f ws at folder d) → d.has_same_binaries ≡ false → HasBinaries sources m.own m.written (package_at at d)
+    binaries_so : FilesHavePaths sources → (at : List (List ℕ × ℕ)) (folder : List ℕ) (d : UnresolvedPackage) (m : IsMade sources f ws at folder d) → d.has_same_binaries ≡ false → HasBinaries sources m.own m.written (package_at at d)
     binaries_so paths at folder d m alone =
         let kept = manifest_is m.read.bytes m.own m.read.says in
         let named : is_name m.written.name ≡ true = (subst (λ o. IfSome o IsPackage) m.is_package kept.found).name in

@@ -9,17 +9,17 @@ use Rattle.pb_manifest_types.specs.declared.package.Package.{Package as Written}
 use Rattle.pb_place_types.specs.Paths.{below}
 use Rattle.pb_place_types.specs.World.{World}
 use Rattle.pb_workspace.specs.MemberFolders.{folders_meant}
-use Rattle.pb_workspace.specs.declared.frame.Frame.{Frame}
+use Rattle.pb_workspace.specs.declared.workspace_root.WorkspaceRoot.{WorkspaceRoot}
 use Rattle.pb_workspace_laws.specs.Files.{IsManifestAt}
 use Rattle.pb_workspace_laws.specs.Packages.{Asks}
 
 -- the root's folder, if the root manifest describes a package, and each folder that a text of `members` means
-pub data IsFirst (sources : World) (f : Frame) (r : Manifest) (folder : List ℕ) : Type 0 where
+pub data IsFirst (sources : World) (f : WorkspaceRoot) (r : Manifest) (folder : List ℕ) : Type 0 where
   root : (w : Written) (is_package : r.package ≡ Some w) (is : folder ≡ f.root) → IsFirst sources f r folder
   member : (text : List ℕ) (written : Contains f.members text) (means : Contains (folders_meant sources f text) folder) → IsFirst sources f r folder
 
 -- a dependency in the manifest of one folder requests the package of another
-pub record LeadsTo (sources : World) (f : Frame) (from to : List ℕ) : Type 0 where
+pub record LeadsTo (sources : World) (f : WorkspaceRoot) (from to : List ℕ) : Type 0 where
   pub own : Manifest
   pub read : IsManifestAt sources (below from (codes "Cargo.toml")) own
   pub d : Dependency
@@ -31,5 +31,5 @@ pub record LeadsTo (sources : World) (f : Frame) (from to : List ℕ) : Type 0 w
 
 -- the least set that contains the folder of the root package, the members' folders,
 -- and the folder of each path dependency of a package in the set
-abbrev pub IsPackageFolder : World → Frame → Manifest → List ℕ → Type 0
+abbrev pub IsPackageFolder : World → WorkspaceRoot → Manifest → List ℕ → Type 0
 IsPackageFolder sources f r = Reached (IsFirst sources f r) (LeadsTo sources f)

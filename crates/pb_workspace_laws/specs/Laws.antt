@@ -12,7 +12,7 @@ use Rattle.pb_place_types.specs.World.{World, from_nothing, FilesHavePaths}
 use Rattle.pb_workspace.specs.Assembled.{default_members_of}
 use Rattle.pb_workspace.specs.Frames.{frame_of, given_to}
 use Rattle.pb_workspace.specs.Loaded.{workspace_of}
-use Rattle.pb_workspace.specs.declared.frame.Frame.{Frame}
+use Rattle.pb_workspace.specs.declared.workspace_root.WorkspaceRoot.{WorkspaceRoot}
 use Rattle.pb_workspace_laws.specs.Binaries.{HasBinaries}
 use Rattle.pb_workspace_laws.specs.Files.{IsManifestAt}
 use Rattle.pb_workspace_laws.specs.Folders.{IsPackageFolder}
@@ -21,7 +21,7 @@ use Rattle.pb_workspace_laws.specs.Packages.{IsPackageOf}
 
 -- A package is that of its folder: the one that the manifest and the files there describe.
 -- A member inherits from its workspace; `f` is what the root manifest contains about it.
-pub record IsOfItsFolder (sources : World) (f : Frame) (ws : Workspace) (p : Package) : Type 0 where
+pub record IsOfItsFolder (sources : World) (f : WorkspaceRoot) (ws : Workspace) (p : Package) : Type 0 where
   pub manifest : p.manifest ≡ below p.folder (codes "Cargo.toml")
   pub own : Manifest
   pub read : IsManifestAt sources p.manifest own
@@ -32,7 +32,7 @@ pub record IsOfItsFolder (sources : World) (f : Frame) (ws : Workspace) (p : Pac
   pub binaries : FilesHavePaths sources → HasBinaries sources own written p
 
 -- what a root manifest contains about its workspace
-abbrev pub frame_in : List ℕ → Manifest → Frame
+abbrev pub frame_in : List ℕ → Manifest → WorkspaceRoot
 frame_in manifest r = frame_of (folder_of manifest) manifest r.workspace
 
 -- The workspace of the root manifest `r` at this path. Its root package is the one in the root's folder.

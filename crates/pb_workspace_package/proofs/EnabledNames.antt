@@ -4,7 +4,7 @@ use Rattle.std.proofs.Math.Seq.{drop-cons}
 use Rattle.std.proofs.lemmas.List.Folds.{list_any-append}
 use Rattle.std.specs.List.{flat_map, list_any}
 use Rattle.std.specs.Str.{bytes_eq}
-use Rattle.pb_data.specs.Mentions.{is_mentioned, mentioned_all}
+use Rattle.pb_data.specs.OrderedSet.{is_mentioned, mentioned_all}
 use Rattle.pb_data.proofs.MentionLemmas.{mentioned_all-append, mentioned_all-once, is_mentioned-once}
 use Rattle.pb_manifest_types.specs.declared.dependency.Dependency.{Dependency}
 use Rattle.pb_manifest_types.specs.declared.feature.Feature.{Feature}

@@ -4,7 +4,7 @@ use Rattle.std.specs.List.{AllByRecursion}
 use Rattle.std.specs.List.Sorted.{IsStrictlySortedBy}
 use Rattle.std.specs.Ordering.{nat_cmp}
 use Rattle.std.specs.Cmp.Lexicographic.{slice_cmp}
-use Rattle.pb_data.specs.Gives.{◌>>=◌, some_or}
+use Rattle.pb_data.specs.UnlessOom.{◌>>=◌, some_or}
 use Rattle.pb_manifest_types.specs.declared.dependency.Dependency.{Dependency}
 use Rattle.pb_manifest_types.specs.declared.dependency.Source.{Source}
 use Rattle.pb_manifest_types.specs.declared.dependency.Source.TheVariants.{Path, Workspace}

@@ -109,8 +109,8 @@ fault_at path place.Variable = Place path place.Variable
 fault_at path place.OutOfMemory = OutOfMemory
 
 -- the result is the answer, unless the outside failed or memory ran out
-abbrev pub Told : {A : Type 0} → Result A LoadFault → Result A LoadFault → Type 0
-Told result answer = MatchResult result (λ x. answer ≡ Ok x) (λ e. is_outside e ≡ false → answer ≡ Err e)
+abbrev pub UnlessFailed : {A : Type 0} → Result A LoadFault → Result A LoadFault → Type 0
+UnlessFailed result answer = MatchResult result (λ x. answer ≡ Ok x) (λ e. is_outside e ≡ false → answer ≡ Err e)
 
 -- no child was started;
 -- a call failed if and only if the fault says so, with this very

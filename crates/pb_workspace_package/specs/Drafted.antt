@@ -6,8 +6,8 @@ use Rattle.pb_manifest_types.specs.Letters.{is_name, is_crate_name, is_feature_n
 use Rattle.pb_manifest_types.specs.declared.dependency.Dependency.{Dependency}
 use Rattle.pb_manifest_types.specs.declared.feature.Feature.{Feature}
 use Rattle.pb_manifest_types.specs.declared.target.Library.{Library as WrittenLibrary}
-use Rattle.pb_workspace_package.specs.declared.draft.Draft.{Draft}
-use Rattle.pb_workspace_package.specs.declared.draft.Tables.{Tables}
+use Rattle.pb_workspace_package.specs.declared.unresolved_package.UnresolvedPackage.{UnresolvedPackage}
+use Rattle.pb_workspace_package.specs.declared.unresolved_package.Tables.{Tables}
 use Rattle.pb_workspace_types.specs.declared.package.Binary.{Binary}
 use Rattle.pb_workspace_types.specs.declared.package.Library.{Library}
 use Rattle.pb_workspace_package.specs.declared.settling.Targets.{Targets}
@@ -55,5 +55,5 @@ ArePromised t =
 abbrev pub AreTargets : Targets → Type 0
 AreTargets t = IfSome t.library IsLibraryNamed × AreBinaries t.binaries
 
-abbrev pub IsDraft : Draft → Type 0
+abbrev pub IsDraft : UnresolvedPackage → Type 0
 IsDraft d = (is_name d.name ≡ true) × IfSome d.library IsLibraryNamed × AreBinaries d.binaries × AreFeatures d.features × AllByRecursion IsWantedKeyed d.wanted

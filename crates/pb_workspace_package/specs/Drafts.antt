@@ -1,32 +1,32 @@
 -- A package as a whole: what its manifest and its folder say, with all that it takes from its workspace (The Cargo
 -- Book, Manifest Format and Workspaces). `sources` is the world without what is at or below the target folder.
 use Rattle.std.specs.Prelude.{ℕ, Bool, List, Result, Ok}
-use Rattle.pb_data.specs.Gives.{◌>>=◌}
+use Rattle.pb_data.specs.UnlessOom.{◌>>=◌}
 use Rattle.pb_place_types.specs.World.{World}
 use Rattle.pb_manifest_types.specs.declared.dependency.Dependency.{Dependency}
 use Rattle.pb_manifest_types.specs.declared.feature.Feature.{Feature}
 use Rattle.pb_manifest_types.specs.declared.package.Package.{Package}
 use Rattle.pb_manifest_types.specs.declared.target.Binary.{Binary as WrittenBinary}
-use Rattle.pb_workspace_package.specs.declared.draft.Draft.{Draft}
-use Rattle.pb_workspace_package.specs.declared.draft.Lists.{Lists}
-use Rattle.pb_workspace_package.specs.declared.draft.Tables.{Tables}
+use Rattle.pb_workspace_package.specs.declared.unresolved_package.UnresolvedPackage.{UnresolvedPackage}
+use Rattle.pb_workspace_package.specs.declared.unresolved_package.Lists.{Lists}
+use Rattle.pb_workspace_package.specs.declared.unresolved_package.Tables.{Tables}
 use Rattle.pb_workspace_types.specs.declared.fault.LoadFault.{LoadFault}
 use Rattle.pb_workspace_package.specs.declared.keys.Keys.{Keys}
 use Rattle.pb_workspace_package.specs.declared.settling.Given.{Given}
 use Rattle.pb_workspace_package.specs.declared.settling.Targets.{Targets}
-use Rattle.pb_workspace_package.specs.declared.wanted.Standing.{Standing}
+use Rattle.pb_workspace_package.specs.declared.wanted.PackageLocation.{PackageLocation}
 use Rattle.pb_workspace_package.specs.Features.{features_of}
 use Rattle.pb_workspace_package.specs.Keys.{keys_of}
 use Rattle.pb_workspace_package.specs.Settling.{has_same_binaries, targets_of, wanted_in}
 
 -- the lists of a manifest, or the first fault of an entry
-abbrev pub lists_of : Standing → Given → List Dependency → List Dependency → List Feature → List WrittenBinary → Result Lists LoadFault
+abbrev pub lists_of : PackageLocation → Given → List Dependency → List Dependency → List Feature → List WrittenBinary → Result Lists LoadFault
 lists_of at given dependencies build features binaries =
     wanted_in at given dependencies build >>= (λ wanted.
     Ok record { wanted = wanted; features = features_of features dependencies build; has_same_binaries = has_same_binaries binaries })
 
 -- the package with these parts
-abbrev pub draft_from : Standing → Bool → Keys → Lists → List (List ℕ) → Targets → Draft
+abbrev pub draft_from : PackageLocation → Bool → Keys → Lists → List (List ℕ) → Targets → UnresolvedPackage
 draft_from at is_member keys lists development targets = record {
   folder = at.folder;
   manifest = at.manifest;
@@ -46,11 +46,11 @@ draft_from at is_member keys lists development targets = record {
 }
 
 -- the package with these keys
-unfoldable pub draft_with : World → Standing → Bool → Given → Tables → Keys → Result Draft LoadFault
+unfoldable pub draft_with : World → PackageLocation → Bool → Given → Tables → Keys → Result UnresolvedPackage LoadFault
 draft_with sources at is_member given t keys =
     lists_of at given t.dependencies t.build_dependencies t.features t.binaries >>= (λ lists.
     Ok (draft_from at is_member keys lists t.dev_dependencies (targets_of at.folder sources keys.name keys.autobins keys.build t.library t.binaries)))
 
 -- the package of a manifest, or its first fault: first of its keys, then of its entries
-unfoldable pub draft_of : World → Standing → Bool → Given → Package → Tables → Result Draft LoadFault
+unfoldable pub draft_of : World → PackageLocation → Bool → Given → Package → Tables → Result UnresolvedPackage LoadFault
 draft_of sources at is_member given p t = keys_of sources at given.package p >>= (λ keys. draft_with sources at is_member given t keys)

@@ -1,8 +1,8 @@
 -- A package, settled from its manifest, its folder and what its workspace gives (The Cargo Book,
 -- Manifest Format and Workspaces). `sources` is the world without what is at or below the target folder.
 use Rattle.std.specs.Prelude.{ℕ, Bool, false, ◌||◌, if◌then◌else◌, List, [], ◌∷◌, ◌++◌, map, Option, Result, Ok}
-use Rattle.pb_data.specs.Gives.{◌>>=◌}
-use Rattle.pb_data.specs.Mentions.{is_mentioned, mentioned}
+use Rattle.pb_data.specs.UnlessOom.{◌>>=◌}
+use Rattle.pb_data.specs.OrderedSet.{is_mentioned, mentioned}
 use Rattle.pb_place_types.specs.World.{World}
 use Rattle.pb_manifest_types.specs.declared.dependency.Dependency.{Dependency}
 use Rattle.pb_manifest_types.specs.declared.inherited.Inheritable.{Inheritable}
@@ -16,7 +16,7 @@ use Rattle.pb_workspace_types.specs.declared.package.Binary.{Binary}
 use Rattle.pb_workspace_types.specs.declared.package.DependencyKind.TheVariants.{Normal, Build as ForScript}
 use Rattle.pb_workspace_package.specs.declared.settling.Given.{Given}
 use Rattle.pb_workspace_package.specs.declared.settling.Targets.{Targets}
-use Rattle.pb_workspace_package.specs.declared.wanted.Standing.{Standing}
+use Rattle.pb_workspace_package.specs.declared.wanted.PackageLocation.{PackageLocation}
 use Rattle.pb_workspace_package.specs.declared.wanted.Wanted.{Wanted}
 use Rattle.pb_workspace_package.specs.Binaries.{binaries_of, written_binary}
 use Rattle.pb_workspace_package.specs.FoundBinaries.{found_binaries}
@@ -30,7 +30,7 @@ readme_found folder sources Workspace = []
 readme_found folder sources Absent = found_readme folder sources
 
 -- what the entries of the two dependency tables request
-abbrev pub wanted_in : Standing → Given → List Dependency → List Dependency → Result (List Wanted) LoadFault
+abbrev pub wanted_in : PackageLocation → Given → List Dependency → List Dependency → Result (List Wanted) LoadFault
 wanted_in at given dependencies build =
     each_wanted (wanted_of at.root at.folder at.manifest given.dependencies Normal) dependencies >>= (λ normal.
     each_wanted (wanted_of at.root at.folder at.manifest given.dependencies ForScript) build >>= (λ for_script.

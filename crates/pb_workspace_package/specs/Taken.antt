@@ -1,7 +1,7 @@
 -- What a package says about itself, written in its manifest or taken
 -- from its workspace (The Cargo Book, Manifest Format and Workspaces).
 use Rattle.std.specs.Prelude.{ℕ, codes, List, [], ◌∷◌, ◌++◌, Option, Result, Ok, Err}
-use Rattle.pb_data.specs.Gives.{◌>>=◌, some_or}
+use Rattle.pb_data.specs.UnlessOom.{◌>>=◌, some_or}
 use Rattle.pb_place_types.specs.Paths.{joined}
 use Rattle.pb_place_types.specs.declared.path.PathFault.{PathFault}
 use Rattle.pb_manifest_types.specs.declared.inherited.Inheritable.{Inheritable}

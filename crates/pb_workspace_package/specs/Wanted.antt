@@ -3,7 +3,7 @@
 use Rattle.std.specs.Prelude.{ℕ, Bool, false, not, ◌||◌, List, [], ◌∷◌, ◌++◌, Option, Some, None, unwrap_or, Result, Ok, Err}
 use Rattle.std.specs.List.{find}
 use Rattle.std.specs.Str.{bytes_eq}
-use Rattle.pb_data.specs.Gives.{◌>>=◌, some_or}
+use Rattle.pb_data.specs.UnlessOom.{◌>>=◌, some_or}
 use Rattle.pb_manifest_types.specs.declared.dependency.Dependency.{Dependency}
 use Rattle.pb_manifest_types.specs.declared.dependency.PathSource.{PathSource}
 use Rattle.pb_manifest_types.specs.declared.dependency.Source.{Source}

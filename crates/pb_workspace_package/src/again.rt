@@ -1,15 +1,15 @@
 //! Names that repeat.
 
 ghost use Rattle.std.specs.Prelude.{◌≡◌, IfOk, OnOk};
-ghost use Rattle.pb_data.specs.Mentions.{is_mentioned, mentioned};
+ghost use Rattle.pb_data.specs.OrderedSet.{is_mentioned, mentioned};
 
-use pb_data::{Mentions, Text, TryCopy};
+use pb_data::{OrderedSet, Text, TryCopy};
 use std::alloc::{AllocError, Global};
 
 /// Returns whether a name was mentioned before, and mentions it.
 ///
 /// Errors: out of memory.
-pub fn was_mentioned(alloc: Global, seen: &mut Mentions, name: &Text) -> Result<bool, AllocError>
+pub fn was_mentioned(alloc: Global, seen: &mut OrderedSet, name: &Text) -> Result<bool, AllocError>
     ensures before { IfOk result (λ answer. answer ≡ is_mentioned seen.old name.now) }
     ensures now { OnOk result (seen.new ≡ mentioned seen.old name.now) }
 {

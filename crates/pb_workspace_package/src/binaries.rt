@@ -15,8 +15,8 @@ use crate::sorted::Sorted;
 use crate::source::resolved;
 use pb_data::{Items, Text, TryCopy};
 use pb_manifest_types::WrittenPath;
-use pb_workspace_types::{BinariesByName, Binary};
 use pb_place_types::PathText;
+use pb_workspace_types::{BinariesByName, Binary};
 use std::alloc::{AllocError, Global};
 
 /// Returns a name and what follows it.

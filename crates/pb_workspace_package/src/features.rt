@@ -2,7 +2,7 @@
 
 ghost use Rattle.std.specs.Prelude.{◌≡◌, ◌∷◌, [], ◌&&◌, List, not, IfOk, OnOk, map};
 ghost use Rattle.std.specs.List.{AllByRecursion, flat_map};
-ghost use Rattle.pb_data.specs.Mentions.{is_mentioned, mentioned_all};
+ghost use Rattle.pb_data.specs.OrderedSet.{is_mentioned, mentioned_all};
 ghost use Rattle.pb_manifest_types.specs.declared.feature.Feature.{Feature};
 ghost use Rattle.pb_manifest_types.specs.declared.feature.FeatureItem.TheVariants as item;
 ghost use Rattle.pb_workspace_package.specs.Sorted.{with_entry};
@@ -11,13 +11,17 @@ ghost use Rattle.pb_workspace_package.specs.Enabling.{named_by, named_in, AreEna
 ghost use Rattle.pb_workspace_package.specs.Drafted.{AreFeatures, IsKeyed, IsWrittenFeature};
 
 use crate::sorted::Sorted;
-use pb_data::{Items, Mentions, Text, TryCopy, with_next};
+use pb_data::{Items, OrderedSet, Text, TryCopy, with_next};
 use pb_manifest_types::{Dependency, Feature, FeatureItem};
 use pb_workspace_types::FeaturesByName;
 use std::alloc::{AllocError, Global};
 
 /// Mentions the name N of an item `dep:N`.
-fn mention_named(alloc: Global, names: &mut Mentions, item: &FeatureItem) -> Result<(), AllocError>
+fn mention_named(
+    alloc: Global,
+    names: &mut OrderedSet,
+    item: &FeatureItem,
+) -> Result<(), AllocError>
     ensures { OnOk result (names.new ≡ mentioned_all names.old (named_by item.now)) }
 {
     match item {
@@ -32,7 +36,7 @@ fn mention_named(alloc: Global, names: &mut Mentions, item: &FeatureItem) -> Res
 /// Mentions the names N of the items `dep:N`.
 fn mention_items(
     alloc: Global,
-    names: &mut Mentions,
+    names: &mut OrderedSet,
     items: &[FeatureItem],
 ) -> Result<(), AllocError>
     ensures { OnOk result (names.new ≡ mentioned_all names.old (flat_map named_by items.now)) }
@@ -46,7 +50,7 @@ fn mention_items(
 /// Mentions the names N of the items `dep:N` of features.
 fn mention_features(
     alloc: Global,
-    names: &mut Mentions,
+    names: &mut OrderedSet,
     features: &[Feature],
 ) -> Result<(), AllocError>
     ensures { OnOk result (names.new ≡ mentioned_all names.old (flat_map named_in features.now)) }
@@ -58,17 +62,17 @@ fn mention_features(
 }
 
 /// Returns the names N that some feature lists as `dep:N`.
-fn enabled_names(alloc: Global, features: &[Feature]) -> Result<Mentions, AllocError>
+fn enabled_names(alloc: Global, features: &[Feature]) -> Result<OrderedSet, AllocError>
     ensures { IfOk result (λ names. AreEnabledNames names features.now) }
 {
-    let mut names = Mentions::new(alloc);
+    let mut names = OrderedSet::new(alloc);
     mention_features(alloc, &mut names, features)?;
     Ok(names)
 }
 
 /// Returns whether an entry makes a feature of its name, given
 /// the names N that features list as `dep:N`.
-fn makes_feature(names: &Mentions, entry: &Dependency) -> bool
+fn makes_feature(names: &OrderedSet, entry: &Dependency) -> bool
     ensures { result ≡ (entry.now.optional && not (is_mentioned names.now entry.now.key)) }
 {
     entry.optional && !names.contains(&entry.key)
@@ -91,7 +95,7 @@ fn put_made(
 /// Adds the feature that an entry makes, if it makes one.
 fn add_one_made(
     alloc: Global,
-    names: &Mentions,
+    names: &OrderedSet,
     made: &mut Sorted<Items<FeatureItem>>,
     entry: &Dependency,
 ) -> Result<(), AllocError>
@@ -106,7 +110,7 @@ fn add_one_made(
 /// Adds the features that entries make, given the names N that features list as `dep:N`.
 fn add_made(
     alloc: Global,
-    names: &Mentions,
+    names: &OrderedSet,
     made: &mut Sorted<Items<FeatureItem>>,
     entries: &[Dependency],
 ) -> Result<(), AllocError>
@@ -150,7 +154,7 @@ fn listed(
 /// given the names N that features list as `dep:N`.
 fn add_all_made(
     alloc: Global,
-    names: &Mentions,
+    names: &OrderedSet,
     made: &mut Sorted<Items<FeatureItem>>,
     dependencies: &[Dependency],
     build: &[Dependency],

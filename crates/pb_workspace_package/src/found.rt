@@ -12,8 +12,8 @@ use crate::own_file::OwnFile;
 use crate::source::resolved;
 use pb_data::{Items, Text, with_next};
 use pb_manifest_types::{Build, CrateType, WrittenPath, library_name};
-use pb_workspace_types::Library;
 use pb_place_types::PathText;
+use pb_workspace_types::Library;
 use std::alloc::{AllocError, Global};
 
 /// Returns the README of a package that names none: the first of

@@ -16,8 +16,8 @@ use crate::listings::{Listings, bin_folder, own_source};
 use crate::own_file::OwnFile;
 use pb_data::{Items, Text, TryCopy};
 use pb_manifest_types::letters::is_name;
-use pb_workspace_types::Binary;
 use pb_place_types::PathText;
+use pb_workspace_types::Binary;
 use std::alloc::{AllocError, Global};
 
 /// Returns what comes before and after the first `.`.

@@ -1,7 +1,7 @@
 //! The keys of a package, each settled.
 
 ghost use Rattle.std.specs.Prelude.{◌≡◌, IfErr, false, IfOk};
-ghost use Rattle.pb_data.specs.Gives.{Gives};
+ghost use Rattle.pb_data.specs.UnlessOom.{UnlessOom};
 ghost use Rattle.pb_place_types.specs.World.{World};
 ghost use Rattle.pb_workspace_package.specs.Causes.{is_failure};
 ghost use Rattle.pb_workspace_package.specs.Listings.{AreListingsOf};
@@ -11,7 +11,7 @@ ghost use Rattle.pb_workspace_types.specs.declared.fault.LoadFault.TheVariants a
 use crate::listings::Listings;
 use crate::settling::readme_found;
 use crate::taken::{about_of, edition_of, version_of};
-use crate::wanted::Standing;
+use crate::wanted::PackageLocation;
 use pb_data::{Text, TryCopy, with_next};
 use pb_manifest_types::{Build, Edition, Package, Version, WorkspacePackage};
 use pb_workspace_types::{About, LoadFault};
@@ -77,12 +77,12 @@ fn own_keys(alloc: Global, found: &Package) -> Result<Own, AllocError>
 /// Returns the keys, with the README that was looked for.
 fn keys_from(
     alloc: Global,
-    at: &Standing,
+    at: &PackageLocation,
     given: &WorkspacePackage,
     readme: &Text,
     found: &Package,
 ) -> Result<Keys, LoadFault>
-    ensures told { Gives load_fault.OutOfMemory (λ keys. keys) result
+    ensures told { UnlessOom load_fault.OutOfMemory (λ keys. keys) result
         (keys_from at.now given.now readme.now found.now) }
     ensures name { IfOk result (λ keys. keys.name ≡ found.now.name) }
     ensures here { IfErr result (λ e. is_failure e ≡ false) }
@@ -112,12 +112,12 @@ fn keys_from(
 pub fn keys_of(
     alloc: Global,
     listings: &Listings,
-    at: &Standing,
+    at: &PackageLocation,
     given: &WorkspacePackage,
     found: &Package,
 ) -> Result<Keys, LoadFault>
     ensures told { (sources : World) → AreListingsOf at.now.folder sources listings.now
-        → Gives load_fault.OutOfMemory (λ keys. keys) result
+        → UnlessOom load_fault.OutOfMemory (λ keys. keys) result
         (keys_of sources at.now given.now found.now) }
     ensures name { IfOk result (λ keys. keys.name ≡ found.now.name) }
     ensures here { IfErr result (λ e. is_failure e ≡ false) }

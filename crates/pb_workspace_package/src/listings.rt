@@ -15,8 +15,8 @@ ghost use Rattle.pb_workspace_package.specs.Sources.{has_own_file, own_source};
 use crate::own_file::{OWN_FILES, OwnFile};
 use crate::source::{is_source, listed_sources, own_path};
 use pb_data::Items;
-use pb_workspace_types::LoadFault;
 use pb_place_types::{PathText, Place};
+use pb_workspace_types::LoadFault;
 use std::alloc::{AllocError, Global};
 
 /// What a package's folder has. These two lists decide all that is found there.
@@ -48,7 +48,7 @@ fn is_there<P: Place>(
     folder: &PathText,
     file: OwnFile,
 ) -> Result<bool, LoadFault>
-    ensures ok { IsTrue P.tells → IfOk result (λ answer. answer
+    ensures ok { IsTrue P.is_modelled → IfOk result (λ answer. answer
         ≡ is_there folder.now (from_nothing target.now (P.at place.old).world) file) }
     ensures outside { IfErr result (λ e. is_outside e ≡ true) }
     ensures quiet { OnlyLooks result (P.at place.old) (P.at place.new) }
@@ -69,7 +69,7 @@ fn files_there<P: Place>(
     target: &PathText,
     folder: &PathText,
 ) -> Result<Items<OwnFile>, LoadFault>
-    ensures ok { IsTrue P.tells → IfOk result (λ own. own
+    ensures ok { IsTrue P.is_modelled → IfOk result (λ own. own
         ≡ filter (is_there folder.now (from_nothing target.now (P.at place.old).world)) own_files) }
     ensures outside { IfErr result (λ e. is_outside e ≡ true) }
     ensures quiet { OnlyLooks result (P.at place.old) (P.at place.new) }
@@ -95,7 +95,7 @@ pub fn listings_of<P: Place>(
     target: &PathText,
     folder: &PathText,
 ) -> Result<Listings, LoadFault>
-    ensures ok { IsTrue P.tells → IfOk result
+    ensures ok { IsTrue P.is_modelled → IfOk result
         (AreListingsOf folder.now (from_nothing target.now (P.at place.old).world)) }
     ensures outside { IfErr result (λ e. is_outside e ≡ true) }
     ensures quiet { OnlyLooks result (P.at place.old) (P.at place.new) }

@@ -1,7 +1,7 @@
 //! A package, settled from its manifest, its folder and what its workspace gives.
 
 ghost use Rattle.std.specs.Prelude.{◌≡◌, ◌++◌, All, IfOk, IfErr, true, false, map, IfSome};
-ghost use Rattle.pb_data.specs.Gives.{Gives};
+ghost use Rattle.pb_data.specs.UnlessOom.{UnlessOom};
 ghost use Rattle.pb_place_types.specs.World.{World};
 ghost use Rattle.pb_manifest_types.specs.Letters.{is_name};
 ghost use Rattle.pb_workspace_package.specs.Causes.{is_failure};
@@ -19,11 +19,11 @@ use crate::found::{found_readme, library_of, script_of};
 use crate::found_binaries::found_binaries;
 use crate::keys::Keys;
 use crate::listings::Listings;
-use crate::wanted::{Standing, Wanted, each_wanted};
-use pb_data::{Items, Mentions, Text, with_next};
+use crate::wanted::{PackageLocation, Wanted, each_wanted};
+use pb_data::{Items, OrderedSet, Text, with_next};
 use pb_manifest_types::{Dependency, Inheritable, Readme, WorkspacePackage};
-use pb_workspace_types::{BinariesByName, Binary, DependencyKind, Library, LoadFault};
 use pb_place_types::PathText;
+use pb_workspace_types::{BinariesByName, Binary, DependencyKind, Library, LoadFault};
 use std::alloc::{AllocError, Global};
 
 /// What a package may take from its workspace. A package that
@@ -86,7 +86,7 @@ fn joined(first: Items<Wanted>, second: Items<Wanted>) -> Result<Items<Wanted>, 
 /// entry has no path, or has `git` or `registry`; `OutOfMemory`.
 pub fn wanted_in(
     alloc: Global,
-    at: &Standing,
+    at: &PackageLocation,
     given: &Given,
     dependencies: &[Dependency],
     build: &[Dependency],
@@ -95,7 +95,7 @@ pub fn wanted_in(
     requires build { IsAscending (map (λ d. d.key) build.now) }
     requires normal_keys { AllByRecursion IsKeyed dependencies.now }
     requires build_keys { AllByRecursion IsKeyed build.now }
-    ensures told { Gives load_fault.OutOfMemory (λ wanted. wanted) result
+    ensures told { UnlessOom load_fault.OutOfMemory (λ wanted. wanted) result
         (wanted_in at.now given.now dependencies.now build.now) }
     ensures keys { IfOk result (AllByRecursion IsWantedKeyed) }
     ensures here { IfErr result (λ e. is_failure e ≡ false) }
@@ -166,7 +166,7 @@ pub fn targets_of(
 /// Returns whether a name of these `[[bin]]` repeats, or was mentioned before.
 fn binaries_come_again(
     alloc: Global,
-    seen: &mut Mentions,
+    seen: &mut OrderedSet,
     binaries: &[pb_manifest_types::Binary],
 ) -> Result<bool, AllocError>
     ensures { IfOk result
@@ -189,7 +189,7 @@ pub fn has_same_binaries(
 ) -> Result<bool, AllocError>
     ensures { IfOk result (λ answer. answer ≡ has_same_binaries binaries.now) }
 {
-    let mut seen = Mentions::new(alloc);
+    let mut seen = OrderedSet::new(alloc);
     let again = binaries_come_again(alloc, &mut seen, binaries);
     drop(seen);
     again

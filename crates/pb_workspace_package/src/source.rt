@@ -12,8 +12,8 @@ ghost use Rattle.pb_workspace_package.specs.Sources.{resolved};
 
 use pb_data::{Bytes, Items, TryCopy};
 use pb_manifest_types::WrittenPath;
-use pb_workspace_types::LoadFault;
 use pb_place_types::{PathText, Place, PlaceFault, RelativePath};
+use pb_workspace_types::LoadFault;
 use std::alloc::{AllocError, Global};
 
 /// Returns the fault of a failed call on a path; out of memory stays so. It uses no memory.
@@ -38,7 +38,7 @@ pub fn source<P: Place>(
     path: &PathText,
     most: usize,
 ) -> Result<Option<Bytes>, LoadFault>
-    ensures ok { IsTrue P.tells → IfOk result (λ found. found ≡ option_map (take most)
+    ensures ok { IsTrue P.is_modelled → IfOk result (λ found. found ≡ option_map (take most)
         (finite.get (from_nothing target.now (P.at place.old).world).files path.now)) }
     ensures outside { IfErr result (λ e. is_outside e ≡ true) }
     ensures quiet { OnlyLooks result (P.at place.old) (P.at place.new) }
@@ -66,7 +66,7 @@ pub fn is_source<P: Place>(
     target: &PathText,
     path: &PathText,
 ) -> Result<bool, LoadFault>
-    ensures ok { IsTrue P.tells → IfOk result (λ answer. answer
+    ensures ok { IsTrue P.is_modelled → IfOk result (λ answer. answer
         ≡ has_file path.now (from_nothing target.now (P.at place.old).world)) }
     ensures outside { IfErr result (λ e. is_outside e ≡ true) }
     ensures quiet { OnlyLooks result (P.at place.old) (P.at place.new) }
@@ -94,7 +94,7 @@ pub fn listed_sources<P: Place>(
     target: &PathText,
     folder: &PathText,
 ) -> Result<Items<PathText>, LoadFault>
-    ensures ok { IsTrue P.tells → IfOk result
+    ensures ok { IsTrue P.is_modelled → IfOk result
         (λ paths. paths ≡ listed folder.now (from_nothing target.now (P.at place.old).world)) }
     ensures outside { IfErr result (λ e. is_outside e ≡ true) }
     ensures quiet { OnlyLooks result (P.at place.old) (P.at place.new) }
@@ -122,7 +122,7 @@ pub fn source_folders<P: Place>(
     target: &PathText,
     folder: &PathText,
 ) -> Result<Items<PathText>, LoadFault>
-    ensures ok { IsTrue P.tells → IfOk result (λ folders. folders
+    ensures ok { IsTrue P.is_modelled → IfOk result (λ folders. folders
         ≡ listed_folders folder.now (from_nothing target.now (P.at place.old).world)) }
     ensures outside { IfErr result (λ e. is_outside e ≡ true) }
     ensures quiet { OnlyLooks result (P.at place.old) (P.at place.new) }

@@ -1,16 +1,18 @@
 //! What a package says about itself: written in its manifest, or taken from its workspace.
 
 ghost use Rattle.std.specs.Prelude.{◌≡◌, ◌++◌, IfOk, IfErr, OnOk, false, string_bytes};
-ghost use Rattle.pb_data.specs.Gives.{Gives};
+ghost use Rattle.pb_data.specs.UnlessOom.{UnlessOom};
 ghost use Rattle.pb_workspace_package.specs.Causes.{is_failure};
 ghost use Rattle.pb_workspace_package.specs.Taken.{own_or_given, text_of, further_authors, joined_authors, authors_of, from_member, license_file_of, readme_text, given_readme, readme_of, about_of};
 ghost use Rattle.pb_workspace_types.specs.declared.fault.LoadFault.TheVariants as load_fault;
 
 use crate::between::text_between;
 use pb_data::{Items, Text, TryCopy};
-use pb_manifest_types::{Edition, Inheritable, Inherited, Package, Readme, Version, WorkspacePackage};
-use pb_workspace_types::{About, LoadFault};
+use pb_manifest_types::{
+    Edition, Inheritable, Inherited, Package, Readme, Version, WorkspacePackage,
+};
 use pb_place_types::{PathFault, PathText};
+use pb_workspace_types::{About, LoadFault};
 use std::alloc::{AllocError, Global};
 
 /// Returns a package's version.
@@ -21,7 +23,7 @@ pub fn version_of(
     own: &Inherited<Version>,
     given: &Option<Version>,
 ) -> Result<Version, LoadFault>
-    ensures told { Gives load_fault.OutOfMemory (λ version. version) result
+    ensures told { UnlessOom load_fault.OutOfMemory (λ version. version) result
         (own_or_given own.now given.now) }
     ensures here { IfErr result (λ e. is_failure e ≡ false) }
 {
@@ -52,7 +54,7 @@ pub fn edition_of(own: &Inherited<Edition>, given: Option<Edition>) -> Result<Ed
 
 /// Returns a text of a package; it is empty if it is absent.
 fn text_of(alloc: Global, own: &Inheritable<Text>, given: &Option<Text>) -> Result<Text, LoadFault>
-    ensures told { Gives load_fault.OutOfMemory (λ text. text) result (text_of own.now given.now) }
+    ensures told { UnlessOom load_fault.OutOfMemory (λ text. text) result (text_of own.now given.now) }
     ensures here { IfErr result (λ e. is_failure e ≡ false) }
 {
     match own {
@@ -96,7 +98,7 @@ fn authors_of(
     own: &Inheritable<Items<Text>>,
     given: &Option<Items<Text>>,
 ) -> Result<Text, LoadFault>
-    ensures told { Gives load_fault.OutOfMemory (λ text. text) result
+    ensures told { UnlessOom load_fault.OutOfMemory (λ text. text) result
         (authors_of own.now given.now) }
     ensures here { IfErr result (λ e. is_failure e ≡ false) }
 {
@@ -135,7 +137,7 @@ fn license_file_of(
     own: &Inheritable<Text>,
     given: &Option<Text>,
 ) -> Result<Text, LoadFault>
-    ensures told { Gives load_fault.OutOfMemory (λ text. text) result
+    ensures told { UnlessOom load_fault.OutOfMemory (λ text. text) result
         (license_file_of root.now folder.now own.now given.now) }
     ensures here { IfErr result (λ e. is_failure e ≡ false) }
 {
@@ -185,7 +187,7 @@ fn readme_of(
     own: &Inheritable<Readme>,
     given: &Option<Readme>,
 ) -> Result<Text, LoadFault>
-    ensures told { Gives load_fault.OutOfMemory (λ text. text) result
+    ensures told { UnlessOom load_fault.OutOfMemory (λ text. text) result
         (readme_of root.now folder.now found.now own.now given.now) }
     ensures here { IfErr result (λ e. is_failure e ≡ false) }
 {
@@ -212,7 +214,7 @@ pub fn about_of(
     said: &Package,
     given: &WorkspacePackage,
 ) -> Result<About, LoadFault>
-    ensures told { Gives load_fault.OutOfMemory (λ about. about) result
+    ensures told { UnlessOom load_fault.OutOfMemory (λ about. about) result
         (about_of root.now folder.now found.now said.now given.now) }
     ensures here { IfErr result (λ e. is_failure e ≡ false) }
 {

@@ -1,7 +1,7 @@
 //! What the entries of a package request, with what they take from the workspace.
 
 ghost use Rattle.std.specs.Prelude.{◌≡◌, ◌++◌, IfOk, IfErr, OnOk, false, unwrap_or};
-ghost use Rattle.pb_data.specs.Gives.{Gives};
+ghost use Rattle.pb_data.specs.UnlessOom.{UnlessOom};
 ghost use Rattle.pb_workspace_package.specs.Causes.{is_failure};
 ghost use Rattle.pb_workspace_package.specs.Wanted.{is_renamed, wanted_at, taken_from, wanted_by, wanted_of, each_wanted};
 ghost use Rattle.pb_workspace_types.specs.declared.fault.LoadFault.TheVariants as load_fault;
@@ -13,8 +13,8 @@ use pb_manifest_types::{
     Dependency, ManifestFault, PathSource, Requirement, Source, WorkspaceDependency,
     WorkspaceSource,
 };
-use pb_workspace_types::{DependencyKind, LoadFault};
 use pb_place_types::PathText;
+use pb_workspace_types::{DependencyKind, LoadFault};
 use std::alloc::{AllocError, Global};
 
 /// An entry of `[dependencies]` or `[build-dependencies]` whose
@@ -43,7 +43,7 @@ pub struct Wanted {
 
 /// Where an entry is written.
 #[derive(Drop)]
-pub struct Standing {
+pub struct PackageLocation {
     /// The workspace's root.
     pub root: PathText,
     /// The package's folder.
@@ -139,13 +139,13 @@ fn unsupported(alloc: Global, manifest: &PathText) -> Result<LoadFault, AllocErr
 /// Returns what an entry requests that takes one of the workspace's.
 fn taken_from(
     alloc: Global,
-    at: &Standing,
+    at: &PackageLocation,
     kind: DependencyKind,
     entry: &Dependency,
     default_features: bool,
     shared: &WorkspaceDependency,
 ) -> Result<Wanted, LoadFault>
-    ensures told { Gives load_fault.OutOfMemory (λ wanted. wanted) result
+    ensures told { UnlessOom load_fault.OutOfMemory (λ wanted. wanted) result
         (taken_from at.now.root at.now.manifest kind entry.now default_features
         shared.now shared.now.source) }
     ensures here { IfErr result (λ e. is_failure e ≡ false) }
@@ -174,12 +174,12 @@ fn taken_from(
 /// with `UnsupportedSource`, if that entry has no path, or has `git` or `registry`.
 fn wanted_of(
     alloc: Global,
-    at: &Standing,
+    at: &PackageLocation,
     given: &SharedByKey,
     kind: DependencyKind,
     entry: &Dependency,
 ) -> Result<Wanted, LoadFault>
-    ensures told { Gives load_fault.OutOfMemory (λ wanted. wanted) result
+    ensures told { UnlessOom load_fault.OutOfMemory (λ wanted. wanted) result
         (wanted_of at.now.root at.now.folder at.now.manifest given.now kind entry.now) }
     ensures here { IfErr result (λ e. is_failure e ≡ false) }
 {
@@ -210,12 +210,12 @@ fn wanted_of(
 /// Errors: `NoInherited`; `Manifest` with `UnsupportedSource`; `OutOfMemory`.
 pub fn each_wanted(
     alloc: Global,
-    at: &Standing,
+    at: &PackageLocation,
     given: &SharedByKey,
     kind: DependencyKind,
     entries: &[Dependency],
 ) -> Result<Items<Wanted>, LoadFault>
-    ensures told { Gives load_fault.OutOfMemory (λ wanted. wanted) result
+    ensures told { UnlessOom load_fault.OutOfMemory (λ wanted. wanted) result
         (each_wanted (wanted_of at.now.root at.now.folder at.now.manifest given.now kind)
         entries.now) }
     ensures here { IfErr result (λ e. is_failure e ≡ false) }

@@ -33,8 +33,8 @@ impl<C> Memory<C> {
     /// Fails with a call's own fault, as the fuse decides. If memory ran out for the call's value,
     /// the fuse stays.
     fn fail<T>(&mut self, call: Result<Call, AllocError>) -> Result<T, PlaceFault>
-        requires burns { self.old.fuse ≡ 1 }
-        ensures burns { IfOk result (λ _. ⊥) }
+        requires fails_now { self.old.fuse ≡ 1 }
+        ensures fails_now { IfOk result (λ _. ⊥) }
         ensures fault { IfErr result (λ e. e ≢ PlaceFault.OutOfMemory
             → IfOk call (λ it. e ≡ own_fault it)) }
         ensures state { IfOk call (λ it. self.new ≡ called it result self.old) }
@@ -51,8 +51,8 @@ impl<C> Memory<C> {
     /// Fails as a write: writes the first half of the bytes, rounded down, unless memory runs out.
     #[tactic(auto, using(pb_place_types::proofs::Worlds::failing_laws, crate::proofs::Changing::changing_laws))]
     fn tear(&mut self, alloc: Global, path: &PathText, bytes: &[u8]) -> Result<(), PlaceFault>
-        requires burns { self.old.fuse ≡ 1 }
-        ensures burns { IfOk result (λ _. ⊥) }
+        requires fails_now { self.old.fuse ≡ 1 }
+        ensures fails_now { IfOk result (λ _. ⊥) }
         ensures fault { IfErr result (λ e. e ≢ PlaceFault.OutOfMemory → e ≡ PlaceFault.Write) }
         ensures err { OnErr result (Torn path.now bytes.now self.old.world self.new.world) }
         ensures only { ChangesOnly (is_at_or_below path.now) self.old.world self.new.world }
@@ -74,8 +74,8 @@ impl<C> Memory<C> {
     /// out.
     #[tactic(auto, using(crate::proofs::Changing::changing_laws))]
     fn halve(&mut self, alloc: Global, path: &PathText) -> Result<(), PlaceFault>
-        requires burns { self.old.fuse ≡ 1 }
-        ensures burns { IfOk result (λ _. ⊥) }
+        requires fails_now { self.old.fuse ≡ 1 }
+        ensures fails_now { IfOk result (λ _. ⊥) }
         ensures fault { IfErr result (λ e. e ≢ PlaceFault.OutOfMemory → e ≡ PlaceFault.Remove) }
         ensures err { OnErr result (PartlyRemoved path.now self.old.world self.new.world) }
         ensures only { ChangesOnly (is_at_or_below path.now) self.old.world self.new.world }
@@ -96,7 +96,7 @@ impl<C> Memory<C> {
 
 #[tactic(auto, using(crate::proofs::InFlight::tally_laws, pb_place_types::proofs::Worlds::failing_laws, crate::proofs::Changing::changing_laws))]
 impl<C: Child> Place for Memory<C> {
-    ghost tells = { true };
+    ghost is_modelled = { true };
 
     ghost at = { at_in };
 

@@ -108,16 +108,16 @@ fn ending(fault: StartFault) -> StartFault
 
 /// Returns the fault with which a child ends now: `Died` if the fuse is 1, else its own fate, if it
 /// has one.
-fn fate_now(burns: bool, kept: Option<StartFault>) -> Option<StartFault>
-    ensures burnt { burns ≡ true → result ≡ Some StartFault.Died }
-    ensures none { burns ≡ false → kept ≡ None → result ≡ None }
-    ensures fated { burns ≡ false
+fn fate_now(fails_now: bool, kept: Option<StartFault>) -> Option<StartFault>
+    ensures burnt { fails_now ≡ true → result ≡ Some StartFault.Died }
+    ensures none { fails_now ≡ false → kept ≡ None → result ≡ None }
+    ensures exit_fails { fails_now ≡ false
         → IfSome kept (λ e. e ≢ StartFault.CannotStart → result ≡ Some e) }
-    ensures doomed { burns ≡ false → IfSome result (λ e. is_some kept ≡ true) }
+    ensures doomed { fails_now ≡ false → IfSome result (λ e. is_some kept ≡ true) }
     ensures end { IfSome result (λ e. (e ≡ StartFault.OutOfMemory)
         ⊎ ((e ≡ StartFault.Died) ⊎ (e ≡ StartFault.Capture))) }
 {
-    if burns {
+    if fails_now {
         return Some(StartFault::Died);
     }
     match kept {
@@ -238,9 +238,9 @@ impl<C: Child> Memory<C> {
         ensures fails { IfErr result (λ e. e ≢ StartFault.OutOfMemory → may_fail self.old ≡ true) }
         ensures later { may_fail self.new ≡ true → may_fail self.old ≡ true }
     {
-        let burns = self.fuse == 1;
+        let fails_now = self.fuse == 1;
         self.fuse = self.fuse.saturating_sub(1);
-        if burns {
+        if fails_now {
             return Err(StartFault::CannotStart);
         }
         let fate = fate(self.deaths.as_slice(), &command.out);

@@ -1,16 +1,16 @@
 //! Runs of units in which one call of the place fails, each call in turn.
 
 ghost use Rattle.std.specs.Prelude.{◌≡◌};
-ghost use Rattle.pb_run.specs.Standing.{records_folder};
+ghost use Rattle.pb_run.specs.Invariants.{records_folder};
 
 use crate::units::ready::{Bench, bench_of, project_in};
 use crate::units::steps::{call, make_steps, parts_of, reopen, words_of};
 use crate::units::trials::FILES;
-use pb_tests_files::{Shown, Untold, put_files};
-use pb_place::Memory;
 use pb_mini::Mini;
+use pb_place::Memory;
 use pb_place_types::Place;
 use pb_run::OrderedProject;
+use pb_tests_files::{Shown, Untold, put_files};
 use std::alloc::Global;
 use std::test::Fail;
 

@@ -1,19 +1,19 @@
 //! What units are run with: the project of files in memory, and the store of its records.
 
 ghost use Rattle.std.specs.Prelude.{◌≡◌, IfOk};
-ghost use Rattle.pb_run.specs.Standing.{records_folder};
+ghost use Rattle.pb_run.specs.Invariants.{records_folder};
 
 use pb_build::plan_build;
-use pb_tests_files::{Untold, no_options};
+use pb_command_types::Setup;
 use pb_data::{Bytes, Items, Text};
 use pb_directive::Directives;
-use pb_place::Memory;
 use pb_mini::Mini;
+use pb_place::Memory;
 use pb_place_types::{PathText, RelativePath};
 use pb_profile::folder_of;
-use pb_command_types::Setup;
 use pb_run::OrderedProject;
 use pb_store::Store;
+use pb_tests_files::{Untold, no_options};
 use std::alloc::{AllocError, Global};
 use std::test::Fail;
 

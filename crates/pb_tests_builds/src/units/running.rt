@@ -3,16 +3,16 @@
 ghost use Rattle.std.specs.Prelude.{◌≡◌, IfSome, Some, true, slice_get};
 ghost use Rattle.pb_place_types.specs.Children.{is_flying};
 ghost use Rattle.pb_place.specs.Memory.{counts_in};
-ghost use Rattle.pb_run.specs.Halves.{child_of};
-ghost use Rattle.pb_run.specs.Standing.{records_folder};
+ghost use Rattle.pb_run.specs.UnitSteps.{child_of};
+ghost use Rattle.pb_run.specs.Invariants.{records_folder};
 
 use crate::units::ready::{Bench, Told};
 use pb_build_result::{BuildFault, Summary, result_line};
-use pb_tests_files::Untold;
-use pb_mini::Mini;
 use pb_command_types::unit_at;
+use pb_mini::Mini;
 use pb_run::{Awaited, Begun, OrderedProject, Outcome, begin_unit, drop_unit, run_unit};
 use pb_store::Difference;
+use pb_tests_files::Untold;
 use pb_unit::Planned;
 use std::alloc::{AllocError, Global};
 

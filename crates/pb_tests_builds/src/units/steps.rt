@@ -2,17 +2,17 @@
 
 ghost use Rattle.std.specs.Prelude.{◌≡◌, ◌≢◌};
 ghost use Rattle.pb_place_types.specs.declared.place.StartFault.TheVariants as StartFault;
-ghost use Rattle.pb_run.specs.Standing.{records_folder};
+ghost use Rattle.pb_run.specs.Invariants.{records_folder};
 
 use crate::units::ready::{Bench, put_file, store_of};
 use crate::units::running::{begin_and_drop, run};
-use pb_tests_files::Untold;
-use pb_data::{Bytes, Text};
-use pb_place::Memory;
-use pb_mini::Mini;
-use pb_place_types::{PathText, Place, StartFault};
 use pb_command_types::Setup;
+use pb_data::{Bytes, Text};
+use pb_mini::Mini;
+use pb_place::Memory;
+use pb_place_types::{PathText, Place, StartFault};
 use pb_run::OrderedProject;
+use pb_tests_files::Untold;
 use std::alloc::Global;
 use std::test::Fail;
 

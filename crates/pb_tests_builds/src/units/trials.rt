@@ -2,10 +2,10 @@
 
 use crate::units::ready::{bench_of, project_in};
 use crate::units::steps::{make_steps, parts_of};
-use pb_tests_files::{Shown, Untold, put_files};
-use pb_place::Memory;
 use pb_mini::Mini;
+use pb_place::Memory;
 use pb_run::OrderedProject;
+use pb_tests_files::{Shown, Untold, put_files};
 use std::alloc::Global;
 use std::test::Fail;
 

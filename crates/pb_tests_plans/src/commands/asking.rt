@@ -2,13 +2,13 @@
 
 use crate::commands::making::file_of;
 use crate::commands::show::{put_answer, put_part, put_path};
-use pb_tests_files::{Shown, Silent};
 use pb_command::{answered, command};
+use pb_command_types::{Project, Setup, crate_name_of, dep_info_path, made_file};
 use pb_data::{Bytes, Items, Text};
 use pb_directive::Directives;
 use pb_place::Memory;
 use pb_place_types::{Command, Ended};
-use pb_command_types::{Project, Setup, crate_name_of, dep_info_path, made_file};
+use pb_tests_files::{Shown, Silent};
 use pb_unit::Planned;
 use std::alloc::{AllocError, Global};
 use std::test::Fail;

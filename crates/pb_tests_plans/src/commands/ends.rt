@@ -3,12 +3,12 @@
 use crate::commands::making::{options_of, project_of};
 use crate::commands::show::{put_answer, put_rest};
 use crate::show::put_texts;
-use pb_tests_files::{Shown, Silent, put_files};
 use pb_command::{answered, ended_fault, query};
+use pb_command_types::{Project, UnitFault};
 use pb_data::{Bytes, Text};
 use pb_place::Memory;
 use pb_place_types::{Command, Ended};
-use pb_command_types::{Project, UnitFault};
+use pb_tests_files::{Shown, Silent, put_files};
 use pb_unit::Planned;
 use std::alloc::{AllocError, Global};
 use std::test::Fail;

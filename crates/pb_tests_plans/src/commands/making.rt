@@ -1,15 +1,15 @@
 //! Projects of tests, from files in memory.
 
-use pb_tests_files::{Silent, no_options, workspace_in};
+use pb_command_types::Project;
 use pb_data::{Bytes, Items, Text, TryCopy};
 use pb_directive::{Directives, read_directives};
 use pb_feature::{Features, resolve};
 use pb_place::Memory;
-use pb_workspace_types::{Options, SelectedWorkspace, SettledWorkspace};
 use pb_place_types::PathText;
-use pb_command_types::Project;
+use pb_tests_files::{Silent, no_options, workspace_in};
 use pb_unit::{Plan, Planned, What};
 use pb_workspace::selected;
+use pb_workspace_types::{Options, SelectedWorkspace, SettledWorkspace};
 use std::alloc::{AllocError, Global};
 use std::test::Fail;
 

@@ -1,12 +1,12 @@
 //! Commands and answers as texts.
 
 use crate::show::put_texts;
-use pb_tests_files::Shown;
+use pb_command_types::{CheckedReply, UnitFault};
 use pb_data::Text;
 use pb_directive::Directives;
 use pb_place_types::{Command, PathText};
-use pb_command_types::{Answered, UnitFault};
 use pb_record::InputName;
+use pb_tests_files::Shown;
 
 /// Puts the words behind the one that says what a panic does.
 fn put_tail(out: &mut Shown, words: &[Text]) {
@@ -92,7 +92,7 @@ fn put_count(out: &mut Shown, directives: &Option<Directives>) {
 
 /// Puts what a good answer gives: how many directives there are, and the inputs, each a path or the name of a variable
 /// behind a `$`.
-fn put_good(out: &mut Shown, answer: &Answered) {
+fn put_good(out: &mut Shown, answer: &CheckedReply) {
     put_count(out, &answer.directives);
     for input in answer.inputs.as_slice() {
         match input {
@@ -103,7 +103,7 @@ fn put_good(out: &mut Shown, answer: &Answered) {
 }
 
 /// Puts what an answer gives, or its fault by its name.
-pub fn put_answer(out: &mut Shown, answer: &Result<Answered, UnitFault>) {
+pub fn put_answer(out: &mut Shown, answer: &Result<CheckedReply, UnitFault>) {
     match answer {
         Ok(answer) => put_good(out, answer),
         Err(UnitFault::ForeignInput(path)) => out.put(&["ForeignInput(", path.as_str(), ")"]),

@@ -3,9 +3,9 @@
 use crate::commands::asking::{Case, put_asked, setup_of};
 use crate::commands::cases::CASES;
 use crate::commands::making::{done_of, options_of, project_of};
-use pb_tests_files::{Shown, Silent, put_files};
-use pb_place::Memory;
 use pb_command_types::Project;
+use pb_place::Memory;
+use pb_tests_files::{Shown, Silent, put_files};
 use pb_unit::Planned;
 use std::alloc::Global;
 use std::process::Abort;

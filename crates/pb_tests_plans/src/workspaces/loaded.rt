@@ -3,11 +3,11 @@
 use crate::asking::{options_of, parts_of};
 use crate::workspaces::cases::CASES;
 use crate::workspaces::show::{put_answer, put_places};
-use pb_tests_files::{Shown, Silent, put_files, workspace_in};
 use pb_place::Memory;
-use pb_workspace_types::{LoadFault, SelectedWorkspace, SettledWorkspace};
 use pb_place_types::{PathFault, PathText, Place};
+use pb_tests_files::{Shown, Silent, put_files, workspace_in};
 use pb_workspace::{load, selected};
+use pb_workspace_types::{LoadFault, SelectedWorkspace, SettledWorkspace};
 use std::alloc::Global;
 use std::process::Abort;
 use std::test::Fail;

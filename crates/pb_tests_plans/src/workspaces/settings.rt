@@ -2,15 +2,15 @@
 
 use crate::workspaces::places::PLACES;
 use crate::workspaces::profiles::PROFILES;
-use pb_tests_files::Shown;
 use pb_data::{Items, Text};
-use pb_manifest_types::{Edition, ManifestFault, Profile, Version};
 use pb_manifest::read_manifest;
+use pb_manifest_types::{Edition, ManifestFault, Profile, Version};
+use pb_place_types::PathText;
+use pb_profile::{ProfileFault, Settings, folder_of, lines_follow_inherits, values_are_found};
+use pb_tests_files::Shown;
 use pb_workspace_types::{
     About, BinariesByName, DefaultMembers, EntriesByKey, FeaturesByName, Package, Side, Workspace,
 };
-use pb_place_types::PathText;
-use pb_profile::{ProfileFault, Settings, folder_of, lines_follow_inherits, values_are_found};
 use std::alloc::Global;
 use std::mem;
 use std::process::Abort;

@@ -1,8 +1,8 @@
 //! A workspace as lines of text: what is there, defaults left out.
 
-use pb_tests_files::Shown;
 use pb_data::Text;
 use pb_manifest_types::{Edition, Feature, FeatureItem};
+use pb_tests_files::Shown;
 use pb_workspace_types::{
     About, Binary, DefaultMembers, DependencyKind, Entry, Library, LoadFault, Package,
     SettledWorkspace, Workspace,

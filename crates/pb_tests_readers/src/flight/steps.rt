@@ -1,8 +1,8 @@
 //! Steps on a plan by hand.
 
-use pb_tests_files::Shown;
 use pb_data::{Bytes, Items};
 use pb_run_flight::{Answer, Flight};
+use pb_tests_files::Shown;
 use std::alloc::{AllocError, Global};
 
 /// A step.

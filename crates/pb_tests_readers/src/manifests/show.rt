@@ -1,12 +1,12 @@
 //! A manifest in one line: what is written, and defaults only where a rule gives one.
 
-use pb_tests_files::Shown;
 use pb_data::{Items, Text};
 use pb_manifest_types::{
     Binary, Build, Dependency, Feature, FeatureItem, Inheritable, Inherited, Library, Manifest,
     Package, PathSource, Profile, ProfileKeys, Readme, Source, WorkspaceDependency,
     WorkspacePackage, WorkspaceSource, WorkspaceTable, WrittenPath,
 };
+use pb_tests_files::Shown;
 use std::fmt::Debug;
 
 /// Puts a manifest in one line.

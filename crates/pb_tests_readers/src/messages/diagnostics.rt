@@ -1,7 +1,7 @@
 //! Diagnostics, taken from a standard error.
 
-use pb_tests_files::{Shown, holds};
 use pb_message::diagnostics;
+use pb_tests_files::{Shown, holds};
 use std::alloc::{AllocError, Global};
 
 /// Whether these are the diagnostics of a standard error, each with `;` behind it.

@@ -138,7 +138,7 @@ fn is_told(
 }
 
 /// Whether the line about a target, with what is told of it, is the wanted one of this number.
-fn tells(
+fn is_modelled(
     alloc: Global,
     about: About,
     fresh: bool,
@@ -146,9 +146,9 @@ fn tells(
     number: usize,
 ) -> Result<bool, Fail> {
     let message = message(alloc, told)?;
-    let tells = is_told(alloc, about, fresh, &message, number);
+    let is_modelled = is_told(alloc, about, fresh, &message, number);
     drop(message);
-    tells
+    is_modelled
 }
 
 /// What each of the wanted lines is about, whether that is fresh, and what is told of it.
@@ -257,7 +257,7 @@ fn lines(rt: HostRuntime) -> Result<(), Fail> {
     for (number, case) in LINES.iter().enumerate() {
         let (about, fresh, told) = *case;
         assert!(rt;
-            tells(rt.alloc(), about, fresh, told, number)?,
+            is_modelled(rt.alloc(), about, fresh, told, number)?,
             "line {number}"
         );
     }

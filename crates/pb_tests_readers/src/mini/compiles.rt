@@ -2,11 +2,11 @@
 
 use super::views::{Broken, Files};
 use super::worlds::{Case, answer_in, answers, words_of, world};
-use pb_tests_files::holds;
 use pb_data::{Bytes, Items, Text, with_next};
 use pb_mini::laws::{is_honest, tells_names};
 use pb_mini::{Mini, answer};
 use pb_place_types::{Child, Command, PathText, Reply, View, ViewFault};
+use pb_tests_files::holds;
 use std::alloc::Global;
 
 /// Words of a compile of `/w/src/lib.rs` in the order of a whole build, with a bar between them. The first ten say

@@ -1,9 +1,9 @@
 //! What the small compiler tells of its files and variables, read as the builder reads it.
 
 use super::worlds::answer_in;
-use crate::directives::tells;
-use pb_tests_files::holds;
+use crate::directives::is_modelled;
 use pb_place_types::{Reply, ViewFault};
+use pb_tests_files::holds;
 use std::alloc::Global;
 
 /// Words of a compile into a folder whose name needs care.
@@ -46,7 +46,7 @@ static SOURCES: &[(&[u8], &str)] = &[
 /// Whether this is read in a reply's last file, which is its dep-info.
 fn has_told(alloc: Global, reply: &Reply, wanted: &str) -> bool {
     match reply.files.as_slice().last() {
-        Some(file) => file.0.as_str() == "c.d" && tells(alloc, file.1.as_slice(), wanted),
+        Some(file) => file.0.as_str() == "c.d" && is_modelled(alloc, file.1.as_slice(), wanted),
         None => false,
     }
 }

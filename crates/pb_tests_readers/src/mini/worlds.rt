@@ -2,10 +2,10 @@
 
 use super::views::Files;
 use crate::texts::add_pair;
-use pb_tests_files::holds;
 use pb_data::{Bytes, Items, Text, with_next};
 use pb_mini::answer;
 use pb_place_types::{Reply, ViewFault};
+use pb_tests_files::holds;
 use std::alloc::{AllocError, Global};
 
 /// Files by their paths, behind one more of each case.

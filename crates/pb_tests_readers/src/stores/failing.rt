@@ -1,11 +1,11 @@
 //! Calls of the store in which one call of the place fails, each call in turn.
 
 use crate::stores::steps::{begin, call, open_again, step, tell_difference};
-use pb_tests_files::{Shown, Untold};
-use pb_place::Memory;
 use pb_mini::Mini;
+use pb_place::Memory;
 use pb_place_types::Place;
 use pb_store::Store;
+use pb_tests_files::{Shown, Untold};
 use std::alloc::Global;
 use std::test::Fail;
 

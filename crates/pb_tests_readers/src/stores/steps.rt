@@ -6,13 +6,13 @@ ghost use Rattle.pb_store_soundness.specs.Records.{out_of};
 
 use crate::stores::units::{command_with, ended, input_names, needs, own_command, own_key};
 use crate::stores::world::{prepare, put_file, put_first, replaced, take_away, text_at};
-use pb_tests_files::{Shown, Untold};
 use pb_data::{Items, with_next};
-use pb_place::Memory;
 use pb_mini::Mini;
+use pb_place::Memory;
 use pb_place_types::{Command, Ended, PathText};
 use pb_record::InputName;
 use pb_store::{Compared, Difference, Key, OpenFault, Replayed, Store, StoreFault};
+use pb_tests_files::{Shown, Untold};
 use std::alloc::Global;
 use std::mem;
 use std::test::Fail;

@@ -1,10 +1,10 @@
 //! Trials: steps on a profile folder, and what they tell.
 
 use crate::stores::steps::{begin, step};
-use pb_tests_files::{Shown, Untold};
-use pb_place::Memory;
 use pb_mini::Mini;
+use pb_place::Memory;
 use pb_store::Store;
+use pb_tests_files::{Shown, Untold};
 use std::alloc::Global;
 use std::test::Fail;
 
@@ -29,16 +29,16 @@ fn is_right(alloc: Global, line: &str) -> Result<bool, Fail> {
     let mut place = Untold {
         inside: Memory::new(alloc, Mini),
     };
-    let tells = match begin(alloc, &mut place) {
+    let is_modelled = match begin(alloc, &mut place) {
         Ok(mut store) => {
-            let tells = tells_with(alloc, &mut place, &mut store, line);
+            let is_modelled = tells_with(alloc, &mut place, &mut store, line);
             drop(store);
-            tells
+            is_modelled
         }
         Err(fault) => Err(fault),
     };
     drop(place);
-    tells
+    is_modelled
 }
 
 /// What differs first, for both formats.

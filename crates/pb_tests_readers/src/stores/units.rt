@@ -7,7 +7,7 @@ ghost use Rattle.pb_store_soundness.specs.Records.{is_key, out_of};
 use crate::stores::world::{OWN, replaced};
 use pb_data::{Bytes, Items, Text, TryCopy};
 use pb_place_types::{Command, Ended, PathFault, PathText, RelativePath};
-use pb_record::{Asked, InputName, Record, read_record};
+use pb_record::{InputName, Record, RecordedCommand, read_record};
 use pb_store::Key;
 use std::alloc::{AllocError, Global};
 use std::test::Fail;
@@ -58,7 +58,7 @@ pub fn ended(alloc: Global) -> Result<Ended, AllocError> {
 }
 
 /// What was asked, by the text of a record.
-fn asked_in(alloc: Global, text: &str) -> Result<Asked, Fail> {
+fn asked_in(alloc: Global, text: &str) -> Result<RecordedCommand, Fail> {
     match read_record(alloc, text.as_bytes())? {
         Some(kept) => {
             let Record {
@@ -89,7 +89,7 @@ pub fn command_with(alloc: Global, old: &str, new: &str) -> Result<Command, Fail
 }
 
 /// What was asked, as a command that writes into this folder.
-fn with_out(asked: Asked, out: PathText) -> Command
+fn with_out(asked: RecordedCommand, out: PathText) -> Command
     ensures out { result.out ≡ Some out }
     ensures sorted { are_sorted result.pairs ≡ true }
 {

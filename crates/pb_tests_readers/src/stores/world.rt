@@ -1,10 +1,10 @@
 //! A profile folder in memory: a unit that was built over another one, with all as it was then.
 
-use pb_tests_files::Shown;
 use pb_data::Bytes;
-use pb_place::Memory;
 use pb_mini::Mini;
+use pb_place::Memory;
 use pb_place_types::PathText;
+use pb_tests_files::Shown;
 use std::alloc::{AllocError, Global};
 use std::test::Fail;
 

@@ -1,5 +1,5 @@
 use Rattle.std.proofs.Common.{◌∙◌, refl, inl, inr}
-use Rattle.pb_build_turns.specs.Crew.{moment}
+use Rattle.pb_build_turns.specs.Executor.{moment}
 use Rattle.pb_build.specs.AnyPlan as plan
 use Rattle.pb_build.proofs.Preparing.{most_from, unheard}
 use Rattle.pb_build.proofs.builder.work.Goals as goal
@@ -9,14 +9,14 @@ returns-in-Err-clause-works g c = λ from planned. inl record {
   none_began = record {
     fault = c.in-Err.fault;
     answer = refl;
-    why = c.in-Err.ensures.fails from (unheard g.P.Place.tells c.args.options.now c.args.plan from _ planned);
+    why = c.in-Err.ensures.fails from (unheard g.P.Place.is_modelled c.args.options.now c.args.plan from _ planned);
     stays = λ told. c.in-Err.ensures.same ∙ planned.stays told;
     most = most_from _ _ _ planned.most c.in-Err.ensures.most;
     heard = planned.heard;
     landed = c.in-Err.ensures.landed;
   };
   unasked = refl;
-  calls = λ told. c.in-Err.ensures.stops told from (unheard g.P.Place.tells c.args.options.now c.args.plan from _ planned);
+  calls = λ told. c.in-Err.ensures.stops told from (unheard g.P.Place.is_modelled c.args.options.now c.args.plan from _ planned);
 }
 
 pub returns-clause-works : goal.returns-clause-works
@@ -24,7 +24,7 @@ returns-clause-works g c = λ from planned. inr record {
   prepared = c.in-Ok.prepared;
   mid = moment (g.P.Place.at c.prepare.new.place) (g.O.Out.heard c.args.out.now);
   heard = planned.heard;
-  prepares = c.in-Ok.ensures.prepares from (unheard g.P.Place.tells c.args.options.now c.args.plan from _ planned);
+  prepares = c.in-Ok.ensures.prepares from (unheard g.P.Place.is_modelled c.args.options.now c.args.plan from _ planned);
   ends = c.run_turns.ensures;
 }
 

@@ -4,7 +4,7 @@ use Rattle.pb_run_flight.specs.Steps.{TurnsOfJobs}
 use Rattle.pb_build.proofs.laws.builds_keep_the_headline.Goals as goal
 
 pub returns-clause-turns : goal.returns-clause-turns
-returns-clause-turns g c = λ tells child options from last result old new builds. headline tells child g.T.Turn.turns options from last result old new builds
+returns-clause-turns g c = λ is_modelled child options from last result old new builds. headline is_modelled child g.T.Turn.turns options from last result old new builds
 
 pub returns-clause-first : goal.returns-clause-first
-returns-clause-first g c = λ tells child options result old new builds. headline tells child (TurnsOfJobs PicksFirstOf) options _ _ result old new builds
+returns-clause-first g c = λ is_modelled child options result old new builds. headline is_modelled child (TurnsOfJobs PicksFirstOf) options _ _ result old new builds

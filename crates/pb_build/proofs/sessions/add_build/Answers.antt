@@ -1,6 +1,6 @@
 use Rattle.std.proofs.Common.{[], ◌∷◌, ◌++◌, refl, ap}
 use Rattle.pb_place.specs.Memory.{at_in, Held, counts_in}
-use Rattle.pb_build_turns.specs.Crew.{moment}
+use Rattle.pb_build_turns.specs.Executor.{moment}
 use Rattle.pb_build.specs.Session.{point}
 use Rattle.pb_place_types.proofs.Failing.{on_err}
 use Rattle.pb_build.proofs.sessions.add_build.Goals as goal

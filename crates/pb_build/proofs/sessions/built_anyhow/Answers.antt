@@ -1,7 +1,7 @@
 use Rattle.std.proofs.Common.{true, sym, subst}
 use Rattle.pb_place.specs.Memory.{at_in, counts_in}
 use Rattle.pb_build_session.specs.declared.pick.PickBy.{PickBy}
-use Rattle.pb_build_turns.specs.Crew.{moment}
+use Rattle.pb_build_turns.specs.Executor.{moment}
 use Rattle.pb_build.specs.Headline.{Headline}
 use Rattle.pb_build.specs.Session.{ByPicked}
 use Rattle.pb_build.proofs.sessions.built_anyhow.Goals as goal

@@ -1,6 +1,6 @@
 use Rattle.std.proofs.Common.{◌≡◌, ◌++◌, drop, Ok}
 use Rattle.serde_json.specs.View.{items_view}
-use Rattle.pb_data.specs.Gives.{◌>>=◌}
+use Rattle.pb_data.specs.UnlessOom.{◌>>=◌}
 use Rattle.pb_build_session.specs.Options.{texts_in}
 use Rattle.pb_build_session.proofs.options.texts_in.Given as goal
 

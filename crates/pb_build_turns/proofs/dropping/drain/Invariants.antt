@@ -3,24 +3,24 @@ use Rattle.pb_build_result.specs.declared.bad_unit.BadUnit.{BadUnit}
 use Rattle.pb_run_flight.specs.Events.{Event}
 use Rattle.pb_place_types.specs.Counts.{Counts}
 use Rattle.pb_place_types.specs.World.{World}
-use Rattle.pb_run.specs.Halves.{Basis}
-use Rattle.pb_build_turns.specs.Crew.{tickets_of, IsManned}
+use Rattle.pb_run.specs.UnitSteps.{BuildContext}
+use Rattle.pb_build_turns.specs.Executor.{tickets_of, IsConsistent}
 use Rattle.pb_build_turns.specs.Ends.{StaysTold, Dropped}
-use Rattle.pb_build_turns.specs.Story.{Changes, Happened}
+use Rattle.pb_build_turns.specs.History.{Changes, HistoryHolds}
 use Rattle.pb_build_turns.proofs.dropping.drain.Given as goal
 
 abbrev pub invariant-loop-alloc : goal.invariant-loop-alloc
 invariant-loop-alloc g l = record {
-  manned : IsManned l.crew (g.P.Place.at l.place).counts;
+  manned : IsConsistent l.crew (g.P.Place.at l.place).counts;
   same : l.crew ≡ record l.fn.crew { aloft = l.crew.aloft };
   most : (g.P.Place.at l.place).most ≡ (g.P.Place.at l.fn.place).most;
   dropped : (new : Counts) → Dropped (tickets_of l.crew.aloft.items) (g.P.Place.at l.place).counts new → Dropped (tickets_of l.fn.crew.aloft.items) (g.P.Place.at l.fn.place).counts new;
-  told : (first : World) (es : List (Event BadUnit)) → IsTrue g.P.Place.tells
+  told : (first : World) (es : List (Event BadUnit)) → IsTrue g.P.Place.is_modelled
       → Changes l.fn.crew.project first l.fn.crew.aloft.items es (g.P.Place.at l.fn.place).world (g.P.Place.at l.fn.place).counts.starts.flying
       → StaysTold g.P.Place.child l.fn.crew.project first es l.fn.crew.aloft.items l.crew.aloft.items (g.P.Place.at l.fn.place).world (g.P.Place.at l.place).world (g.P.Place.at l.place).counts.starts.flying;
-  happened : (b : Basis) (es : List (Event BadUnit)) → IsTrue g.P.Place.tells → b.project ≡ l.fn.crew.project
-      → Happened b l.fn.crew.done.items l.fn.crew.aloft.items l.fn.crew.store.next es (g.P.Place.at l.fn.place).world (g.P.Place.at l.fn.place).counts.starts.flying (g.P.Place.at l.fn.place).still
-      → Happened b l.crew.done.items l.crew.aloft.items l.crew.store.next es (g.P.Place.at l.place).world (g.P.Place.at l.place).counts.starts.flying (g.P.Place.at l.place).still;
+  happened : (b : BuildContext) (es : List (Event BadUnit)) → IsTrue g.P.Place.is_modelled → b.project ≡ l.fn.crew.project
+      → HistoryHolds b l.fn.crew.done.items l.fn.crew.aloft.items l.fn.crew.store.next es (g.P.Place.at l.fn.place).world (g.P.Place.at l.fn.place).counts.starts.flying (g.P.Place.at l.fn.place).still
+      → HistoryHolds b l.crew.done.items l.crew.aloft.items l.crew.store.next es (g.P.Place.at l.place).world (g.P.Place.at l.place).counts.starts.flying (g.P.Place.at l.place).still;
 }
 
 abbrev pub decreases-loop-alloc : goal.decreases-loop-alloc

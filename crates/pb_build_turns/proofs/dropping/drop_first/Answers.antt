@@ -1,9 +1,9 @@
 use Rattle.std.proofs.Common.{refl, inl, length, subst, sym}
 use Rattle.std.specs.List.{AllByRecursion}
-use Rattle.pb_run.specs.Halves.{child_of}
+use Rattle.pb_run.specs.UnitSteps.{child_of}
 use Rattle.std.proofs.lemmas.Option.{slice_get_read}
 use Rattle.pb_build_turns.proofs.Landing.{alone_dropped, anew_dropped, childless_dropped, left_dropped, unrecorded_dropped, drops_land, began_dropped, happened_dropped, changes_dropped, started_dropped}
-use Rattle.pb_build_turns.specs.Story.{FliesBeside, states_in}
+use Rattle.pb_build_turns.specs.History.{FliesBeside, states_in}
 use Rattle.pb_build_turns.proofs.Lists.{all_removed}
 use Rattle.pb_build_turns.proofs.Manning.{flying_of, manned_answered}
 use Rattle.pb_build_turns.proofs.dropping.drop_first.Goals as goal
@@ -20,15 +20,15 @@ returns-clause-manned g c =
     (drops_land (child_of c.remove-aloft.result.begun) _ _ c.drop_unit.ensures.counts)
 
 pub returns-clause-happened : goal.returns-clause-happened
-returns-clause-happened g c = λ b es tells project h.
+returns-clause-happened g c = λ b es is_modelled project h.
     let at = slice_get_read c.args.crew.now.aloft.items (length c.args.crew.now.aloft.items) 0 c.remove-aloft.result refl c.requires.some c.remove-aloft.ensures.value in
     happened_dropped b c.args.crew.now (g.P.Place.at c.args.place.now).counts c.requires.manned project es (g.P.Place.at c.args.place.now).world (g.P.Place.at c.drop_unit.new.place).world (g.P.Place.at c.args.place.now).still (g.P.Place.at c.drop_unit.new.place).counts.starts.flying (g.P.Place.at c.drop_unit.new.place).still
     0 c.remove-aloft.result at c.remove-aloft.new.self.items c.remove-aloft.ensures.items h
-    (λ index unit next order there. (c.drop_unit.ensures.build b index unit next order there tells).keeps (states_in b.project es) c.args.crew.now.done.items)
-    (λ states done index unit next other its order there. (c.drop_unit.ensures.build b index unit next order there tells).others states done other its)
+    (λ index unit next order there. (c.drop_unit.ensures.build b index unit next order there is_modelled).keeps (states_in b.project es) c.args.crew.now.done.items)
+    (λ states done index unit next other its order there. (c.drop_unit.ensures.build b index unit next order there is_modelled).others states done other its)
 
 pub returns-clause-told : goal.returns-clause-told
-returns-clause-told g c = λ first es tells old.
+returns-clause-told g c = λ first es is_modelled old.
     let at = slice_get_read c.args.crew.now.aloft.items (length c.args.crew.now.aloft.items) 0 c.remove-aloft.result refl c.requires.some c.remove-aloft.ensures.value in record {
       changes = changes_dropped c.args.crew.now (g.P.Place.at c.args.place.now).counts c.requires.manned first es (g.P.Place.at c.args.place.now).world (g.P.Place.at c.drop_unit.new.place).world (g.P.Place.at c.drop_unit.new.place).counts.starts.flying
           0 c.remove-aloft.result at c.remove-aloft.new.self.items c.remove-aloft.ensures.items old c.drop_unit.ensures.only c.drop_unit.ensures.stay;

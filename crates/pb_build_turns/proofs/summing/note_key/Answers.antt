@@ -1,6 +1,6 @@
 use Rattle.std.proofs.Common.{◌∙◌, ◌++◌, ◌∷◌, [], sym, ap, refl, append-nil, length}
 use Rattle.std.proofs.lemmas.Option.{slice_get_past, slice_get_read}
-use Rattle.pb_run.specs.Halves.{key_in}
+use Rattle.pb_run.specs.UnitSteps.{key_in}
 use Rattle.pb_unit.specs.declared.plan.Planned.{Planned}
 use Rattle.pb_build_turns.proofs.summing.note_key.Goals as goal
 

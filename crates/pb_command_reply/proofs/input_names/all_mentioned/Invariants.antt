@@ -1,5 +1,5 @@
 use Rattle.std.proofs.Common.{◌≡◌, drop, []}
-use Rattle.pb_data.specs.Mentions.{mentioned_all}
+use Rattle.pb_data.specs.OrderedSet.{mentioned_all}
 use Rattle.pb_command_reply.proofs.input_names.all_mentioned.Given as goal
 
 abbrev pub invariant-loop-name : goal.invariant-loop-name

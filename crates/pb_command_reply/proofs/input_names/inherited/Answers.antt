@@ -1,5 +1,5 @@
 use Rattle.std.proofs.Common.{◌∙◌, ap, not, filter}
-use Rattle.pb_data.specs.Mentions.{is_mentioned}
+use Rattle.pb_data.specs.OrderedSet.{is_mentioned}
 use Rattle.pb_command_reply.proofs.Naming.{but_mentioned}
 use Rattle.pb_command_reply.proofs.input_names.inherited.Goals as goal
 

@@ -1,6 +1,6 @@
 use Rattle.std.proofs.Common.{◌≡◌}
 use Rattle.std.specs.Vec.Iter.{into_iter_items}
-use Rattle.pb_data.specs.Mentions.{mentioned_all}
+use Rattle.pb_data.specs.OrderedSet.{mentioned_all}
 use Rattle.pb_command_reply.proofs.input_names.mention_all.Given as goal
 
 abbrev pub invariant-loop-path : goal.invariant-loop-path

@@ -1,5 +1,5 @@
 use Rattle.std.proofs.Common.{◌≡◌, drop, [], map, List, ℕ}
-use Rattle.pb_data.specs.Mentions.{mentioned_all}
+use Rattle.pb_data.specs.OrderedSet.{mentioned_all}
 use Rattle.pb_command_reply.proofs.input_names.names_set.Given as goal
 
 abbrev pub invariant-loop-pair : goal.invariant-loop-pair

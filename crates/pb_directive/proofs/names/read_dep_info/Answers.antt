@@ -1,5 +1,5 @@
 use Rattle.std.proofs.Common.{◌≡◌, ◌+◌, ◌∙◌, arith, ap, length, Ok, List, ℕ, rules}
-use Rattle.pb_data.specs.Gives.{◌>>=◌}
+use Rattle.pb_data.specs.UnlessOom.{◌>>=◌}
 use Rattle.pb_directive.specs.Lines.{lines_of}
 use Rattle.pb_directive.specs.DepInfo.{info_from, with_info}
 use Rattle.pb_directive.proofs.InfoLemmas.{info_start, info_step}

@@ -1,5 +1,5 @@
 use Rattle.std.proofs.Common.{◌≡◌, ◌+◌, Ok, length}
-use Rattle.pb_data.specs.Gives.{◌>>=◌}
+use Rattle.pb_data.specs.UnlessOom.{◌>>=◌}
 use Rattle.pb_directive.specs.Lines.{lines_of}
 use Rattle.pb_directive.specs.DepInfo.{info_from, dep_info_of, with_info}
 use Rattle.pb_directive.proofs.names.read_dep_info.Given as goal

@@ -1,5 +1,5 @@
 use Rattle.std.proofs.Common.{◌≡◌, ◌+◌, ◌++◌, Ok, length}
-use Rattle.pb_data.specs.Gives.{◌>>=◌}
+use Rattle.pb_data.specs.UnlessOom.{◌>>=◌}
 use Rattle.pb_directive.specs.Lines.{lines_of}
 use Rattle.pb_directive.specs.Directives.{directives_from, directives_of}
 use Rattle.pb_directive.proofs.read.read_directives.Given as goal

@@ -1,6 +1,6 @@
 use Rattle.std.proofs.Common.{◌≡◌, ◌++◌, drop, Ok}
 use Rattle.toml.specs.View.{items_view}
-use Rattle.pb_data.specs.Gives.{◌>>=◌}
+use Rattle.pb_data.specs.UnlessOom.{◌>>=◌}
 use Rattle.pb_manifest.specs.Values.{each}
 use Rattle.pb_manifest.specs.Features.{feature_item_of}
 use Rattle.pb_manifest.proofs.feature.each_feature_item.Given as goal

@@ -1,6 +1,6 @@
 use Rattle.std.proofs.Common.{◌≡◌, ◌++◌, Ok}
 use Rattle.toml.specs.View.{members_view, table_view}
-use Rattle.pb_data.specs.Gives.{◌>>=◌}
+use Rattle.pb_data.specs.UnlessOom.{◌>>=◌}
 use Rattle.pb_manifest.specs.Values.{each_entry}
 use Rattle.pb_manifest.specs.Profiles.{profile_of}
 use Rattle.pb_manifest.proofs.profile.each_profile.Given as goal

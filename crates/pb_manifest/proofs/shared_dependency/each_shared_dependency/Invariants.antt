@@ -1,6 +1,6 @@
 use Rattle.std.proofs.Common.{◌≡◌, ◌++◌, Ok}
 use Rattle.toml.specs.View.{members_view, table_view}
-use Rattle.pb_data.specs.Gives.{◌>>=◌}
+use Rattle.pb_data.specs.UnlessOom.{◌>>=◌}
 use Rattle.pb_manifest.specs.Values.{each_entry}
 use Rattle.pb_manifest.specs.Dependencies.{shared_dependency_of}
 use Rattle.pb_manifest.proofs.shared_dependency.each_shared_dependency.Given as goal

@@ -11,7 +11,7 @@ use Rattle.pb_mini_program.proofs.program.leave_files.Goals as goal
 pub returns-then-is_empty-clause-files : goal.returns-then-is_empty-clause-files
 returns-then-is_empty-clause-files g c = λ shown told is.
     let place = c.args.place.now in
-    (no_files g.P.Place.tells (out_folder c.args.words.now (g.V.View.shown c.args.view.now)) c.args.files.now (kept (g.P.Place.at place)) (sym c.is_empty.ensures ∙ c.if-is_empty.true)).1 told
+    (no_files g.P.Place.is_modelled (out_folder c.args.words.now (g.V.View.shown c.args.view.now)) c.args.files.now (kept (g.P.Place.at place)) (sym c.is_empty.ensures ∙ c.if-is_empty.true)).1 told
 
 pub returns-then-is_empty-clause-whole : goal.returns-then-is_empty-clause-whole
 returns-then-is_empty-clause-whole g c =
@@ -19,7 +19,7 @@ returns-then-is_empty-clause-whole g c =
     let folder = out_folder c.args.words.now (g.V.View.shown c.args.view.now) in (
       folder,
       λ has shown. refl,
-      no_files g.P.Place.tells folder c.args.files.now (kept (g.P.Place.at place)) (sym c.is_empty.ensures ∙ c.if-is_empty.true),
+      no_files g.P.Place.is_modelled folder c.args.files.now (kept (g.P.Place.at place)) (sym c.is_empty.ensures ∙ c.if-is_empty.true),
     )
 
 pub returns-in_ok-write_files-clause-files : goal.returns-in_ok-write_files-clause-files

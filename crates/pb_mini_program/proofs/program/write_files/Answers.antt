@@ -10,7 +10,7 @@ returns-in_err-path-clause-memory g c =
     let mid = c.loop-name.place in
     let on : c.loop-name.name-index < length c.args.files.now = omega arith in
     at_any _ c.from_residual.result
-    (stops_before g.P.Place.tells c.args.folder.now c.args.files.now c.loop-name.name-index c.loop-name-item.result (kept (g.P.Place.at old)) (kept (g.P.Place.at mid))
+    (stops_before g.P.Place.is_modelled c.args.folder.now c.args.files.now c.loop-name.name-index c.loop-name-item.result (kept (g.P.Place.at old)) (kept (g.P.Place.at mid))
     on c.loop-name-item.is c.loop-name.invariant.called c.loop-name.invariant.written)
 
 pub returns-in_err-write-clause-fault : goal.returns-in_err-write-clause-fault
@@ -20,7 +20,7 @@ returns-in_err-write-clause-fault g c =
     let new = c.write.new.self in
     let on : c.loop-name.name-index < length c.args.files.now = omega arith in
     at_err _ c.from_residual-in_err-write.result c.in_err-write.field-0.0 (search rules) (λ other.
-    fails_at g.P.Place.tells c.args.folder.now c.args.files.now c.loop-name.name-index c.loop-name-item.result c.in_ok-path.path c.as_slice.result.now c.in_err-write.field-0.0
+    fails_at g.P.Place.is_modelled c.args.folder.now c.args.files.now c.loop-name.name-index c.loop-name-item.result c.in_ok-path.path c.as_slice.result.now c.in_err-write.field-0.0
     (kept (g.P.Place.at old)) (kept (g.P.Place.at mid)) (kept (g.P.Place.at new))
     on c.loop-name-item.is c.in_ok-path.ensures.path c.as_slice.ensures c.loop-name.invariant.called c.loop-name.invariant.written
     (c.in_err-write.ensures.changes.fault other) c.in_err-write.ensures.changes.counts c.in_err-write.ensures.err)
@@ -32,7 +32,7 @@ returns-in_err-write-clause-memory g c =
     let new = c.write.new.self in
     let on : c.loop-name.name-index < length c.args.files.now = omega arith in
     at_err _ c.from_residual-in_err-write.result c.in_err-write.field-0.0 (search rules) (λ memory.
-    stops_at g.P.Place.tells c.args.folder.now c.args.files.now c.loop-name.name-index c.loop-name-item.result c.in_ok-path.path c.as_slice.result.now c.in_err-write.field-0.0
+    stops_at g.P.Place.is_modelled c.args.folder.now c.args.files.now c.loop-name.name-index c.loop-name-item.result c.in_ok-path.path c.as_slice.result.now c.in_err-write.field-0.0
     (kept (g.P.Place.at old)) (kept (g.P.Place.at mid)) (kept (g.P.Place.at new))
     on c.loop-name-item.is c.in_ok-path.ensures.path c.as_slice.ensures c.loop-name.invariant.called c.loop-name.invariant.written
     memory c.in_err-write.ensures.changes.counts c.in_err-write.ensures.err)

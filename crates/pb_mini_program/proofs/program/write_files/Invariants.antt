@@ -6,6 +6,6 @@ use Rattle.pb_mini_program.proofs.program.write_files.Given as goal
 
 abbrev pub invariant-loop-name : goal.invariant-loop-name
 invariant-loop-name g l = record {
-  written : IsTrue g.P.Place.tells → (g.P.Place.at l.place).world ≡ put_reply (Some l.folder) (take l.name-index l.files) (g.P.Place.at l.fn.place).world;
+  written : IsTrue g.P.Place.is_modelled → (g.P.Place.at l.place).world ≡ put_reply (Some l.folder) (take l.name-index l.files) (g.P.Place.at l.fn.place).world;
   called : (g.P.Place.at l.place).counts ≡ past_calls (writes_in l.folder (take l.name-index l.files)) (g.P.Place.at l.fn.place).counts;
 }

@@ -6,12 +6,12 @@ use Rattle.pb_place_types.specs.Counts.{Starts, without}
 use Rattle.pb_place_types.specs.Paths.{is_at_or_below}
 use Rattle.pb_place_types.specs.World.{ChangesOnly}
 use Rattle.pb_command_types.specs.Targets.{dep_info_of}
-use Rattle.pb_run.specs.Halves.{basis, needed_keys}
+use Rattle.pb_run.specs.UnitSteps.{basis, needed_keys}
 use Rattle.pb_run.specs.Running.{dep_info_looked}
-use Rattle.pb_run.specs.Standing.{records_folder}
+use Rattle.pb_run.specs.Invariants.{records_folder}
 use Rattle.pb_run.specs.declared.begun.Awaited.TheVariants as awaited
 use Rattle.pb_run.specs.declared.faults.StepFault.TheVariants as step
-use Rattle.pb_run.specs.declared.ran.Judgement.{Judgement}
+use Rattle.pb_run.specs.declared.ran.Validated.{Validated}
 use Rattle.pb_run.proofs.Building.{land_bad, land_failed, land_kept, land_unkept}
 use Rattle.pb_run.proofs.Causing.{keep_told}
 use Rattle.pb_run.proofs.Changing.{at_place, changes_ended, changes_kept}
@@ -97,7 +97,7 @@ returns-then-is_some-clause-answers g c = record {
       world = (g.P.Place.at c.finish.new.place).world;
       counts = (g.P.Place.at c.finish.new.place).counts;
       ends = c.in-Ok.ensures.ended told;
-      comes = ap (λ (j : Judgement). j.ran) (c.in-Ok-judged_now.ensures.judged told);
+      comes = ap (λ (j : Validated). j.ran) (c.in-Ok-judged_now.ensures.judged told);
     },
   );
   kept = λ told good. absurd (false≢true (sym good ∙ (sym c.is_some.ensures ∙ c.if-is_some.true)));
@@ -207,7 +207,7 @@ returns-in-Ok-keep-clause-answers g c = record {
       world = (g.P.Place.at c.finish.new.place).world;
       counts = (g.P.Place.at c.finish.new.place).counts;
       ends = c.in-Ok.ensures.ended told;
-      comes = ap (λ (j : Judgement). j.ran) (c.in-Ok-judged_now.ensures.judged told);
+      comes = ap (λ (j : Validated). j.ran) (c.in-Ok-judged_now.ensures.judged told);
     },
   );
   kept = λ told good. (

@@ -1,6 +1,6 @@
 use Rattle.std.proofs.Common.{◌≡◌, ◌++◌, drop}
 use Rattle.std.specs.List.{flat_map}
-use Rattle.pb_run.specs.Halves.{key_at}
+use Rattle.pb_run.specs.UnitSteps.{key_at}
 use Rattle.pb_run.proofs.landing.push_keys.Given as goal
 
 abbrev pub invariant-loop-place : goal.invariant-loop-place

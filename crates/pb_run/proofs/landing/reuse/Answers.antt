@@ -7,12 +7,12 @@ use Rattle.pb_place_types.specs.Paths.{is_at_or_below}
 use Rattle.pb_place_types.specs.World.{ChangesOnly}
 use Rattle.pb_command_types.specs.Targets.{dep_info_of}
 use Rattle.pb_run.specs.Steps.{Lands, MayAnswer}
-use Rattle.pb_run.specs.Halves.{basis, needed_keys}
+use Rattle.pb_run.specs.UnitSteps.{basis, needed_keys}
 use Rattle.pb_run.specs.Running.{dep_info_looked}
 use Rattle.pb_run.specs.Outcome.{directives_in, outcome_by, unstarted}
-use Rattle.pb_run.specs.Standing.{records_folder}
+use Rattle.pb_run.specs.Invariants.{records_folder}
 use Rattle.pb_run.specs.declared.begun.Awaited.TheVariants as awaited
-use Rattle.pb_run.specs.declared.ran.Judgement.{Judgement}
+use Rattle.pb_run.specs.declared.ran.Validated.{Validated}
 use Rattle.pb_run.specs.declared.ran.Ran.{Ran}
 use Rattle.pb_run.proofs.Building.{reuse_bad, reuse_failed, reuse_numbered, reuse_renewed, reuse_unrenewed}
 use Rattle.pb_run.proofs.Changing.{at_place, changes_none, changes_place}
@@ -70,7 +70,7 @@ returns-then-is_some-clause-answers g c = record {
       world = (g.P.Place.at c.args.place.now).world;
       counts = (g.P.Place.at c.args.place.now).counts;
       ends = (refl, refl, refl);
-      comes = c.unstarted-ran.ensures ∙ ap (λ (j : Judgement). unstarted j.ran) (c.in-Ok.ensures.judged told);
+      comes = c.unstarted-ran.ensures ∙ ap (λ (j : Validated). unstarted j.ran) (c.in-Ok.ensures.judged told);
     },
   );
   kept = λ told good. absurd (false≢true (sym good ∙ (sym c.is_some.ensures ∙ c.if-is_some.true)));
@@ -128,7 +128,7 @@ returns-then-again-clause-answers g c = record {
       world = (g.P.Place.at c.args.place.now).world;
       counts = (g.P.Place.at c.args.place.now).counts;
       ends = (refl, refl, refl);
-      comes = c.unstarted-ran.ensures ∙ ap (λ (j : Judgement). unstarted j.ran) (c.in-Ok.ensures.judged told);
+      comes = c.unstarted-ran.ensures ∙ ap (λ (j : Validated). unstarted j.ran) (c.in-Ok.ensures.judged told);
     },
   );
   kept = λ told good. (
@@ -226,7 +226,7 @@ returns-in-Ok-migrate-clause-answers g c = record {
       world = (g.P.Place.at c.args.place.now).world;
       counts = (g.P.Place.at c.args.place.now).counts;
       ends = (refl, refl, refl);
-      comes = c.unstarted-ran.ensures ∙ ap (λ (j : Judgement). unstarted j.ran) (c.in-Ok.ensures.judged told);
+      comes = c.unstarted-ran.ensures ∙ ap (λ (j : Validated). unstarted j.ran) (c.in-Ok.ensures.judged told);
     },
   );
   kept = λ told good. (

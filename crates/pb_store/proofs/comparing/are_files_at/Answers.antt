@@ -16,7 +16,7 @@ returns-in_err-found-clause-looks g c = looks_told c.from_residual.result c.in_e
 pub loop-path-preserved : goal.loop-path-preserved
 loop-path-preserved g c = record {
   quiet = search rules;
-  same = λ tells. elim c.match-found.branch [
+  same = λ is_modelled. elim c.match-found.branch [
     | in-Some w ↦
         let step = w.with_file-matching.ensures (filter_map (file_in c.args.folder.now (g.P.Place.at c.args.place.now).world.files) (drop (c.loop-path.path-index + 1) c.args.paths.now)) in
         grind (arith, common_steps)

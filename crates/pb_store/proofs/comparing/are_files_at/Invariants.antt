@@ -10,6 +10,6 @@ use Rattle.pb_store.proofs.comparing.are_files_at.Given as goal
 abbrev pub invariant-loop-path : goal.invariant-loop-path
 invariant-loop-path g l = record {
   quiet : OnlyLooks {T = ℕ} MayRead (Ok 0) (g.P.Place.at l.fn.place) (g.P.Place.at l.place);
-  same : IsTrue g.P.Place.tells → matched l.matching (filter_map (file_in l.folder (g.P.Place.at l.fn.place).world.files) (drop l.path-index l.paths)) ≡ same_files (filter_map (file_in l.folder (g.P.Place.at l.fn.place).world.files) l.paths) l.recorded;
+  same : IsTrue g.P.Place.is_modelled → matched l.matching (filter_map (file_in l.folder (g.P.Place.at l.fn.place).world.files) (drop l.path-index l.paths)) ≡ same_files (filter_map (file_in l.folder (g.P.Place.at l.fn.place).world.files) l.paths) l.recorded;
   looks : Reached (files_looked l.folder l.paths) (files_looked l.folder (drop l.path-index l.paths)) (g.P.Place.at l.fn.place).counts (g.P.Place.at l.place).counts;
 }

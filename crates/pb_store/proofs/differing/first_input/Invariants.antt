@@ -9,6 +9,6 @@ use Rattle.pb_store.proofs.differing.first_input.Given as goal
 abbrev pub invariant-loop-input : goal.invariant-loop-input
 invariant-loop-input g l = record {
   quiet : OnlyLooks {T = ℕ} MayLook (Ok 0) (g.P.Place.at l.fn.place) (g.P.Place.at l.place);
-  all : IsTrue g.P.Place.tells → AllByRecursion (IsPresent l.target (g.P.Place.at l.fn.place).world) (take l.input-index l.inputs);
-  looks : IsTrue g.P.Place.tells → Reached (inputs_looked l.target (g.P.Place.at l.fn.place).world l.inputs) (inputs_looked l.target (g.P.Place.at l.fn.place).world (drop l.input-index l.inputs)) (g.P.Place.at l.fn.place).counts (g.P.Place.at l.place).counts;
+  all : IsTrue g.P.Place.is_modelled → AllByRecursion (IsPresent l.target (g.P.Place.at l.fn.place).world) (take l.input-index l.inputs);
+  looks : IsTrue g.P.Place.is_modelled → Reached (inputs_looked l.target (g.P.Place.at l.fn.place).world l.inputs) (inputs_looked l.target (g.P.Place.at l.fn.place).world (drop l.input-index l.inputs)) (g.P.Place.at l.fn.place).counts (g.P.Place.at l.place).counts;
 }

@@ -20,7 +20,7 @@ returns-in-Err-clause-looks g c =
 pub loop-path-preserved : goal.loop-path-preserved
 loop-path-preserved g c = record {
   quiet = search rules;
-  files = λ tells. elim c.match-found.branch [
+  files = λ is_modelled. elim c.match-found.branch [
     | in-Some+in-Ok w ↦ grind (arith, common_steps)
     | in_default w ↦ grind (arith, common_steps)
   ];

@@ -8,6 +8,6 @@ use Rattle.pb_store.proofs.inputs.files_at.Given as goal
 abbrev pub invariant-loop-path : goal.invariant-loop-path
 invariant-loop-path g l = record {
   quiet : OnlyLooks {T = ℕ} MayRead (Ok 0) (g.P.Place.at l.fn.place) (g.P.Place.at l.place);
-  files : IsTrue g.P.Place.tells → l.made ++ filter_map (file_in l.folder (g.P.Place.at l.fn.place).world.files) (drop l.path-index l.paths) ≡ filter_map (file_in l.folder (g.P.Place.at l.fn.place).world.files) l.paths;
+  files : IsTrue g.P.Place.is_modelled → l.made ++ filter_map (file_in l.folder (g.P.Place.at l.fn.place).world.files) (drop l.path-index l.paths) ≡ filter_map (file_in l.folder (g.P.Place.at l.fn.place).world.files) l.paths;
   looks : Reached (files_looked l.folder l.paths) (files_looked l.folder (drop l.path-index l.paths)) (g.P.Place.at l.fn.place).counts (g.P.Place.at l.place).counts;
 }

@@ -1,4 +1,4 @@
-use Rattle.pb_build_turns.specs.Crew.{moment}
+use Rattle.pb_build_turns.specs.Executor.{moment}
 use Rattle.std.proofs.Common.{◌∙◌, refl, subst, sym}
 use Rattle.pb_build.specs.Ending.{PlansFrom}
 use Rattle.pb_tool_program.specs.Building.{moved_lost, moved_notes}
@@ -9,7 +9,7 @@ pub returns : goal.returns
 returns g c =
     let before = moment (g.P.Place.at c.args.place.now) (g.O.Out.heard c.args.out.now) in
     let planned = moment (g.P.Place.at c.plan_build-plan.new.place) (g.O.Out.heard c.args.out.now) in
-    let plans : PlansFrom g.P.Place.tells c.args.options.now c.plan_build-plan.result before planned = record {
+    let plans : PlansFrom g.P.Place.is_modelled c.args.options.now c.plan_build-plan.result before planned = record {
       is = c.plan_build-plan.ensures.plan;
       refused = c.plan_build-plan.ensures.refused;
       stays = λ told. c.plan_build-plan.ensures.quiet.world;

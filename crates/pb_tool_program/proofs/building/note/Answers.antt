@@ -4,13 +4,13 @@ use Rattle.pb_build.specs.declared.builder.BuildPlan.{BuildPlan}
 use Rattle.pb_tool_program.specs.Building.{NotesOf, notes_lost, notes_of}
 use Rattle.pb_tool_program.specs.Writing.{TellsOr}
 use Rattle.pb_tool_program.proofs.Lines.{notes_some, tells_by, tells_some}
-use Rattle.pb_place_types.specs.Sinks.{Heard}
+use Rattle.pb_place_types.specs.Sinks.{SinkState}
 use Rattle.pb_tool_program.proofs.building.note.Goals as goal
 
 pub returns-in-Ok-notes_of : goal.returns-in-Ok-notes_of
 returns-in-Ok-notes_of g c =
-    let old : Heard = (g.E.Out.heard c.args.err.now) in
-    let new : Heard = (g.E.Out.heard c.write_all.new.out) in
+    let old : SinkState = (g.E.Out.heard c.args.err.now) in
+    let new : SinkState = (g.E.Out.heard c.write_all.new.out) in
     subst (λ (plan : Result BuildPlan BuildFault). NotesOf plan old new) (sym c.in-Ok.is)
     (subst (λ names. TellsOr notes_lost (notes_of names) old new) c.without_library-names.ensures
     (tells_some notes_lost (notes_of c.without_library-names.result.now) old new (notes_some c.without_library-names.result.now (sym c.is_empty.ensures ∙ c.if-is_empty.false))
@@ -18,8 +18,8 @@ returns-in-Ok-notes_of g c =
 
 pub returns-in-Err-notes_of : goal.returns-in-Err-notes_of
 returns-in-Err-notes_of g c =
-    let old : Heard = (g.E.Out.heard c.args.err.now) in
-    let new : Heard = (g.E.Out.heard c.write_all-in-Err-notes_of.new.out) in
+    let old : SinkState = (g.E.Out.heard c.args.err.now) in
+    let new : SinkState = (g.E.Out.heard c.write_all-in-Err-notes_of.new.out) in
     subst (λ (plan : Result BuildPlan BuildFault). NotesOf plan old new) (sym c.in-Ok.is)
     (subst (λ names. TellsOr notes_lost (notes_of names) old new) c.without_library-names.ensures
     (tells_some notes_lost (notes_of c.without_library-names.result.now) old new (notes_some c.without_library-names.result.now (sym c.is_empty.ensures ∙ c.if-is_empty.false))

@@ -4,13 +4,13 @@ use Rattle.pb_build_result.specs.declared.fault.BuildFault.{BuildFault}
 use Rattle.pb_build_result.specs.declared.summary.Summary.{Summary}
 use Rattle.pb_tool_program.specs.Building.{TellsSaid, said_lost}
 use Rattle.pb_tool_program.proofs.Lines.{said_some, tells_by, tells_some}
-use Rattle.pb_place_types.specs.Sinks.{Heard}
+use Rattle.pb_place_types.specs.Sinks.{SinkState}
 use Rattle.pb_tool_program.proofs.building.repeat_to.Goals as goal
 
 pub returns-in-Err-said : goal.returns-in-Err-said
 returns-in-Err-said g c =
-    let old : Heard = (g.E.Out.heard c.args.err.now) in
-    let new : Heard = (g.E.Out.heard c.write_all-in-Err-said.new.out) in
+    let old : SinkState = (g.E.Out.heard c.args.err.now) in
+    let new : SinkState = (g.E.Out.heard c.write_all-in-Err-said.new.out) in
     subst (λ (answer : Result Summary BuildFault). TellsSaid answer old new) (sym c.in-Ok.is)
     (tells_some said_lost (said_by_bad c.in-Ok.summary.bad c.in-Ok.summary.said) old new
     (said_some c.in-Ok.summary.bad c.in-Ok.summary.said (c.is_none.ensures ∙ ap not c.if-is_none.false) (subst (λ bytes. length bytes == 0 ≡ false) c.as_slice.ensures (sym c.is_empty.ensures ∙ c.if-is_empty.false)))

@@ -1,14 +1,14 @@
 use Rattle.std.proofs.Common.{◌∙◌, inl, refl}
 use Rattle.pb_tool_explain.specs.Entries.{near_in}
-use Rattle.pb_place_types.specs.Sinks.{Heard}
+use Rattle.pb_place_types.specs.Sinks.{SinkState}
 use Rattle.pb_tool_program.specs.Names.{no_such_name}
 use Rattle.pb_tool_program.proofs.Lines.{tells_by}
 use Rattle.pb_tool_program.proofs.names.miss.Goals as goal
 
 pub returns-in-Ok : goal.returns-in-Ok
 returns-in-Ok g c =
-    let old : Heard = (g.E.Out.heard c.args.err.now) in
-    let new : Heard = (g.E.Out.heard c.write_all.new.out) in
+    let old : SinkState = (g.E.Out.heard c.args.err.now) in
+    let new : SinkState = (g.E.Out.heard c.write_all.new.out) in
     inl (
       refl,
       tells_by c.write_all.result (no_such_name (near_in c.args.page.now c.args.name.now) c.args.name.now) c.as_bytes.result.now old new (c.as_bytes.ensures.value ∙ c.in-Ok.ensures)

@@ -5,7 +5,7 @@ use Rattle.pb_place_types.specs.World.{from_nothing}
 use Rattle.pb_workspace.proofs.LookingOver.{looks_step, looks_stop}
 use Rattle.pb_workspace_package.proofs.Steps.{quiet_step, told_step}
 use Rattle.pb_place_types.specs.Paths.{folder_of}
-use Rattle.pb_workspace_package.specs.Causes.{Told}
+use Rattle.pb_workspace_package.specs.Causes.{UnlessFailed}
 use Rattle.pb_workspace.specs.Frames.{frame_of}
 use Rattle.pb_workspace.specs.Loaded.{root_parts, workspace_in, workspace_of}
 use Rattle.pb_workspace.specs.LookedAt.{looked_at, packages_looked, root_looked}
@@ -17,7 +17,7 @@ unfolding workspace_of
 returns-clause-ok g c told =
     told_step (λ w parts. workspace_in (from_nothing c.args.target.now w) c.args.target.now (frame_of (folder_of c.args.manifest.now) c.args.manifest.now parts.workspace) parts.profiles parts.tables parts.found) _ _ _ _ _
     (c.in_ok-parts.ensures.ok told) (c.in_ok-parts.ensures.quiet.world)
-    (subst (λ f. Told c.workspace_in-loaded.result (workspace_in (from_nothing c.args.target.now (g.P.Place.at c.root_parts.new.place).world) c.args.target.now f c.in_ok-parts.parts.profiles c.in_ok-parts.parts.tables c.in_ok-parts.parts.found))
+    (subst (λ f. UnlessFailed c.workspace_in-loaded.result (workspace_in (from_nothing c.args.target.now (g.P.Place.at c.root_parts.new.place).world) c.args.target.now f c.in_ok-parts.parts.profiles c.in_ok-parts.parts.tables c.in_ok-parts.parts.found))
     (c.frame_of-frame.ensures ∙ ap (λ root. frame_of root c.in_ok-path.path c.in_ok-parts.parts.workspace) c.in_ok-root.ensures ∙ ap (λ path. frame_of (folder_of c.args.manifest.now) path c.in_ok-parts.parts.workspace) c.in_ok-path.ensures)
     (c.workspace_in-loaded.ensures.ok told))
 

@@ -13,7 +13,7 @@ use Rattle.pb_workspace.proofs.member_folders.with_manifests.Given as goal
 
 abbrev pub invariant-loop-folder : goal.invariant-loop-folder
 invariant-loop-folder g l = record {
-  taken : IsTrue g.P.Place.tells → l.taken ++ filter (has_manifest (from_nothing l.target (g.P.Place.at l.fn.place).world)) (into_iter_items l.folder-iterator) ≡ filter (has_manifest (from_nothing l.target (g.P.Place.at l.fn.place).world)) l.fn.folders;
+  taken : IsTrue g.P.Place.is_modelled → l.taken ++ filter (has_manifest (from_nothing l.target (g.P.Place.at l.fn.place).world)) (into_iter_items l.folder-iterator) ≡ filter (has_manifest (from_nothing l.target (g.P.Place.at l.fn.place).world)) l.fn.folders;
   quiet : OnlyLooks {T = ℕ} (Ok 0) (g.P.Place.at l.fn.place) (g.P.Place.at l.place);
   looks : (r : Result (List (List ℕ)) LoadFault) (new : Counts) → Looks r (flat_map (manifest_looked l.target) (into_iter_items l.folder-iterator)) (g.P.Place.at l.place).counts new → Looks r (flat_map (manifest_looked l.target) l.fn.folders) (g.P.Place.at l.fn.place).counts new;
 }

@@ -1,6 +1,6 @@
 use Rattle.std.proofs.Common.{◌∙◌, ap}
 use Rattle.std.specs.List.{flat_map}
-use Rattle.pb_data.specs.Mentions.{mentioned_all}
+use Rattle.pb_data.specs.OrderedSet.{mentioned_all}
 use Rattle.pb_workspace_package.specs.Enabling.{named_in}
 use Rattle.pb_workspace_package.proofs.EnabledNames.{enabled_names}
 use Rattle.pb_workspace_package.proofs.features.enabled_names.Goals as goal

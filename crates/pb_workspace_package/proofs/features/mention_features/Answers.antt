@@ -1,6 +1,6 @@
 use Rattle.std.proofs.Common.{◌∙◌, ap}
 use Rattle.std.specs.List.{flat_map}
-use Rattle.pb_data.specs.Mentions.{mentioned_all}
+use Rattle.pb_data.specs.OrderedSet.{mentioned_all}
 use Rattle.pb_workspace_package.specs.Enabling.{named_by, named_in}
 use Rattle.pb_workspace_package.proofs.EnabledNames.{mentioned_step}
 use Rattle.pb_workspace_package.proofs.features.mention_features.Goals as goal

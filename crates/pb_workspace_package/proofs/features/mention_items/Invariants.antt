@@ -1,6 +1,6 @@
 use Rattle.std.proofs.Common.{◌≡◌, drop}
 use Rattle.std.specs.List.{flat_map}
-use Rattle.pb_data.specs.Mentions.{mentioned_all}
+use Rattle.pb_data.specs.OrderedSet.{mentioned_all}
 use Rattle.pb_workspace_package.specs.Enabling.{named_by}
 use Rattle.pb_workspace_package.proofs.features.mention_items.Given as goal
 

@@ -23,12 +23,12 @@ loop-file-preserved g c =
     let at = file_in_turn i c.loop-file-test.true in
     let there = λ (w : World). is_there c.args.folder.now (from_nothing c.args.target.now w) in
     record {
-      own = λ tells.
+      own = λ is_modelled.
           let here = there (g.P.Place.at c.args.place.now).world in
-          let told = sym (ap (λ w. there w (file_at i)) c.loop-file.invariant.quiet.world) ∙ sym (c.in_ok-is_there.ensures.ok tells) in
+          let told = sym (ap (λ w. there w (file_at i)) c.loop-file.invariant.quiet.world) ∙ sym (c.in_ok-is_there.ensures.ok is_modelled) in
           elim c.if-branch.branch [
-            | then-branch+in_ok-push w ↦ row_kept own_files i (file_at i) c.loop-file-test.true at here (filter here own_files) c.loop-file.own c.if-branch.own (w.own-is ∙ w.in_ok-push.ensures.ok) (told ∙ w.if-branch.true) (c.loop-file.invariant.own tells)
-            | else-branch w ↦ row_left_out own_files i (file_at i) c.loop-file-test.true at here (filter here own_files) c.loop-file.own c.if-branch.own w.own-is (told ∙ w.if-branch.false) (c.loop-file.invariant.own tells)
+            | then-branch+in_ok-push w ↦ row_kept own_files i (file_at i) c.loop-file-test.true at here (filter here own_files) c.loop-file.own c.if-branch.own (w.own-is ∙ w.in_ok-push.ensures.ok) (told ∙ w.if-branch.true) (c.loop-file.invariant.own is_modelled)
+            | else-branch w ↦ row_left_out own_files i (file_at i) c.loop-file-test.true at here (filter here own_files) c.loop-file.own c.if-branch.own w.own-is (told ∙ w.if-branch.false) (c.loop-file.invariant.own is_modelled)
           ];
       quiet = search rules;
       looks = λ r new more. c.loop-file.invariant.looks r new (row_looks own_files i (file_at i) c.loop-file-test.true at (own_asked c.args.target.now c.args.folder.now) r _ _ _ c.in_ok-is_there.ensures.looks more);

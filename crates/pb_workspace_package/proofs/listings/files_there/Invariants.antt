@@ -13,7 +13,7 @@ use Rattle.pb_workspace_package.proofs.listings.files_there.Given as goal
 
 abbrev pub invariant-loop-file : goal.invariant-loop-file
 invariant-loop-file g l = record {
-  own : IsTrue g.P.Place.tells → l.own ++ filter (is_there l.folder (from_nothing l.target (g.P.Place.at l.fn.place).world)) (drop l.file-index own_files) ≡ filter (is_there l.folder (from_nothing l.target (g.P.Place.at l.fn.place).world)) own_files;
+  own : IsTrue g.P.Place.is_modelled → l.own ++ filter (is_there l.folder (from_nothing l.target (g.P.Place.at l.fn.place).world)) (drop l.file-index own_files) ≡ filter (is_there l.folder (from_nothing l.target (g.P.Place.at l.fn.place).world)) own_files;
   quiet : OnlyLooks {T = ℕ} (Ok 0) (g.P.Place.at l.fn.place) (g.P.Place.at l.place);
   looks : (r : Result (List OwnFile) LoadFault) (new : Counts) → Looks r (flat_map (own_asked l.target l.folder) (drop l.file-index own_files)) (g.P.Place.at l.place).counts new → Looks r (flat_map (own_asked l.target l.folder) own_files) (g.P.Place.at l.fn.place).counts new;
 }

@@ -1,5 +1,5 @@
 use Rattle.std.proofs.Common.{◌≡◌, ◌++◌, drop, Ok}
-use Rattle.pb_data.specs.Gives.{◌>>=◌}
+use Rattle.pb_data.specs.UnlessOom.{◌>>=◌}
 use Rattle.pb_workspace_package.specs.Wanted.{wanted_of, each_wanted}
 use Rattle.pb_workspace_package.proofs.wanted.each_wanted.Given as goal
 

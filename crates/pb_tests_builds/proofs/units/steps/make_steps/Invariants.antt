@@ -1,5 +1,5 @@
 use Rattle.std.proofs.Common.{◌≡◌}
-use Rattle.pb_run.specs.Standing.{records_folder}
+use Rattle.pb_run.specs.Invariants.{records_folder}
 use Rattle.pb_tests_builds.proofs.units.steps.make_steps.Given as goal
 
 abbrev pub invariant-loop-line : goal.invariant-loop-line

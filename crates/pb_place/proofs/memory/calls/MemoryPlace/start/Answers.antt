@@ -37,12 +37,12 @@ returns-clause-answers g c =
     let t = c.in_ok-ticket.ticket in
     let entry = last_entry t c.args.self.now.flying c.spawn.new.self.flying _ c.in_ok-ticket.ensures.spawns.flying c.in_ok-ticket.ensures.spawns.fresh (same_number t) in
     let fate : fate_at t c.spawn.new.self.flying ≡ fate_of c.args.command.now.out c.args.self.now.deaths = ap fate_in entry.0 in record {
-      burns = search rules;
-      stillborn = search rules;
+      fails_now = search rules;
+      spawn_fails = search rules;
       dies = search rules;
-      fated = λ no_spawn no_end.
+      exit_fails = λ no_spawn no_end.
           let fuse = not_the_end c.args.self.now.fuse c.spawn.new.self.fuse c.in_ok-ticket.ensures.spawns.fuse no_end in
-          fated_start _ c.finish.result _ (subst (λ (o : Option StartFault). IfSome o (λ e. e ≢ start.CannotStart → c.finish.result ≡ Err e)) fate (c.finish.ensures.answers.fated fuse));
+          fated_start _ c.finish.result _ (subst (λ (o : Option StartFault). IfSome o (λ e. e ≢ start.CannotStart → c.finish.result ≡ Err e)) fate (c.finish.ensures.answers.exit_fails fuse));
       quiet = λ no_spawn no_end none.
           let fuse = not_the_end c.args.self.now.fuse c.spawn.new.self.fuse c.in_ok-ticket.ensures.spawns.fuse no_end in
           c.finish.ensures.answers.quiet fuse (fate ∙ none);

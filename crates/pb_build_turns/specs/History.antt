@@ -1,0 +1,431 @@
+-- What has happened while the units of a build began and answered.
+use Rattle.std.specs.Prelude.{◌≡◌, ◌≢◌, ◌⊎◌, ◌<◌, ◌≤◌, ◌==◌, ◌∷◌, [], ℕ, zero, suc, max, Bool, true, false, if◌then◌else◌, List, length, take, Option, Some, None, is_some, Contains, IfSome, IsSome, IsTrue, slice_get}
+use Rattle.std.specs.FinMap as finite
+use Rattle.std.specs.Io.KnownBytes.{Appends}
+use Rattle.std.specs.List.{AllByRecursion}
+use Rattle.pb_build_result.specs.declared.fault.BuildFault.{BuildFault}
+use Rattle.pb_build_result.specs.declared.fault.BuildFault.TheVariants.{Plan, Toolchain, Child, Device, Sink, OutOfMemory}
+use Rattle.pb_build_result.specs.declared.fault.DeviceFault.TheVariants.{NumbersSpent}
+use Rattle.pb_command.specs.Command.{command_of}
+use Rattle.pb_command.specs.Judge.{ended_by}
+use Rattle.pb_directive.specs.declared.directive.Directive.{Directive}
+use Rattle.pb_run_flight.specs.declared.flight.Answer.{Answer}
+use Rattle.pb_run_flight.specs.declared.flight.State.{State}
+use Rattle.pb_run_flight.specs.declared.flight.State.TheVariants.{Untouched, Begun, Answered}
+use Rattle.pb_run_flight.specs.Events.{Event, Began, Gave, started_by, launched_after, states_after, peak}
+use Rattle.pb_run_flight.specs.Laws.{HasBegun}
+use Rattle.pb_run_flight.specs.Table.{due_first, due, count_due, are_good}
+use Rattle.pb_place_types.specs.Children.{child_at}
+use Rattle.pb_place_types.specs.Counts.{up}
+use Rattle.pb_place_types.specs.Paths.{is_at_or_below}
+use Rattle.pb_place_types.specs.World.{World, Answers, from_nothing}
+use Rattle.pb_place_types.specs.declared.child_in_flight.ChildInFlight.{ChildInFlight}
+use Rattle.pb_place_types.specs.declared.command.Command.{Command}
+use Rattle.pb_place_types.specs.declared.place.StartFault.TheVariants.{CannotStart}
+use Rattle.pb_command_types.specs.Targets.{unit_at}
+use Rattle.pb_build_result.specs.declared.bad_unit.BadUnit.{BadUnit}
+use Rattle.pb_command_types.specs.declared.project.Project.{Project}
+use Rattle.pb_command_types.specs.declared.project.Setup.{Setup}
+use Rattle.pb_record.specs.declared.record.Record.{Record}
+use Rattle.pb_run.specs.Steps.{HasCause, is_of_start}
+use Rattle.pb_run.specs.UnitSteps.{Premise, BuildContext, basis, outcomes_in, command_in, BuildInvariant, IsBegun, WritesTo, child_of, key_at, needed_keys}
+use Rattle.pb_run.specs.Running.{record_of}
+use Rattle.pb_run.specs.Outcome.{Outcome, directives_in}
+use Rattle.pb_run.specs.Invariants.{records_folder}
+use Rattle.pb_message_units.specs.Telling.{unit_lines}
+use Rattle.pb_store_soundness.specs.Apart.{is_of}
+use Rattle.pb_store_soundness.specs.Records.{place_of, records}
+use Rattle.pb_store.specs.Differences.{FirstDifference}
+use Rattle.pb_store.specs.Folder.{numbered, TakesNext, TakesNumber, lacks_number, migrated}
+use Rattle.pb_store.specs.declared.difference.Difference.{Difference}
+use Rattle.pb_build_turns.specs.Calling.{AnswersAgain, FliesAgain, AnswersAnew, FliesAnew, CallsCut, CallsCutOnAny, CallsOver, CallsOnAny, call_basis}
+use Rattle.pb_store_soundness.specs.Inputs.{reply_in}
+use Rattle.pb_build_turns.specs.Executor.{needs_of, launched_of, BuildState}
+use Rattle.pb_build_turns.specs.Rows.{Reasons, fault_in, messages_in, is_started}
+use Rattle.pb_build_turns.specs.declared.executor.RunningUnit.{RunningUnit}
+use Rattle.pb_build_turns.specs.declared.executor.UnitExecutor.{UnitExecutor}
+use Rattle.pb_unit.specs.declared.plan.Planned.{Planned}
+
+-- the states of the units after some events
+abbrev pub states_in : Project → List (Event BadUnit) → List (State BadUnit)
+states_in project es = states_after (needs_of project) es
+
+-- What is true of the counters, the sink and the lists, over every place.
+
+-- a counter after n more steps
+abbrev pub upped : ℕ → ℕ → ℕ
+upped zero n = n
+upped (suc k) n = up (upped k n)
+
+-- so far no call failed, and no failure was injected; the lines of the first n units were written; one child was
+-- started for each unit that began with one; and no more children were in flight at once than the events imply
+pub record CountersSoFar (project : Project) (first now : BuildState) (started : List ℕ) (aloft : List RunningUnit) (es : List (Event BadUnit)) (given : ℕ) : Type 0 where
+  pub started_are : started ≡ started_by es
+  pub launched_are : launched_of aloft ≡ launched_after es
+  pub lines : Appends first.heard.taken now.heard.taken (due_first given (states_in project es))
+  pub faults : now.heard.faults ≡ first.heard.faults
+  pub failures : now.counts.failures ≡ first.counts.failures
+  pub starts : now.counts.starts.count ≡ upped (length (started_by es)) first.counts.starts.count
+  pub settings : now.counts.starts.settings ≡ first.counts.starts.settings
+  pub most : now.most ≡ max first.most (peak es)
+
+-- no child in flight writes into this folder
+abbrev pub NoneWritesTo : List ℕ → List ChildInFlight → Type 0
+NoneWritesTo out flying = (ticket : ℕ) (its : ChildInFlight) → child_at ticket flying ≡ Some its → its.command.out ≢ Some out
+
+-- a call for the unit of this key failed, or no run number is left for it: the unit has begun and not answered, it has
+-- no child in flight, and all lines that were due have been written
+pub record StopsAt (is_modelled : Bool) (project : Project) (first now : BuildState) (key : List ℕ) (es : List (Event BadUnit)) : Type 0 where
+  pub place : ℕ
+  pub unit : Planned
+  pub there : unit_at project place ≡ Some unit
+  pub named : unit.key ≡ key
+  pub flies : slice_get (states_in project es) place ≡ Some Begun
+  pub landed : IsTrue is_modelled → NoneWritesTo unit.out now.counts.starts.flying
+  pub lines : Appends first.heard.taken now.heard.taken (due (states_in project es))
+  pub faults : now.heard.faults ≡ first.heard.faults
+
+-- the sink failed after the last event, an answer: it took all lines that were due before that answer; of the lines
+-- that are due since then it took some first bytes, but not all
+pub record StopsAtSink (project : Project) (first now : BuildState) (es : List (Event BadUnit)) : Type 0 where
+  pub before : List (Event BadUnit)
+  pub unit : ℕ
+  pub answer : Answer BadUnit
+  pub last : es ≡ Gave unit answer ∷ before
+  pub taken : ℕ
+  pub whole : length (due_first (count_due (states_in project before)) (states_in project es)) ≤ taken
+  pub part : taken < length (due (states_in project es))
+  pub lines : Appends first.heard.taken now.heard.taken (take taken (due (states_in project es)))
+  pub faults : now.heard.faults ≡ up first.heard.faults
+
+-- how a fault ends the build: at a unit; at the sink, as the lines after an answer were written (`StopsAtSink`); or
+-- because memory ran out, with the lines of the first units
+abbrev pub StopsBy : Bool → BuildFault → Project → BuildState → BuildState → List (Event BadUnit) → Type 0
+StopsBy is_modelled (Plan why) project first now es = ⊥
+StopsBy is_modelled Toolchain project first now es = ⊥
+StopsBy is_modelled (Child key fault) project first now es = StopsAt is_modelled project first now key es
+StopsBy is_modelled (Device key fault) project first now es = StopsAt is_modelled project first now key es
+StopsBy is_modelled Sink project first now es = StopsAtSink project first now es
+StopsBy is_modelled OutOfMemory project first now es = ((n : ℕ) × Appends first.heard.taken now.heard.taken (due_first n (states_in project es))) × (now.heard.faults ≡ first.heard.faults)
+
+-- the same, with the fault's cause; one child was started for each unit that began with one (for the last of them the
+-- spawn may only have been tried); no failure was injected
+pub record Stops (is_modelled : Bool) (fault : BuildFault) (project : Project) (first now : BuildState) (es : List (Event BadUnit)) : Type 0 where
+  pub by : StopsBy is_modelled fault project first now es
+  pub cause : HasCause fault first.counts now.counts
+  pub starts : now.counts.starts.count ≡ upped (length (started_by es)) first.counts.starts.count
+  pub settings : now.counts.starts.settings ≡ first.counts.starts.settings
+
+-- the number that a unit takes as it answers:
+-- none if a child was started for it, or if it is bad;
+-- else the next number if its first record is known to have lacked one, and none if that is known to have had one;
+-- at most one number if neither is known
+pub record TakesAsAnswered (Lacks : Bool → Type 0) (started : Bool) (fault : Option BadUnit) (before now : Option ℕ) : Type 0 where
+  pub at_most : TakesNumber before now
+  pub child : started ≡ true → now ≡ before
+  pub bad : IsSome fault → now ≡ before
+  pub had : Lacks false → now ≡ before
+  pub lacked : started ≡ false → fault ≡ None → Lacks true → TakesNext before now
+
+-- the next run number after these events: a unit takes a number as it begins with a child, or as it answers. A number
+-- that was taken for a unit that then could not begin is not counted
+abbrev pub NumbersGiven : (ℕ → Bool → Type 0) → List (Event BadUnit) → Option ℕ → Option ℕ → Type 0
+NumbersGiven Lacks [] first now = now ≡ first
+NumbersGiven Lacks (Began unit true ∷ es) first now = (before : Option ℕ) × NumbersGiven Lacks es first before × TakesNext before now
+NumbersGiven Lacks (Began unit false ∷ es) first now = NumbersGiven Lacks es first now
+NumbersGiven Lacks (Gave unit answer ∷ es) first now = (before : Option ℕ) × NumbersGiven Lacks es first before × TakesAsAnswered (Lacks unit) (is_started es unit) answer.fault before now
+
+-- if a fault reports that no run number is left, all numbers were taken
+abbrev pub Spends : (ℕ → Bool → Type 0) → BuildFault → Option ℕ → List (Event BadUnit) → Type 0
+Spends Lacks (Device key NumbersSpent) first es = NumbersGiven Lacks es first None
+Spends Lacks fault first es = Unit {0}
+
+-- over a place that does not tell its maps, we do not know whether the record of a unit lacked a number
+abbrev pub IsUntold : ℕ → Bool → Type 0
+IsUntold unit lacks = ⊥
+
+-- What is true over a place that tells its maps.
+
+-- the unit at an index has its outcome of a clean build: its fault, its lines, which say whether a child was started
+-- for it, and its directives, which are noted
+pub record HasGiven (b : BuildContext) (es : List (Event BadUnit)) (done : List (Option (List Directive))) (place : ℕ) (answer : Answer BadUnit) : Type 0 where
+  pub unit : Planned
+  pub there : unit_at b.project place ≡ Some unit
+  pub outcome : Outcome
+  pub is : slice_get (outcomes_in b) place ≡ Some outcome
+  pub fault : answer.fault ≡ fault_in outcome
+  pub lines : answer.lines ≡ unit_lines b.project unit (is_started es place) (messages_in outcome)
+  pub noted : slice_get done place ≡ Some (directives_in outcome)
+
+-- the events before the unit at an index began
+abbrev pub events_before : List (Event BadUnit) → ℕ → List (Event BadUnit)
+events_before [] place = []
+events_before (Began unit spawned ∷ es) place = if unit == place then es else events_before es place
+events_before (Gave unit answer ∷ es) place = events_before es place
+
+-- only files in the output folders and the records of units that have begun were changed
+pub record OnlyOf (project : Project) (es : List (Event BadUnit)) (old new : World) : Type 0 where
+  pub variables : new.variables ≡ old.variables
+  pub files : (q : List ℕ) → ((place : ℕ) (u : Planned) → HasBegun (states_in project es) place → unit_at project place ≡ Some u → is_of (records_folder project) u.key q ≡ false) → finite.get new.files q ≡ finite.get old.files q
+
+-- whether the unit at an index has a record without a number
+abbrev pub LacksNumber : Project → World → ℕ → Bool → Type 0
+LacksNumber project w place lacks = (u : Planned) → unit_at project place ≡ Some u → lacks_number (records (records_folder project) w u.key) ≡ lacks
+
+-- this unit has no record that counts
+abbrev pub HasNoRecord : Project → Planned → World → Type 0
+HasNoRecord project u w = records (records_folder project) w u.key ≡ None
+
+-- a unit in flight for which a child was started has no record; the unit whose answer was taken is excepted
+abbrev pub KeepsNoneInFlight : Project → List (Event BadUnit) → Option ℕ → World → Type 0
+KeepsNoneInFlight project es asked w = (place : ℕ) (u : Planned) → unit_at project place ≡ Some u → slice_get (states_in project es) place ≡ Some Begun → asked ≢ Some place → is_started es place ≡ true → HasNoRecord project u w
+
+-- if no child was started for a unit in flight, its folder and its record are as at first; the unit whose answer was
+-- taken is excepted
+abbrev pub KeepsChildless : Project → List (Event BadUnit) → Option ℕ → World → World → Type 0
+KeepsChildless project es asked first w = (place : ℕ) (u : Planned) (q : List ℕ) → unit_at project place ≡ Some u → slice_get (states_in project es) place ≡ Some Begun → asked ≢ Some place → is_started es place ≡ false → is_of (records_folder project) u.key q ≡ true
+    → finite.get w.files q ≡ finite.get first.files q
+
+-- the first difference of the unit at an index when it began, in a world in which only units that had begun before had
+-- changed anything. A child was started for the unit if and only if something differed, and the difference is noted
+pub record BeganFor (project : Project) (sources : World) (command : ℕ → Planned → Command) (es : List (Event BadUnit)) (reasons : Reasons) (first now : World) (place : ℕ) : Type 0 where
+  pub unit : Planned
+  pub there : unit_at project place ≡ Some unit
+  pub world : World
+  pub sources_stay : from_nothing project.workspace.target world ≡ sources
+  pub record_stays : finite.get world.files (place_of (records_folder project) unit.key) ≡ finite.get first.files (place_of (records_folder project) unit.key)
+  pub only : OnlyOf project (events_before es place) first world
+  pub reaches : are_good (states_in project es) unit.reaches ≡ true
+  pub reached_stay : (p : ℕ) (v : Planned) (q : List ℕ) → Contains unit.reaches p → unit_at project p ≡ Some v → is_of (records_folder project) v.key q ≡ true → finite.get world.files q ≡ finite.get now.files q
+  pub answered_stay : (p : ℕ) (v : Planned) (a : Answer BadUnit) (q : List ℕ) → slice_get (states_in project (events_before es place)) p ≡ Some (Answered a) → slice_get (states_in project es) p ≡ Some (Answered a) → unit_at project p ≡ Some v
+      → is_of (records_folder project) v.key q ≡ true → finite.get world.files q ≡ finite.get now.files q
+  pub unrecorded : KeepsNoneInFlight project (events_before es place) None world
+  pub waiting_stay : KeepsChildless project (events_before es place) None first world
+  pub difference : Option Difference
+  pub named : FirstDifference (records_folder project) unit.key (command place unit) world difference
+  pub started : is_started es place ≡ is_some difference
+  pub noted : slice_get reasons place ≡ Some (Some difference)
+  pub folder_stays : difference ≡ None → (q : List ℕ) → is_at_or_below unit.out q ≡ true → finite.get now.files q ≡ finite.get first.files q
+  pub kept_stays : difference ≡ None → lacks_number (records (records_folder project) first unit.key) ≡ false → (q : List ℕ) → is_of (records_folder project) unit.key q ≡ true → finite.get now.files q ≡ finite.get first.files q
+  pub unstarted : started_by (events_before es place) ≡ [] → ((p : ℕ) → LacksNumber project first p false) → world ≡ first
+
+-- each unit that has begun did so for its first difference
+abbrev pub AllBegan : Project → World → (ℕ → Planned → Command) → List (Event BadUnit) → Reasons → World → World → Type 0
+AllBegan project sources command es reasons first now = (place : ℕ) → HasBegun (states_in project es) place → BeganFor project sources command es reasons first now place
+
+-- if a unit could not begin because of its start, or because memory ran out as its child was tried, something had
+-- differed for it; that is stated as if its child had been started
+abbrev pub HadDiffered : Project → World → (ℕ → Planned → Command) → BuildFault → List (Event BadUnit) → List (Event BadUnit) → World → World → Type 0
+HadDiffered project sources command fault before es first now =
+    (place : ℕ) (spawned : Bool) → es ≡ Began place spawned ∷ before → (is_of_start fault ≡ true) ⊎ (spawned ≡ true) → (reasons : Reasons) × BeganFor project sources command (Began place true ∷ before) reasons first now place
+
+-- the same over any records, true or not: with the sources of the first world, and with the command of each unit after
+-- the directives that are noted
+abbrev pub AllBeganOnAny : Setup → Project → List (Option (List Directive)) → List (Event BadUnit) → Reasons → World → World → Type 0
+AllBeganOnAny setup project done es reasons first now = AllBegan project (from_nothing project.workspace.target first) (λ place u. command_of setup project u done) es reasons first now
+
+-- and something had differed for a unit that could not begin
+abbrev pub StartedOnAny : Setup → Project → List (Option (List Directive)) → BuildFault → List (Event BadUnit) → List (Event BadUnit) → World → World → Type 0
+StartedOnAny setup project done fault before es first now = HadDiffered project (from_nothing project.workspace.target first) (λ place u. command_of setup project u done) fault before es first now
+
+-- the same for a basis: with its sources, and with the command of each unit after the outcomes of a clean build
+abbrev pub AllBeganFor : BuildContext → List (Event BadUnit) → Reasons → World → World → Type 0
+AllBeganFor b es reasons first now = AllBegan b.project b.sources (command_in b) es reasons first now
+
+-- and something had differed for a unit that could not begin
+abbrev pub StartedFor : BuildContext → BuildFault → List (Event BadUnit) → List (Event BadUnit) → World → World → Type 0
+StartedFor b fault before es first now = HadDiffered b.project b.sources (command_in b) fault before es first now
+
+-- a bad unit for which a child was started has no record
+abbrev pub KeepsNoneOfBad : Project → List (Event BadUnit) → World → Type 0
+KeepsNoneOfBad project es w = (place : ℕ) (u : Planned) (answer : Answer BadUnit) → unit_at project place ≡ Some u → slice_get (states_in project es) place ≡ Some (Answered answer) → IsSome answer.fault → is_started es place ≡ true → HasNoRecord project u w
+
+-- a unit in flight has begun; if it has a child, the child writes into the unit's folder, and the unit has no record
+pub record FliesIn (project : Project) (es : List (Event BadUnit)) (world : World) (flying : List ChildInFlight) (a : RunningUnit) : Type 0 where
+  pub state : slice_get (states_in project es) a.unit ≡ Some Begun
+  pub started : is_started es a.unit ≡ is_some (child_of a.begun)
+  pub gone : (u : Planned) → unit_at project a.unit ≡ Some u → IsSome (child_of a.begun) → HasNoRecord project u world
+  pub writes : (u : Planned) → unit_at project a.unit ≡ Some u → WritesTo u.out (child_of a.begun) flying
+
+-- by these events a unit in flight has begun, with or without a child, and it is not the unit whose answer was taken
+pub record FliesBeside (project : Project) (es : List (Event BadUnit)) (asked : Option ℕ) (a : RunningUnit) : Type 0 where
+  pub state : slice_get (states_in project es) a.unit ≡ Some Begun
+  pub started : is_started es a.unit ≡ is_some (child_of a.begun)
+  pub other : asked ≢ Some a.unit
+
+-- only files in the folders of units that have begun with a child and not answered were changed; the unit whose answer
+-- was taken is not among these
+pub record ChangesInFlight (project : Project) (es : List (Event BadUnit)) (asked : Option ℕ) (old new : World) : Type 0 where
+  pub variables : new.variables ≡ old.variables
+  pub files : (q : List ℕ) → ((place : ℕ) (u : Planned) → slice_get (states_in project es) place ≡ Some Begun → asked ≢ Some place → is_started es place ≡ true → unit_at project place ≡ Some u → is_at_or_below u.out q ≡ false) → finite.get new.files q ≡ finite.get old.files q
+
+-- whatever a build rests on: the units in flight, and what has changed
+pub record Changes (project : Project) (first : World) (aloft : List RunningUnit) (es : List (Event BadUnit)) (world : World) (flying : List ChildInFlight) : Type 0 where
+  pub flies : AllByRecursion (FliesIn project es world flying) aloft
+  pub only : OnlyOf project es first world
+  pub unkept : KeepsNoneOfBad project es world
+
+-- each unit that answered without a child did so by the record that it had at first
+abbrev pub AllAnswerAgain : Setup → Project → List (Event BadUnit) → List (Option (List Directive)) → World → Type 0
+AllAnswerAgain setup project es done first = (place : ℕ) (answer : Answer BadUnit) → slice_get (states_in project es) place ≡ Some (Answered answer) → is_started es place ≡ false
+    → AnswersAgain setup project done first place answer
+
+-- and those in flight without a child wait to do so
+pub record Replays (setup : Setup) (project : Project) (done : List (Option (List Directive))) (aloft : List RunningUnit) (es : List (Event BadUnit)) (first now : World) : Type 0 where
+  pub waits : AllByRecursion (λ (a : RunningUnit). FliesAgain setup project done first now a) aloft
+  pub gave : AllAnswerAgain setup project es done first
+
+-- each unit that answered with a child did so by the child's reply to what it sees of this world, whether the records
+-- are true or not
+abbrev pub AllAnswerAnew : Answers → Setup → Project → List (Event BadUnit) → List (Option (List Directive)) → World → Type 0
+AllAnswerAnew child setup project es done now = (place : ℕ) (answer : Answer BadUnit) → slice_get (states_in project es) place ≡ Some (Answered answer) → is_started es place ≡ true → AnswersAnew child setup project done now place answer
+
+-- and those in flight with a child wait to do so
+pub record Replies (child : Answers) (setup : Setup) (project : Project) (done : List (Option (List Directive))) (aloft : List RunningUnit) (es : List (Event BadUnit)) (now : World) (flying : List ChildInFlight) (still : ℕ → Type 0) : Type 0 where
+  pub waits : AllByRecursion (FliesAnew child setup project done now flying still) aloft
+  pub gave : AllAnswerAnew child setup project es done now
+
+-- the events before the unit at an index answered
+abbrev pub events_until : List (Event BadUnit) → ℕ → List (Event BadUnit)
+events_until [] place = []
+events_until (Began unit spawned ∷ es) place = events_until es place
+events_until (Gave unit answer ∷ es) place = if unit == place then es else events_until es place
+
+-- the record of a unit for which a child was started: its command, its child's reply to what it sees of this world, the
+-- present values of the inputs, the numbers of the needed units, and this run number
+abbrev pub record_anew : Answers → Setup → Project → List (Option (List Directive)) → World → Planned → ℕ → Record
+record_anew child setup project done now u number = record_of project u (command_of setup project u done) number (ended_by (reply_in child (command_of setup project u done) now)) now
+
+-- the record of a unit that has answered.
+-- Good, with a child: the record of that child, with the number that was next as the unit began.
+-- Good, without a child: the first record, with a number if it had none.
+-- Bad, without a child: what was there at first
+pub record LeavesRecord (child : Answers) (setup : Setup) (project : Project) (done : List (Option (List Directive))) (started : Bool) (before until : List (Event BadUnit)) (next : Option ℕ) (first now : World) (place : ℕ) (answer : Answer BadUnit) : Type 0 where
+  pub unit : Planned
+  pub there : unit_at project place ≡ Some unit
+  pub anew : started ≡ true → answer.fault ≡ None
+      → (number : ℕ) × NumbersGiven (LacksNumber project first) before next (Some number) × (records (records_folder project) now unit.key ≡ Some (record_anew child setup project done now unit number))
+  pub again : started ≡ false → answer.fault ≡ None
+      → (number : Option ℕ) × NumbersGiven (LacksNumber project first) until next number × (lacks_number (records (records_folder project) first unit.key) ≡ true → IsSome number)
+      × (records (records_folder project) now unit.key ≡ migrated number (numbered (records (records_folder project) now) (needed_keys project unit)) (records (records_folder project) first unit.key))
+  pub bad : started ≡ false → IsSome answer.fault → finite.get now.files (place_of (records_folder project) unit.key) ≡ finite.get first.files (place_of (records_folder project) unit.key)
+
+-- each unit that answered has left such a record, whether the records are true or not
+abbrev pub AllLeaveRecords : Answers → Setup → Project → List (Event BadUnit) → List (Option (List Directive)) → Option ℕ → World → World → Type 0
+AllLeaveRecords child setup project es done next first now = (place : ℕ) (answer : Answer BadUnit) → slice_get (states_in project es) place ≡ Some (Answered answer)
+    → LeavesRecord child setup project done (is_started es place) (events_before es place) (events_until es place) next first now place answer
+
+-- the child of a unit in flight was launched with the run number that was next as the unit began
+abbrev pub CarriesNumber : Project → List (Event BadUnit) → Option ℕ → World → RunningUnit → Type 0
+CarriesNumber project es next first a = IfSome (child_of a.begun) (λ launched. NumbersGiven (LacksNumber project first) (events_before es a.unit) next (Some launched.number))
+
+-- the records of the units that answered, and the numbers of those in flight
+pub record Recordings (child : Answers) (setup : Setup) (project : Project) (done : List (Option (List Directive))) (aloft : List RunningUnit) (es : List (Event BadUnit)) (next : Option ℕ) (first now : World) : Type 0 where
+  pub carries : AllByRecursion (CarriesNumber project es next first) aloft
+  pub gave : AllLeaveRecords child setup project es done next first now
+
+-- a unit in flight has begun as in `IsBegun`, and all that it reaches is good
+pub record FliesSo (b : BuildContext) (es : List (Event BadUnit)) (next : Option ℕ) (world : World) (flying : List ChildInFlight) (still : ℕ → Type 0) (a : RunningUnit) : Type 0 where
+  pub state : slice_get (states_in b.project es) a.unit ≡ Some Begun
+  pub begun_so : IsBegun b a.unit a.begun next world flying still
+  pub reaches : (u : Planned) → unit_at b.project a.unit ≡ Some u → are_good (states_in b.project es) u.reaches ≡ true
+  pub started : is_started es a.unit ≡ is_some (child_of a.begun)
+
+-- what has happened: what `BuildInvariant` requires, the units in flight, and those that have answered
+pub record HistoryHolds (b : BuildContext) (done : List (Option (List Directive))) (aloft : List RunningUnit) (next : Option ℕ) (es : List (Event BadUnit)) (world : World) (flying : List ChildInFlight) (still : ℕ → Type 0) : Type 0 where
+  pub keeps : BuildInvariant b (states_in b.project es) done next world
+  pub begun : AllByRecursion (FliesSo b es next world flying still) aloft
+  pub gave : (place : ℕ) (answer : Answer BadUnit) → slice_get (states_in b.project es) place ≡ Some (Answered answer) → HasGiven b es done place answer
+
+-- as long as no child is started, the world is the first one, if no record lacked a number then
+abbrev pub IsQuiet : Project → List (Event BadUnit) → World → World → Type 0
+IsQuiet project es first now = started_by es ≡ [] → ((place : ℕ) → LacksNumber project first place false) → now ≡ first
+
+-- the note of a unit that has not begun is as at first
+abbrev pub NotesUnbegun : Project → List (Event BadUnit) → Reasons → Reasons → Type 0
+NotesUnbegun project es first now = (place : ℕ) → slice_get (states_in project es) place ≡ Some Untouched → slice_get now place ≡ slice_get first place
+
+-- the first difference of each unit that has begun is noted; there is one if and only if a child was started for the
+-- unit
+abbrev pub NotesStarted : Project → List (Event BadUnit) → Reasons → Type 0
+NotesStarted project es now = (place : ℕ) (s : State BadUnit) → slice_get (states_in project es) place ≡ Some s → s ≢ Untouched
+    → (d : Option Difference) × (slice_get now place ≡ Some (Some d)) × (is_some d ≡ is_started es place)
+
+-- The story.
+
+-- the states while no unit has begun
+abbrev pub untouched : Project → List (State BadUnit)
+untouched project = states_in project []
+
+-- for each basis that satisfied `BuildInvariant` at first, this is true
+abbrev pub FromFirst : Answers → UnitExecutor → BuildState → UnitExecutor → (BuildContext → Type 0) → Type 0
+FromFirst child first at c Since = (footing : Premise) (sources : World)
+    → BuildInvariant (basis footing child c.setup c.project sources) (untouched c.project) first.done.items first.store.next at.world
+    → Since (basis footing child c.setup c.project sources)
+
+-- the story of a crew between two moments
+pub record History (is_modelled : Bool) (child : Answers) (first : UnitExecutor) (at : BuildState) (c : UnitExecutor) (now : BuildState) (still : ℕ → Type 0) (es : List (Event BadUnit)) (given : ℕ) : Type 0 where
+  pub setup : c.setup ≡ first.setup
+  pub project : c.project ≡ first.project
+  pub goes : CountersSoFar c.project at now c.started.items c.aloft.items es given
+  pub numbers : NumbersGiven IsUntold es first.store.next c.store.next
+  pub changes : IsTrue is_modelled → Changes c.project at.world c.aloft.items es now.world now.counts.starts.flying
+  pub unrecorded : IsTrue is_modelled → KeepsNoneInFlight c.project es None now.world
+  pub childless : IsTrue is_modelled → KeepsChildless c.project es None at.world now.world
+  pub again : IsTrue is_modelled → Replays c.setup c.project c.done.items c.aloft.items es at.world now.world
+  pub anew : IsTrue is_modelled → Replies child c.setup c.project c.done.items c.aloft.items es now.world now.counts.starts.flying still
+  pub left : IsTrue is_modelled → Recordings child c.setup c.project c.done.items c.aloft.items es first.store.next at.world now.world
+  pub began : IsTrue is_modelled → AllBeganOnAny c.setup c.project c.done.items es c.reasons.items at.world now.world
+  pub quiet : IsTrue is_modelled → IsQuiet c.project es at.world now.world
+  pub happened : IsTrue is_modelled → FromFirst child first at c (λ b. HistoryHolds b c.done.items c.aloft.items c.store.next es now.world now.counts.starts.flying still)
+  pub taken : IsTrue is_modelled → NumbersGiven (LacksNumber c.project at.world) es first.store.next c.store.next
+  pub calls : IsTrue is_modelled → FromFirst child first at c (λ b. CallsOver (call_basis b) es at.world at.counts now.world now.counts)
+  pub calls_on_any : IsTrue is_modelled → CallsOnAny child c.setup c.project c.done.items es at.world at.counts now.world now.counts
+  pub unnoted : NotesUnbegun c.project es first.reasons.items c.reasons.items
+  pub noted : NotesStarted c.project es c.reasons.items
+
+-- the last event is the beginning of the unit of this key
+abbrev pub IsBeginning : Project → List ℕ → Bool → List (Event BadUnit) → List (Event BadUnit) → Type 0
+IsBeginning project key spawned before es = (unit : ℕ) × (key_at project unit ≡ key ∷ []) × (es ≡ Began unit spawned ∷ before)
+
+-- a fault came after these events; if a unit could not begin, these are the events before its beginning, and it has no
+-- child in flight
+abbrev pub CameAfter : Project → BuildFault → List (Event BadUnit) → List (Event BadUnit) → Type 0
+CameAfter project (Child key CannotStart) before es = IsBeginning project key true before es
+CameAfter project (Device key fault) before es = (es ≡ before) ⊎ IsBeginning project key false before es
+CameAfter project OutOfMemory before es = (es ≡ before) ⊎ ((unit : ℕ) × (spawned : Bool) × (es ≡ Began unit spawned ∷ before))
+CameAfter project fault before es = es ≡ before
+
+-- the unit that a fault names: the one whose answer was taken, after all these events; if there is none, the one that
+-- could not begin. The sink and out of memory name no unit
+abbrev pub NamesUnit : Project → BuildFault → Option ℕ → List (Event BadUnit) → List (Event BadUnit) → Type 0
+NamesUnit project (Child key fault) None before es = IsBeginning project key true before es
+NamesUnit project (Child key fault) (Some unit) before es = (key_at project unit ≡ key ∷ []) × (es ≡ before)
+NamesUnit project (Device key fault) None before es = IsBeginning project key false before es
+NamesUnit project (Device key fault) (Some unit) before es = (key_at project unit ≡ key ∷ []) × (es ≡ before)
+NamesUnit project fault asked before es = Unit {0}
+
+-- the story after a fault ended it, as the answer of this unit was taken, or of none: the units in flight are in flight
+-- by the events before the fault, and this unit is not among them
+pub record StoryEnds (is_modelled : Bool) (child : Answers) (fault : BuildFault) (asked : Option ℕ) (first : UnitExecutor) (at : BuildState) (c : UnitExecutor) (now : BuildState) (still : ℕ → Type 0) (es : List (Event BadUnit)) : Type 0 where
+  pub setup : c.setup ≡ first.setup
+  pub project : c.project ≡ first.project
+  pub stops : Stops is_modelled fault c.project at now es
+  pub spent : Spends IsUntold fault first.store.next es
+  pub before : List (Event BadUnit)
+  pub came : CameAfter c.project fault before es
+  pub names : NamesUnit c.project fault asked before es
+  pub most : now.most ≡ max at.most (peak before)
+  pub changes : IsTrue is_modelled → Changes c.project at.world c.aloft.items es now.world now.counts.starts.flying
+  pub beside : IsTrue is_modelled → AllByRecursion (FliesBeside c.project before asked) c.aloft.items
+  pub unrecorded : IsTrue is_modelled → KeepsNoneInFlight c.project before asked now.world
+  pub childless : IsTrue is_modelled → KeepsChildless c.project before asked at.world now.world
+  pub again : IsTrue is_modelled → AllAnswerAgain c.setup c.project es c.done.items at.world
+  pub anew : IsTrue is_modelled → AllAnswerAnew child c.setup c.project es c.done.items now.world
+  pub left : IsTrue is_modelled → AllLeaveRecords child c.setup c.project es c.done.items first.store.next at.world now.world
+  pub began : IsTrue is_modelled → AllBeganOnAny c.setup c.project c.done.items before c.reasons.items at.world now.world
+  pub started : IsTrue is_modelled → StartedOnAny c.setup c.project c.done.items fault before es at.world now.world
+  pub happened : IsTrue is_modelled → FromFirst child first at c (λ b. HistoryHolds b c.done.items c.aloft.items c.store.next es now.world now.counts.starts.flying still)
+  pub caused : IsTrue is_modelled → Spends (LacksNumber c.project at.world) fault first.store.next es
+  pub calls : IsTrue is_modelled → FromFirst child first at c (λ b. CallsCut (call_basis b) fault asked es before at.world at.counts now.world now.counts)
+  pub calls_on_any : IsTrue is_modelled → CallsCutOnAny child c.setup c.project c.done.items fault asked es before at.world at.counts now.world now.counts

@@ -1,0 +1,294 @@
+//! The crew of a build's units: it begins them, takes their answers, and writes their lines.
+
+ghost use Rattle.std.specs.Prelude.{◌≡◌, ◌<◌, ◌++◌, ◌∷◌, [], ℕ, Bool, is_some, vec_len, vec_capacity, List, Option, length, IfOk, OnOk, MatchResult, Some, Contains, slice_get, slice_set, take};
+ghost use Rattle.std.specs.Io.KnownBytes.{Appends};
+ghost use Rattle.std.specs.List.{remove};
+ghost use Rattle.pb_run_flight.specs.Events.{Event, Began, Gave, MayBegin, IsLawful, flying_after};
+ghost use Rattle.pb_run_flight.specs.Table.{due_after, count_due, if_so};
+ghost use Rattle.pb_run_flight.specs.declared.flight.State.TheVariants as state;
+ghost use Rattle.pb_place_types.specs.Counts.{up};
+ghost use Rattle.pb_build_result.specs.declared.bad_unit.BadUnit.{BadUnit};
+ghost use Rattle.pb_run.specs.UnitSteps.{child_of};
+ghost use Rattle.pb_build_turns.specs.Executor.{needs_of, noted, places_of, IsAble, IsConsistent, BuildState, moment};
+ghost use Rattle.pb_place_types.specs.Sinks.{SinkState};
+ghost use Rattle.pb_build_turns.specs.History.{History, StoryEnds, states_in};
+
+use pb_build_result::{BadUnit, BuildFault};
+use pb_command_types::Setup;
+use pb_data::{Bytes, Text};
+use pb_directive::Directives;
+use pb_place_types::{Out, Place, write_all};
+use pb_run::{Begun, OrderedProject, Outcome, answer_unit, begin_unit};
+use pb_run_flight::{Answer, Executor};
+use pb_store::{Difference, Store};
+use std::alloc::{AllocError, Global};
+
+/// A unit in flight.
+#[derive(Drop)]
+pub struct RunningUnit {
+    /// Its index in plan order.
+    pub unit: usize,
+    /// How it has begun. Its difference is none here, because the crew's reasons have it.
+    pub begun: Begun,
+}
+
+/// Begins the units of a build and takes their answers.
+#[derive(Drop)]
+pub struct UnitExecutor {
+    /// The setup: how things are compiled.
+    pub setup: Setup,
+    /// What is built.
+    pub project: OrderedProject,
+    /// The records of the profile's folder.
+    pub store: Store,
+    /// For each unit the directives of its run: none if it has not answered, is bad, or is not a
+    /// run.
+    pub done: Vec<Option<Directives>>,
+    /// The units in flight, in the order in which they began.
+    pub aloft: Vec<RunningUnit>,
+    /// The units for which a child was started, in order.
+    pub started: Vec<usize>,
+    /// For each unit its first difference: none if it has not begun; some difference or none if it
+    /// has.
+    pub reasons: Vec<Option<Option<Difference>>>,
+}
+
+/// Adds an item to a list that has room for it.
+fn put<T: Drop>(items: &mut Vec<T>, item: T)
+    requires { vec_len items.old < vec_capacity items.old }
+    ensures { items.new.items ≡ items.old.items ++ item ∷ [] }
+{
+    match items.push(item) {
+        Ok(()) => {}
+        Err(_) => {}
+    }
+}
+
+/// Makes room for one more unit in flight, and for one more that was started.
+fn make_room(aloft: &mut Vec<RunningUnit>, started: &mut Vec<usize>) -> Result<(), AllocError>
+    ensures aloft { aloft.new.items ≡ aloft.old.items }
+    ensures started { started.new.items ≡ started.old.items }
+    ensures room { OnOk result (vec_len aloft.new < vec_capacity aloft.new) }
+    ensures more { OnOk result (vec_len started.new < vec_capacity started.new) }
+{
+    aloft.reserve(1)?;
+    started.reserve(1)?;
+    Ok(())
+}
+
+/// Notes a unit that has begun.
+fn note_begun(
+    aloft: &mut Vec<RunningUnit>,
+    started: &mut Vec<usize>,
+    reasons: &mut Vec<Option<Option<Difference>>>,
+    unit: usize,
+    mut begun: Begun,
+)
+    requires room { vec_len aloft.old < vec_capacity aloft.old }
+    requires more { vec_len started.old < vec_capacity started.old }
+    requires within { unit < length reasons.old.items }
+    ensures aloft { aloft.new.items
+        ≡ aloft.old.items ++ record { unit = unit; begun = noted begun } ∷ [] }
+    ensures started { started.new.items
+        ≡ started.old.items ++ if_so (is_some (child_of begun)) unit }
+    ensures reasons { reasons.new.items ≡ slice_set reasons.old.items unit (Some begun.difference) }
+{
+    let spawned = begun.has_child();
+    let difference = begun.difference.take();
+    put(aloft, RunningUnit { unit, begun });
+    if spawned {
+        put(started, unit);
+    }
+    reasons[unit] = Some(difference);
+}
+
+/// Begins a unit of the crew's project that is not in flight. After a fault it is not in flight.
+fn begin_at<P: Place>(
+    alloc: Global,
+    crew: &mut UnitExecutor,
+    place: &mut P,
+    unit: usize,
+) -> Result<bool, BuildFault>
+    requires manned { IsConsistent crew.old (P.at place.old).counts }
+    requires able { IsAble P.is_modelled crew.old (P.at place.old) }
+    requires unit { unit < length (needs_of crew.old.project) }
+    requires grounded { Contains (places_of crew.old.aloft.items) unit → ⊥ }
+    ensures manned { IsConsistent crew.new (P.at place.new).counts }
+    ensures able { OnOk result (IsAble P.is_modelled crew.new (P.at place.new)) }
+    ensures project { crew.new.project ≡ crew.old.project }
+    ensures flying { OnOk result
+        (places_of crew.new.aloft.items ≡ places_of crew.old.aloft.items ++ unit ∷ []) }
+    ensures story { (first : UnitExecutor) (at : BuildState) (heard : SinkState) (es : List (Event BadUnit))
+        (given : ℕ)
+        → History P.is_modelled P.child first at crew.old (moment (P.at place.old) heard)
+        (P.at place.old).still es given → places_of crew.old.aloft.items ≡ flying_after es
+        → IsLawful (needs_of crew.old.project) es
+        → given ≡ count_due (states_in crew.old.project es)
+        → MayBegin (needs_of crew.old.project) (states_in crew.old.project es) unit
+        → MatchResult result
+        (λ spawned.
+        History P.is_modelled P.child first at crew.new (moment (P.at place.new) heard)
+        (P.at place.new).still (Began unit spawned ∷ es) given)
+        (λ e.
+        (spawned : Bool)
+        × StoryEnds P.is_modelled P.child e None first at crew.new
+        (moment (P.at place.new) heard) (P.at place.new).still
+        (Began unit spawned ∷ es)) }
+{
+    // Room is made before the spawn, so that a child in flight is always noted.
+    match make_room(&mut crew.aloft, &mut crew.started) {
+        Ok(()) => {}
+        Err(_) => return Err(BuildFault::OutOfMemory),
+    }
+    let project = &crew.project;
+    let planned = &project.units()[unit];
+    let begun = match begin_unit(
+        alloc,
+        place,
+        &mut crew.store,
+        &crew.setup,
+        project,
+        crew.done.as_slice(),
+        unit,
+        planned,
+    ) {
+        Ok(begun) => begun,
+        Err(fault) => return Err(fault),
+    };
+    let spawned = begun.has_child();
+    note_begun(
+        &mut crew.aloft,
+        &mut crew.started,
+        &mut crew.reasons,
+        unit,
+        begun,
+    );
+    Ok(spawned)
+}
+
+/// Returns the bytes of a text.
+fn bytes_of(text: Text) -> Bytes
+    ensures { result ≡ text }
+{
+    Bytes::new(text.into_string().into_bytes())
+}
+
+/// Notes what came of a unit, and returns its answer.
+fn note_answer(done: &mut Vec<Option<Directives>>, unit: usize, outcome: Outcome) -> Answer<BadUnit>
+    requires within { unit < length done.old.items }
+    ensures done { done.new.items ≡ slice_set done.old.items unit outcome.directives }
+    ensures answer { result ≡ record { fault = outcome.fault; lines = outcome.lines } }
+{
+    let fault = outcome.fault;
+    done[unit] = outcome.directives;
+    let lines = bytes_of(outcome.lines);
+    Answer { fault, lines }
+}
+
+/// Takes the answer of the unit at an index of those in flight. Afterwards it is no longer in
+/// flight, even after a fault.
+fn answer_at<P: Place>(
+    alloc: Global,
+    crew: &mut UnitExecutor,
+    place: &mut P,
+    index: usize,
+) -> Result<Answer<BadUnit>, BuildFault>
+    requires manned { IsConsistent crew.old (P.at place.old).counts }
+    requires able { IsAble P.is_modelled crew.old (P.at place.old) }
+    requires within { index < length (places_of crew.old.aloft.items) }
+    ensures manned { IsConsistent crew.new (P.at place.new).counts }
+    ensures able { OnOk result (IsAble P.is_modelled crew.new (P.at place.new)) }
+    ensures project { crew.new.project ≡ crew.old.project }
+    ensures flying { places_of crew.new.aloft.items
+        ≡ remove (places_of crew.old.aloft.items) index }
+    ensures story { (first : UnitExecutor) (at : BuildState) (heard : SinkState) (es : List (Event BadUnit))
+        (given unit : ℕ)
+        → History P.is_modelled P.child first at crew.old (moment (P.at place.old) heard)
+        (P.at place.old).still es given → places_of crew.old.aloft.items ≡ flying_after es
+        → IsLawful (needs_of crew.old.project) es
+        → given ≡ count_due (states_in crew.old.project es)
+        → slice_get (places_of crew.old.aloft.items) index ≡ Some unit
+        → slice_get (states_in crew.old.project es) unit ≡ Some state.Begun
+        → MatchResult result
+        (λ answer.
+        History P.is_modelled P.child first at crew.new (moment (P.at place.new) heard)
+        (P.at place.new).still (Gave unit answer ∷ es) given)
+        (λ e.
+        StoryEnds P.is_modelled P.child e (Some unit) first at crew.new
+        (moment (P.at place.new) heard) (P.at place.new).still es) }
+{
+    // The unit leaves the list first: even after a fault it is no longer in flight.
+    let RunningUnit { unit, begun } = crew.aloft.remove(index);
+    let project = &crew.project;
+    let planned = &project.units()[unit];
+    let outcome = match answer_unit(alloc, place, &mut crew.store, project, unit, planned, begun) {
+        Ok(outcome) => outcome,
+        Err(fault) => return Err(fault),
+    };
+    Ok(note_answer(&mut crew.done, unit, outcome))
+}
+
+/// The places of the units in flight.
+fn places_of(alloc: Global, aloft: &[RunningUnit]) -> Result<Vec<usize>, AllocError>
+    ensures { IfOk result (λ places. places.items ≡ places_of aloft.now) }
+{
+    let mut places = Vec::new(alloc);
+    for one in aloft {
+        places.push(one.unit)?;
+    }
+    Ok(places)
+}
+
+impl<P: Place, O: Out> Executor<P, O, BadUnit, BuildFault> for UnitExecutor {
+    ghost needs = { λ crew. needs_of crew.project };
+
+    ghost flying = { λ crew. places_of crew.aloft.items };
+
+    ghost holds = { λ crew place out. IsConsistent crew (P.at place).counts };
+
+    ghost able = { λ crew place out. IsAble P.is_modelled crew (P.at place) };
+
+    ghost story = { λ first first_place first_out crew place out es given.
+        History P.is_modelled P.child first (moment (P.at first_place) (O.heard first_out)) crew
+        (moment (P.at place) (O.heard out)) (P.at place).still es given };
+
+    ghost stops = { λ fault asked first first_place first_out crew place out es.
+        StoryEnds P.is_modelled P.child fault asked first (moment (P.at first_place) (O.heard first_out))
+        crew (moment (P.at place) (O.heard out)) (P.at place).still es };
+
+    fn flying(&self, alloc: Global) -> Result<Vec<usize>, AllocError> {
+        places_of(alloc, self.aloft.as_slice())
+    }
+
+    fn begin(
+        &mut self,
+        alloc: Global,
+        place: &mut P,
+        out: &mut O,
+        unit: usize,
+    ) -> Result<bool, BuildFault> {
+        begin_at(alloc, self, place, unit)
+    }
+
+    fn answer(
+        &mut self,
+        alloc: Global,
+        place: &mut P,
+        out: &mut O,
+        index: usize,
+    ) -> Result<Answer<BadUnit>, BuildFault> {
+        answer_at(alloc, self, place, index)
+    }
+
+    fn tell(&mut self, place: &mut P, out: &mut O, lines: &[u8]) -> Result<(), BuildFault> {
+        if write_all(out, lines) {
+            Ok(())
+        } else {
+            Err(BuildFault::Sink)
+        }
+    }
+
+    fn refused(&self) -> BuildFault {
+        BuildFault::OutOfMemory
+    }
+}

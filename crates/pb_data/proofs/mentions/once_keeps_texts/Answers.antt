@@ -1,5 +1,0 @@
-use Rattle.pb_data.proofs.MentionLemmas.{is_mentioned-once}
-use Rattle.pb_data.proofs.mentions.once_keeps_texts.Goals as goal
-
-pub returns : goal.returns
-returns c texts text = is_mentioned-once texts text

@@ -1,0 +1,228 @@
+-- What is true of the outside world while units of a build begin and answer, with any number of them in flight.
+use Rattle.std.specs.Prelude.{◌≡◌, ◌≢◌, ◌∷◌, [], ℕ, Bool, true, false, not, List, Option, Some, None, IfSome, slice_get, take, length}
+use Rattle.std.specs.FinMap as finite
+use Rattle.std.specs.List.{flat_map}
+use Rattle.pb_command_arguments.specs.Externs.{reads_of}
+use Rattle.pb_command.specs.Judge.{judge}
+use Rattle.pb_directive.specs.declared.directive.Directive.{Directive}
+use Rattle.pb_run_flight.specs.declared.flight.State.{State}
+use Rattle.pb_run_flight.specs.declared.flight.State.TheVariants.{Untouched, Begun as begun_state}
+use Rattle.pb_run_flight.specs.Table.{is_good_at, are_good}
+use Rattle.pb_message.specs.declared.message.Message.{Message}
+use Rattle.pb_place_types.specs.Children.{StandsStill, child_spawned, child_at, inside_out}
+use Rattle.pb_place_types.specs.Folders.{files_in}
+use Rattle.pb_place_types.specs.World.{World, Map, Answers, ChangesOnly, from_nothing, seen_by}
+use Rattle.pb_place_types.specs.declared.child_in_flight.ChildInFlight.{ChildInFlight}
+use Rattle.pb_place_types.specs.declared.command.Command.{Command}
+use Rattle.pb_command_types.specs.Targets.{unit_at}
+use Rattle.pb_build_result.specs.declared.bad_unit.BadUnit.{BadUnit}
+use Rattle.pb_command_types.specs.declared.project.Project.{Project}
+use Rattle.pb_command_types.specs.declared.project.Setup.{Setup}
+use Rattle.pb_record.specs.declared.record.Record.{Record}
+use Rattle.pb_run.specs.Outcome.{Outcome, Good, outcomes, view_of, command_after}
+use Rattle.pb_run.specs.Invariants.{records_folder}
+use Rattle.pb_run.specs.declared.begun.Awaited.{Awaited}
+use Rattle.pb_run.specs.declared.begun.Awaited.TheVariants as awaited
+use Rattle.pb_run.specs.declared.begun.Begun.{Begun}
+use Rattle.pb_run.specs.declared.begun.SpawnedChild.{SpawnedChild}
+use Rattle.pb_store_soundness.specs.Grounded.{RecordMap, Grounded}
+use Rattle.pb_store_soundness.specs.Inputs.{IsHonest}
+use Rattle.pb_store_soundness.specs.Numbers.{IsAhead, IsBefore, NoneNames}
+use Rattle.pb_store_soundness.specs.Records.{number_of, reading, records}
+use Rattle.pb_store_soundness.specs.Reuse.{IsSame}
+use Rattle.pb_store_soundness.specs.Sound.{Sound}
+use Rattle.pb_store.specs.Folder.{HasNeeds}
+use Rattle.pb_store.specs.Differences.{IsReplayed}
+use Rattle.pb_unit.specs.declared.plan.Planned.{Planned}
+
+-- what a build rests on: a sound folder of records and an honest child; or nothing, and then no unit that has not
+-- begun has a record
+pub data Premise : Type 0 where
+  TrustedRecords : Premise
+  NoRecords : Premise
+
+-- what the facts of a build are about: its footing, the child, the setup, the project and the sources
+pub record BuildContext : Type 0 where
+  pub footing : Premise
+  pub child : Answers
+  pub setup : Setup
+  pub project : Project
+  pub sources : World
+
+abbrev pub basis : Premise → Answers → Setup → Project → World → BuildContext
+basis footing child setup project sources = record { footing = footing; child = child; setup = setup; project = project; sources = sources }
+
+-- the outcome of each unit in a clean build
+abbrev pub outcomes_in : BuildContext → List Outcome
+outcomes_in b = outcomes b.child b.setup b.project b.sources
+
+-- the command of the unit at an index, after the outcomes of the units before it (below, its view)
+abbrev pub command_in : BuildContext → ℕ → Planned → Command
+command_in b place u = command_after b.setup b.project (take place (outcomes_in b)) u
+
+abbrev pub view_in : BuildContext → ℕ → Planned → World
+view_in b place u = view_of (take place (outcomes_in b)) b.sources u
+
+-- the records that count in a world
+abbrev pub records_in : BuildContext → World → RecordMap
+records_in b w = records (records_folder b.project) w
+
+-- The units that have answered and are good.
+
+-- the outcome of the unit at an index is good: its directives are noted, and its files are in its output folder
+pub record StandsGood (b : BuildContext) (done : List (Option (List Directive))) (w : World) (place : ℕ) : Type 0 where
+  pub unit : Planned
+  pub there : unit_at b.project place ≡ Some unit
+  pub files : Map
+  pub directives : Option (List Directive)
+  pub messages : List Message
+  pub good : slice_get (outcomes_in b) place ≡ Some (Good files directives messages)
+  pub noted : slice_get done place ≡ Some directives
+  pub holds : files_in unit.out w.files ≡ files
+
+-- the unit at an index has a grounded record with a number; the record reads the same folders as the unit, and nothing
+-- differs from it
+pub record HasRecord (b : BuildContext) (w : World) (place : ℕ) : Type 0 where
+  pub unit : Planned
+  pub there : unit_at b.project place ≡ Some unit
+  pub kept : Record
+  pub here : records_in b w unit.key ≡ Some kept
+  pub number : ℕ
+  pub numbered : number_of kept ≡ Some number
+  pub grounded : Grounded (records_in b w) unit.key number
+  pub reads : kept.asked.reads ≡ reads_of b.project unit
+  pub same : IsSame reading (records_folder b.project) unit.key (command_in b place unit) w kept
+
+-- What stays true while units begin and answer.
+
+-- the child is honest on the command of each unit, in each world with these sources in which it sees the unit's view
+abbrev pub IsHonestOnUnits : BuildContext → Type 0
+IsHonestOnUnits b = (place : ℕ) (u : Planned) (w : World) → unit_at b.project place ≡ Some u → from_nothing b.project.workspace.target w ≡ b.sources
+    → seen_by (command_in b place u) w ≡ view_in b place u → IsHonest judge b.child (command_in b place u) w
+
+-- the folder of records is sound; all numbers in its records are below the next number; and each unit that has answered
+-- and is good has its record
+pub record HoldsRecords (b : BuildContext) (states : List (State BadUnit)) (next : Option ℕ) (w : World) : Type 0 where
+  pub honest : IsHonestOnUnits b
+  pub sound : Sound reading judge b.child (records_folder b.project) w.files
+  pub ahead : IsAhead (records_in b w) next
+  pub recorded : (place : ℕ) → is_good_at (slice_get states place) ≡ true → HasRecord b w place
+
+-- over records, these facts are true; over nothing, no unit that has not begun has a record
+abbrev pub HoldsBy : Premise → BuildContext → List (State BadUnit) → Option ℕ → World → Type 0
+HoldsBy TrustedRecords b states next w = HoldsRecords b states next w
+HoldsBy NoRecords b states next w = (place : ℕ) (u : Planned) → unit_at b.project place ≡ Some u → slice_get states place ≡ Some Untouched → records_in b w u.key ≡ None
+
+-- what is true while units are in these states: there is a note for each state; the sources are unchanged; each good
+-- unit has its files, and all that it reaches is good; and the records are as the footing requires
+pub record BuildInvariant (b : BuildContext) (states : List (State BadUnit)) (done : List (Option (List Directive))) (next : Option ℕ) (w : World) : Type 0 where
+  pub long : length done ≡ length states
+  pub sources_stay : from_nothing b.project.workspace.target w ≡ b.sources
+  pub good : (place : ℕ) → is_good_at (slice_get states place) ≡ true → StandsGood b done w place
+  pub closed : (place : ℕ) (u : Planned) → is_good_at (slice_get states place) ≡ true → unit_at b.project place ≡ Some u → are_good states u.reaches ≡ true
+  pub records : HoldsBy b.footing b states next w
+
+-- A unit that has begun and not answered.
+
+abbrev pub key_in : Option Planned → List (List ℕ)
+key_in None = []
+key_in (Some u) = u.key ∷ []
+
+abbrev pub key_at : Project → ℕ → List (List ℕ)
+key_at project place = key_in (unit_at project place)
+
+-- the keys of the units that a unit needs, in plan order
+abbrev pub needed_keys : Project → Planned → List (List ℕ)
+needed_keys project u = flat_map (key_at project) u.needs
+
+-- a unit that has begun, made of its parts, without a difference
+abbrev pub begun_with : List ℕ → Command → Awaited → Begun
+begun_with key c by = record { unit = key; command = c; difference = None; awaited = by }
+
+-- its child, if it has one
+abbrev pub child_in : Awaited → Option SpawnedChild
+child_in (awaited.Child launched) = Some launched
+child_in (awaited.Record again) = None
+
+abbrev pub child_of : Begun → Option SpawnedChild
+child_of begun = child_in begun.awaited
+
+-- nothing differs from the unit's record, and that record has no run number
+abbrev pub awaits_number : Awaited → Bool
+awaits_number (awaited.Child launched) = false
+awaits_number (awaited.Record again) = not again.numbered
+
+-- the unit's child is in flight: it was spawned for this command, it saw this view, it found its folder empty, and
+-- none of this has changed since
+pub record IsInFlight (child : Answers) (c : Command) (view : World) (ticket : ℕ) (flying : List ChildInFlight) (still : ℕ → Type 0) : Type 0 where
+  pub spawned : World
+  pub flies : child_at ticket flying ≡ Some (child_spawned (child c) c spawned ticket)
+  pub sees : seen_by c spawned ≡ view
+  pub emptied : inside_out c.out spawned.files ≡ finite.empty
+  pub stands : still ticket
+
+-- a record of the unit may be kept with this number: it has no record now, no record names the number, the number is
+-- below the next one, and the units that it needs have their records
+pub record AwaitsRecord (b : BuildContext) (u : Planned) (number : ℕ) (next : Option ℕ) (w : World) : Type 0 where
+  pub gone : records_in b w u.key ≡ None
+  pub unnamed : NoneNames (records_in b w) number
+  pub needs_stand : HasNeeds (records_in b w) (records_folder b.project) (reads_of b.project u) (needed_keys b.project u) number
+  pub before : IsBefore next number
+
+abbrev pub AwaitsBy : Premise → BuildContext → Planned → ℕ → Option ℕ → World → Type 0
+AwaitsBy TrustedRecords b u number next w = AwaitsRecord b u number next w
+AwaitsBy NoRecords b u number next w = Unit {0}
+
+-- nothing differs from the unit's record
+abbrev pub IsUnchanged : Premise → BuildContext → Planned → Command → World → Type 0
+IsUnchanged TrustedRecords b u c w = (r : Record) × IsSame reading (records_folder b.project) u.key c w r
+IsUnchanged NoRecords b u c w = ⊥
+
+-- either the unit has a child, or nothing differs from its record and it carries what that record replays
+abbrev pub WaitsBy : BuildContext → Planned → Command → World → Awaited → Option ℕ → World → List ChildInFlight → (ℕ → Type 0) → Type 0
+WaitsBy b u c view (awaited.Child launched) next w flying still = IsInFlight b.child c view launched.ticket flying still × AwaitsBy b.footing b u launched.number next w
+WaitsBy b u c view (awaited.Record again) next w flying still = IsUnchanged b.footing b u c w × IsReplayed (records_in b w u.key) again
+
+-- the unit at an index has begun in this way
+pub record IsBegun (b : BuildContext) (place : ℕ) (begun : Begun) (next : Option ℕ) (w : World) (flying : List ChildInFlight) (still : ℕ → Type 0) : Type 0 where
+  pub unit : Planned
+  pub there : unit_at b.project place ≡ Some unit
+  pub command : begun.command ≡ command_in b place unit
+  pub waits : WaitsBy b unit begun.command (view_in b place unit) begun.awaited next w flying still
+
+-- the child of a unit that has begun, if it has one, writes into this folder
+abbrev pub WritesTo : List ℕ → Option SpawnedChild → List ChildInFlight → Type 0
+WritesTo out None flying = Unit {0}
+WritesTo out (Some launched) flying = IfSome (child_at launched.ticket flying) (λ spawned. spawned.command.out ≡ Some out)
+
+-- each other ticket that stood still before stands still after, unless a change of these paths touches what the child
+-- of that ticket sees
+abbrev pub KeepsOthersStill : Option SpawnedChild → (List ℕ → Bool) → List ChildInFlight → (ℕ → Type 0) → (ℕ → Type 0) → Type 0
+KeepsOthersStill launched inside flying before after =
+    (ticket : ℕ) → IfSome launched (λ its. ticket ≢ its.ticket) → ((v w : World) → ChangesOnly inside v w → StandsStill ticket flying v w) → before ticket → after ticket
+
+-- What each step starts from.
+
+-- the unit at an index can begin: it has not begun, and all that it reaches has answered and is good
+pub record CanBegin (b : BuildContext) (states : List (State BadUnit)) (done : List (Option (List Directive))) (place : ℕ) (u : Planned) (next : Option ℕ) (w : World) : Type 0 where
+  pub keeps : BuildInvariant b states done next w
+  pub untouched : slice_get states place ≡ Some Untouched
+  pub reaches : are_good states u.reaches ≡ true
+
+-- the unit at an index can answer: it has begun in this way
+pub record CanAnswer (b : BuildContext) (states : List (State BadUnit)) (done : List (Option (List Directive))) (place : ℕ) (u : Planned) (begun : Begun) (next : Option ℕ) (w : World) (flying : List ChildInFlight) (still : ℕ → Type 0) : Type 0 where
+  pub keeps : BuildInvariant b states done next w
+  pub state : slice_get states place ≡ Some begun_state
+  pub reaches : are_good states u.reaches ≡ true
+  pub begun_so : IsBegun b place begun next w flying still
+
+-- another unit has begun, and all that it reaches is good; if both units have a child, their tickets and run numbers
+-- differ
+pub record BeginsApart (b : BuildContext) (states : List (State BadUnit)) (place : ℕ) (launched : Option SpawnedChild) (other : ℕ) (its : Begun) (next : Option ℕ) (w : World) (flying : List ChildInFlight) (still : ℕ → Type 0) : Type 0 where
+  pub another : other ≢ place
+  pub unit : Planned
+  pub there : unit_at b.project other ≡ Some unit
+  pub reaches : are_good states unit.reaches ≡ true
+  pub tickets : (ours theirs : SpawnedChild) → launched ≡ Some ours → child_of its ≡ Some theirs → theirs.ticket ≢ ours.ticket
+  pub numbers : (ours theirs : SpawnedChild) → launched ≡ Some ours → child_of its ≡ Some theirs → theirs.number ≢ ours.number
+  pub begun_so : IsBegun b other its next w flying still

@@ -1,0 +1,134 @@
+//! What a command line requests, and why one requests nothing.
+
+ghost use Rattle.std.specs.Prelude.{◌≡◌, ◌≢◌};
+ghost use Rattle.clap.specs.Values.{kind_of};
+ghost use Rattle.pb_tool_arguments.specs.Asking.{is_help, path_told, profiles_told, jobs_told, command_told};
+ghost use Rattle.pb_tool_arguments.specs.Private.{ToldWrong, TellsKind};
+ghost use Rattle.pb_tool_arguments.specs.declared.invocation.ArgumentsError.TheVariants as unasked;
+ghost use Rattle.pb_place_types.specs.declared.path.PathFault.TheVariants as path_fault;
+
+use crate::unknown::reworded;
+use clap::Error;
+use clap::error::ErrorKind;
+use pb_data::Text;
+use pb_place_types::{PathFault, PathText};
+use pb_workspace_types::Options;
+use std::alloc::{AllocError, Global};
+
+/// What a command line requests.
+#[derive(Drop)]
+pub enum Invocation {
+    /// The session of the file at this path.
+    Session(PathText),
+    /// A build, and what is shown of it beside its lines.
+    Build { options: Options, shown: Shown },
+    /// What the name of a result line means.
+    Explain(Text),
+}
+
+/// What is shown of a build beside its message lines.
+#[derive(Clone, Copy)]
+pub struct Shown {
+    /// Why each child was started.
+    pub explain: bool,
+    /// Diagnostics, and the warnings of scripts, as text.
+    pub render: bool,
+    /// The program and the arguments of each child, before it is started.
+    pub verbose: bool,
+}
+
+/// Why a command line requests nothing that is done.
+#[derive(Drop)]
+pub enum ArgumentsError {
+    /// Help or the version was requested, or there were no words: its text.
+    Help(Text),
+    /// The words are wrong: the text that says what is wrong with them.
+    Wrong(Text),
+    /// Memory ran out.
+    OutOfMemory,
+}
+
+impl From<AllocError> for ArgumentsError {
+    ghost from_gives = { λ _ e. e ≡ unasked.OutOfMemory };
+
+    fn from(_: AllocError) -> Self {
+        ArgumentsError::OutOfMemory
+    }
+}
+
+/// Returns whether the reader of the words reports help or the version, which is no mistake.
+fn is_help(kind: ErrorKind) -> bool
+    ensures { result ≡ is_help kind }
+{
+    kind == ErrorKind::DisplayHelp
+        || kind == ErrorKind::DisplayVersion
+        || kind == ErrorKind::DisplayHelpOnMissingArgumentOrSubcommand
+}
+
+/// Returns what the reader of the words reports: its text goes to the
+/// output if help was requested, and otherwise to standard error.
+pub(crate) fn unasked_of(alloc: Global, error: &Error) -> ArgumentsError
+    ensures { TellsKind (kind_of error.now) result }
+{
+    let kind = error.kind();
+    if kind == ErrorKind::OutOfMemory {
+        return ArgumentsError::OutOfMemory;
+    }
+    let Ok(text) = format!(in alloc; "{error}") else {
+        return ArgumentsError::OutOfMemory;
+    };
+    if is_help(kind) {
+        return ArgumentsError::Help(Text::new(text));
+    }
+    match reworded(alloc, text) {
+        Ok(text) => ArgumentsError::Wrong(Text::new(text)),
+        Err(_) => ArgumentsError::OutOfMemory,
+    }
+}
+
+/// Returns the text that says why the words are wrong.
+fn wrong(alloc: Global, text: &str) -> ArgumentsError
+    ensures { ToldWrong (λ told. told ≡ text.now) result }
+{
+    match Text::from_str(alloc, text) {
+        Ok(text) => ArgumentsError::Wrong(text),
+        Err(_) => ArgumentsError::OutOfMemory,
+    }
+}
+
+/// Returns why a path of the command line is not a path.
+pub(crate) fn bad_path(alloc: Global, fault: PathFault) -> ArgumentsError
+    ensures { ToldWrong (λ told. (fault ≢ path_fault.OutOfMemory) × (told ≡ path_told)) result }
+{
+    if fault == PathFault::OutOfMemory {
+        return ArgumentsError::OutOfMemory;
+    }
+    wrong(alloc, "error: a path has byte 0\n")
+}
+
+/// Returns the error that neither a build, a session nor an explanation is requested.
+pub(crate) fn no_command(alloc: Global) -> ArgumentsError
+    ensures { ToldWrong (λ told. told ≡ command_told) result }
+{
+    wrong(alloc, "error: neither `build`, `session` nor `explain`\n")
+}
+
+/// Returns the error that two profiles are requested.
+pub(crate) fn two_profiles(alloc: Global) -> ArgumentsError
+    ensures { ToldWrong (λ told. told ≡ profiles_told) result }
+{
+    wrong(
+        alloc,
+        "error: the argument '--release' cannot be used with '--profile <NAME>'\n",
+    )
+}
+
+/// Returns the error that `--jobs` is not a number.
+pub(crate) fn bad_jobs(alloc: Global) -> ArgumentsError
+    ensures { ToldWrong (λ told. told ≡ jobs_told) result }
+{
+    wrong(
+        alloc,
+        "error: the value of '--jobs <N>' is `default`, or digits alone, up to 18446744073709551615\n",
+    )
+}
