@@ -80,7 +80,7 @@ LAWS = """
 --but=pb_profile.Line.checked_line=LinesAreChecked
 --but=pb_directive.Lines.trimmed=LinesAreTrimmed
 --but=pb_place_types.Paths.path_of=PathsAreSpelled
---but=pb_run.Halves.key_at=RowsAreThese
+--but=pb_run.UnitSteps.key_at=RowsAreThese
 --but=pb_build_turns.Rows.is_bad=RowsAreThese
 --but=pb_store_soundness.Records.record_at=RecordsCount
 --but=pb_store_soundness.Records.number_of=RecordsAreNumbered

@@ -11,8 +11,8 @@
 # to grow as the words, and of an answer as the files, and no faster than these times the units that are reached, 1,442.
 # What is measured and how is said in `measured.sh`.
 set -euo pipefail
-crates="pb_graph pb_command pb_data pb_directive pb_workspace_package pb_command_reply pb_feature_types pb_feature pb_manifest_types pb_manifest pb_place pb_graph pb_workspace_types pb_place_types pb_profile pb_command_types pb_record pb_unit pb_command_environment pb_command_arguments pb_workspace"
-uses="pb_command pb_data pb_directive pb_feature pb_place pb_workspace_types pb_place_types pb_command_types pb_unit pb_workspace"
+crates="pb_data pb_directive pb_graph pb_manifest_types pb_place_types pb_workspace_types pb_feature_types pb_record pb_profile pb_unit pb_command_types pb_command_arguments pb_command_environment pb_command_reply pb_command pb_feature pb_manifest pb_place pb_workspace_package pb_workspace"
+uses="pb_command pb_command_types pb_data pb_directive pb_feature pb_place pb_place_types pb_unit pb_workspace pb_workspace_types"
 . "$(dirname "$0")/measured.sh"
 program <<'PROGRAM'
 //! Measures commands.
@@ -34,7 +34,7 @@ use pb_data::{Bytes, Text};
 use pb_directive::Directives;
 use pb_place::Memory;
 use pb_place_types::{Command, Ended};
-use pb_command_types::{Answered, Project, Setup, UnitFault};
+use pb_command_types::{CheckedReply, Project, Setup, UnitFault};
 use pb_unit::Planned;
 use std::alloc::{AllocError, Global};
 use std::env;
@@ -122,7 +122,7 @@ fn silent_end(alloc: Global) -> Result<Ended, AllocError> {
 }
 
 /// How many inputs an answer has that is let go, and 0 where there is none.
-fn let_go(answer: Result<Answered, UnitFault>) -> usize {
+fn let_go(answer: Result<CheckedReply, UnitFault>) -> usize {
     match answer {
         Ok(answer) => {
             let inputs = answer.inputs.len();

@@ -12,7 +12,7 @@ for name in pb_data pb_json pb_place_types pb_mini; do
   cp -r "$root/crates/$name" "$work/crates/$name"
   rm -rf "$work/crates/$name/must-fail"
 done
-printf 'pb_data: indexmap\npb_json: serde_json\npb_place: pb_data thiserror\npb_mini: pb_data pb_json pb_place_types thiserror\nmeasure: pb_data pb_mini pb_place_types\n' > "$work/crates.txt"
+printf 'pb_data: indexmap\npb_json: serde_json\npb_place_types: pb_data thiserror\npb_mini: pb_data pb_json pb_place_types thiserror\nmeasure: pb_data pb_mini pb_place_types\n' > "$work/crates.txt"
 mkdir -p "$work/crates/measure/src"
 cat > "$work/crates/measure/src/main.rt" <<'RATTLE'
 //! Times the small compiler.
@@ -36,7 +36,7 @@ impl View for Two {
     ghost use Rattle.std.specs.Prelude.{false};
     ghost use Rattle.std.specs.FinMap as finite;
 
-    ghost tells = { false };
+    ghost is_modelled = { false };
 
     ghost shown = { λ _. record { files = finite.empty; variables = finite.empty } };
 

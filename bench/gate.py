@@ -64,7 +64,7 @@ def names(commit):
     for line in told("grep", "-o", "-E", r"^ *(pub(\([a-z ]+\))? )?(const )?fn [a-z_0-9]+", commit, "--", "crates/*.rt"):
         it = re.match(r"[^:]*:crates/(\w+)/src/\S*:.*fn (\w+)$", line)
         if it:
-            found[it[1]].append(("tests" if it[1].startswith("pb_checks_") else "proof", it[2]))
+            found[it[1]].append(("tests" if it[1].startswith("pb_tests_") else "proof", it[2]))
     for line in told("ls-tree", "-r", "--name-only", commit, "crates"):
         it = re.match(r"crates/(\w+)/must-fail/(\S+)\.edit$", line)
         if it:

@@ -46,7 +46,7 @@ def files_in(crate, folder):
 def crates():
     """The crates that are no tests, each with the names of its files in `src/` and `specs/`."""
     every = sorted(os.listdir(f"{TOP}/crates"))
-    kept = [it for it in every if not it.startswith("pb_checks_") and it != "pb_examples"]
+    kept = [it for it in every if not it.startswith("pb_tests_") and it != "pb_examples"]
     return {it: files_in(it, "src") | files_in(it, "specs") for it in kept}
 
 

@@ -8,8 +8,8 @@
 # Prints a line a size with how many places the plan keeps, of what each unit needs and reaches: time and memory are to
 # grow no faster than these. What is measured and how is said in `measured.sh`.
 set -euo pipefail
-crates="pb_graph pb_data pb_workspace_package pb_feature_types pb_feature pb_manifest_types pb_manifest pb_graph pb_workspace_types pb_place pb_place_types pb_profile pb_unit pb_workspace"
-uses="pb_data pb_feature pb_workspace_types pb_place pb_place_types pb_unit pb_workspace"
+crates="pb_data pb_graph pb_manifest_types pb_place_types pb_workspace_types pb_feature_types pb_feature pb_manifest pb_place pb_profile pb_unit pb_workspace_package pb_workspace"
+uses="pb_data pb_feature pb_place pb_place_types pb_unit pb_workspace pb_workspace_types"
 . "$(dirname "$0")/measured.sh"
 program <<'PROGRAM'
 //! Measures plans.

@@ -17,8 +17,8 @@
 # of them to keep, and 202 MB of memory: the values, the record's text, which is written into room that is made once, and
 # the file in memory; the same unit 84 million to compare.
 set -euo pipefail
-crates="pb_data pb_graph pb_graph pb_place pb_place_types pb_directive pb_manifest_types pb_workspace_types pb_profile pb_feature_types pb_feature pb_unit pb_command_types pb_record pb_store_soundness pb_store"
-uses="pb_data pb_place pb_place_types pb_command_types pb_record pb_store_soundness pb_store"
+crates="pb_data pb_directive pb_graph pb_manifest_types pb_place_types pb_workspace_types pb_feature_types pb_record pb_profile pb_unit pb_command_types pb_feature pb_place pb_store_soundness pb_store"
+uses="pb_command_types pb_data pb_place pb_place_types pb_record pb_store pb_store_soundness"
 . "$(dirname "$0")/measured.sh"
 program <<'PROGRAM'
 //! Measures stores.
@@ -39,7 +39,7 @@ use pb_data::{Bytes, Items, Text, TryCopy};
 use pb_place::Memory;
 use pb_place_types::{Command, Ended, PathFault, PathText, RelativePath};
 use pb_record::InputName;
-use pb_record::{Asked, Record, read_record};
+use pb_record::{Record, RecordedCommand, read_record};
 use pb_store::{Compared, Key, OpenFault, Store, StoreFault};
 use std::alloc::{AllocError, Global};
 use std::env;
@@ -224,7 +224,7 @@ fn put_sources(
 }
 
 /// What was asked, by a record that is let go.
-fn asked_of(found: Option<Record>) -> Result<Asked> {
+fn asked_of(found: Option<Record>) -> Result<RecordedCommand> {
     match found {
         Some(kept) => Ok(kept.asked),
         None => Err(anyhow::anyhow!("no record")),
@@ -237,7 +237,7 @@ fn prepare(
     place: &mut Untold<Silent>,
     shape: &str,
     count: usize,
-) -> Result<Asked> {
+) -> Result<RecordedCommand> {
     let size = if shape == "file" { count.saturating_mul(1024) } else { 16 };
     let text = filler(alloc, size)?;
     put_sources(alloc, place, shape, count, text.as_str())?;
@@ -268,7 +268,7 @@ fn out_path(alloc: Global, folder: &PathText, key: &Key) -> Result<PathText>
 }
 
 /// What was asked, as a command that writes into this folder.
-fn with_out(asked: Asked, out: PathText) -> Command
+fn with_out(asked: RecordedCommand, out: PathText) -> Command
     ensures out { result.out ≡ Some out }
     ensures sorted { are_sorted result.pairs ≡ true }
 {
@@ -287,7 +287,7 @@ fn with_out(asked: Asked, out: PathText) -> Command
 /// The unit's command.
 fn own_command(
     alloc: Global,
-    asked: Asked,
+    asked: RecordedCommand,
     folder: &PathText,
     key: &Key,
 ) -> Result<Command>
@@ -443,7 +443,7 @@ fn keep_asked(
     place: &mut Untold<Silent>,
     store: &mut Store,
     key: &Key,
-    asked: Asked,
+    asked: RecordedCommand,
     count: usize,
 ) -> Result<u128>
 {
@@ -458,7 +458,7 @@ fn keep_by(
     rt: &HostRuntime,
     place: &mut Untold<Silent>,
     store: &mut Store,
-    asked: Asked,
+    asked: RecordedCommand,
     count: usize,
 ) -> Result<u128> {
     match own_key(rt.alloc()) {
@@ -474,7 +474,7 @@ fn keep_by(
 fn call_keep(
     rt: &HostRuntime,
     place: &mut Untold<Silent>,
-    asked: Asked,
+    asked: RecordedCommand,
     count: usize,
 ) -> Result<(u128, usize)> {
     match store_of(rt.alloc(), place) {
@@ -495,7 +495,7 @@ fn call(
     rt: &HostRuntime,
     place: &mut Untold<Silent>,
     shape: &str,
-    asked: Asked,
+    asked: RecordedCommand,
     count: usize,
 ) -> Result<(u128, usize)> {
     match shape {

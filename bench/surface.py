@@ -21,18 +21,13 @@ from collections import namedtuple
 
 TOP = os.path.dirname(os.path.dirname(os.path.abspath(__file__)))
 
-# Beside a crate of the list, those of today that hand out names of it, until the families have their names.
-TODAY = {
-    "pb_place_types": ["pb_place"],
-    "pb_manifest_types": ["pb_manifest"],
-}
 
 # What a type counts as, in this order.
 PLAIN = [
     (r"'\w+ |<'\w+>", ""),
     (r"\b(?:Text|AsStr)\b", "String"),
     (r"\bBytes\b", "Vec<u8>"),
-    (r"\bMentions\b", "Vec<String>"),
+    (r"\bOrderedSet\b", "Vec<String>"),
     (r"\bItems<", "Vec<"),
     (r"\bTable<Text>|\bTable<String>", "Vec<(String, String)>"),
     (r"&String\b", "&str"),
@@ -77,7 +72,7 @@ def items(crate):
 def crates():
     """The crates that are libraries and no tests."""
     every = sorted(os.listdir(f"{TOP}/crates"))
-    return [it for it in every if not it.startswith("pb_checks_") and os.path.exists(f"{TOP}/crates/{it}/src/lib.rt")]
+    return [it for it in every if not it.startswith("pb_tests_") and os.path.exists(f"{TOP}/crates/{it}/src/lib.rt")]
 
 
 @functools.cache
@@ -95,7 +90,7 @@ def handed_out(crate):
 
 def place_of(crate, name):
     """The crate that hands out a name, and the one that defines it; none if no crate does."""
-    near = [crate, *TODAY.get(crate, [])]
+    near = [crate]
     for it in near + sorted(crates(), key=lambda it: not it.startswith(crate)):
         if name in handed_out(it):
             return it, handed_out(it)[name]
@@ -276,7 +271,7 @@ def differences_of(wanted, inside):
         parts = [it for it in inside if it.kind != "call"]
         calls = [last_part(it.name) for it in inside if it.kind == "call"]
         differences = differences_of_type(wanted, parts, calls, definer)
-    is_near = giver in [wanted.crate, *TODAY.get(wanted.crate, [])]
+    is_near = giver == wanted.crate
     return giver, differences + ([] if is_near else [f"handed out by `{giver}`"])
 
 

@@ -9,7 +9,7 @@
 #
 # Prints a line a size, and the exponents. What is measured and how is said in `measured.sh`.
 set -euo pipefail
-crates="pb_graph pb_data pb_workspace_package pb_manifest_types pb_manifest pb_workspace_types pb_place pb_place_types pb_workspace"
+crates="pb_data pb_graph pb_manifest_types pb_manifest pb_place_types pb_place pb_workspace_types pb_workspace_package pb_workspace"
 uses="pb_data pb_manifest pb_place pb_place_types pb_workspace"
 . "$(dirname "$0")/measured.sh"
 program <<'PROGRAM'

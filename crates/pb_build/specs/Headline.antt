@@ -180,7 +180,7 @@ pub record GivesCleanResult (footing : Premise) (child : Answers) (Schedule : Pr
   pub closes : Closes inner result heard new.heard
   pub records : LeavesRecords footing child options old.world new.world
 
--- The headline: over a place that tells its maps, whatever a build rests
+-- The headline: over a modelled place, whatever a build rests
 -- on, it produces what a clean build of the present workspace produces.
 abbrev pub Headline : Bool → Answers → (Project → List (Event BadUnit) → Type 0) → Options → Result Summary BuildFault → BuildState → BuildState → Type 0
 Headline is_modelled child Schedule options result old new = IsTrue is_modelled → (footing : Premise) → RestsOn footing child options old.world → GivesCleanResult footing child Schedule options result old new

@@ -171,7 +171,7 @@ abbrev pub FliesFor : Command → List ChildInFlight → SpawnedChild → Type 0
 FliesFor c flying launched = (spawned : ChildInFlight) × (child_at launched.ticket flying ≡ Some spawned) × (spawned.command ≡ c)
 
 -- the answer of the unit at an index was taken: the end of its child was awaited, if it has one, and then exactly the
--- calls of the answer were made. Contracts state this only for a place that tells its maps
+-- calls of the answer were made. Contracts state this only for a modelled place
 pub record AnswersCalling (b : CallBasis) (place : ℕ) (spawned : Bool) (result : Result (Unit {0}) BuildFault) (before : World) (old : Counts) (after : World) (new : Counts) : Type 0 where
   pub unit : Planned
   pub there : unit_at b.project place ≡ Some unit

@@ -110,7 +110,7 @@ pub record StandsCut (b : BuildContext) (fault : BuildFault) (es before : List (
 
 -- the units ended without a fault, and no failure was injected. The fields without `is_modelled` are true over every place:
 -- the report, what was written, and the counters.
--- The others are true over a place that tells its maps, whether the records are true or not: why each unit began, what
+-- The others are true over a modelled place, whether the records are true or not: why each unit began, what
 -- it answered, which record it left, which numbers were taken, and which calls were made
 pub record EndsWhole {S : Type 0} (is_modelled : Bool) (child : Answers) (Turns : S → List ℕ → List ℕ → Step → S → Type 0) (setup : Setup) (project : Project) (next : Option ℕ) (from last : S) (summary : Summary) (old new : BuildState) : Type 0 where
   pub es : List (Event BadUnit)
@@ -155,7 +155,7 @@ pub record EndsWhole {S : Type 0} (is_modelled : Bool) (child : Answers) (Turns 
 
 -- a fault ended the units. Its cause, and what the sink received, are those of the moment before the children in flight
 -- were dropped; after it no unit began, and the turn was not asked again (`HandsBack`, `Flies`).
--- Over a place that tells its maps, the units that have begun and those that have answered satisfy the same as in
+-- Over a modelled place, the units that have begun and those that have answered satisfy the same as in
 -- `EndsWhole`. If a unit could not begin because of a fault of its start, something had differed for it
 pub record EndsCut {S : Type 0} (is_modelled : Bool) (child : Answers) (Turns : S → List ℕ → List ℕ → Step → S → Type 0) (setup : Setup) (project : Project) (next : Option ℕ) (from back : S) (fault : BuildFault) (old new : BuildState) : Type 0 where
   pub es : List (Event BadUnit)

@@ -144,7 +144,7 @@ Spends Lacks fault first es = Unit {0}
 abbrev pub IsUntold : ℕ → Bool → Type 0
 IsUntold unit lacks = ⊥
 
--- What is true over a place that tells its maps.
+-- What is true over a modelled place.
 
 -- the unit at an index has its outcome of a clean build: its fault, its lines, which say whether a child was started
 -- for it, and its directives, which are noted

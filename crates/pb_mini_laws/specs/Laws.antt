@@ -23,7 +23,7 @@ use Rattle.pb_mini_laws.specs.Small.{AllGive, AllTold, IsSmallBuild, SmallCourse
 abbrev pub SmallBuildsAreHonest : Type 0
 SmallBuildsAreHonest = (options : Options) (w : World) → IsSmallBuild options w → IsHonestBuild small_compiler options w
 
--- Over a place that tells its maps, with the small compiler as child: a build over true records that satisfies
+-- Over a modelled place, with the small compiler as child: a build over true records that satisfies
 -- `IsSmallBuild` produces what a clean build of the present workspace produces, however it ends.
 abbrev pub SmallBuildsGive : {S : Type 0} → (S → List ℕ → List ℕ → Step → S → Type 0) → Type 0
 SmallBuildsGive {S} Turns = (from : S) (options : Options) (result : Result Summary BuildFault) (old new : BuildState) → Headline true small_compiler (ByTurns Turns from) options result old new

@@ -95,7 +95,7 @@ pub fn carry_out<V: View, P: Place, O: Out, E: Out>(
     out: &mut O,
     err: &mut E,
 ) -> Result<i32, Fault>
-    // Over a view that reports what it shows, and a place that tells its maps:
+    // Over a view that reports what it shows, and a modelled place:
     ensures status { IsTrue V.is_modelled → IfOk result
         (λ status. status ≡ (answered words.now [] (V.shown view.now)).status) }
     ensures stdout { IsTrue V.is_modelled → OnOk result (Appends (O.heard out.old).taken

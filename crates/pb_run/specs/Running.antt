@@ -216,7 +216,7 @@ pub record BeginsUnit (is_modelled : Bool) (child : Answers) (project : Project)
   -- it has the unit's key and its command
   pub unit : begun.unit ≡ u.key
   pub asks : begun.command ≡ c
-  -- over a place that tells its maps the report is the first difference
+  -- over a modelled place the report is the first difference
   pub differs : IsTrue is_modelled → FirstDifference (records_folder project) u.key begun.command old.world begun.difference
   pub spawned : is_some (child_of begun) ≡ is_some begun.difference
   -- the child takes the next run number, is counted as in flight, and writes into the unit's folder; when it was

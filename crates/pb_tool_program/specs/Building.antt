@@ -154,7 +154,7 @@ pub record BuildsTold (is_modelled : Bool) (child : Answers) (Guards : Option (L
   pub notes_again : List (List ℕ)
   pub are_notes : AreNotes notes_again
   pub looked : LooksOver answer notes_again built new
-  -- all that has changed while a child was at work is reported. Over a place that tells its maps nothing has.
+  -- all that has changed while a child was at work is reported. Over a modelled place nothing has.
   pub stood : IsTrue is_modelled → moved ≡ []
   pub marked : SinkState
   pub marks : TellsOr moved_lost (moved_notes moved) held marked
