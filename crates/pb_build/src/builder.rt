@@ -6,14 +6,13 @@ ghost use Rattle.pb_build.specs.Ending.{FailsBefore, Finishes, IsPlanOf, PlansFr
 ghost use Rattle.pb_build.specs.Environment.{environment_of};
 ghost use Rattle.pb_build.specs.Headline.{ByTurns, ByPick, ByFirst, Headline};
 ghost use Rattle.pb_build.specs.Kept.{SourcesStay};
-ghost use Rattle.pb_build.specs.Planning.{IsProject, IsToldRefusal};
+ghost use Rattle.pb_build.specs.Planning.{IsToldRefusal};
 ghost use Rattle.pb_build.specs.AnyPlan.{BuildsOn, BuildsOnFirst, IsReadyFor, IsSilentFault, Readies, WorksOn};
 ghost use Rattle.pb_build.specs.Private.{IsUnrefused, unopened};
 ghost use Rattle.pb_build.specs.Result.{setup_of};
 ghost use Rattle.pb_message.specs.Message.{finish_line};
 ghost use Rattle.pb_run.specs.Steps.{MakesInTurn};
 ghost use Rattle.pb_run.specs.Invariants.{records_folder};
-ghost use Rattle.pb_command_types.specs.declared.project.Project.{Project};
 ghost use Rattle.pb_store_soundness.specs.Records.{records};
 ghost use Rattle.pb_store.specs.Folder.{HasNumbers, OpensStore};
 ghost use Rattle.pb_store.specs.Looking.{opened_looked};
@@ -26,7 +25,7 @@ use crate::toolchain::ask;
 use pb_build_result::{BuildFault, Summary};
 use pb_build_turns::run_turns;
 use pb_command_types::Setup;
-use pb_data::{Bytes, Items, Text, TryCopy};
+use pb_data::{Bytes, Text, TryCopy};
 use pb_message::{finish_line, write_lines};
 use pb_place_types::{Out, PathText, Place, RelativePath};
 use pb_profile::folder_of;
@@ -489,48 +488,4 @@ pub fn build<P: Place, O: Out>(
 {
     let mut first = First {};
     build_with(alloc, place, out, options, &mut first)
-}
-
-/// Returns the names of the packages without a library to which
-/// enabled dependencies of a plan lead.
-fn without_library(plan: BuildPlan) -> Items<Text>
-    ensures { result ≡ plan.project.plan.without_library }
-{
-    let project = plan.project.into_project();
-    let plan = project.plan;
-    plan.without_library
-}
-
-/// Returns the names of the packages without a library to which enabled
-/// dependencies lead, in byte order, each once. It goes as far as the
-/// plan: it starts no child, writes no line and changes no file.
-///
-/// Errors: those of `plan_build`.
-pub fn missing_libraries<P: Place>(
-    alloc: Global,
-    place: &mut P,
-    options: &Options,
-) -> Result<Items<Text>, BuildFault>
-    ensures names { IsTrue P.is_modelled
-        → IfOk result
-        (λ names.
-        (project : Project)
-        × IsProject options.now
-        (environment_of options.now (P.at place.old).world.variables).target
-        (P.at place.old).world project
-        × (names ≡ project.plan.without_library)) }
-    ensures quiet { OnlyLooks MayPlan result (P.at place.old) (P.at place.new) }
-    ensures refused { IsTrue P.is_modelled
-        → IfErr result
-        (IsToldRefusal options.now
-        (environment_of options.now (P.at place.old).world.variables).target
-        (P.at place.old).world) }
-    ensures calls { IsTrue P.is_modelled
-        → PlansInTurn result (plan_called options.now (P.at place.old).world)
-        (P.at place.old).counts (P.at place.new).counts }
-{
-    match plan_build(alloc, place, options) {
-        Ok(plan) => Ok(without_library(plan)),
-        Err(fault) => Err(fault),
-    }
 }

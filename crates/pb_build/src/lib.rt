@@ -5,13 +5,13 @@
 pub mod builder;
 mod environment;
 mod laws;
+mod missing;
 mod planning;
 pub mod sessions;
 mod toolchain;
 
 pub use builder::{
-    BuildPlan, Prepared, build, build_plan, build_plan_turns, build_turns, build_with,
-    missing_libraries, plan_build,
+    BuildPlan, Prepared, build, build_plan, build_plan_turns, build_turns, build_with, plan_build,
 };
 pub use environment::Environment;
 pub use laws::{
@@ -19,6 +19,7 @@ pub use laws::{
     earlier_builds_change_nothing, records_stay_true, same_build_starts_none,
     units_are_of_the_result, worlds_have_one_result,
 };
+pub use missing::missing_libraries;
 pub use pb_build_result::{BuildFault, Refusal, Summary, result_line};
 pub use pb_build_session::{BadSession, SessionStep, read_session};
 pub use pb_command_types::UnitFault;
