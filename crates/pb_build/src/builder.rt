@@ -189,7 +189,8 @@ pub fn plan_build<P: Place>(
     place: &mut P,
     options: &Options,
 ) -> Result<BuildPlan, BuildFault>
-    ensures plan { IsTrue P.is_modelled → IfOk result (IsPlanOf options.now (P.at place.old).world) }
+    ensures plan { IsTrue P.is_modelled →
+        IfOk result (IsPlanOf options.now (P.at place.old).world) }
     ensures quiet { OnlyLooks MayPlan result (P.at place.old) (P.at place.new) }
     ensures unstarted { (P.at place.new).counts.starts ≡ (P.at place.old).counts.starts }
     ensures refused { IsTrue P.is_modelled
@@ -452,7 +453,8 @@ pub fn build_with<P: Place, O: Out, K: Pick>(
     requires none { (P.at place.old).counts.starts.flying ≡ [] }
     ensures builds { BuildsBy P.is_modelled P.child K.picks options.now pick.old pick.new result
         (moment (P.at place.old) (O.heard out.old)) (moment (P.at place.new) (O.heard out.new)) }
-    ensures headline { Headline P.is_modelled P.child (ByPick K.picks options.now pick.old) options.now
+    ensures headline { Headline P.is_modelled P.child
+        (ByPick K.picks options.now pick.old) options.now
         result (moment (P.at place.old) (O.heard out.old))
         (moment (P.at place.new) (O.heard out.new)) }
     ensures kept { IsTrue P.is_modelled

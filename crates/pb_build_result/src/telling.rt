@@ -60,7 +60,8 @@ fn push_started(
     key: &Text,
     difference: &Difference,
 ) -> Result<(), AllocError>
-    ensures { OnOk result (string_bytes text.new ≡ string_bytes text.old ++ started_line key.now difference.now) }
+    ensures { OnOk result (string_bytes text.new ≡ string_bytes text.old
+        ++ started_line key.now difference.now) }
 {
     let line = started_line(alloc, key, difference)?;
     text.push_str(line.as_str())?;
@@ -74,7 +75,8 @@ fn push_line(
     key: &Text,
     difference: Option<&Difference>,
 ) -> Result<(), AllocError>
-    ensures { OnOk result (string_bytes text.new ≡ string_bytes text.old ++ line_if key.now (option_copied difference.entry)) }
+    ensures { OnOk result (string_bytes text.new ≡ string_bytes text.old
+        ++ line_if key.now (option_copied difference.entry)) }
 {
     match difference {
         Some(difference) => push_started(alloc, text, key, difference),

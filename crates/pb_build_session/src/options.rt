@@ -19,14 +19,17 @@ use std::alloc::{AllocError, Global};
 
 /// Returns whether a key is about the packages of a build.
 fn is_of_packages(name: &str) -> bool
-    ensures { result ≡ (bytes_eq name.now (codes "manifest") || bytes_eq name.now (codes "packages") || bytes_eq name.now (codes "workspace")) }
+    ensures { result ≡ (bytes_eq name.now (codes "manifest") || bytes_eq name.now (codes "packages")
+        || bytes_eq name.now (codes "workspace")) }
 {
     name == "manifest" || name == "packages" || name == "workspace"
 }
 
 /// Returns whether a key is about the features and the profile.
 fn is_of_features(name: &str) -> bool
-    ensures { result ≡ (bytes_eq name.now (codes "features") || bytes_eq name.now (codes "all_features") || bytes_eq name.now (codes "no_default_features") || bytes_eq name.now (codes "profile")) }
+    ensures { result ≡ (bytes_eq name.now (codes "features")
+        || bytes_eq name.now (codes "all_features")
+        || bytes_eq name.now (codes "no_default_features") || bytes_eq name.now (codes "profile")) }
 {
     name == "features"
         || name == "all_features"
@@ -36,7 +39,9 @@ fn is_of_features(name: &str) -> bool
 
 /// Returns whether a key is about the targets, and how they are built.
 fn is_of_targets(name: &str) -> bool
-    ensures { result ≡ (bytes_eq name.now (codes "lib") || bytes_eq name.now (codes "bins") || bytes_eq name.now (codes "bin") || bytes_eq name.now (codes "pick") || bytes_eq name.now (codes "jobs")) }
+    ensures { result ≡ (bytes_eq name.now (codes "lib") || bytes_eq name.now (codes "bins")
+        || bytes_eq name.now (codes "bin") || bytes_eq name.now (codes "pick")
+        || bytes_eq name.now (codes "jobs")) }
 {
     name == "lib" || name == "bins" || name == "bin" || name == "pick" || name == "jobs"
 }
@@ -233,7 +238,10 @@ fn targeted_in(alloc: Global, value: &Value) -> Result<Targeted, BadSession>
 
 /// Returns the programs that a build starts.
 fn default_tools(alloc: Global) -> Result<Tools, AllocError>
-    ensures { IfOk result (λ tools. tools ≡ record { runner = codes "mini" ∷ codes "--run" ∷ []; tool = codes "cargo" }) }
+    ensures { IfOk result (λ tools. tools ≡ record {
+      runner = codes "mini" ∷ codes "--run" ∷ [];
+      tool = codes "cargo";
+    }) }
 {
     let runner = runner_words(alloc)?;
     let tool = Text::from_str(alloc, "cargo")?;

@@ -91,7 +91,8 @@ pub(crate) fn pair_of(alloc: Global, value: &Value) -> Result<(Text, Text), BadS
 
 /// Returns the member of an object with exactly one member.
 pub(crate) fn only_member(map: &Map<String, Value>) -> Option<(&str, &Value)>
-    ensures { option_map (λ m. (m.0.now, view m.1.now)) result ≡ only_member (members_view map.now.entries) }
+    ensures { option_map (λ m. (m.0.now, view m.1.now)) result
+        ≡ only_member (members_view map.now.entries) }
 {
     let mut members = map.iter();
     let (name, value) = members.next()?;

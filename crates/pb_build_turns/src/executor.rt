@@ -118,7 +118,8 @@ fn begin_at<P: Place>(
     ensures project { crew.new.project ≡ crew.old.project }
     ensures flying { OnOk result
         (places_of crew.new.aloft.items ≡ places_of crew.old.aloft.items ++ unit ∷ []) }
-    ensures story { (first : UnitExecutor) (at : BuildState) (heard : SinkState) (es : List (Event BadUnit))
+    ensures story { (first : UnitExecutor) (at : BuildState) (heard : SinkState)
+        (es : List (Event BadUnit))
         (given : ℕ)
         → History P.is_modelled P.child first at crew.old (moment (P.at place.old) heard)
         (P.at place.old).still es given → places_of crew.old.aloft.items ≡ flying_after es
@@ -201,7 +202,8 @@ fn answer_at<P: Place>(
     ensures project { crew.new.project ≡ crew.old.project }
     ensures flying { places_of crew.new.aloft.items
         ≡ remove (places_of crew.old.aloft.items) index }
-    ensures story { (first : UnitExecutor) (at : BuildState) (heard : SinkState) (es : List (Event BadUnit))
+    ensures story { (first : UnitExecutor) (at : BuildState) (heard : SinkState)
+        (es : List (Event BadUnit))
         (given unit : ℕ)
         → History P.is_modelled P.child first at crew.old (moment (P.at place.old) heard)
         (P.at place.old).still es given → places_of crew.old.aloft.items ≡ flying_after es

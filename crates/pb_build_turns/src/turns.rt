@@ -119,7 +119,8 @@ pub fn run_turns<P: Place, O: Out, T: Turn>(
     requires numbers { IsTrue P.is_modelled →
         HasNumbers (records (records_folder project) (P.at place.old).world) store.numbers }
     requires none { (P.at place.old).counts.starts.flying ≡ [] }
-    ensures { TurnsEnd P.is_modelled P.child T.turns setup project store.next turn.old turn.new result
+    ensures { TurnsEnd P.is_modelled P.child T.turns setup project store.next turn.old turn.new
+        result
         (moment (P.at place.old) (O.heard out.old)) (moment (P.at place.new) (O.heard out.new)) }
 {
     project.is_in_order();

@@ -23,7 +23,8 @@ use std::alloc::{AllocError, Global};
 ///
 /// Errors: out of memory.
 pub fn query(alloc: Global, rustc: &Text, workspace: &Workspace) -> Result<Command, AllocError>
-    ensures { IfOk result (λ command. command ≡ query_of rustc.now workspace.now.root workspace.now.target) }
+    ensures { IfOk result (λ command. command
+        ≡ query_of rustc.now workspace.now.root workspace.now.target) }
 {
     let mut words = Items::new(alloc);
     push_word(alloc, &mut words, "-vV")?;
@@ -66,7 +67,8 @@ fn push_asked_part(
     done: Done<'_>,
     owner: &Package,
 ) -> Result<(), AllocError>
-    ensures { OnOk result (words.new ≡ words.old ++ asked_part setup.now project.now unit.now done.now owner.now) }
+    ensures { OnOk result (words.new ≡ words.old
+        ++ asked_part setup.now project.now unit.now done.now owner.now) }
 {
     push_libraries(alloc, words, project, unit, owner)?;
     push_said(alloc, words, project, unit, done, owner)?;
@@ -83,7 +85,8 @@ fn words_of(
     done: Done<'_>,
     owner: &Package,
 ) -> Result<Items<Text>, AllocError>
-    ensures { IfOk result (λ words. words ≡ words_of setup.now project.now unit.now done.now owner.now) }
+    ensures { IfOk result (λ words. words
+        ≡ words_of setup.now project.now unit.now done.now owner.now) }
 {
     let mut words = Items::new(alloc);
     push_crate_part(alloc, &mut words, project, unit, owner)?;
@@ -116,7 +119,12 @@ fn surroundings_of(
     project: &Project,
     unit: &Planned,
 ) -> Result<Surroundings, AllocError>
-    ensures { IfOk result (λ s. s ≡ record { out = unit.now.out; target = project.now.workspace.target; toolchain = setup.now.toolchain; reads = reads_of project.now unit.now }) }
+    ensures { IfOk result (λ s. s ≡ record {
+      out = unit.now.out;
+      target = project.now.workspace.target;
+      toolchain = setup.now.toolchain;
+      reads = reads_of project.now unit.now;
+    }) }
 {
     let out = unit.out.copy(alloc)?;
     let target = project.workspace.target.copy(alloc)?;
@@ -132,7 +140,16 @@ fn surroundings_of(
 
 /// Returns a command, made of its two parts.
 fn joined(asking: Asking, surroundings: Surroundings) -> Command
-    ensures { result ≡ record { program = asking.program; words = asking.words; folder = asking.folder; pairs = asking.pairs; out = Some surroundings.out; target = surroundings.target; toolchain = surroundings.toolchain; reads = surroundings.reads } }
+    ensures { result ≡ record {
+      program = asking.program;
+      words = asking.words;
+      folder = asking.folder;
+      pairs = asking.pairs;
+      out = Some surroundings.out;
+      target = surroundings.target;
+      toolchain = surroundings.toolchain;
+      reads = surroundings.reads;
+    } }
 {
     Command {
         program: asking.program,
@@ -155,7 +172,12 @@ fn compile_asking(
     done: Done<'_>,
     owner: &Package,
 ) -> Result<Asking, AllocError>
-    ensures { IfOk result (λ asking. asking ≡ record { program = setup.now.rustc; words = words_of setup.now project.now unit.now done.now owner.now; folder = project.now.workspace.root; pairs = pairs_of setup.now project.now unit.now done.now owner.now }) }
+    ensures { IfOk result (λ asking. asking ≡ record {
+      program = setup.now.rustc;
+      words = words_of setup.now project.now unit.now done.now owner.now;
+      folder = project.now.workspace.root;
+      pairs = pairs_of setup.now project.now unit.now done.now owner.now;
+    }) }
 {
     let program = setup.rustc.copy(alloc)?;
     let folder = project.workspace.root.copy(alloc)?;
@@ -178,7 +200,8 @@ fn compile_of(
     done: Done<'_>,
     owner: &Package,
 ) -> Result<Command, AllocError>
-    ensures { IfOk result (λ command. command ≡ compile_of setup.now project.now unit.now done.now owner.now) }
+    ensures { IfOk result (λ command. command
+        ≡ compile_of setup.now project.now unit.now done.now owner.now) }
 {
     let asking = compile_asking(alloc, setup, project, unit, done, owner)?;
     let surroundings = surroundings_of(alloc, setup, project, unit);
@@ -231,7 +254,12 @@ fn run_asking(
     owner: &Package,
     script: &Text,
 ) -> Result<Asking, AllocError>
-    ensures { IfOk result (λ asking. asking ≡ record { program = run_program setup.now.runner script.now; words = run_words setup.now.runner script.now; folder = owner.now.folder; pairs = pairs_of setup.now project.now unit.now done.now owner.now }) }
+    ensures { IfOk result (λ asking. asking ≡ record {
+      program = run_program setup.now.runner script.now;
+      words = run_words setup.now.runner script.now;
+      folder = owner.now.folder;
+      pairs = pairs_of setup.now project.now unit.now done.now owner.now;
+    }) }
 {
     let program = run_program(alloc, setup.runner.as_slice(), script)?;
     let words = run_words(alloc, setup.runner.as_slice(), script)?;
@@ -254,7 +282,8 @@ fn run_of(
     done: Done<'_>,
     owner: &Package,
 ) -> Result<Command, AllocError>
-    ensures { IfOk result (λ command. command ≡ run_of setup.now project.now unit.now done.now owner.now) }
+    ensures { IfOk result (λ command. command
+        ≡ run_of setup.now project.now unit.now done.now owner.now) }
 {
     let script = script_path(alloc, project, unit)?;
     let asking = run_asking(alloc, setup, project, unit, done, owner, &script)?;
@@ -272,7 +301,8 @@ fn command_by(
     done: Done<'_>,
     owner: &Package,
 ) -> Result<Command, AllocError>
-    ensures { IfOk result (λ command. command ≡ command_by unit.now.unit.what setup.now project.now unit.now done.now owner.now) }
+    ensures { IfOk result (λ command. command
+        ≡ command_by unit.now.unit.what setup.now project.now unit.now done.now owner.now) }
 {
     match &unit.unit.what {
         What::Run => run_of(alloc, setup, project, unit, done, owner),
@@ -320,7 +350,8 @@ pub fn command(
     unit: &Planned,
     done: Done<'_>,
 ) -> Result<Command, AllocError>
-    ensures { IfOk result (λ command. command ≡ command_of setup.now project.now unit.now done.now) }
+    ensures { IfOk result (λ command. command
+        ≡ command_of setup.now project.now unit.now done.now) }
 {
     match package_of(project, unit) {
         Some(owner) => command_by(alloc, setup, project, unit, done, owner),

@@ -99,7 +99,8 @@ fn push_folders(
     project: &Project,
     places: &[usize],
 ) -> Result<(), AllocError>
-    ensures { OnOk result (words.new ≡ words.old ++ flat_map (folder_words_at project.now) places.now) }
+    ensures { OnOk result (words.new ≡ words.old
+        ++ flat_map (folder_words_at project.now) places.now) }
 {
     for place in places {
         push_folder_at(alloc, words, project, *place)?;
@@ -180,7 +181,9 @@ fn put_led(
     unit: &Planned,
     entry: &Entry,
 ) -> Result<(), AllocError>
-    ensures { OnOk result (all.new ≡ all_set all.old (extern (entry_name project.now entry.now) (library_file project.now unit.now entry.now.to))) }
+    ensures { OnOk result (all.new
+        ≡ all_set all.old (extern (entry_name project.now entry.now)
+        (library_file project.now unit.now entry.now.to))) }
 {
     let name = entry_name(alloc, project, entry)?;
     let file = library_file(alloc, project, unit, entry.to)?;
@@ -196,7 +199,8 @@ fn put_entry(
     index: usize,
     entry: &Entry,
 ) -> Result<(), AllocError>
-    ensures { OnOk result (all.new ≡ all_set all.old (entry_extern project.now unit.now index entry.now)) }
+    ensures { OnOk result (all.new
+        ≡ all_set all.old (entry_extern project.now unit.now index entry.now)) }
 {
     let owner = unit.unit.owner;
     if project.features.enabled(owner, unit.unit.side, index)
@@ -216,7 +220,8 @@ fn put_entries(
     unit: &Planned,
     entries: &[Entry],
 ) -> Result<(), AllocError>
-    ensures { OnOk result (all.new ≡ all_set all.old (placed (entry_extern project.now unit.now) 0 entries.now)) }
+    ensures { OnOk result (all.new
+        ≡ all_set all.old (placed (entry_extern project.now unit.now) 0 entries.now)) }
 {
     for index in 0..entries.len() {
         put_entry(alloc, all, project, unit, index, &entries[index])?;

@@ -290,7 +290,8 @@ fn push_library_own(
     words: &mut Items<Text>,
     said: &[Directive],
 ) -> Result<(), AllocError>
-    ensures { OnOk result (words.new ≡ words.old ++ flat_map link_word said.now ++ condition_words said.now) }
+    ensures { OnOk result (words.new ≡ words.old ++ flat_map link_word said.now
+        ++ condition_words said.now) }
 {
     push_links(alloc, words, said)?;
     push_all_conditions(alloc, words, said)?;
@@ -305,7 +306,8 @@ fn push_binary_own(
     library: &Option<Library>,
     said: &[Directive],
 ) -> Result<(), AllocError>
-    ensures { OnOk result (words.new ≡ words.old ++ binary_link_words library.now said.now ++ condition_words said.now ++ argument_words name.now said.now) }
+    ensures { OnOk result (words.new ≡ words.old ++ binary_link_words library.now said.now
+        ++ condition_words said.now ++ argument_words name.now said.now) }
 {
     push_binary_links(alloc, words, library, said)?;
     push_all_conditions(alloc, words, said)?;
@@ -342,7 +344,8 @@ pub fn push_said(
     done: &[Option<Directives>],
     owner: &Package,
 ) -> Result<(), AllocError>
-    ensures { OnOk result (words.new ≡ words.old ++ said_words project.now unit.now done.now owner.now) }
+    ensures { OnOk result (words.new ≡ words.old
+        ++ said_words project.now unit.now done.now owner.now) }
 {
     let said = own_said(project, unit, done);
     push_all_searched(alloc, words, done, unit.reaches.as_slice())?;

@@ -67,7 +67,8 @@ fn push_name(
     project: &Project,
     unit: &Planned,
 ) -> Result<(), AllocError>
-    ensures { OnOk result (words.new ≡ words.old ++ name_words (crate_name_of project.now unit.now)) }
+    ensures { OnOk result (words.new ≡ words.old
+        ++ name_words (crate_name_of project.now unit.now)) }
 {
     let name = crate_name_of(alloc, project, unit)?;
     push_option(alloc, words, "--crate-name", name.as_str())
@@ -240,7 +241,8 @@ fn push_active(alloc: Global, words: &mut Items<Text>, names: &[Text]) -> Result
 
 /// Adds names after another name, between quotes.
 fn push_more_quoted(text: &mut String, more: &[Feature]) -> Result<(), AllocError>
-    ensures { OnOk result (string_bytes text.new ≡ string_bytes text.old ++ flat_map (λ (f : Feature). codes ", " ++ quoted f.name) more.now) }
+    ensures { OnOk result (string_bytes text.new ≡ string_bytes text.old
+        ++ flat_map (λ (f : Feature). codes ", " ++ quoted f.name) more.now) }
 {
     for feature in more {
         text.push_str(", ")?;
@@ -251,7 +253,8 @@ fn push_more_quoted(text: &mut String, more: &[Feature]) -> Result<(), AllocErro
 
 /// Adds names between quotes.
 fn push_all_quoted(text: &mut String, features: &[Feature]) -> Result<(), AllocError>
-    ensures { OnOk result (string_bytes text.new ≡ string_bytes text.old ++ join_by (λ (f : Feature). quoted f.name) (codes ", ") features.now) }
+    ensures { OnOk result (string_bytes text.new ≡ string_bytes text.old
+        ++ join_by (λ (f : Feature). quoted f.name) (codes ", ") features.now) }
 {
     match features {
         [] => Ok(()),

@@ -59,9 +59,12 @@ struct VersionTexts {
 
 /// Returns the texts of a version's numbers.
 fn version_texts(alloc: Global, version: &Version) -> Result<VersionTexts, AllocError>
-    ensures major { IfOk result (λ texts. string_bytes texts.major ≡ decimal (version_numbers version.now).0) }
-    ensures minor { IfOk result (λ texts. string_bytes texts.minor ≡ decimal (version_numbers version.now).1) }
-    ensures patch { IfOk result (λ texts. string_bytes texts.patch ≡ decimal (version_numbers version.now).2) }
+    ensures major { IfOk result (λ texts. string_bytes texts.major
+        ≡ decimal (version_numbers version.now).0) }
+    ensures minor { IfOk result (λ texts. string_bytes texts.minor
+        ≡ decimal (version_numbers version.now).1) }
+    ensures patch { IfOk result (λ texts. string_bytes texts.patch
+        ≡ decimal (version_numbers version.now).2) }
     ensures pre { IfOk result (λ texts. string_bytes texts.pre ≡ (version_numbers version.now).3) }
 {
     let number = version.number();
@@ -84,7 +87,10 @@ fn set_parts(
     version: &str,
     parts: &VersionTexts,
 ) -> Result<(), AllocError>
-    ensures { OnOk result (all.new ≡ all_set all.old (version_texts version.now (string_bytes parts.now.major) (string_bytes parts.now.minor) (string_bytes parts.now.patch) (string_bytes parts.now.pre))) }
+    ensures { OnOk result (all.new
+        ≡ all_set all.old (version_texts version.now (string_bytes parts.now.major)
+        (string_bytes parts.now.minor) (string_bytes parts.now.patch)
+        (string_bytes parts.now.pre))) }
 {
     all.insert(alloc, "CARGO_PKG_VERSION", version)?;
     all.insert(alloc, "CARGO_PKG_VERSION_MAJOR", parts.major.as_str())?;
@@ -183,7 +189,8 @@ fn set_own_run(
     unit: &Planned,
     done: &[Option<Directives>],
 ) -> Result<(), AllocError>
-    ensures { OnOk result (all.new ≡ all_set all.old (own_run_pairs project.now unit.now done.now)) }
+    ensures { OnOk result (all.new
+        ≡ all_set all.old (own_run_pairs project.now unit.now done.now)) }
 {
     match own_run(project, unit) {
         Some(place) => set_run_at(alloc, all, project, done, place),
@@ -200,7 +207,9 @@ fn set_library(
     unit: &Planned,
     done: &[Option<Directives>],
 ) -> Result<(), AllocError>
-    ensures { OnOk result (all.new ≡ all_set all.old (crate_pairs project.now unit.now ++ own_run_pairs project.now unit.now done.now)) }
+    ensures { OnOk result (all.new
+        ≡ all_set all.old (crate_pairs project.now unit.now
+        ++ own_run_pairs project.now unit.now done.now)) }
 {
     set_crate(alloc, all, project, unit)?;
     set_own_run(alloc, all, project, unit, done)?;
@@ -225,7 +234,9 @@ fn set_binary(
     done: &[Option<Directives>],
     name: &str,
 ) -> Result<(), AllocError>
-    ensures { OnOk result (all.new ≡ all_set all.old (crate_pairs project.now unit.now ++ binary_pairs name.now ++ own_run_pairs project.now unit.now done.now)) }
+    ensures { OnOk result (all.new
+        ≡ all_set all.old (crate_pairs project.now unit.now ++ binary_pairs name.now
+        ++ own_run_pairs project.now unit.now done.now)) }
 {
     set_crate(alloc, all, project, unit)?;
     set_name(alloc, all, name)?;
@@ -243,7 +254,9 @@ fn set_own(
     done: &[Option<Directives>],
     owner: &Package,
 ) -> Result<(), AllocError>
-    ensures { OnOk result (all.new ≡ all_set all.old (own_pairs setup.now project.now unit.now done.now owner.now unit.now.unit.what)) }
+    ensures { OnOk result (all.new
+        ≡ all_set all.old (own_pairs setup.now project.now unit.now done.now owner.now
+        unit.now.unit.what)) }
 {
     match &unit.unit.what {
         What::Lib => set_library(alloc, all, project, unit, done),
@@ -267,7 +280,8 @@ pub fn pairs_of(
     done: &[Option<Directives>],
     owner: &Package,
 ) -> Result<Items<(Text, Text)>, AllocError>
-    ensures { IfOk result (λ pairs. pairs ≡ pairs_of setup.now project.now unit.now done.now owner.now) }
+    ensures { IfOk result (λ pairs. pairs
+        ≡ pairs_of setup.now project.now unit.now done.now owner.now) }
 {
     let mut all = TextMap::new(alloc);
     set_package(alloc, &mut all, setup, owner)?;

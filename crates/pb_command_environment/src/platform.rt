@@ -48,7 +48,8 @@ pub(crate) fn triple_of(toolchain: &[u8]) -> &str
 
 /// Returns whether one of some profiles is `release`.
 fn has_release(line: &[Ancestor]) -> bool
-    ensures { result ≡ list_any (λ ancestor. bytes_eq (seen ancestor).name (codes "release")) line.now }
+    ensures { result ≡ list_any (λ ancestor.
+        bytes_eq (seen ancestor).name (codes "release")) line.now }
 {
     line.iter().any(|ancestor| ancestor.name == "release")
 }

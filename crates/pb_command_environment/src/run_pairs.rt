@@ -105,7 +105,8 @@ fn set_settings(
 
 /// Adds flags after another flag.
 fn push_flags(text: &mut String, flags: &[Text]) -> Result<(), AllocError>
-    ensures { OnOk result (string_bytes text.new ≡ string_bytes text.old ++ flat_map (λ flag. (31 ∷ []) ++ flag) flags.now) }
+    ensures { OnOk result (string_bytes text.new ≡ string_bytes text.old
+        ++ flat_map (λ flag. (31 ∷ []) ++ flag) flags.now) }
 {
     for flag in flags {
         text.push_str("\u{1f}")?;
@@ -146,7 +147,9 @@ fn set_active(
     project: &Project,
     unit: &Planned,
 ) -> Result<(), AllocError>
-    ensures { OnOk result (all.new ≡ all_set all.old (map feature_pair (features_at project.now.features unit.now.unit.owner unit.now.unit.side))) }
+    ensures { OnOk result (all.new
+        ≡ all_set all.old (map feature_pair
+        (features_at project.now.features unit.now.unit.owner unit.now.unit.side))) }
 {
     let owner = unit.unit.owner;
     set_features(
@@ -165,7 +168,8 @@ fn set_described(
     unit: &Planned,
     owner: &Package,
 ) -> Result<(), AllocError>
-    ensures { OnOk result (all.new ≡ all_set all.old (described_pairs project.now unit.now owner.now)) }
+    ensures { OnOk result (all.new
+        ≡ all_set all.old (described_pairs project.now unit.now owner.now)) }
 {
     set_links(alloc, all, &owner.links)?;
     set_active(alloc, all, project, unit)?;
@@ -174,7 +178,8 @@ fn set_described(
 
 /// Sets the compiler's host triple.
 fn set_triple(alloc: Global, all: &mut TextMap, setup: &Setup) -> Result<(), AllocError>
-    ensures { OnOk result (all.new ≡ all_set all.old (platform_pairs (triple_of setup.now.toolchain))) }
+    ensures { OnOk result (all.new
+        ≡ all_set all.old (platform_pairs (triple_of setup.now.toolchain))) }
 {
     set_platform(alloc, all, triple_of(setup.toolchain.as_slice()))
 }
@@ -186,7 +191,8 @@ fn set_profile(
     project: &Project,
     unit: &Planned,
 ) -> Result<(), AllocError>
-    ensures { OnOk result (all.new ≡ all_set all.old (settings_pairs unit.now.settings (profile_word project.now))) }
+    ensures { OnOk result (all.new
+        ≡ all_set all.old (settings_pairs unit.now.settings (profile_word project.now))) }
 {
     let profile = profile_word(alloc, project)?;
     set_settings(alloc, all, &unit.settings, profile)
@@ -209,7 +215,8 @@ fn set_building(
     project: &Project,
     unit: &Planned,
 ) -> Result<(), AllocError>
-    ensures { OnOk result (all.new ≡ all_set all.old (building_pairs setup.now project.now unit.now)) }
+    ensures { OnOk result (all.new
+        ≡ all_set all.old (building_pairs setup.now project.now unit.now)) }
 {
     set_folder(alloc, all, unit)?;
     set_triple(alloc, all, setup)?;
@@ -249,7 +256,9 @@ fn set_linked(
     owner: Option<&Package>,
     said: &Directives,
 ) -> Result<(), AllocError>
-    ensures { OnOk result (all.new ≡ all_set all.old (linked_pairs (links_in (option_map (λ p. p.now) owner.entry)) said.now)) }
+    ensures { OnOk result (all.new
+        ≡ all_set all.old (linked_pairs (links_in (option_map (λ p.
+        p.now) owner.entry)) said.now)) }
 {
     match owner {
         Some(owner) => match &owner.links {
@@ -268,7 +277,8 @@ fn set_passed_by(
     place: usize,
     said: &Directives,
 ) -> Result<(), AllocError>
-    ensures { OnOk result (all.new ≡ all_set all.old (passed_by project.now (unit_at project.now place) said.now)) }
+    ensures { OnOk result (all.new
+        ≡ all_set all.old (passed_by project.now (unit_at project.now place) said.now)) }
 {
     match unit_at(project, place) {
         Some(unit) => {
@@ -310,7 +320,8 @@ fn set_passed(
     done: &[Option<Directives>],
     places: &[usize],
 ) -> Result<(), AllocError>
-    ensures { OnOk result (all.new ≡ all_set all.old (flat_map (passed_at project.now done.now) places.now)) }
+    ensures { OnOk result (all.new
+        ≡ all_set all.old (flat_map (passed_at project.now done.now) places.now)) }
 {
     for place in places {
         set_passed_at(alloc, all, project, done, *place)?;
@@ -329,7 +340,8 @@ pub(crate) fn set_run(
     done: &[Option<Directives>],
     owner: &Package,
 ) -> Result<(), AllocError>
-    ensures { OnOk result (all.new ≡ all_set all.old (run_pairs setup.now project.now unit.now done.now owner.now)) }
+    ensures { OnOk result (all.new
+        ≡ all_set all.old (run_pairs setup.now project.now unit.now done.now owner.now)) }
 {
     set_described(alloc, all, project, unit, owner)?;
     set_building(alloc, all, setup, project, unit)?;

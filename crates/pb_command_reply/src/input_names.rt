@@ -178,7 +178,8 @@ fn push_sources(
     command: &Command,
     paths: Items<PathText>,
 ) -> Result<(), AllocError>
-    ensures { OnOk result (inputs.new ≡ inputs.old ++ map Path (filter (is_source command.now) paths)) }
+    ensures { OnOk result (inputs.new ≡ inputs.old
+        ++ map Path (filter (is_source command.now) paths)) }
 {
     for path in paths.into_vec() {
         if is_source(command, &path) {
@@ -208,7 +209,8 @@ pub(crate) fn inputs_of(
     paths: Items<PathText>,
     names: Items<Text>,
 ) -> Result<Items<InputName>, UnitFault>
-    ensures { UnlessOom unit_fault.OutOfMemory (λ inputs. inputs) result (inputs_of command.now paths names) }
+    ensures { UnlessOom unit_fault.OutOfMemory (λ inputs.
+        inputs) result (inputs_of command.now paths names) }
 {
     if let Some(path) = first_foreign(command, paths.as_slice()) {
         return Err(UnitFault::ForeignInput(path.copy(alloc)?));
@@ -232,14 +234,16 @@ fn names_set(alloc: Global, pairs: &[(Text, Text)]) -> Result<OrderedSet, AllocE
 
 /// Returns the names that a command sets.
 fn names_of(alloc: Global, command: &Command) -> Result<OrderedSet, AllocError>
-    ensures { IfOk result (λ names. names ≡ mentioned_all [] (map (λ (pair : List ℕ × List ℕ). pair.0) command.now.pairs)) }
+    ensures { IfOk result (λ names. names
+        ≡ mentioned_all [] (map (λ (pair : List ℕ × List ℕ). pair.0) command.now.pairs)) }
 {
     names_set(alloc, command.pairs.as_slice())
 }
 
 /// Returns the names that are not among the others.
 fn names_but(alloc: Global, names: &[Text], others: &OrderedSet) -> Result<Items<Text>, AllocError>
-    ensures { IfOk result (λ left. left ≡ filter (λ name. not (is_mentioned others.now name)) names.now) }
+    ensures { IfOk result (λ left. left
+        ≡ filter (λ name. not (is_mentioned others.now name)) names.now) }
 {
     let mut left = Items::new(alloc);
     for name in names {

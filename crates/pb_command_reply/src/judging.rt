@@ -57,7 +57,8 @@ fn info_in(alloc: Global, bytes: &Bytes) -> Result<DepInfo, UnitFault>
 ///
 /// Errors: `NoDepInfo`, if there is none, it is too long, or it cannot be read; `OutOfMemory`.
 fn read_info(alloc: Global, dep_info: Option<&Bytes>) -> Result<DepInfo, UnitFault>
-    ensures { UnlessOom unit_fault.OutOfMemory (λ info. info) result (read_info (option_map (λ bytes. bytes.now) dep_info.entry)) }
+    ensures { UnlessOom unit_fault.OutOfMemory (λ info.
+        info) result (read_info (option_map (λ bytes. bytes.now) dep_info.entry)) }
 {
     match dep_info {
         Some(bytes) => {
@@ -77,7 +78,9 @@ fn info_inputs<M: Meaning>(
     command: &Command,
     info: &DepInfo,
 ) -> Result<Items<InputName>, UnitFault>
-    ensures { IsTrue M.joins → UnlessOom unit_fault.OutOfMemory (λ inputs. inputs) result (info_inputs command.now info.now) }
+    ensures { IsTrue M.joins →
+        UnlessOom unit_fault.OutOfMemory (λ inputs.
+        inputs) result (info_inputs command.now info.now) }
 {
     let paths = paths_from(alloc, meaning, &command.folder, info.words.as_slice())?;
     let names = inherited(alloc, command, info.variables.as_slice())?;
@@ -91,7 +94,9 @@ fn compile_answered<M: Meaning>(
     command: &Command,
     dep_info: Option<&Bytes>,
 ) -> Result<CheckedReply, UnitFault>
-    ensures { IsTrue M.joins → UnlessOom unit_fault.OutOfMemory (λ a. a) result (compile_answered command.now (option_map (λ bytes. bytes.now) dep_info.entry)) }
+    ensures { IsTrue M.joins →
+        UnlessOom unit_fault.OutOfMemory (λ a.
+        a) result (compile_answered command.now (option_map (λ bytes. bytes.now) dep_info.entry)) }
 {
     let info = read_info(alloc, dep_info)?;
     let inputs = info_inputs(alloc, meaning, command, &info);
@@ -167,7 +172,9 @@ fn marked_inputs<M: Meaning>(
     paths: &[Text],
     names: &[Text],
 ) -> Result<Items<InputName>, UnitFault>
-    ensures { IsTrue M.joins → UnlessOom unit_fault.OutOfMemory (λ inputs. inputs) result (marked_inputs command.now folder.now paths.now names.now) }
+    ensures { IsTrue M.joins →
+        UnlessOom unit_fault.OutOfMemory (λ inputs.
+        inputs) result (marked_inputs command.now folder.now paths.now names.now) }
 {
     let paths = paths_from(alloc, meaning, folder, paths)?;
     let names = once(alloc, names)?;
@@ -180,7 +187,8 @@ fn folder_inputs(
     command: &Command,
     folder: &PathText,
 ) -> Result<Items<InputName>, UnitFault>
-    ensures { UnlessOom unit_fault.OutOfMemory (λ inputs. inputs) result (inputs_of command.now (folder.now ∷ []) []) }
+    ensures { UnlessOom unit_fault.OutOfMemory (λ inputs.
+        inputs) result (inputs_of command.now (folder.now ∷ []) []) }
 {
     let mut paths = Items::new(alloc);
     paths.push(folder.copy(alloc)?)?;
@@ -197,7 +205,9 @@ fn rerun_inputs<M: Meaning>(
     paths: &[Text],
     names: &[Text],
 ) -> Result<Items<InputName>, UnitFault>
-    ensures { IsTrue M.joins → UnlessOom unit_fault.OutOfMemory (λ inputs. inputs) result (rerun_inputs command.now folder.now paths.now names.now) }
+    ensures { IsTrue M.joins →
+        UnlessOom unit_fault.OutOfMemory (λ inputs.
+        inputs) result (rerun_inputs command.now folder.now paths.now names.now) }
 {
     match paths {
         [] => match names {
@@ -216,7 +226,9 @@ fn said_inputs<M: Meaning>(
     folder: &PathText,
     said: &[Directive],
 ) -> Result<Items<InputName>, UnitFault>
-    ensures { IsTrue M.joins → UnlessOom unit_fault.OutOfMemory (λ inputs. inputs) result (said_inputs command.now folder.now said.now) }
+    ensures { IsTrue M.joins →
+        UnlessOom unit_fault.OutOfMemory (λ inputs.
+        inputs) result (said_inputs command.now folder.now said.now) }
 {
     let paths = changed_paths(alloc, said)?;
     let names = changed_variables(alloc, said)?;
@@ -239,7 +251,8 @@ fn is_error(directive: &Directive) -> bool
 
 /// Returns the directives in the lines of a run.
 fn lines_in(alloc: Global, ended: &Ended) -> Result<Items<Directive>, UnitFault>
-    ensures { UnlessOom unit_fault.OutOfMemory (λ said. said) result (lifted unit_fault.Directive (directives_of ended.now.stdout)) }
+    ensures { UnlessOom unit_fault.OutOfMemory (λ said.
+        said) result (lifted unit_fault.Directive (directives_of ended.now.stdout)) }
 {
     match read_directives(alloc, ended.stdout.as_slice()) {
         Ok(said) => Ok(said),
@@ -281,7 +294,9 @@ fn run_answered<M: Meaning>(
     folder: &PathText,
     ended: &Ended,
 ) -> Result<CheckedReply, UnitFault>
-    ensures { IsTrue M.joins → UnlessOom unit_fault.OutOfMemory (λ a. a) result (run_answered command.now folder.now ended.now) }
+    ensures { IsTrue M.joins →
+        UnlessOom unit_fault.OutOfMemory (λ a.
+        a) result (run_answered command.now folder.now ended.now) }
 {
     let said = said_in(alloc, ended)?;
     let inputs = said_inputs(alloc, meaning, command, folder, said.as_slice())?;
@@ -301,7 +316,10 @@ fn answered_by<M: Meaning>(
     ended: &Ended,
     dep_info: Option<&Bytes>,
 ) -> Result<CheckedReply, UnitFault>
-    ensures { IsTrue M.joins → UnlessOom unit_fault.OutOfMemory (λ a. a) result (answered_by what.now command.now folder.now ended.now (option_map (λ bytes. bytes.now) dep_info.entry)) }
+    ensures { IsTrue M.joins →
+        UnlessOom unit_fault.OutOfMemory (λ a.
+        a) result (answered_by what.now command.now folder.now ended.now (option_map (λ bytes.
+        bytes.now) dep_info.entry)) }
 {
     match what {
         What::Run => run_answered(alloc, meaning, command, folder, ended),
@@ -320,7 +338,8 @@ fn answered_with<M: Meaning>(
     dep_info: Option<&Bytes>,
 ) -> Result<CheckedReply, UnitFault>
     ensures { IsTrue M.joins →
-        UnlessOom unit_fault.OutOfMemory (λ a. a) result (answered_of project.now unit.now command.now
+        UnlessOom unit_fault.OutOfMemory (λ a.
+        a) result (answered_of project.now unit.now command.now
         ended.now (option_map (λ bytes. bytes.now) dep_info.entry)) }
 {
     match ended_fault(ended) {
@@ -360,7 +379,9 @@ pub fn answered(
     ended: &Ended,
     dep_info: Option<&Bytes>,
 ) -> Result<CheckedReply, UnitFault>
-    ensures { UnlessOom unit_fault.OutOfMemory (λ a. a) result (answered_of project.now unit.now command.now ended.now (option_map (λ bytes. bytes.now) dep_info.entry)) }
+    ensures { UnlessOom unit_fault.OutOfMemory (λ a.
+        a) result (answered_of project.now unit.now command.now ended.now (option_map (λ bytes.
+        bytes.now) dep_info.entry)) }
 {
     answered_with(alloc, &ByText {}, project, unit, command, ended, dep_info)
 }
@@ -378,7 +399,8 @@ pub fn answered_at<P: Place>(
     dep_info: Option<&Bytes>,
 ) -> Result<CheckedReply, UnitFault>
     ensures { IsTrue P.is_modelled →
-        UnlessOom unit_fault.OutOfMemory (λ a. a) result (answered_of project.now unit.now command.now
+        UnlessOom unit_fault.OutOfMemory (λ a.
+        a) result (answered_of project.now unit.now command.now
         ended.now (option_map (λ bytes. bytes.now) dep_info.entry)) }
 {
     answered_with(
@@ -403,7 +425,9 @@ pub fn inputs(
     ended: &Ended,
     dep_info: Option<&Bytes>,
 ) -> Result<Items<InputName>, UnitFault>
-    ensures { UnlessOom unit_fault.OutOfMemory (λ names. names) result (named_in (answered_of project.now unit.now command.now ended.now (option_map (λ bytes. bytes.now) dep_info.entry))) }
+    ensures { UnlessOom unit_fault.OutOfMemory (λ names.
+        names) result (named_in (answered_of project.now unit.now command.now ended.now
+        (option_map (λ bytes. bytes.now) dep_info.entry))) }
 {
     match answered(alloc, project, unit, command, ended, dep_info) {
         Ok(found) => Ok(found.inputs),

@@ -31,7 +31,8 @@ pub fn folder_of<'a>(project: &'a Project, unit: &Planned) -> &'a PathText
 /// Returns the crate name of the library of the package at an index, or an empty name if it has
 /// none.
 pub fn library_name(project: &Project, place: usize) -> &str
-    ensures { result.now ≡ library_name (library_in (slice_get project.now.workspace.packages place)) }
+    ensures { result.now ≡ library_name
+        (library_in (slice_get project.now.workspace.packages place)) }
 {
     match project.workspace.packages.as_slice().get(place) {
         Some(owner) => match &owner.library {

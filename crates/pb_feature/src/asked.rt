@@ -70,8 +70,10 @@ pub(crate) fn check_asked(
     packages: &[Package],
     selection: &Selection,
 ) -> Result<(), FeatureFault>
-    ensures ok { OnOk result (All (λ text. is_answered packages.now selection.now.packages text ≡ true) selection.now.features) }
-    ensures err { IfErr result (λ e. (e ≡ OutOfMemory) ⊎ ((e ≡ NoSuchFeature) × IsUnanswered packages.now selection.now)) }
+    ensures ok { OnOk result (All (λ text. is_answered packages.now selection.now.packages text
+        ≡ true) selection.now.features) }
+    ensures err { IfErr result (λ e. (e ≡ OutOfMemory)
+        ⊎ ((e ≡ NoSuchFeature) × IsUnanswered packages.now selection.now)) }
 {
     let places = selection.packages.as_slice();
     for text in selection.features.as_slice() {

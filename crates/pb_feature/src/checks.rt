@@ -75,7 +75,8 @@ fn first_fault(packages: &[Package]) -> Option<First>
 /// Checks the items of all packages.
 pub(crate) fn check_items(packages: &[Package]) -> Result<(), FeatureFault>
     ensures ok { OnOk result (IsSofar packages.now (length packages.now) None) }
-    ensures err { IfErr result (λ e. (place : ℕ) × IsFirstBelow packages.now (length packages.now) place e) }
+    ensures err { IfErr result (λ e. (place : ℕ)
+        × IsFirstBelow packages.now (length packages.now) place e) }
 {
     match first_fault(packages) {
         Some(first) => Err(first.fault),

@@ -58,7 +58,8 @@ fn is_either(normal: Option<usize>, build: Option<usize>) -> bool
 
 /// Returns whether an entry at one of two indices is optional.
 fn is_either_optional(entries: &EntriesByKey, normal: Option<usize>, build: Option<usize>) -> bool
-    ensures { result ≡ (found is_optional false entries.now normal || found is_optional false entries.now build) }
+    ensures { result ≡ (found is_optional false entries.now normal
+        || found is_optional false entries.now build) }
 {
     is_optional_at(entries, normal) || is_optional_at(entries, build)
 }

@@ -169,7 +169,8 @@ impl Ground<'_> {
 
     /// Returns the number that means: the package has the feature of this name.
     pub(crate) fn given(&self, place: usize, side: Side, name: &[u8]) -> Result<usize, AllocError>
-        ensures { IfOk result (λ i. i ≡ has self.now.bases.now place side (slot_at self.now.packages.now place name.now)) }
+        ensures { IfOk result (λ i. i
+            ≡ has self.now.bases.now place side (slot_at self.now.packages.now place name.now)) }
     {
         let i = self.has(place, side, self.slot_at(place, name))?;
         Ok(i)

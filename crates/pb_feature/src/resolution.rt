@@ -43,8 +43,12 @@ fn marks_of(
 ) -> Result<Vec<bool>, AllocError>
     requires bases { bases.now ≡ bases_from 0 selected.now.workspace.packages }
     requires count { count ≡ end_from 0 selected.now.workspace.packages * 2 }
-    ensures least { IfOk result (λ marks. IsLeast (Least (Contains (seeds_of selected.now.workspace.packages bases.now selected.now.selection)) (joined_by (rules_of selected.now.workspace.packages bases.now))) (is_on marks.items)) }
-    ensures within { All (λ p. p < length selected.now.workspace.packages) selected.now.selection.packages }
+    ensures least { IfOk result (λ marks.
+        IsLeast (Least (Contains (seeds_of selected.now.workspace.packages bases.now
+        selected.now.selection)) (joined_by (rules_of selected.now.workspace.packages bases.now)))
+        (is_on marks.items)) }
+    ensures within { All (λ p.
+        p < length selected.now.workspace.packages) selected.now.selection.packages }
 {
     let selection = selected.selection();
     let ground = Ground {
@@ -61,7 +65,9 @@ fn marks_of(
 
 /// Returns whether the package at an index is given a feature that it does not have.
 fn is_missing_at(ground: &Ground<'_>, marks: &[bool], place: usize) -> Result<bool, AllocError>
-    ensures { IfOk result (λ is. is ≡ (is_on marks.now (has ground.now.bases.now place Target 0) || is_on marks.now (has ground.now.bases.now place Host 0))) }
+    ensures { IfOk result (λ is. is
+        ≡ (is_on marks.now (has ground.now.bases.now place Target 0)
+        || is_on marks.now (has ground.now.bases.now place Host 0))) }
 {
     let target = ground.has(place, Side::Target, 0)?;
     let host = ground.has(place, Side::Host, 0)?;
@@ -70,8 +76,11 @@ fn is_missing_at(ground: &Ground<'_>, marks: &[bool], place: usize) -> Result<bo
 
 /// Checks that each package is given only features that it has.
 fn check_missing(ground: &Ground<'_>, marks: &[bool]) -> Result<(), FeatureFault>
-    ensures ok { OnOk result (NoneMarkedMissing marks.now ground.now.bases.now (length ground.now.packages.now)) }
-    ensures err { IfErr result (λ e. (e ≡ OutOfMemory) ⊎ ((e ≡ NoSuchFeature) × IsMarkedMissing marks.now ground.now.bases.now (length ground.now.packages.now))) }
+    ensures ok { OnOk result (NoneMarkedMissing marks.now ground.now.bases.now
+        (length ground.now.packages.now)) }
+    ensures err { IfErr result (λ e. (e ≡ OutOfMemory)
+        ⊎ ((e ≡ NoSuchFeature) × IsMarkedMissing marks.now ground.now.bases.now
+        (length ground.now.packages.now))) }
 {
     for place in 0..ground.packages.len() {
         if is_missing_at(ground, marks, place)? {
@@ -85,7 +94,8 @@ fn check_missing(ground: &Ground<'_>, marks: &[bool]) -> Result<(), FeatureFault
 fn resolved(alloc: Global, selected: &SelectedWorkspace<'_>) -> Result<Features, FeatureFault>
     ensures exactly { IfOk result (IsResolved selected.now.workspace selected.now.selection) }
     ensures complete { OnOk result (IsMissing selected.now.workspace selected.now.selection → ⊥) }
-    ensures missing { IfErr result (λ e. (e ≡ OutOfMemory) ⊎ ((e ≡ NoSuchFeature) × IsMissing selected.now.workspace selected.now.selection)) }
+    ensures missing { IfErr result (λ e. (e ≡ OutOfMemory)
+        ⊎ ((e ≡ NoSuchFeature) × IsMissing selected.now.workspace selected.now.selection)) }
 {
     let packages = packages_of(selected);
     let made = bases_of(alloc, packages)?;
@@ -105,8 +115,10 @@ fn resolved(alloc: Global, selected: &SelectedWorkspace<'_>) -> Result<Features,
 /// of a package which is on and does not have it. Besides these, only out of memory.
 pub fn resolve(alloc: Global, selected: &SelectedWorkspace<'_>) -> Result<Features, FeatureFault>
     ensures resolved { IfOk result (IsResolved selected.now.workspace selected.now.selection) }
-    ensures right { OnOk result ((fault : FeatureFault) → Refuses selected.now.workspace selected.now.selection fault → ⊥) }
-    ensures refused { IfErr result (λ e. (e ≡ OutOfMemory) ⊎ Refuses selected.now.workspace selected.now.selection e) }
+    ensures right { OnOk result ((fault : FeatureFault) →
+        Refuses selected.now.workspace selected.now.selection fault → ⊥) }
+    ensures refused { IfErr result (λ e. (e ≡ OutOfMemory)
+        ⊎ Refuses selected.now.workspace selected.now.selection e) }
 {
     let packages = packages_of(selected);
     check_items(packages)?;

@@ -24,7 +24,8 @@ fn add_name(
     index: usize,
     feature: &Feature,
 ) -> Result<(), AllocError>
-    ensures { OnOk result (names.new ≡ names.old ++ marked_name marks.now ground.now.bases.now place side index feature.now) }
+    ensures { OnOk result (names.new ≡ names.old
+        ++ marked_name marks.now ground.now.bases.now place side index feature.now) }
 {
     let Some(slot) = index.checked_add(1) else {
         return Err(AllocError);
@@ -44,7 +45,8 @@ fn names_of(
     side: Side,
     features: &[Feature],
 ) -> Result<Items<Text>, AllocError>
-    ensures { IfOk result (λ names. names ≡ placed (marked_name marks.now ground.now.bases.now place side) 0 features.now) }
+    ensures { IfOk result (λ names. names
+        ≡ placed (marked_name marks.now ground.now.bases.now place side) 0 features.now) }
 {
     let mut names = Items::new(alloc);
     for index in 0..features.len() {
@@ -72,7 +74,8 @@ fn add_mark(
     features: usize,
     index: usize,
 ) -> Result<(), AllocError>
-    ensures { OnOk result (enabled.new ≡ enabled.old ++ is_on marks.now (enabled_at ground.now.bases.now place side features index) ∷ []) }
+    ensures { OnOk result (enabled.new ≡ enabled.old
+        ++ is_on marks.now (enabled_at ground.now.bases.now place side features index) ∷ []) }
 {
     let number = ground.enabled(place, side, features, index)?;
     enabled.push(is_marked(marks, number))?;
@@ -89,7 +92,8 @@ fn entries_of(
     features: usize,
     entries: &[Entry],
 ) -> Result<Items<bool>, AllocError>
-    ensures { IfOk result (λ enabled. enabled ≡ placed (marked_entry marks.now ground.now.bases.now place side features) 0 entries.now) }
+    ensures { IfOk result (λ enabled. enabled
+        ≡ placed (marked_entry marks.now ground.now.bases.now place side features) 0 entries.now) }
 {
     let mut enabled = Items::new(alloc);
     for index in 0..entries.len() {
@@ -107,7 +111,8 @@ fn part_of(
     side: Side,
     owner: &Package,
 ) -> Result<Part, AllocError>
-    ensures { IfOk result (λ part. part ≡ marked_part marks.now ground.now.bases.now place side owner.now) }
+    ensures { IfOk result (λ part. part
+        ≡ marked_part marks.now ground.now.bases.now place side owner.now) }
 {
     let listed = owner.features.as_slice();
     let active = is_marked(marks, ground.on(place, side)?);
@@ -129,7 +134,8 @@ fn sides_of(
     place: usize,
     owner: &Package,
 ) -> Result<Sides, AllocError>
-    ensures { IfOk result (λ sides. sides ∷ [] ≡ marked_sides marks.now ground.now.bases.now place owner.now) }
+    ensures { IfOk result (λ sides. sides ∷ []
+        ≡ marked_sides marks.now ground.now.bases.now place owner.now) }
 {
     let target = part_of(alloc, ground, marks, place, Side::Target, owner)?;
     let host = part_of(alloc, ground, marks, place, Side::Host, owner)?;
@@ -142,7 +148,8 @@ pub(crate) fn features_marked(
     ground: &Ground<'_>,
     marks: &[bool],
 ) -> Result<Features, AllocError>
-    ensures { IfOk result (λ features. features.packages ≡ placed (marked_sides marks.now ground.now.bases.now) 0 ground.now.packages.now) }
+    ensures { IfOk result (λ features. features.packages
+        ≡ placed (marked_sides marks.now ground.now.bases.now) 0 ground.now.packages.now) }
 {
     let mut packages = Items::new(alloc);
     for place in 0..ground.packages.len() {

@@ -17,7 +17,8 @@ fn add_package(
     place: usize,
     owner: &Package,
 ) -> Result<(), AllocError>
-    ensures { OnOk result (rules.new.items ≡ rules.old.items ++ package_rules ground.now.packages.now ground.now.bases.now place owner.now) }
+    ensures { OnOk result (rules.new.items ≡ rules.old.items
+        ++ package_rules ground.now.packages.now ground.now.bases.now place owner.now) }
 {
     add_both_entries(rules, ground, place, owner)?;
     let features = owner.features.as_slice();
@@ -30,7 +31,8 @@ fn add_package(
 
 /// Returns the rules of all packages, on both sides.
 pub(crate) fn rules_of(alloc: Global, ground: &Ground<'_>) -> Result<Vec<Rule>, AllocError>
-    ensures { IfOk result (λ rules. rules.items ≡ rules_of ground.now.packages.now ground.now.bases.now) }
+    ensures { IfOk result (λ rules. rules.items
+        ≡ rules_of ground.now.packages.now ground.now.bases.now) }
 {
     let mut rules = Vec::new(alloc);
     for place in 0..ground.packages.len() {

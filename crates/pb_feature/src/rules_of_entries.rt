@@ -43,7 +43,8 @@ pub(crate) fn add_there(
     test: bool,
     feature: usize,
 ) -> Result<(), AllocError>
-    ensures { OnOk result (rules.new.items ≡ rules.old.items ++ there_rules ground.now.bases.now from place side test feature) }
+    ensures { OnOk result (rules.new.items ≡ rules.old.items
+        ++ there_rules ground.now.bases.now from place side test feature) }
 {
     if !test {
         return Ok(());
@@ -64,7 +65,9 @@ fn add_given(
     side: Side,
     features: &[Text],
 ) -> Result<(), AllocError>
-    ensures { OnOk result (rules.new.items ≡ rules.old.items ++ placed (given_rules ground.now.packages.now ground.now.bases.now from place side) 0 features.now) }
+    ensures { OnOk result (rules.new.items ≡ rules.old.items
+        ++ placed (given_rules ground.now.packages.now ground.now.bases.now from place side) 0
+        features.now) }
 {
     for feature in features {
         let gives = ground.given(place, side, feature.as_bytes())?;
@@ -81,7 +84,8 @@ fn add_enabled(
     side: Side,
     entry: &Entry,
 ) -> Result<(), AllocError>
-    ensures { OnOk result (rules.new.items ≡ rules.old.items ++ enabled_rules ground.now.packages.now ground.now.bases.now from side entry.now) }
+    ensures { OnOk result (rules.new.items ≡ rules.old.items
+        ++ enabled_rules ground.now.packages.now ground.now.bases.now from side entry.now) }
 {
     let on = ground.on(entry.to, side)?;
     add_alone(rules, from, on)?;
@@ -115,7 +119,9 @@ fn add_entry(
     index: usize,
     entry: &Entry,
 ) -> Result<(), AllocError>
-    ensures { OnOk result (rules.new.items ≡ rules.old.items ++ entry_rules ground.now.packages.now ground.now.bases.now side place features index entry.now) }
+    ensures { OnOk result (rules.new.items ≡ rules.old.items
+        ++ entry_rules ground.now.packages.now ground.now.bases.now side place features index
+        entry.now) }
 {
     let enabled = ground.enabled(place, side, features, index)?;
     if !entry.optional {
@@ -134,7 +140,9 @@ fn add_entries(
     features: usize,
     entries: &[Entry],
 ) -> Result<(), AllocError>
-    ensures { OnOk result (rules.new.items ≡ rules.old.items ++ placed (entry_rules ground.now.packages.now ground.now.bases.now side place features) 0 entries.now) }
+    ensures { OnOk result (rules.new.items ≡ rules.old.items
+        ++ placed (entry_rules ground.now.packages.now ground.now.bases.now side place features) 0
+        entries.now) }
 {
     for index in 0..entries.len() {
         add_entry(rules, ground, side, place, features, index, &entries[index])?;
@@ -149,7 +157,8 @@ pub(crate) fn add_both_entries(
     place: usize,
     owner: &Package,
 ) -> Result<(), AllocError>
-    ensures { OnOk result (rules.new.items ≡ rules.old.items ++ both_entry_rules ground.now.packages.now ground.now.bases.now place owner.now) }
+    ensures { OnOk result (rules.new.items ≡ rules.old.items
+        ++ both_entry_rules ground.now.packages.now ground.now.bases.now place owner.now) }
 {
     let features = owner.features.as_slice().len();
     let entries = owner.entries.as_slice();

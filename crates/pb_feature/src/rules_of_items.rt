@@ -26,7 +26,9 @@ fn add_listed(
     feature: usize,
     own: usize,
 ) -> Result<(), AllocError>
-    ensures { OnOk result (rules.new.items ≡ rules.old.items ++ alone (has ground.now.bases.now place side feature) (has ground.now.bases.now place side own) ∷ []) }
+    ensures { OnOk result (rules.new.items ≡ rules.old.items
+        ++ alone (has ground.now.bases.now place side feature)
+        (has ground.now.bases.now place side own) ∷ []) }
 {
     let has = ground.has(place, side, feature)?;
     let gives = ground.has(place, side, own)?;
@@ -42,7 +44,8 @@ fn add_own(
     feature: usize,
     item: &FeatureItem,
 ) -> Result<(), AllocError>
-    ensures { OnOk result (rules.new.items ≡ rules.old.items ++ both_own_rules ground.now.bases.now place features.now feature item.now) }
+    ensures { OnOk result (rules.new.items ≡ rules.old.items
+        ++ both_own_rules ground.now.bases.now place features.now feature item.now) }
 {
     match item {
         FeatureItem::Own(name) => {
@@ -71,14 +74,17 @@ struct AtEntry<'a> {
 
 /// Returns the number of the feature that lists an item, on a side.
 fn listing(ground: &Ground<'_>, side: Side, at: &AtEntry<'_>) -> Result<usize, AllocError>
-    ensures { IfOk result (λ number. number ≡ has ground.now.bases.now at.now.place side at.now.feature) }
+    ensures { IfOk result (λ number. number
+        ≡ has ground.now.bases.now at.now.place side at.now.feature) }
 {
     ground.has(at.place, side, at.feature)
 }
 
 /// Returns the number of the entry that an item names, on a side.
 fn named(ground: &Ground<'_>, side: Side, at: &AtEntry<'_>) -> Result<usize, AllocError>
-    ensures { IfOk result (λ number. number ≡ enabled ground.now.bases.now at.now.place side (length at.now.features.now) at.now.index) }
+    ensures { IfOk result (λ number. number
+        ≡ enabled ground.now.bases.now at.now.place side
+        (length at.now.features.now) at.now.index) }
 {
     ground.enabled(at.place, side, at.features.as_slice().len(), at.index)
 }
@@ -90,7 +96,10 @@ fn add_dependency(
     side: Side,
     at: &AtEntry<'_>,
 ) -> Result<(), AllocError>
-    ensures { OnOk result (rules.new.items ≡ rules.old.items ++ alone (has ground.now.bases.now at.now.place side at.now.feature) (enabled ground.now.bases.now at.now.place side (length at.now.features.now) at.now.index) ∷ []) }
+    ensures { OnOk result (rules.new.items ≡ rules.old.items
+        ++ alone (has ground.now.bases.now at.now.place side at.now.feature)
+        (enabled ground.now.bases.now at.now.place side (length at.now.features.now) at.now.index)
+        ∷ []) }
 {
     let has = listing(ground, side, at)?;
     let enabled = named(ground, side, at)?;
@@ -106,7 +115,11 @@ fn add_of(
     own: usize,
     asked: usize,
 ) -> Result<(), AllocError>
-    ensures { OnOk result (rules.new.items ≡ rules.old.items ++ of_rules ground.now.bases.now (has ground.now.bases.now at.now.place side at.now.feature) at.now.place side own asked (enabled ground.now.bases.now at.now.place side (length at.now.features.now) at.now.index) at.now.entry.now) }
+    ensures { OnOk result (rules.new.items ≡ rules.old.items
+        ++ of_rules ground.now.bases.now
+        (has ground.now.bases.now at.now.place side at.now.feature) at.now.place side own asked
+        (enabled ground.now.bases.now at.now.place side (length at.now.features.now) at.now.index)
+        at.now.entry.now) }
 {
     let entry = at.entry;
     let has = listing(ground, side, at)?;
@@ -125,7 +138,11 @@ fn add_of_enabled(
     at: &AtEntry<'_>,
     asked: usize,
 ) -> Result<(), AllocError>
-    ensures { OnOk result (rules.new.items ≡ rules.old.items ++ pair (has ground.now.bases.now at.now.place side at.now.feature) (enabled ground.now.bases.now at.now.place side (length at.now.features.now) at.now.index) (has ground.now.bases.now at.now.entry.now.to (side_of at.now.entry.now.kind side) asked) ∷ []) }
+    ensures { OnOk result (rules.new.items ≡ rules.old.items
+        ++ pair (has ground.now.bases.now at.now.place side at.now.feature)
+        (enabled ground.now.bases.now at.now.place side (length at.now.features.now) at.now.index)
+        (has ground.now.bases.now at.now.entry.now.to (side_of at.now.entry.now.kind side) asked)
+        ∷ []) }
 {
     let entry = at.entry;
     let first = listing(ground, side, at)?;
@@ -155,7 +172,9 @@ fn add_item(
     at: &AtEntry<'_>,
     item: &FeatureItem,
 ) -> Result<(), AllocError>
-    ensures { OnOk result (rules.new.items ≡ rules.old.items ++ both_item_rules ground.now.packages.now ground.now.bases.now at.now.place at.now.features.now at.now.feature item.now at.now.index at.now.entry.now) }
+    ensures { OnOk result (rules.new.items ≡ rules.old.items
+        ++ both_item_rules ground.now.packages.now ground.now.bases.now at.now.place
+        at.now.features.now at.now.feature item.now at.now.index at.now.entry.now) }
 {
     let entry = at.entry;
     match item {
@@ -221,7 +240,9 @@ fn add_found(
     item: &FeatureItem,
     index: Option<usize>,
 ) -> Result<(), AllocError>
-    ensures { OnOk result (rules.new.items ≡ rules.old.items ++ found (both_item_rules ground.now.packages.now ground.now.bases.now place owner.now.features feature item.now) [] owner.now.entries index) }
+    ensures { OnOk result (rules.new.items ≡ rules.old.items
+        ++ found (both_item_rules ground.now.packages.now ground.now.bases.now place
+        owner.now.features feature item.now) [] owner.now.entries index) }
 {
     let Some(index) = index else {
         return Ok(());
@@ -252,7 +273,9 @@ fn add_named(
     name: &Text,
 ) -> Result<(), AllocError>
     requires { entry_named item.now ≡ Some name.now }
-    ensures { OnOk result (rules.new.items ≡ rules.old.items ++ placed (both_item_rules ground.now.packages.now ground.now.bases.now place owner.now.features feature item.now) 0 owner.now.entries) }
+    ensures { OnOk result (rules.new.items ≡ rules.old.items
+        ++ placed (both_item_rules ground.now.packages.now ground.now.bases.now place
+        owner.now.features feature item.now) 0 owner.now.entries) }
 {
     let name = name.as_bytes();
     let normal = owner.entries.place_of(DependencyKind::Normal, name);
@@ -271,7 +294,9 @@ fn add_one_item(
     feature: usize,
     item: &FeatureItem,
 ) -> Result<(), AllocError>
-    ensures { OnOk result (rules.new.items ≡ rules.old.items ++ one_item_rules ground.now.packages.now ground.now.bases.now place owner.now feature 0 item.now) }
+    ensures { OnOk result (rules.new.items ≡ rules.old.items
+        ++ one_item_rules ground.now.packages.now ground.now.bases.now place owner.now feature 0
+        item.now) }
 {
     add_own(rules, ground, place, &owner.features, feature, item)?;
     match entry_named(item) {
@@ -292,7 +317,9 @@ pub(crate) fn add_feature(
     index: usize,
     items: &[FeatureItem],
 ) -> Result<(), AllocError>
-    ensures { OnOk result (rules.new.items ≡ rules.old.items ++ placed (one_item_rules ground.now.packages.now ground.now.bases.now place owner.now (index + 1)) 0 items.now) }
+    ensures { OnOk result (rules.new.items ≡ rules.old.items
+        ++ placed (one_item_rules ground.now.packages.now ground.now.bases.now place owner.now
+        (index + 1)) 0 items.now) }
 {
     let Some(feature) = index.checked_add(1) else {
         return Err(AllocError);

@@ -24,7 +24,8 @@ pub(crate) fn of_package(alloc: Global, name: &str, feature: &str) -> Result<Tex
 
 /// Returns whether one of the texts is one of these two.
 fn has_either(texts: &[Text], one: &[u8], other: &[u8]) -> bool
-    ensures { result ≡ list_any (λ text. bytes_eq text one.now || bytes_eq text other.now) texts.now }
+    ensures { result ≡ list_any (λ text. bytes_eq text one.now
+        || bytes_eq text other.now) texts.now }
 {
     texts
         .iter()
@@ -69,7 +70,8 @@ fn add_chosen(
     index: usize,
     feature: &Feature,
 ) -> Result<(), AllocError>
-    ensures { OnOk result (seeds.new.items ≡ seeds.old.items ++ chosen_seeds ground.now.bases.now selection.now place name.now index feature.now) }
+    ensures { OnOk result (seeds.new.items ≡ seeds.old.items
+        ++ chosen_seeds ground.now.bases.now selection.now place name.now index feature.now) }
 {
     if !is_chosen(alloc, selection, name, feature.name.as_str())? {
         return Ok(());
@@ -91,7 +93,8 @@ fn add_owner(
     place: usize,
     owner: &Package,
 ) -> Result<(), AllocError>
-    ensures { OnOk result (seeds.new.items ≡ seeds.old.items ++ owner_seeds ground.now.bases.now selection.now place (Some owner.now)) }
+    ensures { OnOk result (seeds.new.items ≡ seeds.old.items
+        ++ owner_seeds ground.now.bases.now selection.now place (Some owner.now)) }
 {
     let on = ground.on(place, Side::Target)?;
     seeds.push(on)?;
@@ -120,7 +123,8 @@ fn add_selected(
     selection: &Selection,
     place: usize,
 ) -> Result<(), AllocError>
-    ensures { OnOk result (seeds.new.items ≡ seeds.old.items ++ selected_seeds ground.now.packages.now ground.now.bases.now selection.now 0 place) }
+    ensures { OnOk result (seeds.new.items ≡ seeds.old.items
+        ++ selected_seeds ground.now.packages.now ground.now.bases.now selection.now 0 place) }
 {
     match ground.packages.get(place) {
         Some(owner) => add_owner(alloc, seeds, ground, selection, place, owner),
@@ -134,7 +138,8 @@ pub(crate) fn seeds_of(
     ground: &Ground<'_>,
     selection: &Selection,
 ) -> Result<Vec<usize>, AllocError>
-    ensures { IfOk result (λ seeds. seeds.items ≡ seeds_of ground.now.packages.now ground.now.bases.now selection.now) }
+    ensures { IfOk result (λ seeds. seeds.items
+        ≡ seeds_of ground.now.packages.now ground.now.bases.now selection.now) }
 {
     let mut seeds = Vec::new(alloc);
     for place in selection.packages.as_slice() {

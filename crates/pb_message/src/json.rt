@@ -18,7 +18,8 @@ pub(crate) fn truth_text(truth: bool) -> &'static str
 
 /// Adds texts one after another.
 pub(crate) fn push_all(out: &mut String, parts: &[&str]) -> Result<(), AllocError>
-    ensures { OnOk result (string_bytes out.new ≡ string_bytes out.old ++ concat (map (λ part. part.now) parts.now)) }
+    ensures { OnOk result (string_bytes out.new ≡ string_bytes out.old
+        ++ concat (map (λ part. part.now) parts.now)) }
 {
     for part in parts {
         out.push_str(*part)?;
@@ -45,7 +46,8 @@ fn push_text(alloc: Global, out: &mut String, text: &str) -> Result<(), AllocErr
 
 /// Adds strings, each after a comma.
 fn push_more_texts(alloc: Global, out: &mut String, texts: &[Text]) -> Result<(), AllocError>
-    ensures { OnOk result (string_bytes out.new ≡ string_bytes out.old ++ after_commas (map json_string texts.now)) }
+    ensures { OnOk result (string_bytes out.new ≡ string_bytes out.old
+        ++ after_commas (map json_string texts.now)) }
 {
     for text in texts {
         out.push_str(",")?;
@@ -87,7 +89,8 @@ fn push_more_pairs(
     out: &mut String,
     pairs: &[(Text, Text)],
 ) -> Result<(), AllocError>
-    ensures { OnOk result (string_bytes out.new ≡ string_bytes out.old ++ after_commas (map json_pair pairs.now)) }
+    ensures { OnOk result (string_bytes out.new ≡ string_bytes out.old
+        ++ after_commas (map json_pair pairs.now)) }
 {
     for pair in pairs {
         out.push_str(",")?;

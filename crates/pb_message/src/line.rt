@@ -76,7 +76,8 @@ fn target_object(
     edition: &str,
     required: &str,
 ) -> Result<String, AllocError>
-    ensures { IfOk result (λ text. string_bytes text ≡ target_object kinds.now crate_types.now name.now source.now edition.now required.now) }
+    ensures { IfOk result (λ text. string_bytes text
+        ≡ target_object kinds.now crate_types.now name.now source.now edition.now required.now) }
 {
     joined(
         alloc,
@@ -127,7 +128,8 @@ fn subject_object(
     manifest: &str,
     target: &str,
 ) -> Result<String, AllocError>
-    ensures { IfOk result (λ text. string_bytes text ≡ subject_object id.now manifest.now target.now) }
+    ensures { IfOk result (λ text. string_bytes text
+        ≡ subject_object id.now manifest.now target.now) }
 {
     joined(
         alloc,
@@ -180,7 +182,8 @@ fn profile_text(alloc: Global, settings: &Settings) -> Result<String, AllocError
 
 /// Adds the line of a diagnostic.
 fn push_diagnostic(out: &mut String, subject: &str, text: &str) -> Result<(), AllocError>
-    ensures { OnOk result (string_bytes out.new ≡ string_bytes out.old ++ diagnostic_line subject.now text.now) }
+    ensures { OnOk result (string_bytes out.new ≡ string_bytes out.old
+        ++ diagnostic_line subject.now text.now) }
 {
     push_all(
         out,
@@ -196,7 +199,8 @@ fn push_diagnostic(out: &mut String, subject: &str, text: &str) -> Result<(), Al
 
 /// Returns the file if it is executable, else null.
 fn executable_text(alloc: Global, artifact: &Artifact) -> Result<String, AllocError>
-    ensures { IfOk result (λ text. string_bytes text ≡ executable_text artifact.now.is_executable artifact.now.file) }
+    ensures { IfOk result (λ text. string_bytes text
+        ≡ executable_text artifact.now.is_executable artifact.now.file) }
 {
     if artifact.is_executable {
         json_string(alloc, artifact.file.as_str())
@@ -216,7 +220,8 @@ fn push_artifact_object(
     executable: &str,
     fresh: &str,
 ) -> Result<(), AllocError>
-    ensures { OnOk result (string_bytes out.new ≡ string_bytes out.old ++ artifact_object subject.now profile.now features.now file.now executable.now fresh.now) }
+    ensures { OnOk result (string_bytes out.new ≡ string_bytes out.old
+        ++ artifact_object subject.now profile.now features.now file.now executable.now fresh.now) }
 {
     push_all(
         out,
@@ -246,7 +251,8 @@ fn push_artifact(
     artifact: &Artifact,
     fresh: bool,
 ) -> Result<(), AllocError>
-    ensures { OnOk result (string_bytes out.new ≡ string_bytes out.old ++ artifact_line subject.now artifact.now fresh) }
+    ensures { OnOk result (string_bytes out.new ≡ string_bytes out.old
+        ++ artifact_line subject.now artifact.now fresh) }
 {
     let profile = profile_text(alloc, &artifact.settings)?;
     let features = json_texts(alloc, artifact.features.as_slice())?;
@@ -276,7 +282,8 @@ fn level_text(level: Level) -> &'static str
 /// Adds the line of a note with this level, and this text in JSON.
 #[tactic(auto, unfolding(crate::specs::Message::note_object))]
 fn push_note_object(out: &mut String, id: &str, level: &str, text: &str) -> Result<(), AllocError>
-    ensures { OnOk result (string_bytes out.new ≡ string_bytes out.old ++ note_object id.now level.now text.now) }
+    ensures { OnOk result (string_bytes out.new ≡ string_bytes out.old
+        ++ note_object id.now level.now text.now) }
 {
     push_all(
         out,
@@ -300,7 +307,8 @@ fn push_note(
     level: Level,
     text: &str,
 ) -> Result<(), AllocError>
-    ensures { OnOk result (string_bytes out.new ≡ string_bytes out.old ++ note_line id.now level text.now) }
+    ensures { OnOk result (string_bytes out.new ≡ string_bytes out.old
+        ++ note_line id.now level text.now) }
 {
     let json = json_string(alloc, text)?;
     push_note_object(out, id, level_text(level), json.as_str())
@@ -317,7 +325,8 @@ fn push_executed_object(
     variables: &str,
     folder: &str,
 ) -> Result<(), AllocError>
-    ensures { OnOk result (string_bytes out.new ≡ string_bytes out.old ++ executed_object id.now libraries.now paths.now conditions.now variables.now folder.now) }
+    ensures { OnOk result (string_bytes out.new ≡ string_bytes out.old
+        ++ executed_object id.now libraries.now paths.now conditions.now variables.now folder.now) }
 {
     push_all(
         out,
@@ -346,7 +355,8 @@ fn push_executed(
     id: &str,
     executed: &Executed,
 ) -> Result<(), AllocError>
-    ensures { OnOk result (string_bytes out.new ≡ string_bytes out.old ++ executed_line id.now executed.now) }
+    ensures { OnOk result (string_bytes out.new ≡ string_bytes out.old
+        ++ executed_line id.now executed.now) }
 {
     let libraries = json_texts(alloc, executed.linked_libraries.as_slice())?;
     let paths = json_texts(alloc, executed.linked_paths.as_slice())?;
@@ -373,7 +383,8 @@ fn push_line(
     fresh: bool,
     message: &Message,
 ) -> Result<(), AllocError>
-    ensures { OnOk result (string_bytes out.new ≡ string_bytes out.old ++ line_from id.now subject.now fresh message.now) }
+    ensures { OnOk result (string_bytes out.new ≡ string_bytes out.old
+        ++ line_from id.now subject.now fresh message.now) }
 {
     match message {
         Message::CompilerMessage(text) => push_diagnostic(out, subject, text.as_str()),
@@ -392,7 +403,8 @@ fn push_lines(
     fresh: bool,
     messages: &[Message],
 ) -> Result<(), AllocError>
-    ensures { OnOk result (string_bytes out.new ≡ string_bytes out.old ++ lines_from id.now subject.now fresh messages.now) }
+    ensures { OnOk result (string_bytes out.new ≡ string_bytes out.old
+        ++ lines_from id.now subject.now fresh messages.now) }
 {
     for message in messages {
         push_line(alloc, out, id, subject, fresh, message)?;

@@ -18,7 +18,8 @@ pub struct SinkFault;
 pub fn write_lines<O: Out>(out: &mut O, lines: &str) -> Result<(), SinkFault>
     ensures all { OnOk result (Appends (O.heard out.old).taken (O.heard out.new).taken lines.now) }
     ensures whole { OnOk result ((O.heard out.new).faults ≡ (O.heard out.old).faults) }
-    ensures part { OnErr result (TakesPart lines.now (O.heard out.old).taken (O.heard out.new).taken) }
+    ensures part { OnErr result
+        (TakesPart lines.now (O.heard out.old).taken (O.heard out.new).taken) }
     ensures fault { OnErr result ((O.heard out.new).faults ≡ up (O.heard out.old).faults) }
 {
     if write_all(out, lines.as_bytes()) {

@@ -53,7 +53,8 @@ fn add_artifact(
     project: &Project,
     unit: &Planned,
 ) -> Result<(), AllocError>
-    ensures { OnOk result (messages.new ≡ messages.old ++ artifacts project.now unit.now (made_file_of project.now unit.now)) }
+    ensures { OnOk result (messages.new ≡ messages.old
+        ++ artifacts project.now unit.now (made_file_of project.now unit.now)) }
 {
     let file = match made_file(alloc, project, unit)? {
         None => return Ok(()),
@@ -225,7 +226,8 @@ pub fn good_messages(
     stderr: &Bytes,
     directives: &Option<Directives>,
 ) -> Result<Items<Message>, AllocError>
-    ensures { IfOk result (λ messages. messages ≡ good_messages project.now unit.now stderr.now directives.now) }
+    ensures { IfOk result (λ messages. messages
+        ≡ good_messages project.now unit.now stderr.now directives.now) }
 {
     let mut messages = Items::new(alloc);
     match directives {
@@ -273,7 +275,8 @@ fn diagnostics_by(
     fault: &UnitFault,
     stderr: &Bytes,
 ) -> Result<Items<Message>, AllocError>
-    ensures { IfOk result (λ messages. messages ≡ (if gives_diagnostics what.now fault.now then compiler_messages stderr.now else [])) }
+    ensures { IfOk result (λ messages. messages
+        ≡ (if gives_diagnostics what.now fault.now then compiler_messages stderr.now else [])) }
 {
     let mut messages = Items::new(alloc);
     if gives_diagnostics(what, fault) {

@@ -37,7 +37,8 @@ fn library_of(
 
 /// Returns the target of the binary of this name, if there is one.
 fn binary_of(alloc: Global, name: &Text, owner: &Package) -> Result<Option<Target>, AllocError>
-    ensures { IfOk result (λ made. made ≡ binary_of owner.now (find (λ b. bytes_eq name.now b.name) owner.now.binaries)) }
+    ensures { IfOk result (λ made. made
+        ≡ binary_of owner.now (find (λ b. bytes_eq name.now b.name) owner.now.binaries)) }
 {
     match owner.binaries.named(name) {
         None => Ok(None),
@@ -85,7 +86,8 @@ fn target_of(alloc: Global, owner: &Package, what: &What) -> Result<Option<Targe
 
 /// Returns copies of a package's name, version, folder and manifest.
 fn copied_of(alloc: Global, owner: &Package) -> Result<(Text, Text, PathText, PathText), AllocError>
-    ensures { IfOk result (λ copied. copied ≡ (owner.now.name, owner.now.version, owner.now.folder, owner.now.manifest)) }
+    ensures { IfOk result (λ copied. copied
+        ≡ (owner.now.name, owner.now.version, owner.now.folder, owner.now.manifest)) }
 {
     let name = owner.name.copy(alloc)?;
     let version = owner.version.text().copy(alloc)?;

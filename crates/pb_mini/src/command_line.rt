@@ -126,21 +126,24 @@ pub struct Settled {
 
 /// Returns whether the next argument determines what is made, or where.
 fn is_for_crate(word: &str) -> bool
-    ensures { result ≡ (bytes_eq word.now (codes "--crate-name") || bytes_eq word.now (codes "--crate-type") || bytes_eq word.now (codes "--out-dir")) }
+    ensures { result ≡ (bytes_eq word.now (codes "--crate-name")
+        || bytes_eq word.now (codes "--crate-type") || bytes_eq word.now (codes "--out-dir")) }
 {
     word == "--crate-name" || word == "--crate-type" || word == "--out-dir"
 }
 
 /// Returns whether the next argument is a setting or a condition.
 fn is_for_setting(word: &str) -> bool
-    ensures { result ≡ (bytes_eq word.now (codes "-C") || bytes_eq word.now (codes "--cfg") || bytes_eq word.now (codes "--check-cfg")) }
+    ensures { result ≡ (bytes_eq word.now (codes "-C") || bytes_eq word.now (codes "--cfg")
+        || bytes_eq word.now (codes "--check-cfg")) }
 {
     word == "-C" || word == "--cfg" || word == "--check-cfg"
 }
 
 /// Returns whether the next argument is a library, or where libraries are.
 fn is_for_library(word: &str) -> bool
-    ensures { result ≡ (bytes_eq word.now (codes "--extern") || bytes_eq word.now (codes "-L") || bytes_eq word.now (codes "-l")) }
+    ensures { result ≡ (bytes_eq word.now (codes "--extern") || bytes_eq word.now (codes "-L")
+        || bytes_eq word.now (codes "-l")) }
 {
     word == "--extern" || word == "-L" || word == "-l"
 }
@@ -189,7 +192,8 @@ fn role_alone(word: &str) -> Role
 
 /// Adds one more value to the list of its role.
 fn add_value(said: &mut Arguments, role: Role, value: Text) -> Result<(), AllocError>
-    ensures { OnOk result ((rest : Arguments) → joined said.new rest ≡ joined said.old (with_value role value rest)) }
+    ensures { OnOk result ((rest : Arguments) → joined said.new rest
+        ≡ joined said.old (with_value role value rest)) }
 {
     match role {
         Role::CrateName => said.crate_names.push(value)?,
@@ -211,7 +215,9 @@ fn take_word(
     waiting: Option<Role>,
     word: &Text,
 ) -> Result<Option<Role>, AllocError>
-    ensures { IfOk result (λ next. (words : List (List ℕ)) → after said.new (arguments_after next words) ≡ after said.old (arguments_after waiting (word.now ∷ words))) }
+    ensures { IfOk result (λ next. (words : List (List ℕ)) →
+        after said.new (arguments_after next words)
+        ≡ after said.old (arguments_after waiting (word.now ∷ words))) }
 {
     if let Some(role) = waiting {
         add_value(said, role, word.copy(alloc)?)?;
@@ -230,7 +236,8 @@ fn add_words(
     said: &mut Arguments,
     words: &[Text],
 ) -> Result<Option<Role>, AllocError>
-    ensures { IfOk result (λ waiting. after said.new (arguments_after waiting []) ≡ after said.old (arguments_after None words.now)) }
+    ensures { IfOk result (λ waiting. after said.new (arguments_after waiting [])
+        ≡ after said.old (arguments_after None words.now)) }
 {
     let mut waiting = None;
     for word in words {
@@ -391,7 +398,8 @@ fn once_in(alloc: Global, said: &Arguments) -> Result<Once, CommandLineFault>
 ///
 /// Errors: `Bad`, if the crate's name is no file name; `OutOfMemory`.
 fn image_named(alloc: Global, once: &Once) -> Result<RelativePath, CommandLineFault>
-    ensures { UnlessOom fault.OutOfMemory (λ file. file) result (file_named (image_name once.now.crate_type once.now.crate_name)) }
+    ensures { UnlessOom fault.OutOfMemory (λ file.
+        file) result (file_named (image_name once.now.crate_type once.now.crate_name)) }
 {
     let name = image_name(alloc, once.crate_type, once.crate_name.as_str())?;
     file_named(alloc, name)
@@ -401,7 +409,8 @@ fn image_named(alloc: Global, once: &Once) -> Result<RelativePath, CommandLineFa
 ///
 /// Errors: `Bad`, if the crate's name is no file name; `OutOfMemory`.
 fn dep_info_named(alloc: Global, once: &Once) -> Result<RelativePath, CommandLineFault>
-    ensures { UnlessOom fault.OutOfMemory (λ file. file) result (file_named (dep_info_name once.now.crate_name)) }
+    ensures { UnlessOom fault.OutOfMemory (λ file.
+        file) result (file_named (dep_info_name once.now.crate_name)) }
 {
     let name = dep_info_name(alloc, once.crate_name.as_str())?;
     file_named(alloc, name)

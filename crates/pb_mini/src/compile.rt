@@ -44,7 +44,8 @@ pub(crate) fn text_at<V: View>(
     view: &V,
     path: &Option<PathText>,
 ) -> Result<Option<Text>, ViewFault>
-    ensures text { IsTrue V.is_modelled → IfOk result (λ text. text ≡ text_at (V.shown view.now) path.now) }
+    ensures text { IsTrue V.is_modelled →
+        IfOk result (λ text. text ≡ text_at (V.shown view.now) path.now) }
     ensures failed { IfErr result (λ e. e ≡ ViewFault.Failed → V.fails view.now) }
 {
     let Some(bytes) = file_at(alloc, view, path)? else {
@@ -70,7 +71,9 @@ fn add_text<V: View>(
     view: &V,
     text: &str,
 ) -> Result<(), ViewFault>
-    ensures done { IsTrue V.is_modelled → OnOk result (effects.new ≡ followed_by effects.old (effects_from scope.now (V.shown view.now) 0 (lines_of text.now))) }
+    ensures done { IsTrue V.is_modelled →
+        OnOk result (effects.new ≡ followed_by effects.old
+        (effects_from scope.now (V.shown view.now) 0 (lines_of text.now))) }
     ensures failed { IfErr result (λ e. e ≡ ViewFault.Failed → V.fails view.now) }
 {
     let lines = text_lines(alloc, text)?;
@@ -88,7 +91,9 @@ fn add_source<V: View>(
     source: &Option<PathText>,
     text: &Option<Text>,
 ) -> Result<(), ViewFault>
-    ensures done { IsTrue V.is_modelled → OnOk result (effects.new ≡ followed_by effects.old (source_effects line.now pairs (V.shown view.now) source.now text.now)) }
+    ensures done { IsTrue V.is_modelled →
+        OnOk result (effects.new ≡ followed_by effects.old
+        (source_effects line.now pairs (V.shown view.now) source.now text.now)) }
     ensures failed { IfErr result (λ e. e ≡ ViewFault.Failed → V.fails view.now) }
 {
     match (source, text) {
@@ -117,7 +122,8 @@ pub struct Source {
 
 /// Returns the source of a compile.
 fn source_of<V: View>(alloc: Global, line: &CommandLine, view: &V) -> Result<Source, ViewFault>
-    ensures source { IsTrue V.is_modelled → IfOk result (λ source. source ≡ source_of line.now (V.shown view.now)) }
+    ensures source { IsTrue V.is_modelled →
+        IfOk result (λ source. source ≡ source_of line.now (V.shown view.now)) }
     ensures failed { IfErr result (λ e. e ≡ ViewFault.Failed → V.fails view.now) }
 {
     let path = path_of(alloc, line.source.as_str())?;
@@ -144,7 +150,10 @@ fn effects_with<V: View>(
     view: &V,
     source: &Source,
 ) -> Result<Effects, ViewFault>
-    ensures effects { IsTrue V.is_modelled → IfOk result (λ effects. effects ≡ names_once (joined (reads source.now.path) (source_effects line.now pairs (V.shown view.now) source.now.path source.now.text))) }
+    ensures effects { IsTrue V.is_modelled →
+        IfOk result (λ effects. effects
+        ≡ names_once (joined (reads source.now.path)
+        (source_effects line.now pairs (V.shown view.now) source.now.path source.now.text))) }
     ensures failed { IfErr result (λ e. e ≡ ViewFault.Failed → V.fails view.now) }
 {
     let read = read_effects(alloc, &source.path);
@@ -169,7 +178,9 @@ fn effects_of<V: View>(
     pairs: Table<Text>,
     view: &V,
 ) -> Result<Effects, ViewFault>
-    ensures effects { IsTrue V.is_modelled → IfOk result (λ effects. effects ≡ names_once (effects_of line.now pairs (V.shown view.now))) }
+    ensures effects { IsTrue V.is_modelled →
+        IfOk result (λ effects. effects
+        ≡ names_once (effects_of line.now pairs (V.shown view.now))) }
     ensures failed { IfErr result (λ e. e ≡ ViewFault.Failed → V.fails view.now) }
 {
     let source = source_of(alloc, line, view);
@@ -217,7 +228,8 @@ fn dep_info_file(
     line: &CommandLine,
     names: Names,
 ) -> Result<(RelativePath, Bytes), AllocError>
-    ensures { IfOk result (λ file. file ≡ (line.now.dep_info, dep_info_text (below line.now.out_dir line.now.image) names)) }
+    ensures { IfOk result (λ file. file
+        ≡ (line.now.dep_info, dep_info_text (below line.now.out_dir line.now.image) names)) }
 {
     let output = line.out_dir.below(alloc, &line.image)?;
     let text = dep_info_text(alloc, &output, names)?;
@@ -293,7 +305,8 @@ pub(crate) fn compile<V: View>(
     pairs: Table<Text>,
     view: &V,
 ) -> Result<Reply, ViewFault>
-    ensures reply { IsTrue V.is_modelled → IfOk result (λ reply. reply ≡ compiled line.now pairs (V.shown view.now)) }
+    ensures reply { IsTrue V.is_modelled →
+        IfOk result (λ reply. reply ≡ compiled line.now pairs (V.shown view.now)) }
     ensures failed { IfErr result (λ e. e ≡ ViewFault.Failed → V.fails view.now) }
 {
     let effects = effects_of(alloc, line, pairs, view)?;

@@ -29,7 +29,8 @@ fn first_part(text: &str) -> (&str, Option<&str>)
 
 /// Returns the text after a leading `$`, if there is one.
 fn after_dollar(path: &str) -> Option<&str>
-    ensures { MatchOption result ((rest : List ℕ) → path.now ≢ 36 ∷ rest) (λ rest. path.now ≡ 36 ∷ rest.now) }
+    ensures { MatchOption result ((rest : List ℕ) → path.now ≢ 36 ∷ rest) (λ rest. path.now
+        ≡ 36 ∷ rest.now) }
 {
     path.strip_prefix('$')
 }
@@ -52,7 +53,8 @@ fn variable_of<V: View>(
     view: &V,
     path: &str,
 ) -> Result<Option<(Text, Option<Text>)>, ViewFault>
-    ensures variable { IsTrue V.is_modelled → IfOk result (λ variable. variable ≡ variable_of pairs.now (V.shown view.now) path.now) }
+    ensures variable { IsTrue V.is_modelled →
+        IfOk result (λ variable. variable ≡ variable_of pairs.now (V.shown view.now) path.now) }
     ensures failed { IfErr result (λ e. e ≡ ViewFault.Failed → V.fails view.now) }
 {
     match variable_in(path) {
@@ -121,7 +123,8 @@ fn add_no_file(
     number: u64,
     written: &str,
 ) -> Result<(), AllocError>
-    ensures { OnOk result (Does effects.new effects.old (diagnosed Level.Error (codes "no file " ++ written.now) number)) }
+    ensures { OnOk result (Does effects.new effects.old (diagnosed Level.Error (codes "no file "
+        ++ written.now) number)) }
 {
     let message = no_file(alloc, written)?;
     add_diagnostic(effects, Level::Error, message, number)
@@ -135,7 +138,8 @@ fn add_lines_of(
     written: &str,
     found: &Option<Bytes>,
 ) -> Result<(), AllocError>
-    ensures { OnOk result (Does effects.new effects.old (included_lines number written.now found.now)) }
+    ensures { OnOk result (Does effects.new effects.old
+        (included_lines number written.now found.now)) }
 {
     match found {
         Some(bytes) => add_file(alloc, effects, b"| ", bytes.as_slice()),
@@ -153,7 +157,8 @@ fn add_included(
     path: Option<PathText>,
     found: &Option<Bytes>,
 ) -> Result<(), AllocError>
-    ensures { OnOk result (Does effects.new effects.old (included number written.now variable path found.now)) }
+    ensures { OnOk result (Does effects.new effects.old
+        (included number written.now variable path found.now)) }
 {
     add_variable_of(effects, variable)?;
     add_path(effects, path)?;
@@ -168,7 +173,8 @@ fn path_included(
     written: &str,
     variable: &Option<(Text, Option<Text>)>,
 ) -> Result<Option<PathText>, AllocError>
-    ensures { IfOk result (λ path. path ≡ path_from folder.now (expanded written.now variable.now)) }
+    ensures { IfOk result (λ path. path
+        ≡ path_from folder.now (expanded written.now variable.now)) }
 {
     let text = expanded(alloc, written, variable)?;
     path_from(alloc, folder, text.as_str())
@@ -182,7 +188,13 @@ fn file_included<V: View>(
     written: &str,
     variable: &Option<(Text, Option<Text>)>,
 ) -> Result<(Option<PathText>, Option<Bytes>), ViewFault>
-    ensures file { IsTrue V.is_modelled → IfOk result (λ found. found ≡ (path_from folder.now (expanded written.now variable.now), file_at (V.shown view.now) (path_from folder.now (expanded written.now variable.now)))) }
+    ensures file { IsTrue V.is_modelled →
+        IfOk result (λ found. found
+        ≡ (
+          path_from folder.now (expanded written.now variable.now),
+          file_at (V.shown view.now)
+              (path_from folder.now (expanded written.now variable.now)),
+        )) }
     ensures failed { IfErr result (λ e. e ≡ ViewFault.Failed → V.fails view.now) }
 {
     let path = path_included(alloc, folder, written, variable)?;
@@ -199,7 +211,9 @@ pub(crate) fn add_include<V: View>(
     number: u64,
     written: &str,
 ) -> Result<(), ViewFault>
-    ensures done { IsTrue V.is_modelled → OnOk result (Does effects.new effects.old (include_effect scope.now (V.shown view.now) number written.now)) }
+    ensures done { IsTrue V.is_modelled →
+        OnOk result (Does effects.new effects.old
+        (include_effect scope.now (V.shown view.now) number written.now)) }
     ensures failed { IfErr result (λ e. e ≡ ViewFault.Failed → V.fails view.now) }
 {
     let variable = variable_of(alloc, &scope.pairs, view, written)?;

@@ -17,5 +17,6 @@ pub fn is_honest()
 /// The dep-info reports what was read: the reply to any compile, good or bad, has this file. It
 /// lists exactly the names that the compile read, without repeats.
 pub fn tells_names()
-    ensures { (words : List (List ℕ)) (pairs : List (List ℕ × List ℕ)) (w : World) (line : CommandLine) → TellsNames words pairs w line }
+    ensures { (words : List (List ℕ)) (pairs : List (List ℕ
+        × List ℕ)) (w : World) (line : CommandLine) → TellsNames words pairs w line }
 {}

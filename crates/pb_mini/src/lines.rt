@@ -33,7 +33,8 @@ pub(crate) fn name_and_value(text: &str) -> (&str, &str)
 
 /// Returns the parts between the line feeds of some bytes.
 fn byte_parts(alloc: Global, bytes: &[u8]) -> Result<Vec<&[u8]>, AllocError>
-    ensures { IfOk result (λ parts. map (λ part. part.now) parts.items ≡ slice_split (λ b. b == 10) bytes.now) }
+    ensures { IfOk result (λ parts. map (λ part. part.now) parts.items
+        ≡ slice_split (λ b. b == 10) bytes.now) }
 {
     bytes.split(|byte| *byte == b'\n').collect(alloc)
 }
@@ -60,14 +61,16 @@ pub(crate) fn byte_lines(alloc: Global, bytes: &[u8]) -> Result<Vec<&[u8]>, Allo
 
 /// Returns the parts between the line feeds of a text.
 fn text_parts(alloc: Global, text: &str) -> Result<Vec<&str>, AllocError>
-    ensures { IfOk result (λ parts. map (λ part. part.now) parts.items ≡ slice_split (λ b. b == 10) text.now) }
+    ensures { IfOk result (λ parts. map (λ part. part.now) parts.items
+        ≡ slice_split (λ b. b == 10) text.now) }
 {
     text.split('\n').collect(alloc)
 }
 
 /// Returns a text without the line feed at its end, if there is one.
 fn before_line_feed(text: &str) -> Option<&str>
-    ensures { MatchOption result ((front : List ℕ) → text.now ≢ front ++ 10 ∷ []) (λ front. text.now ≡ front.now ++ 10 ∷ []) }
+    ensures { MatchOption result ((front : List ℕ) → text.now ≢ front ++ 10 ∷ []) (λ front. text.now
+        ≡ front.now ++ 10 ∷ []) }
 {
     text.strip_suffix('\n')
 }
@@ -96,7 +99,8 @@ pub(crate) fn push_line(buffer: &mut Buffer, line: &[u8]) -> Result<(), AllocErr
 
 /// Adds lines, each after a mark and with a line feed.
 fn push_marked(buffer: &mut Buffer, mark: &[u8], lines: &[&[u8]]) -> Result<(), AllocError>
-    ensures { OnOk result (buffer.new ≡ buffer.old ++ marked mark.now (map (λ line. line.now) lines.now)) }
+    ensures { OnOk result (buffer.new ≡ buffer.old
+        ++ marked mark.now (map (λ line. line.now) lines.now)) }
 {
     for line in lines {
         buffer.push(mark)?;

@@ -42,7 +42,8 @@ pub(crate) fn file_at<V: View>(
     view: &V,
     path: &Option<PathText>,
 ) -> Result<Option<Bytes>, ViewFault>
-    ensures file { IsTrue V.is_modelled → IfOk result (λ file. file ≡ file_at (V.shown view.now) path.now) }
+    ensures file { IsTrue V.is_modelled →
+        IfOk result (λ file. file ≡ file_at (V.shown view.now) path.now) }
     ensures failed { IfErr result (λ e. e ≡ ViewFault.Failed → V.fails view.now) }
 {
     match path {
@@ -59,7 +60,8 @@ pub(crate) fn value_of<V: View>(
     view: &V,
     name: &str,
 ) -> Result<Option<Text>, ViewFault>
-    ensures value { IsTrue V.is_modelled → IfOk result (λ value. value ≡ value_of pairs.now (V.shown view.now) name.now) }
+    ensures value { IsTrue V.is_modelled →
+        IfOk result (λ value. value ≡ value_of pairs.now (V.shown view.now) name.now) }
     ensures failed { IfErr result (λ e. e ≡ ViewFault.Failed → V.fails view.now) }
 {
     let key = Text::from_str(alloc, name)?;

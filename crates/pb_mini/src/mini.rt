@@ -14,7 +14,12 @@ use std::alloc::{AllocError, Global};
 
 /// Returns a reply without files.
 fn said(alloc: Global, status: i32, stdout: &[u8], stderr: &[u8]) -> Result<Reply, AllocError>
-    ensures { IfOk result (λ reply. reply ≡ record { status = status; stdout = stdout.now; stderr = stderr.now; files = [] }) }
+    ensures { IfOk result (λ reply. reply ≡ record {
+      status = status;
+      stdout = stdout.now;
+      stderr = stderr.now;
+      files = [];
+    }) }
 {
     Ok(Reply {
         status,
@@ -49,7 +54,8 @@ fn reply_to<V: View>(
     pairs: Table<Text>,
     view: &V,
 ) -> Result<Reply, ViewFault>
-    ensures reply { IsTrue V.is_modelled → IfOk result (λ reply. reply ≡ replied_to request.now pairs (V.shown view.now)) }
+    ensures reply { IsTrue V.is_modelled →
+        IfOk result (λ reply. reply ≡ replied_to request.now pairs (V.shown view.now)) }
     ensures failed { IfErr result (λ e. e ≡ ViewFault.Failed → V.fails view.now) }
 {
     match request {
@@ -119,7 +125,8 @@ pub fn answer<V: View>(
     pairs: &[(Text, Text)],
     view: &V,
 ) -> Result<Reply, ViewFault>
-    ensures reply { IsTrue V.is_modelled → IfOk result (λ reply. reply ≡ answered words.now pairs.now (V.shown view.now)) }
+    ensures reply { IsTrue V.is_modelled →
+        IfOk result (λ reply. reply ≡ answered words.now pairs.now (V.shown view.now)) }
     ensures failed { IfErr result (λ e. e ≡ ViewFault.Failed → V.fails view.now) }
 {
     let pairs = table_of(alloc, pairs)?;

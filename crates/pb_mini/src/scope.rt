@@ -67,7 +67,8 @@ fn parts_of(
     line: &CommandLine,
     source: &PathText,
 ) -> Result<(PathText, Table<Text>, OrderedSet), AllocError>
-    ensures { IfOk result (λ parts. parts ≡ (folder_of source.now, libraries_of line.now.externs, once line.now.conditions)) }
+    ensures { IfOk result (λ parts. parts
+        ≡ (folder_of source.now, libraries_of line.now.externs, once line.now.conditions)) }
 {
     let folder = source.folder(alloc)?;
     let libraries = libraries_of(alloc, line.externs.as_slice())?;

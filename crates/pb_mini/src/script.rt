@@ -165,7 +165,8 @@ fn full_path<V: View>(
     view: &V,
     path: &str,
 ) -> Result<Text, ViewFault>
-    ensures text { IsTrue V.is_modelled → IfOk result (λ text. text ≡ full_path pairs.now (V.shown view.now) path.now) }
+    ensures text { IsTrue V.is_modelled →
+        IfOk result (λ text. text ≡ full_path pairs.now (V.shown view.now) path.now) }
     ensures failed { IfErr result (λ e. e ≡ ViewFault.Failed → V.fails view.now) }
 {
     if is_absolute(path) {
@@ -191,7 +192,8 @@ fn text_read<V: View>(
     view: &V,
     path: &str,
 ) -> Result<Option<Text>, ViewFault>
-    ensures text { IsTrue V.is_modelled → IfOk result (λ text. text ≡ text_read pairs.now (V.shown view.now) path.now) }
+    ensures text { IsTrue V.is_modelled →
+        IfOk result (λ text. text ≡ text_read pairs.now (V.shown view.now) path.now) }
     ensures failed { IfErr result (λ e. e ≡ ViewFault.Failed → V.fails view.now) }
 {
     let text = full_path(alloc, pairs, view, path)?;
@@ -286,7 +288,9 @@ fn do_by<V: View>(
     deed: Deed,
     rest: &str,
 ) -> Result<Option<u8>, ViewFault>
-    ensures done { IsTrue V.is_modelled → IfOk result (λ ends. Goes ends output.new output.old (step_by deed pairs.now (V.shown view.now) rest.now)) }
+    ensures done { IsTrue V.is_modelled →
+        IfOk result (λ ends. Goes ends output.new output.old
+        (step_by deed pairs.now (V.shown view.now) rest.now)) }
     ensures failed { IfErr result (λ e. e ≡ ViewFault.Failed → V.fails view.now) }
 {
     match deed {
@@ -318,7 +322,9 @@ fn do_line<V: View>(
     view: &V,
     line: &[u8],
 ) -> Result<Option<u8>, ViewFault>
-    ensures done { IsTrue V.is_modelled → IfOk result (λ ends. Goes ends output.new output.old (step_of pairs.now (V.shown view.now) line.now)) }
+    ensures done { IsTrue V.is_modelled →
+        IfOk result (λ ends. Goes ends output.new output.old
+        (step_of pairs.now (V.shown view.now) line.now)) }
     ensures failed { IfErr result (λ e. e ≡ ViewFault.Failed → V.fails view.now) }
 {
     let Some(line) = text_of(alloc, line)? else {
@@ -335,7 +341,9 @@ fn run_lines<V: View>(
     view: &V,
     lines: &[&[u8]],
 ) -> Result<Reply, ViewFault>
-    ensures reply { IsTrue V.is_modelled → IfOk result (λ reply. reply ≡ lines_run pairs.now (V.shown view.now) (map (λ line. line.now) lines.now)) }
+    ensures reply { IsTrue V.is_modelled →
+        IfOk result (λ reply. reply
+        ≡ lines_run pairs.now (V.shown view.now) (map (λ line. line.now) lines.now)) }
     ensures failed { IfErr result (λ e. e ≡ ViewFault.Failed → V.fails view.now) }
 {
     let mut output = Output::new(alloc);
@@ -361,7 +369,8 @@ fn no_image(alloc: Global) -> Result<Reply, AllocError>
 
 /// Returns the image at a path, if there is one.
 fn image_at<V: View>(alloc: Global, path: &str, view: &V) -> Result<Option<Bytes>, ViewFault>
-    ensures image { IsTrue V.is_modelled → IfOk result (λ image. image ≡ file_at (V.shown view.now) (path_of path.now)) }
+    ensures image { IsTrue V.is_modelled →
+        IfOk result (λ image. image ≡ file_at (V.shown view.now) (path_of path.now)) }
     ensures failed { IfErr result (λ e. e ≡ ViewFault.Failed → V.fails view.now) }
 {
     let path = path_of(alloc, path)?;
@@ -375,7 +384,8 @@ fn run_image<V: View>(
     pairs: &Table<Text>,
     view: &V,
 ) -> Result<Reply, ViewFault>
-    ensures reply { IsTrue V.is_modelled → IfOk result (λ reply. reply ≡ lines_run pairs.now (V.shown view.now) (lines_of image.now)) }
+    ensures reply { IsTrue V.is_modelled →
+        IfOk result (λ reply. reply ≡ lines_run pairs.now (V.shown view.now) (lines_of image.now)) }
     ensures failed { IfErr result (λ e. e ≡ ViewFault.Failed → V.fails view.now) }
 {
     let lines = byte_lines(alloc, image)?;
@@ -390,7 +400,8 @@ pub(crate) fn run<V: View>(
     pairs: &Table<Text>,
     view: &V,
 ) -> Result<Reply, ViewFault>
-    ensures reply { IsTrue V.is_modelled → IfOk result (λ reply. reply ≡ ran path.now pairs.now (V.shown view.now)) }
+    ensures reply { IsTrue V.is_modelled →
+        IfOk result (λ reply. reply ≡ ran path.now pairs.now (V.shown view.now)) }
     ensures failed { IfErr result (λ e. e ≡ ViewFault.Failed → V.fails view.now) }
 {
     let Some(image) = image_at(alloc, path, view)? else {

@@ -82,7 +82,8 @@ fn is_given(alloc: Global, given: &OrderedSet, condition: &str) -> Result<bool, 
 /// Returns the condition and the line of a line `when COND LINE`, or none for any other line.
 
 fn condition_of(line: &str) -> Option<(&str, &str)>
-    ensures line { (given : List (List ℕ)) → line_meant given line.now ≡ meant_at given line.now (option_map (λ p. (p.0.now, p.1.now)) result) }
+    ensures line { (given : List (List ℕ)) → line_meant given line.now
+        ≡ meant_at given line.now (option_map (λ p. (p.0.now, p.1.now)) result) }
     ensures shorter { IfSome result (λ p. length p.1.now < length line.now) }
 {
     let (word, rest) = word_and_rest(line);
@@ -133,7 +134,8 @@ fn add_no_library(
     number: u64,
     name: &str,
 ) -> Result<(), AllocError>
-    ensures { OnOk result (Does effects.new effects.old (diagnosed Level.Error (codes "no library " ++ name.now) number)) }
+    ensures { OnOk result (Does effects.new effects.old (diagnosed Level.Error (codes "no library "
+        ++ name.now) number)) }
 {
     let message = no_library(alloc, name)?;
     add_diagnostic(effects, Level::Error, message, number)
@@ -146,7 +148,8 @@ fn add_library(
     line: &str,
     file: &[u8],
 ) -> Result<(), AllocError>
-    ensures { OnOk result (Does effects.new effects.old (joined (copied line.now) (copied_file (codes "> ") file.now))) }
+    ensures { OnOk result (Does effects.new effects.old
+        (joined (copied line.now) (copied_file (codes "> ") file.now))) }
 {
     add_copied(effects, line)?;
     add_file(alloc, effects, b"> ", file)?;
@@ -181,7 +184,9 @@ fn add_use<V: View>(
     line: &str,
     name: &str,
 ) -> Result<(), ViewFault>
-    ensures done { IsTrue V.is_modelled → OnOk result (Does effects.new effects.old (use_effect scope.now (V.shown view.now) number line.now name.now)) }
+    ensures done { IsTrue V.is_modelled →
+        OnOk result (Does effects.new effects.old
+        (use_effect scope.now (V.shown view.now) number line.now name.now)) }
     ensures failed { IfErr result (λ e. e ≡ ViewFault.Failed → V.fails view.now) }
 {
     let path = library_path(alloc, scope, name)?;
@@ -228,7 +233,9 @@ fn add_env<V: View>(
     view: &V,
     name: &str,
 ) -> Result<(), ViewFault>
-    ensures done { IsTrue V.is_modelled → OnOk result (Does effects.new effects.old (env_effect scope.now (V.shown view.now) name.now)) }
+    ensures done { IsTrue V.is_modelled →
+        OnOk result (Does effects.new effects.old
+        (env_effect scope.now (V.shown view.now) name.now)) }
     ensures failed { IfErr result (λ e. e ≡ ViewFault.Failed → V.fails view.now) }
 {
     let value = value_of(alloc, &scope.pairs, view, name)?;
@@ -247,7 +254,9 @@ fn add_by<V: View>(
     line: &str,
     rest: &str,
 ) -> Result<(), ViewFault>
-    ensures done { IsTrue V.is_modelled → OnOk result (Does effects.new effects.old (effect_by verb scope.now (V.shown view.now) number line.now rest.now)) }
+    ensures done { IsTrue V.is_modelled →
+        OnOk result (Does effects.new effects.old
+        (effect_by verb scope.now (V.shown view.now) number line.now rest.now)) }
     ensures failed { IfErr result (λ e. e ≡ ViewFault.Failed → V.fails view.now) }
 {
     match verb {
@@ -271,7 +280,9 @@ fn add_line<V: View>(
     number: u64,
     line: &str,
 ) -> Result<(), ViewFault>
-    ensures done { IsTrue V.is_modelled → OnOk result (Does effects.new effects.old (effect_of scope.now (V.shown view.now) number line.now)) }
+    ensures done { IsTrue V.is_modelled →
+        OnOk result (Does effects.new effects.old
+        (effect_of scope.now (V.shown view.now) number line.now)) }
     ensures failed { IfErr result (λ e. e ≡ ViewFault.Failed → V.fails view.now) }
 {
     let meant = line_meant(alloc, &scope.conditions, line)?;
@@ -293,7 +304,9 @@ pub(crate) fn add_lines<V: View>(
     view: &V,
     lines: &[&str],
 ) -> Result<(), ViewFault>
-    ensures done { IsTrue V.is_modelled → OnOk result (effects.new ≡ followed_by effects.old (effects_from scope.now (V.shown view.now) 0 (map (λ line. line.now) lines.now))) }
+    ensures done { IsTrue V.is_modelled →
+        OnOk result (effects.new ≡ followed_by effects.old
+        (effects_from scope.now (V.shown view.now) 0 (map (λ line. line.now) lines.now))) }
     ensures failed { IfErr result (λ e. e ≡ ViewFault.Failed → V.fails view.now) }
 {
     for (index, line) in lines.iter().enumerate() {

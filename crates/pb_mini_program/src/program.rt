@@ -29,9 +29,11 @@ fn write_files<P: Place>(
         ≡ put_reply (Some folder.now) files.now (P.at place.old).world) }
     ensures whole { OnOk result ((P.at place.new).counts
         ≡ past_calls (writes_in folder.now files.now) (P.at place.old).counts) }
-    ensures fault { IfErr result (λ e. e ≢ PlaceFault.OutOfMemory → FailsToPut P.is_modelled folder.now
+    ensures fault { IfErr result (λ e. e ≢ PlaceFault.OutOfMemory →
+        FailsToPut P.is_modelled folder.now
         files.now (kept (P.at place.old)) (kept (P.at place.new))) }
-    ensures memory { IfErr result (λ e. e ≡ PlaceFault.OutOfMemory → StopsPutting P.is_modelled folder.now
+    ensures memory { IfErr result (λ e. e ≡ PlaceFault.OutOfMemory →
+        StopsPutting P.is_modelled folder.now
         files.now (kept (P.at place.old)) (kept (P.at place.new))) }
 {
     for (name, bytes) in files {
@@ -64,11 +66,13 @@ fn leave_files<P: Place, V: View>(
         × (place.new ≡ place.old)) }
     ensures write { IfErr result (λ e. e ≡ Fault.Write → (folder : List ℕ)
         × IsFolderOf V.is_modelled words.now (V.shown view.now) files.now (Some folder)
-        × FailsToPut P.is_modelled folder files.now (kept (P.at place.old)) (kept (P.at place.new))) }
+        × FailsToPut P.is_modelled folder files.now (kept (P.at place.old))
+        (kept (P.at place.new))) }
     ensures memory { IfErr result (λ e. e ≡ Fault.OutOfMemory → (place.new ≡ place.old)
         ⊎ ((folder : List ℕ)
         × IsFolderOf V.is_modelled words.now (V.shown view.now) files.now (Some folder)
-        × StopsPutting P.is_modelled folder files.now (kept (P.at place.old)) (kept (P.at place.new)))) }
+        × StopsPutting P.is_modelled folder files.now (kept (P.at place.old))
+        (kept (P.at place.new)))) }
 {
     if files.is_empty() {
         return Ok(());
@@ -102,7 +106,8 @@ pub fn carry_out<V: View, P: Place, O: Out, E: Out>(
         (O.heard out.new).taken (answered words.now [] (V.shown view.now)).stdout) }
     ensures stderr { IsTrue V.is_modelled → OnOk result (Appends (E.heard err.old).taken
         (E.heard err.new).taken (answered words.now [] (V.shown view.now)).stderr) }
-    ensures files { IsTrue V.is_modelled → IsTrue P.is_modelled → OnOk result ((P.at place.new).world
+    ensures files { IsTrue V.is_modelled → IsTrue P.is_modelled →
+        OnOk result ((P.at place.new).world
         ≡ put_reply (out_folder words.now (V.shown view.now))
         (answered words.now [] (V.shown view.now)).files (P.at place.old).world) }
 

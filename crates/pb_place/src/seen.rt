@@ -284,7 +284,8 @@ impl<P: Place> Place for Seen<P> {
     }
 
     fn start(&mut self, alloc: Global, command: &Command) -> Result<Ended, StartFault>
-        ensures ok { IsTrue P.is_modelled → IfOk result (λ ended. Ends (P.child command.now) command.now
+        ensures ok { IsTrue P.is_modelled →
+            IfOk result (λ ended. Ends (P.child command.now) command.now
             (P.at self.old.place).world ended (P.at self.new.place).world) }
         ensures starts { Starts command.now result (P.at self.old.place) (P.at self.new.place) }
         ensures fails { IfErr result (λ e. e ≢ StartFault.OutOfMemory → P.fails self.old.place) }

@@ -96,7 +96,8 @@ pub fn line_of<'a>(
     profiles: &'a [Profile],
     profile: &'a str,
 ) -> Result<Vec<Ancestor<'a>>, ProfileFault>
-    ensures { UnlessOom profile_fault.OutOfMemory (λ line. map seen line.items) result (checked_line profiles.now profile.now) }
+    ensures { UnlessOom profile_fault.OutOfMemory (λ line.
+        map seen line.items) result (checked_line profiles.now profile.now) }
 {
     let line = walked(alloc, profiles, profile)?;
     if all_allow(line.as_slice()) {
@@ -119,7 +120,8 @@ fn walked<'a>(
     profiles: &'a [Profile],
     profile: &'a str,
 ) -> Result<Vec<Ancestor<'a>>, ProfileFault>
-    ensures { UnlessOom profile_fault.OutOfMemory (λ line. map seen line.items) result (line_of profiles.now profile.now) }
+    ensures { UnlessOom profile_fault.OutOfMemory (λ line.
+        map seen line.items) result (line_of profiles.now profile.now) }
 {
     let mut line = Vec::new(alloc);
     let mut ancestor = ancestor_at(profiles, profile);

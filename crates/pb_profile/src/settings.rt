@@ -66,7 +66,8 @@ impl Settings {
         owner: &Package,
         role: Side,
     ) -> Result<Settings, ProfileFault>
-        ensures { UnlessOom profile_fault.OutOfMemory (λ s. s) result (settings_of workspace.now profile.now owner.now role) }
+        ensures { UnlessOom profile_fault.OutOfMemory (λ s.
+            s) result (settings_of workspace.now profile.now owner.now role) }
     {
         let line = line_of(alloc, workspace.profiles.as_slice(), profile)?;
         Ok(settings_along(owner, role, line.as_slice()))

@@ -11,7 +11,8 @@ use std::alloc::AllocError;
 
 /// Returns n bytes that are followed by a line feed, and what comes after it.
 fn cut_block(text: &[u8], count: u64) -> Option<(&[u8], &[u8])>
-    ensures { MatchOption result ((bytes rest : List ℕ) → length bytes ≡ count → text.now ≡ bytes ++ 10 ∷ rest → ⊥) (λ p. (length p.0.now ≡ count) × (text.now ≡ p.0.now ++ 10 ∷ p.1.now)) }
+    ensures { MatchOption result ((bytes rest : List ℕ) → length bytes ≡ count → text.now ≡ bytes
+        ++ 10 ∷ rest → ⊥) (λ p. (length p.0.now ≡ count) × (text.now ≡ p.0.now ++ 10 ∷ p.1.now)) }
 {
     if count >= text.len() as u64 {
         return None;
@@ -25,7 +26,8 @@ fn cut_block(text: &[u8], count: u64) -> Option<(&[u8], &[u8])>
 
 /// Returns the block with which a text begins, and what comes after it.
 pub(crate) fn block_at(text: &[u8]) -> Option<(&[u8], &[u8])>
-    ensures { MatchOption result (StandsNone IsAny block text.now) (λ p. Stands IsAny block text.now p.0.now p.1.now) }
+    ensures { MatchOption result (StandsNone IsAny block text.now) (λ p.
+        Stands IsAny block text.now p.0.now p.1.now) }
 {
     let (count, after) = number_at(text)?;
     cut_block(after, count)
@@ -33,7 +35,8 @@ pub(crate) fn block_at(text: &[u8]) -> Option<(&[u8], &[u8])>
 
 /// Returns the block with which a text begins, if it is UTF-8, and what comes after it.
 pub(crate) fn text_at(text: &[u8]) -> Option<(&str, &[u8])>
-    ensures { MatchOption result (StandsNone IsUtf8 block text.now) (λ p. Stands IsUtf8 block text.now p.0.now p.1.now) }
+    ensures { MatchOption result (StandsNone IsUtf8 block text.now) (λ p.
+        Stands IsUtf8 block text.now p.0.now p.1.now) }
 {
     let (bytes, rest) = block_at(text)?;
     match std::str::from_utf8(bytes) {

@@ -81,7 +81,9 @@ impl Part for Pairs {
 
 /// Returns a file after its letter.
 fn file_at(alloc: Global, text: &[u8]) -> Result<Option<(Input, &[u8])>, AllocError>
-    ensures { IfOk result (λ found. MatchOption found (StandsNone IsInput input_bytes (line (codes "f") ++ text.now)) (λ p. Stands IsInput input_bytes (line (codes "f") ++ text.now) p.0 p.1.now)) }
+    ensures { IfOk result (λ found.
+        MatchOption found (StandsNone IsInput input_bytes (line (codes "f") ++ text.now)) (λ p.
+        Stands IsInput input_bytes (line (codes "f") ++ text.now) p.0 p.1.now)) }
 {
     match <(PathText, Bytes) as Part>::read(alloc, text) {
         Ok(Some((file, rest))) => Ok(Some((Input::File(file.0, file.1), rest))),
@@ -92,7 +94,9 @@ fn file_at(alloc: Global, text: &[u8]) -> Result<Option<(Input, &[u8])>, AllocEr
 
 /// Returns a folder after its letter.
 fn tree_at(alloc: Global, text: &[u8]) -> Result<Option<(Input, &[u8])>, AllocError>
-    ensures { IfOk result (λ found. MatchOption found (StandsNone IsInput input_bytes (line (codes "t") ++ text.now)) (λ p. Stands IsInput input_bytes (line (codes "t") ++ text.now) p.0 p.1.now)) }
+    ensures { IfOk result (λ found.
+        MatchOption found (StandsNone IsInput input_bytes (line (codes "t") ++ text.now)) (λ p.
+        Stands IsInput input_bytes (line (codes "t") ++ text.now) p.0 p.1.now)) }
 {
     match <(PathText, Items<(RelativePath, Bytes)>) as Part>::read(alloc, text) {
         Ok(Some((tree, rest))) => Ok(Some((Input::Tree(tree.0, tree.1), rest))),
@@ -103,7 +107,9 @@ fn tree_at(alloc: Global, text: &[u8]) -> Result<Option<(Input, &[u8])>, AllocEr
 
 /// Returns a variable after its letter.
 fn value_at(alloc: Global, text: &[u8]) -> Result<Option<(Input, &[u8])>, AllocError>
-    ensures { IfOk result (λ found. MatchOption found (StandsNone IsInput input_bytes (line (codes "v") ++ text.now)) (λ p. Stands IsInput input_bytes (line (codes "v") ++ text.now) p.0 p.1.now)) }
+    ensures { IfOk result (λ found.
+        MatchOption found (StandsNone IsInput input_bytes (line (codes "v") ++ text.now)) (λ p.
+        Stands IsInput input_bytes (line (codes "v") ++ text.now) p.0 p.1.now)) }
 {
     match <(Text, Option<Text>) as Part>::read(alloc, text) {
         Ok(Some((pair, rest))) => Ok(Some((Input::Value(pair.0, pair.1), rest))),
@@ -158,7 +164,8 @@ fn write_behind<A: Part, B: Part>(
     second: &B,
     out: &mut Vec<u8>,
 ) -> Result<(), AllocError>
-    ensures written { OnOk result (out.new.items ≡ out.old.items ++ (line.now ++ (A.spelled first.now ++ B.spelled second.now))) }
+    ensures written { OnOk result (out.new.items ≡ out.old.items
+        ++ (line.now ++ (A.spelled first.now ++ B.spelled second.now))) }
     ensures are { OnOk result (A.is_part first.now × B.is_part second.now) }
 {
     out.extend_from_slice(line)?;

@@ -58,7 +58,9 @@ fn read_items<T: Part>(
     text: &[u8],
     count: u64,
 ) -> Result<Option<(Items<T>, &[u8])>, AllocError>
-    ensures { IfOk result (λ found. MatchOption found (StandsNone (HasCount T.is_part count) (flat_map T.spelled) text.now) (λ p. Stands (HasCount T.is_part count) (flat_map T.spelled) text.now p.0 p.1.now)) }
+    ensures { IfOk result (λ found.
+        MatchOption found (StandsNone (HasCount T.is_part count) (flat_map T.spelled) text.now)
+        (λ p. Stands (HasCount T.is_part count) (flat_map T.spelled) text.now p.0 p.1.now)) }
 {
     T::spells();
     let mut items = Items::new(alloc);

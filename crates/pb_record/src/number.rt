@@ -10,7 +10,8 @@ use std::alloc::AllocError;
 
 /// Returns what comes before the first line feed, and what comes after it.
 fn split_line(text: &[u8]) -> Option<(&[u8], &[u8])>
-    ensures { MatchOption result ((line rest : List ℕ) → text.now ≡ line ++ 10 ∷ rest → ⊥) (λ p. (text.now ≡ p.0.now ++ 10 ∷ p.1.now) × HasNoFeed p.0.now) }
+    ensures { MatchOption result ((line rest : List ℕ) → text.now ≡ line ++ 10 ∷ rest →
+        ⊥) (λ p. (text.now ≡ p.0.now ++ 10 ∷ p.1.now) × HasNoFeed p.0.now) }
 {
     for i in 0..text.len() {
         if text[i] == b'\n' {
@@ -34,7 +35,8 @@ fn begins_well(digits: &[u8]) -> bool
 
 /// Returns the number with these digits, or none if they are not those of a number below 2 ^ 64.
 fn number_of(digits: &[u8]) -> Option<u64>
-    ensures { MatchOption result ((n : ℕ) → n < 2 ^ 64 → digits.now ≡ decimals n → ⊥) (λ n. (n < 2 ^ 64) × (digits.now ≡ decimals n)) }
+    ensures { MatchOption result ((n : ℕ) → n < 2 ^ 64 → digits.now ≡ decimals n →
+        ⊥) (λ n. (n < 2 ^ 64) × (digits.now ≡ decimals n)) }
 {
     if !begins_well(digits) {
         return None;
@@ -48,7 +50,8 @@ fn number_of(digits: &[u8]) -> Option<u64>
 /// Returns the number with which a text begins, and what follows it, or none if it begins with no
 /// number below 2 ^ 64.
 pub(crate) fn number_at(text: &[u8]) -> Option<(u64, &[u8])>
-    ensures { MatchOption result (StandsNone IsNumber number text.now) (λ p. Stands IsNumber number text.now p.0 p.1.now) }
+    ensures { MatchOption result (StandsNone IsNumber number text.now) (λ p.
+        Stands IsNumber number text.now p.0 p.1.now) }
 {
     let (digits, rest) = split_line(text)?;
     let n = number_of(digits)?;

@@ -18,7 +18,9 @@ pub trait Part: Drop {
     ///
     /// Errors: only out of memory.
     fn read(alloc: Global, text: &[u8]) -> Result<Option<(Self, &[u8])>, AllocError>
-        ensures { IfOk result (λ found. MatchOption found (StandsNone is_part spelled text.now) (λ p. Stands is_part spelled text.now p.0 p.1.now)) };
+        ensures { IfOk result (λ found.
+            MatchOption found (StandsNone is_part spelled text.now) (λ p.
+            Stands is_part spelled text.now p.0 p.1.now)) };
 
     /// Returns what follows the part with which a text begins, or none if the text begins with no
     /// such part. It returns as `read` does, but need not make the part.

@@ -40,7 +40,9 @@ type CopiedParts = (
 
 /// Returns the part of a text that consists of a part and the line `end`.
 fn whole<T: Part>(alloc: Global, text: &[u8]) -> Result<Option<T>, AllocError>
-    ensures { IfOk result (λ found. MatchOption found ((x : T) → T.is_part x → text.now ≡ T.spelled x ++ line (codes "end") → ⊥) (λ x. T.is_part x × (text.now ≡ T.spelled x ++ line (codes "end")))) }
+    ensures { IfOk result (λ found.
+        MatchOption found ((x : T) → T.is_part x → text.now ≡ T.spelled x ++ line (codes "end") →
+        ⊥) (λ x. T.is_part x × (text.now ≡ T.spelled x ++ line (codes "end")))) }
 {
     T::spells();
     match T::read(alloc, text) {
@@ -88,7 +90,9 @@ fn copied_of(parts: CopiedParts) -> Record
 
 /// Returns the record of format 2 with this text after its first line.
 fn read_numbered(alloc: Global, text: &[u8]) -> Result<Option<Record>, AllocError>
-    ensures { IfOk result (λ found. MatchOption found ((r : Record) → Says (line (codes "record 2") ++ text.now) r → ⊥) (λ r. Says (line (codes "record 2") ++ text.now) r)) }
+    ensures { IfOk result (λ found.
+        MatchOption found ((r : Record) → Says (line (codes "record 2") ++ text.now) r →
+        ⊥) (λ r. Says (line (codes "record 2") ++ text.now) r)) }
 {
     match whole::<NumberedParts>(alloc, text) {
         Ok(Some(parts)) => Ok(Some(numbered_of(parts))),
@@ -99,7 +103,9 @@ fn read_numbered(alloc: Global, text: &[u8]) -> Result<Option<Record>, AllocErro
 
 /// Returns the record of format 1 with this text after its first line.
 fn read_copied(alloc: Global, text: &[u8]) -> Result<Option<Record>, AllocError>
-    ensures { IfOk result (λ found. MatchOption found ((r : Record) → Says (line (codes "record 1") ++ text.now) r → ⊥) (λ r. Says (line (codes "record 1") ++ text.now) r)) }
+    ensures { IfOk result (λ found.
+        MatchOption found ((r : Record) → Says (line (codes "record 1") ++ text.now) r →
+        ⊥) (λ r. Says (line (codes "record 1") ++ text.now) r)) }
 {
     match whole::<CopiedParts>(alloc, text) {
         Ok(Some(parts)) => Ok(Some(copied_of(parts))),
@@ -110,7 +116,8 @@ fn read_copied(alloc: Global, text: &[u8]) -> Result<Option<Record>, AllocError>
 
 /// Returns the record of a text, by the format in its first line.
 fn read_by_format(alloc: Global, text: &[u8]) -> Result<Option<Record>, AllocError>
-    ensures { IfOk result (λ found. MatchOption found ((r : Record) → Says text.now r → ⊥) (λ r. Says text.now r)) }
+    ensures { IfOk result (λ found.
+        MatchOption found ((r : Record) → Says text.now r → ⊥) (λ r. Says text.now r)) }
 {
     if let Some(rest) = after(b"record 2\n", text) {
         return read_numbered(alloc, rest);
@@ -127,7 +134,8 @@ fn read_by_format(alloc: Global, text: &[u8]) -> Result<Option<Record>, AllocErr
 /// Errors: only out of memory.
 pub fn read_record(alloc: Global, text: &[u8]) -> Result<Option<Record>, AllocError>
     ensures reads { IfOk result (λ found. Reads text.now found) }
-    ensures found { IfOk result (λ found. (read : List ℕ → Option Record) → IsReading read → found ≡ read text.now) }
+    ensures found { IfOk result (λ found. (read : List ℕ → Option Record) → IsReading read → found
+        ≡ read text.now) }
 {
     let found = read_by_format(alloc, text)?;
     Ok(found)

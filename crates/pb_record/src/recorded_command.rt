@@ -65,8 +65,11 @@ fn asked_of(parts: AskedParts) -> RecordedCommand
 
 /// Adds the program, its arguments, the folder and the variables.
 fn write_command(asked: &RecordedCommand, out: &mut Vec<u8>) -> Result<(), AllocError>
-    ensures written { OnOk result (out.new.items ≡ out.old.items ++ (block asked.now.program ⨾ listed block asked.now.words ⨾ block asked.now.folder ⨾ listed (both block block) asked.now.pairs)) }
-    ensures are { OnOk result (IsUtf8 asked.now.program × AllByRecursion IsUtf8 asked.now.words × IsPlace asked.now.folder × ArePairs asked.now.pairs) }
+    ensures written { OnOk result (out.new.items ≡ out.old.items
+        ++ (block asked.now.program ⨾ listed block asked.now.words ⨾ block asked.now.folder ⨾ listed
+        (both block block) asked.now.pairs)) }
+    ensures are { OnOk result (IsUtf8 asked.now.program × AllByRecursion IsUtf8 asked.now.words
+        × IsPlace asked.now.folder × ArePairs asked.now.pairs) }
 {
     asked.program.write(out)?;
     asked.words.write(out)?;
@@ -78,8 +81,11 @@ fn write_command(asked: &RecordedCommand, out: &mut Vec<u8>) -> Result<(), Alloc
 /// Adds the folder into which the child writes, the compiler's version, and what the child may
 /// read.
 fn write_places(asked: &RecordedCommand, out: &mut Vec<u8>) -> Result<(), AllocError>
-    ensures written { OnOk result (out.new.items ≡ out.old.items ++ (block asked.now.out ⨾ block asked.now.target ⨾ block asked.now.toolchain ⨾ listed block asked.now.reads)) }
-    ensures are { OnOk result (IsPlace asked.now.out × IsPlace asked.now.target × AllByRecursion IsPlace asked.now.reads) }
+    ensures written { OnOk result (out.new.items ≡ out.old.items
+        ++ (block asked.now.out ⨾ block asked.now.target ⨾ block asked.now.toolchain ⨾ listed block
+        asked.now.reads)) }
+    ensures are { OnOk result (IsPlace asked.now.out × IsPlace asked.now.target
+        × AllByRecursion IsPlace asked.now.reads) }
 {
     asked.out.write(out)?;
     asked.target.write(out)?;

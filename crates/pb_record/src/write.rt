@@ -17,8 +17,10 @@ use std::alloc::{AllocError, Global};
 
 /// Adds what comes before the needed units.
 fn push_front(out: &mut Vec<u8>, kept: &Record) -> Result<(), AllocError>
-    ensures written { OnOk result (out.new.items ≡ out.old.items ++ (block kept.now.key ⨾ asked_bytes kept.now.asked ⨾ listed input_bytes kept.now.inputs)) }
-    ensures is { OnOk result (IsUtf8 kept.now.key × IsAsked kept.now.asked × AllByRecursion IsInput kept.now.inputs) }
+    ensures written { OnOk result (out.new.items ≡ out.old.items
+        ++ (block kept.now.key ⨾ asked_bytes kept.now.asked ⨾ listed input_bytes kept.now.inputs)) }
+    ensures is { OnOk result (IsUtf8 kept.now.key × IsAsked kept.now.asked
+        × AllByRecursion IsInput kept.now.inputs) }
 {
     kept.key.write(out)?;
     kept.asked.write(out)?;
@@ -28,7 +30,8 @@ fn push_front(out: &mut Vec<u8>, kept: &Record) -> Result<(), AllocError>
 
 /// Adds what comes after the needed units.
 fn push_end(out: &mut Vec<u8>, kept: &Record) -> Result<(), AllocError>
-    ensures { OnOk result (out.new.items ≡ out.old.items ++ (block kept.now.stdout ⨾ block kept.now.stderr ⨾ line (codes "end"))) }
+    ensures { OnOk result (out.new.items ≡ out.old.items
+        ++ (block kept.now.stdout ⨾ block kept.now.stderr ⨾ line (codes "end"))) }
 {
     kept.stdout.write(out)?;
     kept.stderr.write(out)?;
@@ -43,8 +46,10 @@ fn push_numbered(
     own: &u64,
     needs: &Items<(Text, u64)>,
 ) -> Result<(), AllocError>
-    ensures written { OnOk result (out.new.items ≡ out.old.items ++ bytes_by kept.now (Numbers own.now needs.now)) }
-    ensures is { OnOk result (IsUtf8 kept.now.key × IsAsked kept.now.asked × AllByRecursion IsInput kept.now.inputs) }
+    ensures written { OnOk result (out.new.items ≡ out.old.items
+        ++ bytes_by kept.now (Numbers own.now needs.now)) }
+    ensures is { OnOk result (IsUtf8 kept.now.key × IsAsked kept.now.asked
+        × AllByRecursion IsInput kept.now.inputs) }
     ensures are { OnOk result (AreNeeded (Numbers own.now needs.now)) }
 {
     out.extend_from_slice(b"record 2\n")?;
@@ -61,8 +66,10 @@ fn push_copied(
     kept: &Record,
     copies: &Items<(Text, Items<(RelativePath, Bytes)>)>,
 ) -> Result<(), AllocError>
-    ensures written { OnOk result (out.new.items ≡ out.old.items ++ bytes_by kept.now (Copies copies.now)) }
-    ensures is { OnOk result (IsUtf8 kept.now.key × IsAsked kept.now.asked × AllByRecursion IsInput kept.now.inputs) }
+    ensures written { OnOk result (out.new.items ≡ out.old.items
+        ++ bytes_by kept.now (Copies copies.now)) }
+    ensures is { OnOk result (IsUtf8 kept.now.key × IsAsked kept.now.asked
+        × AllByRecursion IsInput kept.now.inputs) }
     ensures are { OnOk result (AreNeeded (Copies copies.now)) }
 {
     out.extend_from_slice(b"record 1\n")?;
@@ -105,8 +112,10 @@ fn text_of(alloc: Global, kept: &Record) -> Result<Bytes, AllocError>
 /// Errors: only out of memory.
 pub fn write_record(alloc: Global, kept: &Record) -> Result<Bytes, AllocError>
     ensures says { IfOk result (λ text. Says text kept.now) }
-    ensures read { IfOk result (λ text. (read : List ℕ → Option Record) → IsReading read → read text ≡ Some kept.now) }
-    ensures torn { IfOk result (λ text. (read : List ℕ → Option Record) → IsReading read → (n : ℕ) → n < length text → read (take n text) ≡ None) }
+    ensures read { IfOk result (λ text. (read : List ℕ → Option Record) → IsReading read → read text
+        ≡ Some kept.now) }
+    ensures torn { IfOk result (λ text. (read : List ℕ → Option Record) → IsReading read → (n : ℕ) →
+        n < length text → read (take n text) ≡ None) }
 {
     let text = text_of(alloc, kept)?;
     Ok(text)

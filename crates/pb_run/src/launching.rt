@@ -57,7 +57,8 @@ fn spawn_anew<P: Place>(
     requires out { command.now.out ≡ Some out.now }
 
     // The child is in flight, was spawned over an empty folder, and writes into it.
-    ensures spawned { IsTrue P.is_modelled → IfOk result (λ ticket. IsSpawned (is_at_or_below out.now)
+    ensures spawned { IsTrue P.is_modelled →
+        IfOk result (λ ticket. IsSpawned (is_at_or_below out.now)
         P.child command.now (P.at place.old).world ticket (P.at place.new).counts.starts.flying
         (P.at place.new).still) }
     ensures writes { IfOk result (λ ticket. (number : ℕ) → WritesTo out.now

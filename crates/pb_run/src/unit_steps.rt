@@ -311,7 +311,8 @@ pub fn run_unit<P: Place>(
         HasNumbers (records store.old.folder (P.at place.old).world) store.old.numbers }
 
     // It could not begin; or it began, and then answered.
-    ensures halves { RunsUnit P.at P.is_modelled P.child setup.now project.now done.now index unit.now
+    ensures halves { RunsUnit P.at P.is_modelled P.child setup.now project.now done.now index
+        unit.now
         (bare result) store.old store.new place.old place.new }
     ensures named { IfErr result (IsOfUnit unit.now.key) }
 

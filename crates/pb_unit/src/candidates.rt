@@ -70,7 +70,8 @@ fn add_binary(
     place: usize,
     binary: &Binary,
 ) -> Result<(), AllocError>
-    ensures { OnOk result (found.new.items ≡ found.old.items ++ named_by selection.now on.now place 0 binary.now) }
+    ensures { OnOk result (found.new.items ≡ found.old.items
+        ++ named_by selection.now on.now place 0 binary.now) }
 {
     if asks_binary(selection, &binary.name) && all_on(on, binary.required_features.as_slice()) {
         let name = binary.name.copy(alloc)?;
@@ -88,7 +89,8 @@ fn add_binaries(
     place: usize,
     binaries: &[Binary],
 ) -> Result<(), AllocError>
-    ensures { OnOk result (found.new.items ≡ found.old.items ++ placed (named_by selection.now on.now place) 0 binaries.now) }
+    ensures { OnOk result (found.new.items ≡ found.old.items
+        ++ placed (named_by selection.now on.now place) 0 binaries.now) }
 {
     for index in 0..binaries.len() {
         add_binary(alloc, found, selection, on, place, &binaries[index])?;
@@ -115,7 +117,8 @@ fn add_selected(
     selection: &Selection,
     place: usize,
 ) -> Result<(), AllocError>
-    ensures { OnOk result (found.new.items ≡ found.old.items ++ named_at workspace.now features.now selection.now 0 place) }
+    ensures { OnOk result (found.new.items ≡ found.old.items
+        ++ named_at workspace.now features.now selection.now 0 place) }
 {
     let on = features.features_of(place, Side::Target);
     add_binaries(
@@ -135,7 +138,8 @@ fn all_named(
     features: &Features,
     selection: &Selection,
 ) -> Result<Vec<Named>, AllocError>
-    ensures { IfOk result (λ found. found.items ≡ all_named workspace.now features.now selection.now) }
+    ensures { IfOk result (λ found. found.items
+        ≡ all_named workspace.now features.now selection.now) }
 {
     let mut found = Vec::new(alloc);
     let places = selection.packages.as_slice();
@@ -160,7 +164,8 @@ fn named_roots(
     selection: &Selection,
 ) -> Result<Vec<Named>, AllocError>
     ensures rises { IfOk result (λ found. IsStrictlySortedBy named_cmp found.items) }
-    ensures same { IfOk result (λ found. (b : Named) → Contains found.items b ↔ Contains (all_named workspace.now features.now selection.now) b) }
+    ensures same { IfOk result (λ found. (b : Named) →
+        Contains found.items b ↔ Contains (all_named workspace.now features.now selection.now) b) }
 {
     let mut found = all_named(alloc, workspace, features, selection)?;
     sort_once(&mut found);
@@ -169,7 +174,11 @@ fn named_roots(
 
 /// Adds a unit.
 fn add_unit(units: &mut Vec<Unit>, owner: usize, side: Side, what: What) -> Result<(), AllocError>
-    ensures { OnOk result (units.new.items ≡ units.old.items ++ record { owner = owner; side = side; what = what } ∷ []) }
+    ensures { OnOk result (units.new.items ≡ units.old.items ++ record {
+      owner = owner;
+      side = side;
+      what = what;
+    } ∷ []) }
 {
     units.push(Unit { owner, side, what })?;
     Ok(())
@@ -217,7 +226,8 @@ pub(crate) fn candidates(
     features: &Features,
     selection: &Selection,
 ) -> Result<Vec<Unit>, AllocError>
-    ensures { IfOk result (λ units. AreCandidates workspace.now features.now selection.now units.items) }
+    ensures { IfOk result (λ units.
+        AreCandidates workspace.now features.now selection.now units.items) }
 {
     let named = named_roots(alloc, workspace, features, selection)?;
     let mut units = fixed(alloc, workspace.packages.as_slice())?;

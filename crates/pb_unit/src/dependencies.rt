@@ -142,7 +142,8 @@ pub(crate) fn add_needed(
     side: Side,
     need: Need,
 ) -> Result<(), AllocError>
-    ensures { OnOk result (numbers.new.items ≡ numbers.old.items ++ all_numbers need workspace.now features.now place side) }
+    ensures { OnOk result (numbers.new.items ≡ numbers.old.items
+        ++ all_numbers need workspace.now features.now place side) }
 {
     let entries = entries_at(workspace, place);
     for index in 0..entries.len() {
@@ -162,7 +163,8 @@ pub(crate) fn add_own_library(
     side: Side,
 ) -> Result<(), AllocError>
     requires { place < 256 }
-    ensures { OnOk result (numbers.new.items ≡ numbers.old.items ++ map number (own_library workspace.now place side)) }
+    ensures { OnOk result (numbers.new.items ≡ numbers.old.items
+        ++ map number (own_library workspace.now place side)) }
 {
     if has_library(workspace.get(), place) {
         numbers.push(library_number(place, side))?;
@@ -178,7 +180,8 @@ pub(crate) fn add_own_run(
     side: Side,
 ) -> Result<(), AllocError>
     requires { place < 256 }
-    ensures { OnOk result (numbers.new.items ≡ numbers.old.items ++ map number (own_run workspace.now place side)) }
+    ensures { OnOk result (numbers.new.items ≡ numbers.old.items
+        ++ map number (own_run workspace.now place side)) }
 {
     if has_script(workspace.get(), place) {
         numbers.push(run_number(place, side))?;

@@ -51,7 +51,8 @@ fn nodes_of(
     units: &[Unit],
 ) -> Result<Vec<Node>, AllocError>
     requires { All (λ u. u.owner < 256) units.now }
-    ensures { IfOk result (λ nodes. nodes.items ≡ map (node_of workspace.now features.now) units.now) }
+    ensures { IfOk result (λ nodes. nodes.items
+        ≡ map (node_of workspace.now features.now) units.now) }
 {
     let mut nodes = Vec::new(alloc);
     for unit in units {
@@ -66,7 +67,9 @@ pub(crate) fn drawn(
     selected: &SelectedWorkspace<'_>,
     features: &Features,
 ) -> Result<Drawing, AllocError>
-    ensures { IfOk result (λ d. IsDrawn selected.now.workspace features.now selected.now.selection d.units d.nodes d.roots) }
+    ensures { IfOk result (λ d.
+        IsDrawn selected.now.workspace features.now selected.now.selection d.units d.nodes
+        d.roots) }
 {
     let workspace = selected.workspace();
     let units = candidates(alloc, workspace.get(), features, selected.selection())?;

@@ -35,7 +35,8 @@ fn add_missing(
     index: usize,
     entry: &Entry,
 ) -> Result<(), AllocError>
-    ensures { OnOk result (names.new.items ≡ names.old.items ++ missing_by workspace.now features.now place index entry.now) }
+    ensures { OnOk result (names.new.items ≡ names.old.items
+        ++ missing_by workspace.now features.now place index entry.now) }
 {
     let enabled = features.enabled(place, Side::Target, index)
         || features.enabled(place, Side::Host, index);
@@ -54,7 +55,8 @@ fn add_all_missing(
     place: usize,
     entries: &[Entry],
 ) -> Result<(), AllocError>
-    ensures { OnOk result (names.new.items ≡ names.old.items ++ placed (missing_by workspace.now features.now place) 0 entries.now) }
+    ensures { OnOk result (names.new.items ≡ names.old.items
+        ++ placed (missing_by workspace.now features.now place) 0 entries.now) }
 {
     for index in 0..entries.len() {
         add_missing(
@@ -116,7 +118,8 @@ fn all_behind(
     units: &[Unit],
     circle: &[usize],
 ) -> Result<Vec<Text>, AllocError>
-    ensures { IfOk result (λ names. names.items ≡ map (name_behind workspace.now units.now) circle.now) }
+    ensures { IfOk result (λ names. names.items
+        ≡ map (name_behind workspace.now units.now) circle.now) }
 {
     let mut names = Vec::new(alloc);
     for node in circle {
@@ -133,7 +136,9 @@ pub(crate) fn names_behind(
     circle: &[usize],
 ) -> Result<Items<Text>, AllocError>
     ensures order { IfOk result IsAscending }
-    ensures same { IfOk result (λ names. (name : List ℕ) → Contains names name ↔ Contains (map (name_behind workspace.now units.now) circle.now) name) }
+    ensures same { IfOk result (λ names. (name : List ℕ) →
+        Contains names name ↔ Contains
+        (map (name_behind workspace.now units.now) circle.now) name) }
 {
     let names = all_behind(alloc, workspace, units, circle)?;
     Ok(sorted(names))

@@ -20,7 +20,8 @@ fn by_library(
     side: Side,
 ) -> Result<Vec<usize>, AllocError>
     requires { place < 256 }
-    ensures { IfOk result (λ numbers. numbers.items ≡ map number (needs_of workspace.now features.now place side Lib)) }
+    ensures { IfOk result (λ numbers. numbers.items
+        ≡ map number (needs_of workspace.now features.now place side Lib)) }
 {
     let mut numbers = Vec::new(alloc);
     add_needed(&mut numbers, workspace, features, place, side, Need::Lib)?;
@@ -38,7 +39,8 @@ fn by_binary(
     name: &str,
 ) -> Result<Vec<usize>, AllocError>
     requires { place < 256 }
-    ensures { IfOk result (λ numbers. numbers.items ≡ map number (needs_of workspace.now features.now place side (Bin name.now))) }
+    ensures { IfOk result (λ numbers. numbers.items
+        ≡ map number (needs_of workspace.now features.now place side (Bin name.now))) }
 {
     let mut numbers = Vec::new(alloc);
     add_own_library(&mut numbers, workspace, place, side)?;
@@ -55,7 +57,8 @@ fn by_script(
     place: usize,
     side: Side,
 ) -> Result<Vec<usize>, AllocError>
-    ensures { IfOk result (λ numbers. numbers.items ≡ map number (needs_of workspace.now features.now place side Script)) }
+    ensures { IfOk result (λ numbers. numbers.items
+        ≡ map number (needs_of workspace.now features.now place side Script)) }
 {
     let mut numbers = Vec::new(alloc);
     add_needed(&mut numbers, workspace, features, place, side, Need::Tool)?;
@@ -71,7 +74,8 @@ fn by_run(
     side: Side,
 ) -> Result<Vec<usize>, AllocError>
     requires { place < 256 }
-    ensures { IfOk result (λ numbers. numbers.items ≡ map number (needs_of workspace.now features.now place side Run)) }
+    ensures { IfOk result (λ numbers. numbers.items
+        ≡ map number (needs_of workspace.now features.now place side Run)) }
 {
     let mut numbers = Vec::new(alloc);
     numbers.push(script_number(place, side))?;
@@ -87,7 +91,8 @@ pub(crate) fn needed_by(
     unit: &Unit,
 ) -> Result<Vec<usize>, AllocError>
     requires { unit.now.owner < 256 }
-    ensures { IfOk result (λ numbers. numbers.items ≡ map number (needs workspace.now features.now unit.now)) }
+    ensures { IfOk result (λ numbers. numbers.items
+        ≡ map number (needs workspace.now features.now unit.now)) }
 {
     match &unit.what {
         What::Lib => by_library(alloc, workspace, features, unit.owner, unit.side),

@@ -68,7 +68,8 @@ pub struct Plan {
 fn workspace_of<'a>(selected: &'a SelectedWorkspace<'_>) -> &'a Workspace
     ensures value { result.now ≡ selected.now.workspace }
     ensures settled { IsSettled selected.now.workspace }
-    ensures within { All (λ p. p < length selected.now.workspace.packages) selected.now.selection.packages }
+    ensures within { All (λ p.
+        p < length selected.now.workspace.packages) selected.now.selection.packages }
 {
     selected.selection();
     selected.workspace().get()
@@ -88,7 +89,9 @@ fn folder_in(
     workspace: &Workspace,
     profile: &str,
 ) -> Result<Option<PathText>, AllocError>
-    ensures found { IfOk result (λ found. found ≡ (if is_relative (folder_of profile.now) then Some (profile_folder workspace.now profile.now) else None)) }
+    ensures found { IfOk result (λ found. found
+        ≡ (if is_relative (folder_of profile.now) then Some
+        (profile_folder workspace.now profile.now) else None)) }
     ensures path { IfOk result (λ found. IfSome found (λ folder. is_path folder ≡ true)) }
 {
     let name = Text::from_str(alloc, folder_of(profile))?;
@@ -107,10 +110,14 @@ fn framed<'a>(
     workspace: &'a Workspace,
     profile: &'a str,
 ) -> Result<ProfileContext<'a>, PlanFault>
-    ensures line { IfOk result (λ frame. profile_line workspace.now profile.now ≡ Ok (map seen frame.line.items)) }
-    ensures folder { IfOk result (λ frame. frame.folder ≡ profile_folder workspace.now profile.now) }
+    ensures line { IfOk result (λ frame. profile_line workspace.now profile.now
+        ≡ Ok (map seen frame.line.items)) }
+    ensures folder { IfOk result (λ frame. frame.folder
+        ≡ profile_folder workspace.now profile.now) }
     ensures path { IfOk result (λ frame. is_path frame.folder ≡ true) }
-    ensures refused { IfErr result (λ e. (e ≡ OutOfMemory) ⊎ ((fault : ProfileFault) × (e ≡ Profile fault) × (profile_line workspace.now profile.now ≡ Err fault))) }
+    ensures refused { IfErr result (λ e. (e ≡ OutOfMemory)
+        ⊎ ((fault : ProfileFault) × (e ≡ Profile fault)
+        × (profile_line workspace.now profile.now ≡ Err fault))) }
 {
     let line = match line_of(alloc, workspace.profiles.as_slice(), profile) {
         Ok(line) => line,
@@ -146,11 +153,13 @@ fn ordered(
     features: &Features,
     drawing: &Drawing,
 ) -> Result<Items<Step>, PlanFault>
-    requires { IsDrawn selected.now.workspace features.now selected.now.selection drawing.now.units drawing.now.nodes drawing.now.roots }
+    requires { IsDrawn selected.now.workspace features.now selected.now.selection drawing.now.units
+        drawing.now.nodes drawing.now.roots }
     ensures order { IfOk result (IsOrder drawing.now.nodes drawing.now.roots) }
     ensures some { IfOk result (λ steps. 0 < length steps) }
     ensures few { IfOk result (λ steps. length steps ≤ 4096) }
-    ensures stopped { IfErr result (λ e. (e ≡ OutOfMemory) ⊎ Stops selected.now.workspace features.now selected.now.selection e) }
+    ensures stopped { IfErr result (λ e. (e ≡ OutOfMemory)
+        ⊎ Stops selected.now.workspace features.now selected.now.selection e) }
 {
     let workspace = workspace_of(selected);
     let nodes = drawing.nodes.as_slice();
@@ -177,7 +186,8 @@ fn out_of(alloc: Global, frame: &ProfileContext<'_>, key: &Text) -> Result<PathT
 /// Returns the settings of a unit's package in its role.
 fn settings_of(workspace: &Workspace, frame: &ProfileContext<'_>, unit: &Unit) -> Settings
     requires { unit.now.owner < length workspace.now.packages }
-    ensures { (owner : Package) × (slice_get workspace.now.packages unit.now.owner ≡ Some owner) × (result ≡ settings_along owner (role_of unit.now) (map seen frame.now.line.items)) }
+    ensures { (owner : Package) × (slice_get workspace.now.packages unit.now.owner ≡ Some owner)
+        × (result ≡ settings_along owner (role_of unit.now) (map seen frame.now.line.items)) }
 {
     let owner = &workspace.packages.as_slice()[unit.owner];
     settings_along(owner, unit.role(), frame.line.as_slice())
@@ -194,7 +204,8 @@ fn made(
     requires node { step.node < length units.now }
     requires owners { All (λ u. u.owner < length workspace.now.packages) units.now }
     requires name { is_relative step.key ≡ true }
-    ensures { IfOk result (IsMade workspace.now (map seen frame.now.line.items) frame.now.folder units.now step) }
+    ensures { IfOk result (IsMade workspace.now
+        (map seen frame.now.line.items) frame.now.folder units.now step) }
 {
     let unit = units[step.node].copy(alloc)?;
     let out = out_of(alloc, frame, &step.key)?;
@@ -221,7 +232,9 @@ fn all_made(
     requires nodes { All (λ (s : Step). s.node < length units.now) steps.items }
     requires owners { All (λ u. u.owner < length workspace.now.packages) units.now }
     requires names { All (λ (s : Step). is_relative s.key ≡ true) steps.items }
-    ensures { IfOk result (λ planned. AllZip (IsMade workspace.now (map seen frame.now.line.items) frame.now.folder units.now) steps.items planned.items) }
+    ensures { IfOk result (λ planned.
+        AllZip (IsMade workspace.now (map seen frame.now.line.items) frame.now.folder units.now)
+        steps.items planned.items) }
 {
     let mut planned = Vec::new(alloc);
     for step in steps {
@@ -254,9 +267,11 @@ impl Plan {
         features: &Features,
         profile: &str,
     ) -> Result<Plan, PlanFault>
-        ensures plan { IfOk result (IsPlan selected.now.workspace features.now selected.now.selection profile.now) }
+        ensures plan { IfOk result
+            (IsPlan selected.now.workspace features.now selected.now.selection profile.now) }
         ensures apart { IfOk result (λ plan. AllPairs LieApart plan.planned) }
-        ensures refused { IfErr result (λ e. (e ≡ OutOfMemory) ⊎ Refuses selected.now.workspace features.now selected.now.selection profile.now e) }
+        ensures refused { IfErr result (λ e. (e ≡ OutOfMemory)
+            ⊎ Refuses selected.now.workspace features.now selected.now.selection profile.now e) }
     {
         let workspace = workspace_of(selected);
         let frame = match framed(alloc, workspace, profile) {

@@ -25,7 +25,8 @@ fn is_target(side: Side) -> bool
 /// Returns the selected packages as marks by their indices.
 fn selected_marks(alloc: Global, count: usize, places: &[usize]) -> Result<Vec<bool>, AllocError>
     requires { All (λ p. p < count) places.now }
-    ensures { IfOk result (λ marks. (p : ℕ) → (is_on marks.items p ≡ true) ↔ Contains places.now p) }
+    ensures { IfOk result (λ marks. (p : ℕ) →
+        (is_on marks.items p ≡ true) ↔ Contains places.now p) }
 {
     let marks = derived(alloc, count, places, &[])?;
     Ok(marks)
@@ -66,7 +67,8 @@ fn roots_marked(
     marks: &[bool],
     units: &[Unit],
 ) -> Result<Vec<usize>, AllocError>
-    ensures { IfOk result (λ roots. roots.items ≡ placed (root_at workspace.now asked marks.now) 0 units.now) }
+    ensures { IfOk result (λ roots. roots.items
+        ≡ placed (root_at workspace.now asked marks.now) 0 units.now) }
 {
     let mut roots = Vec::new(alloc);
     for index in 0..units.len() {
@@ -83,7 +85,8 @@ pub(crate) fn roots(
     selected: &SelectedWorkspace<'_>,
     units: &[Unit],
 ) -> Result<Vec<usize>, AllocError>
-    ensures { IfOk result (λ roots. AreRoots selected.now.workspace selected.now.selection units.now roots.items) }
+    ensures { IfOk result (λ roots.
+        AreRoots selected.now.workspace selected.now.selection units.now roots.items) }
 {
     let workspace = selected.workspace();
     let selection = selected.selection();

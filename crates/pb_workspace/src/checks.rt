@@ -24,7 +24,8 @@ fn names_come_again(
     drafts: &[UnresolvedPackage],
 ) -> Result<bool, AllocError>
     ensures { IfOk result
-        (λ answer. answer ≡ comes_again seen.old (map (λ (d : UnresolvedPackage). d.name) drafts.now)) }
+        (λ answer. answer ≡ comes_again seen.old (map (λ (d : UnresolvedPackage).
+        d.name) drafts.now)) }
 {
     for draft in drafts {
         if was_mentioned(alloc, seen, &draft.name)? {
@@ -51,7 +52,8 @@ fn links_come_again(
     drafts: &[UnresolvedPackage],
 ) -> Result<bool, AllocError>
     ensures { IfOk result
-        (λ answer. answer ≡ comes_again seen.old (filter_map (λ (d : UnresolvedPackage). d.links) drafts.now)) }
+        (λ answer. answer ≡ comes_again seen.old (filter_map (λ (d : UnresolvedPackage).
+        d.links) drafts.now)) }
 {
     for draft in drafts {
         if let Some(links) = &draft.links {

@@ -187,7 +187,8 @@ fn packages_read<P: Place>(
     ensures kept { IfOk result IsReading }
     ensures quiet { OnlyLooks result (P.at place.old) (P.at place.new) }
     ensures looks { let sources = from_nothing target.now (P.at place.old).world in
-        IsTrue P.is_modelled → Looks result (packages_looked target.now sources frame.now tables found)
+        IsTrue P.is_modelled → Looks result
+        (packages_looked target.now sources frame.now tables found)
         (P.at place.old).counts (P.at place.new).counts }
 {
     let begun = root_read(alloc, place, target, frame, tables, found)?;
@@ -253,7 +254,8 @@ fn workspace_in<P: Place>(
     ensures paths { IfOk result HasNormalPaths }
     ensures quiet { OnlyLooks result (P.at place.old) (P.at place.new) }
     ensures looks { let sources = from_nothing target.now (P.at place.old).world in
-        IsTrue P.is_modelled → Looks result (packages_looked target.now sources frame.now tables found)
+        IsTrue P.is_modelled → Looks result
+        (packages_looked target.now sources frame.now tables found)
         (P.at place.old).counts (P.at place.new).counts }
 {
     let read = packages_read(alloc, place, target, frame, tables, found)?;

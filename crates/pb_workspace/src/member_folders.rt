@@ -232,7 +232,8 @@ fn with_manifests<P: Place>(
     folders: Items<PathText>,
 ) -> Result<Items<PathText>, LoadFault>
     ensures ok { let sources = from_nothing target.now (P.at place.old).world in
-        IsTrue P.is_modelled → IfOk result (λ taken. taken ≡ filter (has_manifest sources) folders) }
+        IsTrue P.is_modelled → IfOk result (λ taken. taken
+        ≡ filter (has_manifest sources) folders) }
     ensures outside { IfErr result (λ e. is_outside e ≡ true) }
     ensures quiet { OnlyLooks result (P.at place.old) (P.at place.new) }
     ensures looks { Looks result (flat_map (manifest_looked target.now) folders)

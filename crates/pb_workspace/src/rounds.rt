@@ -427,7 +427,8 @@ fn round<P: Place>(
 ) -> Result<LoadState, LoadFault>
     requires { IsReading reading }
     ensures ok { let sources = from_nothing target.now (P.at place.old).world in
-        IsTrue P.is_modelled → UnlessFailed result (round (draft_at sources frame.now meant.now) reading) }
+        IsTrue P.is_modelled → UnlessFailed result
+        (round (draft_at sources frame.now meant.now) reading) }
     ensures kept { IfOk result IsReading }
     ensures quiet { OnlyLooks result (P.at place.old) (P.at place.new) }
     ensures looks { let sources = from_nothing target.now (P.at place.old).world in

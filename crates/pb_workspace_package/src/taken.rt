@@ -54,7 +54,8 @@ pub fn edition_of(own: &Inherited<Edition>, given: Option<Edition>) -> Result<Ed
 
 /// Returns a text of a package; it is empty if it is absent.
 fn text_of(alloc: Global, own: &Inheritable<Text>, given: &Option<Text>) -> Result<Text, LoadFault>
-    ensures told { UnlessOom load_fault.OutOfMemory (λ text. text) result (text_of own.now given.now) }
+    ensures told { UnlessOom load_fault.OutOfMemory (λ text.
+        text) result (text_of own.now given.now) }
     ensures here { IfErr result (λ e. is_failure e ≡ false) }
 {
     match own {

@@ -18,7 +18,8 @@ use std::marker::Model;
 
 /// Returns how an entry compares to a key of a table.
 fn compared(entry: &Entry, kind: DependencyKind, key: &[u8]) -> Ordering
-    ensures { result ≡ slice_cmp nat_cmp (table_key entry.now.kind entry.now.key) (table_key kind key.now) }
+    ensures { result ≡ slice_cmp nat_cmp (table_key entry.now.kind entry.now.key)
+        (table_key kind key.now) }
 {
     match (entry.kind, kind) {
         (DependencyKind::Normal, DependencyKind::Build) => Ordering::Less,
@@ -63,7 +64,8 @@ impl EntriesByKey {
     ///
     /// Requires: they are in order.
     pub fn from_items(entries: Items<Entry>) -> EntriesByKey
-        requires { IsStrictlySortedBy (slice_cmp nat_cmp) (map (λ entry. table_key entry.kind entry.key) entries) }
+        requires { IsStrictlySortedBy (slice_cmp nat_cmp) (map (λ entry.
+            table_key entry.kind entry.key) entries) }
         ensures { result ≡ entries }
     {
         EntriesByKey { inside: entries }
@@ -78,8 +80,10 @@ impl EntriesByKey {
 
     /// Returns the index of the entry with a key in a table, if there is one.
     pub fn place_of(&self, kind: DependencyKind, key: &[u8]) -> Option<usize>
-        ensures place { result ≡ position (λ entry. bytes_eq (table_key kind key.now) (table_key entry.kind entry.key)) self.now }
-        ensures order { IsStrictlySortedBy (slice_cmp nat_cmp) (map (λ entry. table_key entry.kind entry.key) self.now) }
+        ensures place { result ≡ position (λ entry.
+            bytes_eq (table_key kind key.now) (table_key entry.kind entry.key)) self.now }
+        ensures order { IsStrictlySortedBy (slice_cmp nat_cmp) (map (λ entry.
+            table_key entry.kind entry.key) self.now) }
     {
         let entries = self.inside.as_slice();
         match entries.binary_search_by(|entry| compared(entry, kind, key)) {

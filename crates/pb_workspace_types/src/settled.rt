@@ -101,7 +101,8 @@ impl<'a> SelectedWorkspace<'a> {
     /// Returns what is selected in it.
     pub fn selection(&self) -> &Selection
         ensures value { result.now ≡ self.now.selection }
-        ensures within { All (λ place. place < length self.now.workspace.packages) self.now.selection.packages }
+        ensures within { All (λ place.
+            place < length self.now.workspace.packages) self.now.selection.packages }
     {
         &self.selection
     }
