@@ -1,0 +1,17 @@
+# Completions of pb_tool for bash. `bench/completions.py` writes this file.
+_pb_tool() {
+    local word="${COMP_WORDS[COMP_CWORD]}" before="${COMP_WORDS[COMP_CWORD-1]}" words=""
+    case "${COMP_WORDS[1]}" in
+        build) words="-p --package --workspace --lib --bins --bin -F --features --all-features --no-default-features -r --release --profile -j --jobs --explain --render -v --verbose -q --quiet --manifest-path --target-dir --message-format --runner --tool --locked --offline --frozen -h --help" ;;
+        session) words="-h --help" ;;
+        explain) words="-h --help" ;;
+        *) words="build session explain --help --version" ;;
+    esac
+    case "$before" in
+        --manifest-path) COMPREPLY=($(compgen -f -- "$word")); return ;;
+        --target-dir) COMPREPLY=($(compgen -d -- "$word")); return ;;
+        session) COMPREPLY=($(compgen -f -- "$word")); return ;;
+    esac
+    COMPREPLY=($(compgen -W "$words" -- "$word"))
+}
+complete -F _pb_tool pb_tool
