@@ -14,7 +14,7 @@ use Rattle.pb_place_types.specs.World.{World, Map, Answers, from_nothing}
 use Rattle.pb_place_types.specs.declared.command.Command.{Command}
 use Rattle.pb_command_types.specs.declared.project.Project.{Project}
 use Rattle.pb_command_types.specs.declared.project.Setup.{Setup}
-use Rattle.pb_run.specs.UnitSteps.{TrustedRecords, BuildContext, basis, IsHonestOnUnits, BuildInvariant, command_in}
+use Rattle.pb_run.specs.UnitSteps.{TrustedRecords, BuildContext, build_context, IsHonestOnUnits, BuildInvariant, command_in}
 use Rattle.pb_run.specs.Outcome.{Outcome, outcomes, directives_of}
 use Rattle.pb_run.specs.Invariants.{records_folder}
 use Rattle.pb_store_soundness.specs.Records.{reading, records}
@@ -69,7 +69,7 @@ record Ended {S : Type 0} (child : Answers) (Turns : S → List ℕ → List ℕ
   pub heard : SinkState
   pub stays : mid.world ≡ old.world
   pub keeps : RestsOn TrustedRecords child options old.world
-      → BuildInvariant (basis TrustedRecords child (setup_of options (environment_of options old.world.variables) toolchain) project (from_nothing (environment_of options old.world.variables).target old.world)) (untouched project) (nothing_said project) next mid.world
+      → BuildInvariant (build_context TrustedRecords child (setup_of options (environment_of options old.world.variables) toolchain) project (from_nothing (environment_of options old.world.variables).target old.world)) (untouched project) (nothing_said project) next mid.world
   pub ends : EndsWhole true child Turns (setup_of options (environment_of options old.world.variables) toolchain) project next from last summary mid record new { heard = heard }
 
 module _ {S : Type 0} (child : Answers) (Turns : S → List ℕ → List ℕ → Step → S → Type 0) (options : Options) (from last : S) (summary : Summary) (old new : BuildState) where
@@ -87,7 +87,7 @@ module _ {S : Type 0} (child : Answers) (Turns : S → List ℕ → List ℕ →
         mid = units.mid;
         heard = heard;
         stays = units.prepares.stays refl;
-        keeps = λ on. subst (λ (w : World). BuildInvariant (basis TrustedRecords child (setup_of options (environment_of options old.world.variables) is.toolchain) project (from_nothing (environment_of options old.world.variables).target old.world)) (untouched project) (nothing_said project) units.prepared.store.next w)
+        keeps = λ on. subst (λ (w : World). BuildInvariant (build_context TrustedRecords child (setup_of options (environment_of options old.world.variables) is.toolchain) project (from_nothing (environment_of options old.world.variables).target old.world)) (untouched project) (nothing_said project) units.prepared.store.next w)
             (sym (units.prepares.stays refl))
             (rests_first child options old.world project is.toolchain is.project is.says units.prepared.store.next is.next TrustedRecords on);
         ends = subst (λ (s : Setup). EndsWhole true child Turns s project units.prepared.store.next from last summary units.mid record new { heard = heard }) is.setup units.ends;
@@ -102,10 +102,10 @@ module _ {S : Type 0} (child : Answers) (Turns : S → List ℕ → List ℕ →
 
 module _ (p : Project) (g : Features) (names : (o : ℕ) (s : Side) → features_at p.features o s ≡ features_at g o s) (flags : (o : ℕ) (s : Side) (n : ℕ) → is_enabled p.features o s n ≡ is_enabled g o s n) (child : Answers) (setup : Setup) (sources : World) where
   abbrev one : BuildContext
-  one = basis TrustedRecords child setup p sources
+  one = build_context TrustedRecords child setup p sources
 
   abbrev two : BuildContext
-  two = basis TrustedRecords child setup (record p { features = g }) sources
+  two = build_context TrustedRecords child setup (record p { features = g }) sources
 
   command_is : (place : ℕ) (u : Planned) → command_in one place u ≡ command_in two place u
   command_is place u =
@@ -131,23 +131,23 @@ module _ (child : Answers) (options : Options) (v w : World) where
   -- the child is honest on the units that are found with an environment
   abbrev HonestWith : Environment → World → Type 0
   HonestWith n x = (project : Project) (toolchain : List ℕ) → IsProject options n.target x project → toolchain_of child n project (from_nothing n.target x) ≡ Some toolchain
-      → IsHonestOnUnits (basis TrustedRecords child (setup_of options n toolchain) project (from_nothing n.target x))
+      → IsHonestOnUnits (build_context TrustedRecords child (setup_of options n toolchain) project (from_nothing n.target x))
 
   honest_again : (n : Environment) → from_nothing n.target w ≡ from_nothing n.target v → HonestWith n v → HonestWith n w
   honest_again n same honest project toolchain is says =
-      subst (λ (s : World). IsHonestOnUnits (basis TrustedRecords child (setup_of options n toolchain) project s)) (sym same)
+      subst (λ (s : World). IsHonestOnUnits (build_context TrustedRecords child (setup_of options n toolchain) project s)) (sym same)
       (honest project toolchain (same_project options n.target w v project same is) (ap (toolchain_of child n project) (sym same) ∙ says))
 
   records_again : (n : Environment) (p q : Project) (t u : List ℕ) → from_nothing n.target w ≡ from_nothing n.target v → IsProject options n.target v p → toolchain_of child n p (from_nothing n.target v) ≡ Some t
-      → IsProject options n.target w q → toolchain_of child n q (from_nothing n.target w) ≡ Some u → EachHasRecord (basis TrustedRecords child (setup_of options n t) p (from_nothing n.target v)) w
-      → EachHasRecord (basis TrustedRecords child (setup_of options n u) q (from_nothing n.target w)) w
+      → IsProject options n.target w q → toolchain_of child n q (from_nothing n.target w) ≡ Some u → EachHasRecord (build_context TrustedRecords child (setup_of options n t) p (from_nothing n.target v)) w
+      → EachHasRecord (build_context TrustedRecords child (setup_of options n u) q (from_nothing n.target w)) w
   records_again n p q t u same is says is_q says_q each =
       let alike : AreAlike p q = projects_alike options n.target w p q (same_project options n.target v w p (sym same) is) is_q in
       let both : t ≡ u = injective (sym (ap (toolchain_of child n p) same ∙ says) ∙ (same_toolchain child options n w p q alike ∙ says_q)) in
       let first = other_records p q.features alike.names alike.flags child (setup_of options n t) (from_nothing n.target v) w each in
-      let second = subst (λ (x : Project). EachHasRecord (basis TrustedRecords child (setup_of options n t) x (from_nothing n.target v)) w) (other_is p q alike) first in
-      let third = subst (λ (x : List ℕ). EachHasRecord (basis TrustedRecords child (setup_of options n x) q (from_nothing n.target v)) w) both second in
-      subst (λ (s : World). EachHasRecord (basis TrustedRecords child (setup_of options n u) q s) w) (sym same) third
+      let second = subst (λ (x : Project). EachHasRecord (build_context TrustedRecords child (setup_of options n t) x (from_nothing n.target v)) w) (other_is p q alike) first in
+      let third = subst (λ (x : List ℕ). EachHasRecord (build_context TrustedRecords child (setup_of options n x) q (from_nothing n.target v)) w) both second in
+      subst (λ (s : World). EachHasRecord (build_context TrustedRecords child (setup_of options n u) q s) w) (sym same) third
 
   -- what a build left, by the variables with which the next begins
   record Left (p : Project) (t : List ℕ) (m : Map) : Type 0 where
@@ -156,7 +156,7 @@ module _ (child : Answers) (options : Options) (v w : World) where
     pub says : toolchain_of child (environment_of options m) p (from_nothing (environment_of options m).target v) ≡ Some t
     pub honest : HonestWith (environment_of options m) v
     pub sound : Sound reading judge child (records_of options m) w.files
-    pub each : EachHasRecord (basis TrustedRecords child (setup_of options (environment_of options m) t) p (from_nothing (environment_of options m).target v)) w
+    pub each : EachHasRecord (build_context TrustedRecords child (setup_of options (environment_of options m) t) p (from_nothing (environment_of options m).target v)) w
 
 pub same_build_starts_none : {S T : Type 0} (Turns : S → List ℕ → List ℕ → Step → S → Type 0) (OtherTurns : T → List ℕ → List ℕ → Step → T → Type 0) → SameBuildStartsNone Turns OtherTurns
 same_build_starts_none Turns OtherTurns child options from last again end summary other first second third fourth rests builds success same more =
@@ -173,11 +173,11 @@ same_build_starts_none Turns OtherTurns child options from last again end summar
       says = a.says;
       honest = λ project toolchain is says. rests.1 record { project = project; toolchain = toolchain; is = is; says = says };
       sound = subst (λ (w : World). Sound reading judge child (records_of options first.world.variables) w.files) (sym same) (headline true child Turns options from last (Ok summary) first second builds refl TrustedRecords rests).records;
-      each = subst (λ (w : World). EachHasRecord (basis TrustedRecords child (setup_of options (environment_of options first.world.variables) a.toolchain) a.project (from_nothing target first.world)) w) (sym same) left_second;
+      each = subst (λ (w : World). EachHasRecord (build_context TrustedRecords child (setup_of options (environment_of options first.world.variables) a.toolchain) a.project (from_nothing target first.world)) w) (sym same) left_second;
     } in
     let now = subst (λ (m : Map). Left child options first.world third.world a.project a.toolchain m) variables left in
     let n = environment_of options third.world.variables in
     let each = records_again child options first.world third.world n a.project b.project a.toolchain b.toolchain now.same now.is now.says b.is b.says now.each in
     let on : RestsOn TrustedRecords child options third.world = (now.sound, λ units. honest_again child options first.world third.world n now.same now.honest units.project units.toolchain units.is units.says) in
-    let there = subst (λ (w : World). EachHasRecord (basis TrustedRecords child (setup_of options n b.toolchain) b.project (from_nothing n.target third.world)) w) (sym b.stays) each in
+    let there = subst (λ (w : World). EachHasRecord (build_context TrustedRecords child (setup_of options n b.toolchain) b.project (from_nothing n.target third.world)) w) (sym b.stays) each in
     (starts_none_again OtherTurns child (setup_of options n b.toolchain) b.project b.next again end other b.mid record fourth { heard = b.heard } b.ends TrustedRecords (from_nothing n.target third.world) (b.keeps on) there).1

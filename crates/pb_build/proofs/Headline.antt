@@ -27,7 +27,7 @@ use Rattle.pb_profile.specs.Line.{folder_of}
 use Rattle.pb_build_result.specs.declared.bad_unit.BadUnit.{BadUnit}
 use Rattle.pb_command_types.specs.declared.project.Project.{Project}
 use Rattle.pb_command_types.specs.declared.project.Setup.{Setup}
-use Rattle.pb_run.specs.UnitSteps.{Premise, TrustedRecords, NoRecords, BuildContext, basis, key_in, outcomes_in, BuildInvariant, HoldsBy}
+use Rattle.pb_run.specs.UnitSteps.{Premise, TrustedRecords, NoRecords, BuildContext, build_context, key_in, outcomes_in, BuildInvariant, HoldsBy}
 use Rattle.pb_run.specs.Outcome.{Outcome, Good}
 use Rattle.pb_run.specs.Invariants.{records_folder}
 use Rattle.pb_store_soundness.specs.Records.{reading, records}
@@ -62,7 +62,7 @@ none_good (n ∷ needs) zero good = cc
 none_good (n ∷ needs) (suc place) good = none_good needs place good
 
 -- what the halves of units keep then
-first_kept : (b : BuildContext) (next : Option ℕ) (w : World) → from_nothing b.project.workspace.target w ≡ b.sources → HoldsBy b.footing b (untouched b.project) next w → BuildInvariant b (untouched b.project) (nothing_said b.project) next w
+first_kept : (b : BuildContext) (next : Option ℕ) (w : World) → from_nothing b.project.workspace.target w ≡ b.sources → HoldsBy b.premise b (untouched b.project) next w → BuildInvariant b (untouched b.project) (nothing_said b.project) next w
 first_kept b next w sources holds = record {
   long = length-map b.project.plan.planned _ ∙ sym (length-map (needs_of b.project) _ ∙ length-map b.project.plan.planned _);
   sources_stay = sources;
@@ -116,7 +116,7 @@ module _ (child : Answers) (options : Options) (w : World) (project : Project) (
     (says : toolchain_of child (environment_of options w.variables) project (from_nothing (environment_of options w.variables).target w) ≡ Some toolchain) (next : Option ℕ)
     (is_next : next ≡ next_in (records_folder project) w) where
   abbrev its_basis : Premise → BuildContext
-  its_basis f = basis f child (setup_of options (environment_of options w.variables) toolchain) project (from_nothing (environment_of options w.variables).target w)
+  its_basis f = build_context f child (setup_of options (environment_of options w.variables) toolchain) project (from_nothing (environment_of options w.variables).target w)
 
   holds : (f : Premise) → RestsOn f child options w → HoldsBy f (its_basis f) (untouched project) next w
   holds TrustedRecords (sound, honest) = record {
@@ -131,14 +131,14 @@ module _ (child : Answers) (options : Options) (w : World) (project : Project) (
   rests_first f on =
       first_kept (its_basis f) next w (ap (λ (t : List ℕ). from_nothing t w) (target_kept options.manifest (environment_of options w.variables).target w project.workspace is.selected.read)) (holds f on)
 
-module _ (footing : Premise) (child : Answers) (options : Options) where
+module _ (premise : Premise) (child : Answers) (options : Options) where
   -- before the units nothing was changed
   stay_true : (f : Premise) (old new : World) → RestsOn f child options old → new ≡ old → LeavesRecords f child options old new
   stay_true TrustedRecords old new (sound, honest) same = subst (λ (w : World). Sound reading judge child (records_of options old.variables) w.files) (sym same) sound
   stay_true NoRecords old new none same = tt
 
   module _ {S : Type 0} (Turns : S → List ℕ → List ℕ → Step → S → Type 0) (from last : S) where
-    none_gives : (result : Result Summary BuildFault) (old new : BuildState) → StopsEarly true child options from last result old new → GivesUnits footing child (ByTurns Turns from) options result old new
+    none_gives : (result : Result Summary BuildFault) (old new : BuildState) → StopsEarly true child options from last result old new → GivesUnits premise child (ByTurns Turns from) options result old new
     none_gives (Ok summary) old new early = absurd (no_fault early.none_began.answer)
     none_gives (Err fault) old new early =
         let same : early.none_began.fault ≡ fault = told_of (Err fault) fault early.none_began.fault refl early.none_began.answer in
@@ -153,7 +153,7 @@ module _ (footing : Premise) (child : Answers) (options : Options) where
 
     module _ (project : Project) (toolchain : List ℕ) (old mid new : BuildState) (is : IsProject options (environment_of options old.world.variables).target old.world project)
         (says : toolchain_of child (environment_of options old.world.variables) project (from_nothing (environment_of options old.world.variables).target old.world) ≡ Some toolchain) (next : Option ℕ)
-        (is_next : next ≡ next_in (records_folder project) old.world) (stays : mid.world ≡ old.world) (queried : mid.counts.starts ≡ up_starts old.counts.starts) (heard : mid.heard ≡ old.heard) (rests : RestsOn footing child options old.world) where
+        (is_next : next ≡ next_in (records_folder project) old.world) (stays : mid.world ≡ old.world) (queried : mid.counts.starts ≡ up_starts old.counts.starts) (heard : mid.heard ≡ old.heard) (rests : RestsOn premise child options old.world) where
       abbrev setup : Setup
       setup = setup_of options (environment_of options old.world.variables) toolchain
 
@@ -161,10 +161,10 @@ module _ (footing : Premise) (child : Answers) (options : Options) where
       sources = from_nothing (environment_of options old.world.variables).target old.world
 
       abbrev b : BuildContext
-      b = basis footing child setup project sources
+      b = build_context premise child setup project sources
 
-      kept_first : (f : Premise) → RestsOn f child options old.world → BuildInvariant (basis f child setup project sources) (untouched project) (nothing_said project) next mid.world
-      kept_first f on = subst (λ (w : World). BuildInvariant (basis f child setup project sources) (untouched project) (nothing_said project) next w) (sym stays) (rests_first child options old.world project toolchain is says next is_next f on)
+      kept_first : (f : Premise) → RestsOn f child options old.world → BuildInvariant (build_context f child setup project sources) (untouched project) (nothing_said project) next mid.world
+      kept_first f on = subst (λ (w : World). BuildInvariant (build_context f child setup project sources) (untouched project) (nothing_said project) next w) (sym stays) (rests_first child options old.world project toolchain is says next is_next f on)
 
       abbrev units : UnitsOf child options old.world
       units = record { project = project; toolchain = toolchain; is = is; says = says }
@@ -175,7 +175,7 @@ module _ (footing : Premise) (child : Answers) (options : Options) where
       counted es stop starts drained =
           dropped_count (map ticket_of_child stop.starts.flying) stop new.counts drained ∙ (starts ∙ ap (λ (s : Starts). upped (length (started_by es)) s.count) queried)
 
-      leaves : (f : Premise) (es : List (Event BadUnit)) → OutcomeHolds (basis f child setup project sources) es new.world → LeavesRecords f child options old.world new.world
+      leaves : (f : Premise) (es : List (Event BadUnit)) → OutcomeHolds (build_context f child setup project sources) es new.world → LeavesRecords f child options old.world new.world
       leaves TrustedRecords es stands = subst (λ (f : List ℕ). Sound reading judge child f new.world.files) (same_folder options old.world project is) stands.keeps.records.sound
       leaves NoRecords es stands = tt
 
@@ -245,9 +245,9 @@ module _ (footing : Premise) (child : Answers) (options : Options) where
       next_is = is_next ∙ ap (λ (f : List ℕ). next_in f old.world) (same_folder options old.world project is)
 
       turns_give : (result : Result Summary BuildFault) → TurnsEnd true child Turns setup project next from last result mid new
-          → GivesUnits footing child (ByTurns Turns from) options result old new × LeavesRecords footing child options old.world new.world
+          → GivesUnits premise child (ByTurns Turns from) options result old new × LeavesRecords premise child options old.world new.world
       turns_give (Ok summary) ends =
-          let whole : StandsWhole b ends.es ends.reasons summary ends.numbers.0 mid.world new.world = ends.told refl footing sources (kept_first footing rests) in (
+          let whole : StandsWhole b ends.es ends.reasons summary ends.numbers.0 mid.world new.world = ends.told refl premise sources (kept_first premise rests) in (
             record {
               flown = record { units = units; es = ends.es; flies = (last, ends.flies); gave = gave_so ends.es whole.stands; starts = counted ends.es ends.mid ends.starts ends.drained; reasons = ends.reasons };
               finished = ends.finished;
@@ -262,10 +262,10 @@ module _ (footing : Premise) (child : Answers) (options : Options) where
               files = file_holds ends.es whole.stands whole.all;
               began = subst (λ (w : World). AllBeganFor b ends.es ends.reasons w new.world) stays whole.began;
             },
-            leaves footing ends.es whole.stands,
+            leaves premise ends.es whole.stands,
           )
       turns_give (Err fault) ends =
-          let cut : StandsCut b fault ends.es ends.before mid.world new.world = ends.told refl footing sources (kept_first footing rests) in (
+          let cut : StandsCut b fault ends.es ends.before mid.world new.world = ends.told refl premise sources (kept_first premise rests) in (
             inr record {
               flown = record { units = units; es = ends.es; flies = (ends.last, ends.flies); gave = gave_so ends.es cut.stands; starts = counted ends.es ends.mid.counts ends.stops.starts ends.drained; reasons = cut.reasons };
               spent = subst (λ (n : Option ℕ). Spends (LacksNumber project old.world) fault n ends.es) next_is (subst (λ (w : World). Spends (LacksNumber project w) fault next ends.es) stays (ends.caused refl));
@@ -274,12 +274,12 @@ module _ (footing : Premise) (child : Answers) (options : Options) where
               came = ends.came;
               began = subst (λ (w : World). AllBeganFor b ends.before cut.reasons w new.world) stays cut.began;
             },
-            leaves footing ends.es cut.stands,
+            leaves premise ends.es cut.stands,
           )
 
-    works_give : (result : Result Summary BuildFault) (old new : BuildState) → RestsOn footing child options old.world → Works true child Turns options from last result old new
-        → GivesUnits footing child (ByTurns Turns from) options result old new × LeavesRecords footing child options old.world new.world
-    works_give result old new rests (inl early) = (none_gives result old new early, stay_true footing old.world new.world rests (early.none_began.stays refl))
+    works_give : (result : Result Summary BuildFault) (old new : BuildState) → RestsOn premise child options old.world → Works true child Turns options from last result old new
+        → GivesUnits premise child (ByTurns Turns from) options result old new × LeavesRecords premise child options old.world new.world
+    works_give result old new rests (inl early) = (none_gives result old new early, stay_true premise old.world new.world rests (early.none_began.stays refl))
     works_give result old new rests (inr units) =
         let project = units.prepared.project in
         let is = units.prepares.is refl in
@@ -287,7 +287,7 @@ module _ (footing : Premise) (child : Answers) (options : Options) where
         is.next (units.prepares.stays refl) units.prepares.starts units.heard rests result
         (subst (λ (s : Setup). TurnsEnd true child Turns s project units.prepared.store.next from last result units.mid new) is.setup units.ends)
 
-    builds_give : (result : Result Summary BuildFault) (old new : BuildState) → RestsOn footing child options old.world → Builds true child Turns options from last result old new → GivesCleanResult footing child (ByTurns Turns from) options result old new
+    builds_give : (result : Result Summary BuildFault) (old new : BuildState) → RestsOn premise child options old.world → Builds true child Turns options from last result old new → GivesCleanResult premise child (ByTurns Turns from) options result old new
     builds_give result old new rests builds =
         let (units, records) = works_give builds.inner old record new { heard = builds.heard } rests builds.works in
         record { inner = builds.inner; heard = builds.heard; units = units; closes = builds.closes; records = records }
@@ -295,8 +295,8 @@ module _ (footing : Premise) (child : Answers) (options : Options) where
 -- the headline, of every build
 pub headline : {S : Type 0} (is_modelled : Bool) (child : Answers) (Turns : S → List ℕ → List ℕ → Step → S → Type 0) (options : Options) (from last : S) (result : Result Summary BuildFault) (old new : BuildState)
     → Builds is_modelled child Turns options from last result old new → Headline is_modelled child (ByTurns Turns from) options result old new
-headline true child Turns options from last result old new builds told footing rests = builds_give footing child options Turns from last result old new rests builds
-headline false child Turns options from last result old new builds told footing rests = absurd (told_false told)
+headline true child Turns options from last result old new builds told premise rests = builds_give premise child options Turns from last result old new rests builds
+headline false child Turns options from last result old new builds told premise rests = absurd (told_false told)
   where
     told_false : IsTrue false → ⊥
     told_false e = cc

@@ -28,7 +28,7 @@ use Rattle.pb_place_types.specs.World.{World, Map, Answers, from_nothing}
 use Rattle.pb_profile.specs.Line.{folder_of}
 use Rattle.pb_build_result.specs.declared.bad_unit.BadUnit.{BadUnit}
 use Rattle.pb_command_types.specs.declared.project.Project.{Project}
-use Rattle.pb_run.specs.UnitSteps.{Premise, TrustedRecords, NoRecords, BuildContext, basis, key_at, IsHonestOnUnits}
+use Rattle.pb_run.specs.UnitSteps.{Premise, TrustedRecords, NoRecords, BuildContext, build_context, key_at, IsHonestOnUnits}
 use Rattle.pb_run.specs.Outcome.{Outcome, Good, outcomes}
 use Rattle.pb_store_soundness.specs.Records.{reading, records}
 use Rattle.pb_store_soundness.specs.Sound.{Sound}
@@ -56,12 +56,12 @@ pub record UnitsOf (child : Answers) (options : Options) (w : World) : Type 0 wh
   pub is : IsProject options (environment_of options w.variables).target w project
   pub says : toolchain_of child (environment_of options w.variables) project (from_nothing (environment_of options w.variables).target w) ≡ Some toolchain
 
-abbrev pub basis_of : (footing : Premise) (child : Answers) (options : Options) (w : World) → UnitsOf child options w → BuildContext
-basis_of footing child options w units = basis footing child (setup_of options (environment_of options w.variables) units.toolchain) units.project (from_nothing (environment_of options w.variables).target w)
+abbrev pub context_of : (premise : Premise) (child : Answers) (options : Options) (w : World) → UnitsOf child options w → BuildContext
+context_of premise child options w units = build_context premise child (setup_of options (environment_of options w.variables) units.toolchain) units.project (from_nothing (environment_of options w.variables).target w)
 
 -- the child is honest on the units of a build, whatever units it finds in a world
 abbrev pub IsHonestBuild : Answers → Options → World → Type 0
-IsHonestBuild child options w = (units : UnitsOf child options w) → IsHonestOnUnits (basis_of TrustedRecords child options w units)
+IsHonestBuild child options w = (units : UnitsOf child options w) → IsHonestOnUnits (context_of TrustedRecords child options w units)
 
 -- the records in its folder are true and its child is honest; or no text there counts as a record
 abbrev pub RestsOn : Premise → Answers → Options → World → Type 0
@@ -112,7 +112,7 @@ pub record UnitsFly (child : Answers) (Schedule : Project → List (Event BadUni
   pub reasons : Reasons
 
 -- all units have answered, or all up to and including the first bad one; later ones may have been in flight too
-pub record GivesAll (footing : Premise) (child : Answers) (Schedule : Project → List (Event BadUnit) → Type 0) (options : Options) (summary : Summary) (old new : BuildState) : Type 0 where
+pub record GivesAll (premise : Premise) (child : Answers) (Schedule : Project → List (Event BadUnit) → Type 0) (options : Options) (summary : Summary) (old new : BuildState) : Type 0 where
   pub flown : UnitsFly child Schedule options old new
   pub finished : is_finished (states_in flown.units.project flown.es) ≡ true
   -- each unit that took a run number took the next one, beginning with the number after those of the records
@@ -124,7 +124,7 @@ pub record GivesAll (footing : Premise) (child : Answers) (Schedule : Project �
   -- the folder of each good unit contains exactly its files
   pub files : (place : ℕ) (u : Planned) (made : Map) (directives : Option (List Directive)) (messages : List Message) → slice_get (rows_for child options old.world flown.units) place ≡ Some record { unit = u; outcome = Good made directives messages } → files_in u.out new.world.files ≡ made
   -- a child was started for a unit that began if and only if something differed from its record
-  pub began : AllBeganFor (basis_of footing child options old.world flown.units) flown.es flown.reasons old.world new.world
+  pub began : AllBeganFor (context_of premise child options old.world flown.units) flown.es flown.reasons old.world new.world
 
 -- a call for the unit of this key failed, or no run number is left for it, while units were missing;
 -- the unit has begun and not answered; the lines are those of the first units, as far as all have answered
@@ -147,13 +147,13 @@ LinesBefore fault project es rows old new = ⊥
 -- a fault came at a unit, at the sink, because memory ran out, or because no run number was left;
 -- in the last case, all numbers from the next one of the records on were given
 -- (what differed for a unit that could not begin is said of the build's units, `StandsCut`)
-pub record GivesFirst (footing : Premise) (child : Answers) (Schedule : Project → List (Event BadUnit) → Type 0) (options : Options) (fault : BuildFault) (old new : BuildState) : Type 0 where
+pub record GivesFirst (premise : Premise) (child : Answers) (Schedule : Project → List (Event BadUnit) → Type 0) (options : Options) (fault : BuildFault) (old new : BuildState) : Type 0 where
   pub flown : UnitsFly child Schedule options old new
   pub spent : Spends (LacksNumber flown.units.project old.world) fault (next_in (records_of options old.world.variables) old.world) flown.es
   pub lines : LinesBefore fault flown.units.project flown.es (rows_for child options old.world flown.units) old.heard.taken new.heard.taken
   pub before : List (Event BadUnit)
   pub came : CameAfter flown.units.project fault before flown.es
-  pub began : AllBeganFor (basis_of footing child options old.world flown.units) before flown.reasons old.world new.world
+  pub began : AllBeganFor (context_of premise child options old.world flown.units) before flown.reasons old.world new.world
 
 -- a call that failed after the query and before the units lists
 -- the folder of the records, or reads a record directly in it
@@ -163,9 +163,9 @@ NamesOpened folder w e old new = Unit {0}
 
 -- what was produced when the finish line was due
 abbrev pub GivesUnits : Premise → Answers → (Project → List (Event BadUnit) → Type 0) → Options → Result Summary BuildFault → BuildState → BuildState → Type 0
-GivesUnits footing child Schedule options (Ok summary) old new = GivesAll footing child Schedule options summary old new
-GivesUnits footing child Schedule options (Err fault) old new =
-    (NoneBegan true child options (Err fault) old new × NamesOpened (records_of options old.world.variables) old.world fault old.counts.starts new.counts.starts) ⊎ GivesFirst footing child Schedule options fault old new
+GivesUnits premise child Schedule options (Ok summary) old new = GivesAll premise child Schedule options summary old new
+GivesUnits premise child Schedule options (Err fault) old new =
+    (NoneBegan true child options (Err fault) old new × NamesOpened (records_of options old.world.variables) old.world fault old.counts.starts new.counts.starts) ⊎ GivesFirst premise child Schedule options fault old new
 
 -- if the build rests on records, they are true again
 abbrev pub LeavesRecords : Premise → Answers → Options → World → World → Type 0
@@ -173,14 +173,14 @@ LeavesRecords TrustedRecords child options old new = Sound reading judge child (
 LeavesRecords NoRecords child options old new = Unit {0}
 
 -- what a build produces, however it ends: its units, the finish line, and true records
-pub record GivesCleanResult (footing : Premise) (child : Answers) (Schedule : Project → List (Event BadUnit) → Type 0) (options : Options) (result : Result Summary BuildFault) (old new : BuildState) : Type 0 where
+pub record GivesCleanResult (premise : Premise) (child : Answers) (Schedule : Project → List (Event BadUnit) → Type 0) (options : Options) (result : Result Summary BuildFault) (old new : BuildState) : Type 0 where
   pub inner : Result Summary BuildFault
   pub heard : SinkState
-  pub units : GivesUnits footing child Schedule options inner old record new { heard = heard }
+  pub units : GivesUnits premise child Schedule options inner old record new { heard = heard }
   pub closes : Closes inner result heard new.heard
-  pub records : LeavesRecords footing child options old.world new.world
+  pub records : LeavesRecords premise child options old.world new.world
 
 -- The headline: over a modelled place, whatever a build rests
 -- on, it produces what a clean build of the present workspace produces.
 abbrev pub Headline : Bool → Answers → (Project → List (Event BadUnit) → Type 0) → Options → Result Summary BuildFault → BuildState → BuildState → Type 0
-Headline is_modelled child Schedule options result old new = IsTrue is_modelled → (footing : Premise) → RestsOn footing child options old.world → GivesCleanResult footing child Schedule options result old new
+Headline is_modelled child Schedule options result old new = IsTrue is_modelled → (premise : Premise) → RestsOn premise child options old.world → GivesCleanResult premise child Schedule options result old new

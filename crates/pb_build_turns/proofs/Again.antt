@@ -181,8 +181,8 @@ module _ (setup : Setup) (project : Project) (order : IsInOrder project) (first 
 
 -- Nothing has begun.
 
-pub replays_first : (setup : Setup) (project : Project) (done : List (Option (List Directive))) (aloft : List RunningUnit) (w : World) → aloft ≡ [] → Replays setup project done aloft [] w w
-replays_first setup project done aloft w none = record {
+pub replays_first : (setup : Setup) (project : Project) (done : List (Option (List Directive))) (running : List RunningUnit) (w : World) → running ≡ [] → Replays setup project done running [] w w
+replays_first setup project done running w none = record {
   waits = subst (AllByRecursion (λ (a : RunningUnit). FliesAgain setup project done w w a)) (sym none) tt;
   gave = λ place answer state started. absurd (no_answer (needs_of project) place answer state);
 }
@@ -198,18 +198,18 @@ gave_begun setup project done es first unit spawned untouched gave place answer 
 
 module _ (is_modelled : Bool) (child : Answers) (first old : UnitExecutor) (at now new : BuildState) (still : ℕ → Type 0) (es : List (Event BadUnit)) (given : ℕ) (story : History is_modelled child first at old now still es given) (order : IsInOrder old.project) where
   pub begun_again : (unit : ℕ) (u : Planned) → unit_at old.project unit ≡ Some u → slice_get (states_in old.project es) unit ≡ Some Untouched → (IsTrue is_modelled → ChangesOnly (is_of (records_folder old.project) u.key) now.world new.world)
-      → (done : List (Option (List Directive))) → done ≡ old.done.items → (begun : unit_begun) → begun.command ≡ command_of old.setup old.project u done → (difference : Option Difference) (aloft' : List RunningUnit) → aloft' ≡ old.aloft.items ++ record { unit = unit; begun = begun } ∷ []
+      → (done : List (Option (List Directive))) → done ≡ old.done.items → (begun : unit_begun) → begun.command ≡ command_of old.setup old.project u done → (difference : Option Difference) (running' : List RunningUnit) → running' ≡ old.running.items ++ record { unit = unit; begun = begun } ∷ []
       → (IsTrue is_modelled → FirstDifference (records_folder old.project) u.key begun.command now.world difference) → is_some (child_of begun) ≡ is_some difference
       → (IsTrue is_modelled → GivesRecord (records (records_folder old.project) now.world u.key) begun.awaited) → (IsTrue is_modelled → child_of begun ≡ None → new.world ≡ now.world)
-      → IsTrue is_modelled → Replays old.setup old.project old.done.items aloft' (Began unit (is_some (child_of begun)) ∷ es) at.world new.world
-  begun_again unit u there untouched only done same_done begun asks difference aloft' more differs spawned gives same t =
+      → IsTrue is_modelled → Replays old.setup old.project old.done.items running' (Began unit (is_some (child_of begun)) ∷ es) at.world new.world
+  begun_again unit u there untouched only done same_done begun asks difference running' more differs spawned gives same t =
       let changes = story.changes t in record {
         waits =
             subst (AllByRecursion (λ (a : RunningUnit). FliesAgain old.setup old.project old.done.items at.world new.world a)) (sym more)
-            (all_more (λ (a : RunningUnit). FliesAgain old.setup old.project old.done.items at.world new.world a) old.aloft.items (record { unit = unit; begun = begun } ∷ [])
-            (all_at_each (λ (a : RunningUnit). FliesAgain old.setup old.project old.done.items at.world now.world a) (λ (a : RunningUnit). FliesAgain old.setup old.project old.done.items at.world new.world a) old.aloft.items
+            (all_more (λ (a : RunningUnit). FliesAgain old.setup old.project old.done.items at.world new.world a) old.running.items (record { unit = unit; begun = begun } ∷ [])
+            (all_at_each (λ (a : RunningUnit). FliesAgain old.setup old.project old.done.items at.world now.world a) (λ (a : RunningUnit). FliesAgain old.setup old.project old.done.items at.world new.world a) old.running.items
             (λ k a at_k waits v at_v. carries_on old.setup old.project order at.world a.unit v at_v now.world new.world unit u there
-            (λ e. another (states_in old.project es) unit a.unit untouched (Begun, (all_get (FliesIn old.project es now.world now.counts.starts.flying) old.aloft.items k a changes.flies at_k).state, refl) (sym e))
+            (λ e. another (states_in old.project es) unit a.unit untouched (Begun, (all_get (FliesIn old.project es now.world now.counts.starts.flying) old.running.items k a changes.flies at_k).state, refl) (sym e))
             (only t) old.done.items old.done.items refl a.begun.command a.begun.awaited (waits v at_v))
             ((story.again t).waits))
             (own changes.only, tt));
@@ -225,20 +225,20 @@ module _ (is_modelled : Bool) (child : Answers) (first old : UnitExecutor) (at n
 
   -- A unit answers.
 
-  pub answered_again : (well : Type 0) (lawful : IsLawful (needs_of old.project) es) (index : ℕ) (a : RunningUnit) (u : Planned) → IsConsistent old now.counts → slice_get old.aloft.items index ≡ Some a → unit_at old.project a.unit ≡ Some u
+  pub answered_again : (well : Type 0) (lawful : IsLawful (needs_of old.project) es) (index : ℕ) (a : RunningUnit) (u : Planned) → IsConsistent old now.counts → slice_get old.running.items index ≡ Some a → unit_at old.project a.unit ≡ Some u
       → (IsTrue is_modelled → ChangesOnly (is_of (records_folder old.project) u.key) now.world new.world) → (ran : Ran) (lines : List ℕ) → lines ≡ unit_lines old.project u ran.started ran.messages
       → (IsTrue is_modelled → (ended : Ended) × (left : World) × (mid : Counts) × EndsBy a.begun.awaited (Ok ended) well still now.world left now.counts mid × IsJudged old.project u a.begun.command a.begun.awaited ended left ran)
-      → (aloft' : List RunningUnit) (done' : List (Option (List Directive))) → aloft' ≡ remove old.aloft.items index → done' ≡ slice_set old.done.items a.unit ran.directives
-      → IsTrue is_modelled → Replays old.setup old.project done' aloft' (Gave a.unit record { fault = ran.bad; lines = lines } ∷ es) at.world new.world
-  answered_again well lawful index a u manned at_index there only ran lines told judged aloft' done' is set t =
+      → (running' : List RunningUnit) (done' : List (Option (List Directive))) → running' ≡ remove old.running.items index → done' ≡ slice_set old.done.items a.unit ran.directives
+      → IsTrue is_modelled → Replays old.setup old.project done' running' (Gave a.unit record { fault = ran.bad; lines = lines } ∷ es) at.world new.world
+  answered_again well lawful index a u consistent at_index there only ran lines told judged running' done' is set t =
       let changes = story.changes t in
-      let so : FliesIn old.project es now.world now.counts.starts.flying a = all_get (FliesIn old.project es now.world now.counts.starts.flying) old.aloft.items index a changes.flies at_index in record {
+      let so : FliesIn old.project es now.world now.counts.starts.flying a = all_get (FliesIn old.project es now.world now.counts.starts.flying) old.running.items index a changes.flies at_index in record {
         waits =
             subst (AllByRecursion (λ (x : RunningUnit). FliesAgain old.setup old.project done' at.world new.world x)) (sym is)
-            (all_left (λ (x : RunningUnit). FliesAgain old.setup old.project old.done.items at.world now.world x) (λ (x : RunningUnit). FliesAgain old.setup old.project done' at.world new.world x) old.aloft.items index
+            (all_left (λ (x : RunningUnit). FliesAgain old.setup old.project old.done.items at.world now.world x) (λ (x : RunningUnit). FliesAgain old.setup old.project done' at.world new.world x) old.running.items index
             (λ j y at_j ne waits v at_v. carries_on old.setup old.project order at.world y.unit v at_v now.world new.world a.unit u there
-            (apart_places (places_of old.aloft.items) j index y.unit a.unit manned.units_apart (get_map place_of_unit old.aloft.items j y at_j) (get_map place_of_unit old.aloft.items index a at_index) ne)
-            (only t) old.done.items done' (stays so y.unit v (Begun, (all_get (FliesIn old.project es now.world now.counts.starts.flying) old.aloft.items j y changes.flies at_j).state, refl) at_v) y.begun.command y.begun.awaited (waits v at_v))
+            (apart_places (places_of old.running.items) j index y.unit a.unit consistent.units_apart (get_map place_of_unit old.running.items j y at_j) (get_map place_of_unit old.running.items index a at_index) ne)
+            (only t) old.done.items done' (stays so y.unit v (Begun, (all_get (FliesIn old.project es now.world now.counts.starts.flying) old.running.items j y changes.flies at_j).state, refl) at_v) y.begun.command y.begun.awaited (waits v at_v))
             ((story.again t).waits));
         gave = λ place answer state started. elim (answered_cases (states_in old.project es) a.unit place answer record { fault = ran.bad; lines = lines } Begun so.state state) [
           | inl (same, its) ↦
@@ -265,11 +265,11 @@ module _ (is_modelled : Bool) (child : Answers) (first old : UnitExecutor) (at n
       stays so place v has at_v = command_stays old.setup old.project order es lawful a.unit so.state old.done.items done' ran.directives set place v has at_v
 
       within : a.unit < length old.done.items
-      within = subst (λ n. a.unit < n) (sym manned.long) (slice_get_within old.project.plan.planned a.unit u there)
+      within = subst (λ n. a.unit < n) (sym consistent.long) (slice_get_within old.project.plan.planned a.unit u there)
 
       own : FliesIn old.project es now.world now.counts.starts.flying a → is_started es a.unit ≡ false → AnswersAgain old.setup old.project done' at.world a.unit record { fault = ran.bad; lines = lines }
       own so childless =
           let (ended, left, mid, ends, is_judged) = judged t in
           answers_so old.setup old.project order at.world a.unit u there now.world left a.begun.command ended well still now.counts mid ran lines told old.done.items done'
           (ap (λ (ds : List (Option (List Directive))). slice_get ds a.unit) set ∙ get_set_within old.done.items a.unit ran.directives within) (stays so a.unit u (Begun, so.state, refl) there)
-          a.begun.awaited (none_of (child_of a.begun) (sym so.started ∙ childless)) (all_get (λ (x : RunningUnit). FliesAgain old.setup old.project old.done.items at.world now.world x) old.aloft.items index a ((story.again t).waits) at_index u there) ends is_judged
+          a.begun.awaited (none_of (child_of a.begun) (sym so.started ∙ childless)) (all_get (λ (x : RunningUnit). FliesAgain old.setup old.project old.done.items at.world now.world x) old.running.items index a ((story.again t).waits) at_index u there) ends is_judged

@@ -38,36 +38,36 @@ has_ticket ticket (f ∷ flying) its at = elim (cases_eq f.ticket ticket) [
 ]
 
 -- the unit in flight whose child has this ticket
-record Owner (aloft : List RunningUnit) (ticket : ℕ) : Type 0 where
+record Owner (running : List RunningUnit) (ticket : ℕ) : Type 0 where
   pub index : ℕ
   pub one : RunningUnit
-  pub at : slice_get aloft index ≡ Some one
+  pub at : slice_get running index ≡ Some one
   pub child : SpawnedChild
   pub is : child_of one.begun ≡ Some child
   pub its : child.ticket ≡ ticket
 
-owner_of : (aloft : List RunningUnit) (ticket : ℕ) → Contains (tickets_of aloft) ticket → Owner aloft ticket
+owner_of : (running : List RunningUnit) (ticket : ℕ) → Contains (tickets_of running) ticket → Owner running ticket
 owner_of [] ticket has = absurd (contains_none ticket has)
-owner_of (y ∷ aloft) ticket has = by (child_of y.begun) refl (λ more. owner_of aloft ticket more) has
+owner_of (y ∷ running) ticket has = by (child_of y.begun) refl (λ more. owner_of running ticket more) has
   where
-    later : Owner aloft ticket → Owner (y ∷ aloft) ticket
+    later : Owner running ticket → Owner (y ∷ running) ticket
     later o = record { index = suc o.index; one = o.one; at = o.at; child = o.child; is = o.is; its = o.its }
 
-    by : (o : Option SpawnedChild) → child_of y.begun ≡ o → (Contains (tickets_of aloft) ticket → Owner aloft ticket) → Contains (ticket_in o ++ tickets_of aloft) ticket → Owner (y ∷ aloft) ticket
+    by : (o : Option SpawnedChild) → child_of y.begun ≡ o → (Contains (tickets_of running) ticket → Owner running ticket) → Contains (ticket_in o ++ tickets_of running) ticket → Owner (y ∷ running) ticket
     by None is rest has = later (rest has)
-    by (Some l) is rest has = elim (contains_cases l.ticket (tickets_of aloft) ticket has) [
+    by (Some l) is rest has = elim (contains_cases l.ticket (tickets_of running) ticket has) [
       | inl same ↦ record { index = 0; one = y; at = refl; child = l; is = is; its = same }
       | inr more ↦ later (rest more)
     ]
 
-pub none_writes : (project : Project) (order : IsInOrder project) (first w : World) (aloft : List RunningUnit) (es : List (Event BadUnit)) (flying : List ChildInFlight) → AllByRecursion (IsOfPlan project) aloft → map ticket_of_child flying ≡ tickets_of aloft
-    → Changes project first aloft es w flying → (place : ℕ) (u : Planned) → unit_at project place ≡ Some u → (Contains (places_of aloft) place → ⊥) → NoneWritesTo u.out flying
-none_writes project order first w aloft es flying of_plan tickets changes place u there grounded ticket its at out =
-    let o = owner_of aloft ticket (subst (λ (ts : List ℕ). Contains ts ticket) tickets (has_ticket ticket flying its at)) in
-    let planned : IsOfPlan project o.one = all_get (IsOfPlan project) aloft o.index o.one of_plan o.at in
-    let flies : FliesIn project es w flying o.one = all_get (FliesIn project es w flying) aloft o.index o.one changes.flies o.at in
+pub none_writes : (project : Project) (order : IsInOrder project) (first w : World) (running : List RunningUnit) (es : List (Event BadUnit)) (flying : List ChildInFlight) → AllByRecursion (IsOfPlan project) running → map ticket_of_child flying ≡ tickets_of running
+    → Changes project first running es w flying → (place : ℕ) (u : Planned) → unit_at project place ≡ Some u → (Contains (places_of running) place → ⊥) → NoneWritesTo u.out flying
+none_writes project order first w running es flying of_plan tickets changes place u there grounded ticket its at out =
+    let o = owner_of running ticket (subst (λ (ts : List ℕ). Contains ts ticket) tickets (has_ticket ticket flying its at)) in
+    let planned : IsOfPlan project o.one = all_get (IsOfPlan project) running o.index o.one of_plan o.at in
+    let flies : FliesIn project es w flying o.one = all_get (FliesIn project es w flying) running o.index o.one changes.flies o.at in
     let writes : WritesTo planned.unit.out (Some o.child) flying = subst (λ (l : Option SpawnedChild). WritesTo planned.unit.out l flying) o.is (flies.writes planned.unit planned.there) in
     let its_out : its.command.out ≡ Some planned.unit.out = subst (λ (c : Option ChildInFlight). IfSome c (λ s. s.command.out ≡ Some planned.unit.out)) (ap (λ (t : ℕ). child_at t flying) o.its ∙ at) writes in
     let same : planned.unit.out ≡ u.out = injective (sym its_out ∙ out) in
-    let ne : o.one.unit ≢ place = λ e. grounded (subst (Contains (places_of aloft)) e (at_contains (places_of aloft) o.index o.one.unit (get_map place_of_unit aloft o.index o.one o.at))) in
+    let ne : o.one.unit ≢ place = λ e. grounded (subst (Contains (places_of running)) e (at_contains (places_of running) o.index o.one.unit (get_map place_of_unit running o.index o.one o.at))) in
     false≢true (sym (order.apart o.one.unit place planned.unit u planned.there there ne planned.unit.out (at_itself planned.unit.out planned.unit.out refl)) ∙ at_itself u.out planned.unit.out (sym same))

@@ -199,15 +199,15 @@ module _ (child : Answers) (setup : Setup) (project : Project) (order : IsInOrde
 
 -- Nothing has begun.
 
-pub replies_first : (child : Answers) (setup : Setup) (project : Project) (done : List (Option (List Directive))) (aloft : List RunningUnit) (w : World) (flying : List ChildInFlight) (still : ℕ → Type 0) → aloft ≡ [] → Replies child setup project done aloft [] w flying still
-replies_first child setup project done aloft w flying still none = record {
+pub replies_first : (child : Answers) (setup : Setup) (project : Project) (done : List (Option (List Directive))) (running : List RunningUnit) (w : World) (flying : List ChildInFlight) (still : ℕ → Type 0) → running ≡ [] → Replies child setup project done running [] w flying still
+replies_first child setup project done running w flying still none = record {
   waits = subst (AllByRecursion (FliesAnew child setup project done w flying still)) (sym none) tt;
   gave = λ place answer state started. absurd (no_answer (needs_of project) place answer state);
 }
 
 module _ (is_modelled : Bool) (child : Answers) (first old : UnitExecutor) (at now new : BuildState) (still : ℕ → Type 0) (es : List (Event BadUnit)) (given : ℕ) (story : History is_modelled child first at old now still es given) (order : IsInOrder old.project) (lawful : IsLawful (needs_of old.project) es) where
-  flown : IsTrue is_modelled → (k : ℕ) (a : RunningUnit) → slice_get old.aloft.items k ≡ Some a → FliesIn old.project es now.world now.counts.starts.flying a
-  flown t k a at_k = all_get (FliesIn old.project es now.world now.counts.starts.flying) old.aloft.items k a (story.changes t).flies at_k
+  flown : IsTrue is_modelled → (k : ℕ) (a : RunningUnit) → slice_get old.running.items k ≡ Some a → FliesIn old.project es now.world now.counts.starts.flying a
+  flown t k a at_k = all_get (FliesIn old.project es now.world now.counts.starts.flying) old.running.items k a (story.changes t).flies at_k
 
   -- A unit begins.
 
@@ -244,12 +244,12 @@ module _ (is_modelled : Bool) (child : Answers) (first old : UnitExecutor) (at n
         → (IsTrue is_modelled → KeepsStillOutside (is_of (records_folder old.project) u.key) now.counts.starts.flying still still')
         → (done : List (Option (List Directive))) → done ≡ old.done.items → (begun : unit_begun) → begun.command ≡ command_of old.setup old.project u done
         → (IsTrue is_modelled → IfSome (child_of begun) (λ l. IsSpawned (is_of (records_folder old.project) u.key) child begun.command now.world l.ticket new.counts.starts.flying still'))
-        → (aloft' : List RunningUnit) → aloft' ≡ old.aloft.items ++ record { unit = unit; begun = begun } ∷ []
-        → IsTrue is_modelled → Replies child old.setup old.project old.done.items aloft' (Began unit (is_some (child_of begun)) ∷ es) new.world new.counts.starts.flying still'
-    begun_anew still' stay keeps done same_done begun asks launched aloft' more t = record {
+        → (running' : List RunningUnit) → running' ≡ old.running.items ++ record { unit = unit; begun = begun } ∷ []
+        → IsTrue is_modelled → Replies child old.setup old.project old.done.items running' (Began unit (is_some (child_of begun)) ∷ es) new.world new.counts.starts.flying still'
+    begun_anew still' stay keeps done same_done begun asks launched running' more t = record {
       waits = subst (AllByRecursion (FliesAnew child old.setup old.project old.done.items new.world new.counts.starts.flying still')) (sym more)
-          (all_more (FliesAnew child old.setup old.project old.done.items new.world new.counts.starts.flying still') old.aloft.items (record { unit = unit; begun = begun } ∷ [])
-          (all_at_each (FliesAnew child old.setup old.project old.done.items now.world now.counts.starts.flying still) (FliesAnew child old.setup old.project old.done.items new.world new.counts.starts.flying still') old.aloft.items
+          (all_more (FliesAnew child old.setup old.project old.done.items new.world new.counts.starts.flying still') old.running.items (record { unit = unit; begun = begun } ∷ [])
+          (all_at_each (FliesAnew child old.setup old.project old.done.items now.world now.counts.starts.flying still) (FliesAnew child old.setup old.project old.done.items new.world new.counts.starts.flying still') old.running.items
           (λ k a at_k waits v at_v.
           carries_on old.project order es lawful unit u there (ap is_good_at may.untouched) old.setup child now.world new.world (only t) now.counts.starts.flying new.counts.starts.flying still still' None
           (λ ticket its apart is. stay ticket its is) (λ ticket apart stands stood. keeps t ticket stands stood) a.unit v (Begun, (flown t k a at_k).state, refl) at_v
@@ -266,7 +266,7 @@ module _ (is_modelled : Bool) (child : Answers) (first old : UnitExecutor) (at n
 
   -- A unit answers.
 
-  module _ (index : ℕ) (a : RunningUnit) (u : Planned) (there : unit_at old.project a.unit ≡ Some u) (at_index : slice_get old.aloft.items index ≡ Some a) (only : IsTrue is_modelled → ChangesOnly (is_of (records_folder old.project) u.key) now.world new.world) where
+  module _ (index : ℕ) (a : RunningUnit) (u : Planned) (there : unit_at old.project a.unit ≡ Some u) (at_index : slice_get old.running.items index ≡ Some a) (only : IsTrue is_modelled → ChangesOnly (is_of (records_folder old.project) u.key) now.world new.world) where
     -- a fault came in its place
     pub unanswered_anew : IsTrue is_modelled → AllAnswerAnew child old.setup old.project es old.done.items new.world
     unanswered_anew t =
@@ -280,16 +280,16 @@ module _ (is_modelled : Bool) (child : Answers) (first old : UnitExecutor) (at n
         → (ran : Ran) (lines : List ℕ) → lines ≡ unit_lines old.project u ran.started ran.messages → ran.started ≡ is_some (child_of a.begun)
         → (IsTrue is_modelled → (ended : Ended) × (left : World) × (mid : Counts) × EndsBy a.begun.awaited (Ok ended) (IsTrue true) still now.world left now.counts mid × IsJudged old.project u a.begun.command a.begun.awaited ended left ran)
         → (IsTrue is_modelled → (answer : Result Ended StartFault) × (left : World) × (mid : Counts) × EndsBy a.begun.awaited answer (IsOk (well_of ran)) still now.world left now.counts mid × ChangesOnly (is_at_or_below (place_of (records_folder old.project) u.key)) left new.world)
-        → (aloft' : List RunningUnit) (done' : List (Option (List Directive))) → aloft' ≡ remove old.aloft.items index → done' ≡ slice_set old.done.items a.unit ran.directives
-        → IsTrue is_modelled → Replies child old.setup old.project done' aloft' (Gave a.unit record { fault = ran.bad; lines = lines } ∷ es) new.world new.counts.starts.flying still'
-    answered_anew manned still' stay keeps ran lines told started judged lands aloft' done' is set t =
+        → (running' : List RunningUnit) (done' : List (Option (List Directive))) → running' ≡ remove old.running.items index → done' ≡ slice_set old.done.items a.unit ran.directives
+        → IsTrue is_modelled → Replies child old.setup old.project done' running' (Gave a.unit record { fault = ran.bad; lines = lines } ∷ es) new.world new.counts.starts.flying still'
+    answered_anew consistent still' stay keeps ran lines told started judged lands running' done' is set t =
         let state = (flown t index a at_index).state in record {
           waits = subst (AllByRecursion (FliesAnew child old.setup old.project done' new.world new.counts.starts.flying still')) (sym is)
-              (all_left (FliesAnew child old.setup old.project old.done.items now.world now.counts.starts.flying still) (FliesAnew child old.setup old.project done' new.world new.counts.starts.flying still') old.aloft.items index
+              (all_left (FliesAnew child old.setup old.project old.done.items now.world now.counts.starts.flying still) (FliesAnew child old.setup old.project done' new.world new.counts.starts.flying still') old.running.items index
               (λ j y at_j ne waits v at_v.
               carries_on old.project order es lawful a.unit u there (ap is_good_at state) old.setup child now.world new.world (only t) now.counts.starts.flying new.counts.starts.flying still still' (child_of a.begun) stay (keeps t)
               y.unit v (Begun, (flown t j y at_j).state, refl) at_v
-              (apart_places (places_of old.aloft.items) j index y.unit a.unit manned.units_apart (get_map place_of_unit old.aloft.items j y at_j) (get_map place_of_unit old.aloft.items index a at_index) ne)
+              (apart_places (places_of old.running.items) j index y.unit a.unit consistent.units_apart (get_map place_of_unit old.running.items j y at_j) (get_map place_of_unit old.running.items index a at_index) ne)
               old.done.items done' (commands t y.unit v (Begun, (flown t j y at_j).state, refl) at_v) y.begun.command y.begun.awaited (λ l theirs. other_ticket j y at_j ne l theirs (child_of a.begun) refl) (waits v at_v))
               (story.anew t).waits);
           gave = λ place answer state_after childed. elim (answered_cases (states_in old.project es) a.unit place answer record { fault = ran.bad; lines = lines } Begun state state_after) [
@@ -306,12 +306,12 @@ module _ (is_modelled : Bool) (child : Answers) (first old : UnitExecutor) (at n
         commands : IsTrue is_modelled → (place : ℕ) (v : Planned) → HasBegun (states_in old.project es) place → unit_at old.project place ≡ Some v → command_of old.setup old.project v old.done.items ≡ command_of old.setup old.project v done'
         commands t place v has at_v = command_stays old.setup old.project order es lawful a.unit (flown t index a at_index).state old.done.items done' ran.directives set place v has at_v
 
-        other_ticket : (j : ℕ) (y : RunningUnit) → slice_get old.aloft.items j ≡ Some y → j ≢ index → (l : SpawnedChild) → child_of y.begun ≡ Some l → (o : Option SpawnedChild) → child_of a.begun ≡ o → IfSome o (λ k. l.ticket ≢ k.ticket)
+        other_ticket : (j : ℕ) (y : RunningUnit) → slice_get old.running.items j ≡ Some y → j ≢ index → (l : SpawnedChild) → child_of y.begun ≡ Some l → (o : Option SpawnedChild) → child_of a.begun ≡ o → IfSome o (λ k. l.ticket ≢ k.ticket)
         other_ticket j y at_j ne l theirs None ours = tt
-        other_ticket j y at_j ne l theirs (Some k) ours = flat_apart (λ (x : RunningUnit). ticket_in (child_of x.begun)) old.aloft.items j index y a l.ticket k.ticket manned.tickets_apart at_j at_index (ap ticket_in theirs) (ap ticket_in ours) ne
+        other_ticket j y at_j ne l theirs (Some k) ours = flat_apart (λ (x : RunningUnit). ticket_in (child_of x.begun)) old.running.items j index y a l.ticket k.ticket consistent.tickets_apart at_j at_index (ap ticket_in theirs) (ap ticket_in ours) ne
 
         within : a.unit < length old.done.items
-        within = subst (λ n. a.unit < n) (sym manned.long) (slice_get_within old.project.plan.planned a.unit u there)
+        within = subst (λ n. a.unit < n) (sym consistent.long) (slice_get_within old.project.plan.planned a.unit u there)
 
         own : is_started es a.unit ≡ true → AnswersAnew child old.setup old.project done' new.world a.unit record { fault = ran.bad; lines = lines }
         own childed =
@@ -321,5 +321,5 @@ module _ (is_modelled : Bool) (child : Answers) (first old : UnitExecutor) (at n
             answered_by child old.setup old.project order a.unit u there a.begun.command now.world new.world now.counts still old.done.items done' (commands t a.unit u (Begun, f.state, refl) there)
             (λ asks. sees_on old.project order es lawful a.unit u there (ap is_good_at f.state) old.setup a.unit u (Begun, f.state, refl) there old.done.items a.begun.command asks now.world new.world (only t))
             ran lines told (ap (λ (ds : List (Option (List Directive))). slice_get ds a.unit) set ∙ get_set_within old.done.items a.unit ran.directives within)
-            a.begun.awaited (sym f.started ∙ childed) started (all_get (FliesAnew child old.setup old.project old.done.items now.world now.counts.starts.flying still) old.aloft.items index a (story.anew t).waits at_index u there)
+            a.begun.awaited (sym f.started ∙ childed) started (all_get (FliesAnew child old.setup old.project old.done.items now.world now.counts.starts.flying still) old.running.items index a (story.anew t).waits at_index u there)
             (IsTrue true) left mid ended ends is_judged (IsOk (well_of ran)) left' mid' answer ends' refl changed

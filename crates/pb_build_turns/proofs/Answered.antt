@@ -56,7 +56,7 @@ module _ (b : BuildContext) (ss : List (State BadUnit)) (done : List (Option (Li
     holds = s.holds;
   }
 
-  records_back : (footing : Premise) → HoldsBy footing b (slice_set ss i (Answered answer)) next' w' → HoldsBy footing b ss next' w'
+  records_back : (premise : Premise) → HoldsBy premise b (slice_set ss i (Answered answer)) next' w' → HoldsBy premise b ss next' w'
   records_back TrustedRecords holds = record { honest = holds.honest; sound = holds.sound; ahead = holds.ahead; recorded = λ place good. holds.recorded place (good_now place good) }
   records_back NoRecords holds = λ place u there is. holds place u there (get_set_other ss i place (Answered answer) (untouched_other place is) ∙ is)
 
@@ -66,14 +66,14 @@ module _ (b : BuildContext) (ss : List (State BadUnit)) (done : List (Option (Li
     sources_stay = new.sources_stay;
     good = λ place good. stands_back place (good_other place good) (new.good place (good_now place good));
     closed = old.closed;
-    records = records_back b.footing new.records;
+    records = records_back b.premise new.records;
   }
 
-module _ (b : BuildContext) (done : List (Option (List Directive))) (aloft : List RunningUnit) (next next' : Option ℕ) (es : List (Event BadUnit)) (w w' : World)
-    (flying flying' : List ChildInFlight) (still still' : ℕ → Type 0) (h : HistoryHolds b done aloft next es w flying still)
-    (index : ℕ) (a : RunningUnit) (at : slice_get aloft index ≡ Some a) (u : Planned) (there : unit_at b.project a.unit ≡ Some u) where
+module _ (b : BuildContext) (done : List (Option (List Directive))) (running : List RunningUnit) (next next' : Option ℕ) (es : List (Event BadUnit)) (w w' : World)
+    (flying flying' : List ChildInFlight) (still still' : ℕ → Type 0) (h : HistoryHolds b done running next es w flying still)
+    (index : ℕ) (a : RunningUnit) (at : slice_get running index ≡ Some a) (u : Planned) (there : unit_at b.project a.unit ≡ Some u) where
   so : FliesSo b es next w flying still a
-  so = all_get (FliesSo b es next w flying still) aloft index a h.begun at
+  so = all_get (FliesSo b es next w flying still) running index a h.begun at
 
   pub can_answer : CanAnswer b (states_in b.project es) done a.unit u a.begun next w flying still
   can_answer = record { keeps = h.keeps; state = so.state; reaches = so.reaches u there; begun_so = so.begun_so }
@@ -84,31 +84,31 @@ module _ (b : BuildContext) (done : List (Option (List Directive))) (aloft : Lis
   pub its_start : is_started es a.unit ≡ is_some (child_of a.begun)
   its_start = so.started
 
-  module _ (places : AreApart (places_of aloft)) (tickets : AreApart (tickets_of aloft)) (numbers : AreApart (numbers_of aloft))
+  module _ (places : AreApart (places_of running)) (tickets : AreApart (tickets_of running)) (numbers : AreApart (numbers_of running))
       (others : (other : ℕ) (its : unit_begun) → BeginsApart b (states_in b.project es) a.unit (child_of a.begun) other its next w flying still → IsBegun b other its next' w' flying' still') where
-    ne_unit : (j : ℕ) (y : RunningUnit) → slice_get aloft j ≡ Some y → j ≢ index → y.unit ≢ a.unit
-    ne_unit j y at_j ne = apart_places (places_of aloft) j index y.unit a.unit places (get_map place_of_unit aloft j y at_j) (get_map place_of_unit aloft index a at) ne
+    ne_unit : (j : ℕ) (y : RunningUnit) → slice_get running j ≡ Some y → j ≢ index → y.unit ≢ a.unit
+    ne_unit j y at_j ne = apart_places (places_of running) j index y.unit a.unit places (get_map place_of_unit running j y at_j) (get_map place_of_unit running index a at) ne
 
-    apart_from : (j : ℕ) (y : RunningUnit) → slice_get aloft j ≡ Some y → j ≢ index → FliesSo b es next w flying still y → BeginsApart b (states_in b.project es) a.unit (child_of a.begun) y.unit y.begun next w flying still
+    apart_from : (j : ℕ) (y : RunningUnit) → slice_get running j ≡ Some y → j ≢ index → FliesSo b es next w flying still y → BeginsApart b (states_in b.project es) a.unit (child_of a.begun) y.unit y.begun next w flying still
     apart_from j y at_j ne f = record {
       another = ne_unit j y at_j ne;
       unit = f.begun_so.unit;
       there = f.begun_so.there;
       reaches = f.reaches f.begun_so.unit f.begun_so.there;
-      tickets = λ ours theirs e g. flat_apart (λ (x : RunningUnit). ticket_in (child_of x.begun)) aloft j index y a theirs.ticket ours.ticket tickets at_j at (ap ticket_in g) (ap ticket_in e) ne;
-      numbers = λ ours theirs e g. flat_apart (λ (x : RunningUnit). number_in (child_of x.begun)) aloft j index y a theirs.number ours.number numbers at_j at (ap number_in g) (ap number_in e) ne;
+      tickets = λ ours theirs e g. flat_apart (λ (x : RunningUnit). ticket_in (child_of x.begun)) running j index y a theirs.ticket ours.ticket tickets at_j at (ap ticket_in g) (ap ticket_in e) ne;
+      numbers = λ ours theirs e g. flat_apart (λ (x : RunningUnit). number_in (child_of x.begun)) running j index y a theirs.number ours.number numbers at_j at (ap number_in g) (ap number_in e) ne;
       begun_so = f.begun_so;
     }
 
     -- No answer is noted.
 
-    flies_still : (j : ℕ) (y : RunningUnit) → slice_get aloft j ≡ Some y → j ≢ index → FliesSo b es next w flying still y → FliesSo b es next' w' flying' still' y
+    flies_still : (j : ℕ) (y : RunningUnit) → slice_get running j ≡ Some y → j ≢ index → FliesSo b es next w flying still y → FliesSo b es next' w' flying' still' y
     flies_still j y at_j ne f = record { state = f.state; begun_so = others y.unit y.begun (apart_from j y at_j ne f); reaches = f.reaches; started = f.started }
 
-    pub happened_less : BuildInvariant b (states_in b.project es) done next' w' → HistoryHolds b done (remove aloft index) next' es w' flying' still'
+    pub happened_less : BuildInvariant b (states_in b.project es) done next' w' → HistoryHolds b done (remove running index) next' es w' flying' still'
     happened_less keeps = record {
       keeps = keeps;
-      begun = all_left (FliesSo b es next w flying still) (FliesSo b es next' w' flying' still') aloft index flies_still h.begun;
+      begun = all_left (FliesSo b es next w flying still) (FliesSo b es next' w' flying' still') running index flies_still h.begun;
       gave = h.gave;
     }
 
@@ -117,7 +117,7 @@ module _ (b : BuildContext) (done : List (Option (List Directive))) (aloft : Lis
     module _ (answer : Answer BadUnit) (d : Option (List Directive)) (keeps : BuildInvariant b (slice_set (states_in b.project es) a.unit (Answered answer)) (slice_set done a.unit d) next' w')
         (outcome : Outcome) (is : slice_get (outcomes_in b) a.unit ≡ Some outcome) (fault : answer.fault ≡ fault_in outcome) (noted : d ≡ directives_in outcome)
         (lines : answer.lines ≡ unit_lines b.project u (is_some (child_of a.begun)) (messages_in outcome)) where
-      flies_after : (j : ℕ) (y : RunningUnit) → slice_get aloft j ≡ Some y → j ≢ index → FliesSo b es next w flying still y → FliesSo b (Gave a.unit answer ∷ es) next' w' flying' still' y
+      flies_after : (j : ℕ) (y : RunningUnit) → slice_get running j ≡ Some y → j ≢ index → FliesSo b es next w flying still y → FliesSo b (Gave a.unit answer ∷ es) next' w' flying' still' y
       flies_after j y at_j ne f = record {
         state = get_set_other (states_in b.project es) a.unit y.unit (Answered answer) (λ e. ne_unit j y at_j ne (sym e)) ∙ f.state;
         begun_so = others y.unit y.begun (apart_from j y at_j ne f);
@@ -156,9 +156,9 @@ module _ (b : BuildContext) (done : List (Option (List Directive))) (aloft : Lis
         | inr (ne, before) ↦ old_given place other ne (h.gave place other before)
       ]
 
-      pub happened_after : HistoryHolds b (slice_set done a.unit d) (remove aloft index) next' (Gave a.unit answer ∷ es) w' flying' still'
+      pub happened_after : HistoryHolds b (slice_set done a.unit d) (remove running index) next' (Gave a.unit answer ∷ es) w' flying' still'
       happened_after = record {
         keeps = keeps;
-        begun = all_left (FliesSo b es next w flying still) (FliesSo b (Gave a.unit answer ∷ es) next' w' flying' still') aloft index flies_after h.begun;
+        begun = all_left (FliesSo b es next w flying still) (FliesSo b (Gave a.unit answer ∷ es) next' w' flying' still') running index flies_after h.begun;
         gave = given_after;
       }

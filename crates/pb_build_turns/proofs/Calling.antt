@@ -27,7 +27,7 @@ use Rattle.pb_place_types.specs.declared.place.StartFault.{StartFault}
 use Rattle.pb_place_types.proofs.CallsInTurn.{some_all}
 use Rattle.pb_command_types.specs.Targets.{unit_at}
 use Rattle.pb_run.specs.Running.{StopsToBegin, past_look, CallsBehind, EndsBy, GivesRecord, answered_called, Launches}
-use Rattle.pb_run.specs.UnitSteps.{Premise, BuildContext, basis, IsInFlight, WaitsBy, child_in, child_of, command_in, view_in}
+use Rattle.pb_run.specs.UnitSteps.{Premise, BuildContext, build_context, IsInFlight, WaitsBy, child_in, child_of, command_in, view_in}
 use Rattle.pb_run.specs.Steps.{IsOfUnit, bare, fault_in}
 use Rattle.pb_run.specs.Invariants.{IsInOrder, records_folder}
 use Rattle.pb_run.specs.declared.begun.Awaited.{Awaited}
@@ -77,7 +77,7 @@ module _ (is_modelled : Bool) (child : Answers) (first old : UnitExecutor) (at n
     (order : IsInOrder old.project) (there : unit_at old.project unit ≡ Some u) (story : History is_modelled child first at old now still es given) (may : MayBegin (needs_of old.project) (states_in old.project es) unit)
     (done : List (Option (List Directive))) (same_done : done ≡ old.done.items) where
   abbrev Of : Premise → World → BuildContext
-  Of footing sources = basis footing child old.setup old.project sources
+  Of premise sources = build_context premise child old.setup old.project sources
 
   abbrev OnAny : CallBasis
   OnAny = call_basis_on_any child old.setup old.project old.done.items
@@ -222,7 +222,7 @@ module _ (told : CallBasis) (place : ℕ) (u : Planned) (there : unit_at told.pr
     calls = subst (λ (d : Command). CallsBehind by (answered_called told.project u d left by) answer (bare result) mid new) asks behind;
   }
 
--- over a basis it waits so
+-- over a build context it waits so
 waits_in : (b : BuildContext) (place : ℕ) (u : Planned) (c : Command) (next : Option ℕ) (before left : World) (flying : List ChildInFlight) (still : ℕ → Type 0) (by : Awaited) → WaitsBy b u c (view_in b place u) by next before flying still
     → WaitsTold (call_basis b) place u c before left flying still by
 waits_in b place u c next before left flying still (awaited.Child launched) waits = waits.0
@@ -231,9 +231,9 @@ waits_in b place u c next before left flying still (awaited.Record again) waits 
 -- In the story of a crew.
 
 module _ (is_modelled : Bool) (child : Answers) (first old : UnitExecutor) (at now new : BuildState) (still : ℕ → Type 0) (es : List (Event BadUnit)) (given : ℕ) (story : History is_modelled child first at old now still es given) (order : IsInOrder old.project)
-    (index : ℕ) (a : RunningUnit) (at_index : slice_get old.aloft.items index ≡ Some a) (u : Planned) (there : unit_at old.project a.unit ≡ Some u) where
+    (index : ℕ) (a : RunningUnit) (at_index : slice_get old.running.items index ≡ Some a) (u : Planned) (there : unit_at old.project a.unit ≡ Some u) where
   abbrev On : Premise → World → BuildContext
-  On footing sources = basis footing child old.setup old.project sources
+  On premise sources = build_context premise child old.setup old.project sources
 
   -- what a call says that takes its answer
   abbrev pub Lands : Result Ran StepFault → Type 0
@@ -249,7 +249,7 @@ module _ (is_modelled : Bool) (child : Answers) (first old : UnitExecutor) (at n
       → IsTrue is_modelled → FromFirst child first at old (λ b. AnswersCalling (call_basis b) a.unit (is_started es a.unit) result now.world now.counts new.world new.counts)
   answers result said so named same_calls lands t f s k =
       let h = story.happened t f s k in
-      let so_begun = all_get (FliesSo (On f s) es old.store.next now.world now.counts.starts.flying still) old.aloft.items index a h.begun at_index in
+      let so_begun = all_get (FliesSo (On f s) es old.store.next now.world now.counts.starts.flying still) old.running.items index a h.begun at_index in
       let (asks, waits) = begun_as (On f s) order a.unit u there a.begun old.store.next now.world now.counts.starts.flying still so_begun.begun_so in
       let (answer, left, mid, ends, only, behind) = lands t in
       answers_calling (call_basis (On f s)) a.unit u there a.begun.command asks (ap (λ (d : Command). d.out) asks ∙ command_out (On f s) order a.unit u there) now.world left now.counts still a.begun.awaited (is_started es a.unit) so_begun.started
@@ -280,7 +280,7 @@ module _ (is_modelled : Bool) (child : Answers) (first old : UnitExecutor) (at n
   module _ (lawful : IsLawful (needs_of old.project) es) (calls : IsTrue is_modelled → CallsOnAny child old.setup old.project old.done.items es at.world at.counts now.world now.counts)
       (anew : IsTrue is_modelled → FliesAnew child old.setup old.project old.done.items now.world now.counts.starts.flying still a) where
     so_flies : IsTrue is_modelled → FliesIn old.project es now.world now.counts.starts.flying a
-    so_flies t = all_get (FliesIn old.project es now.world now.counts.starts.flying) old.aloft.items index a (story.changes t).flies at_index
+    so_flies t = all_get (FliesIn old.project es now.world now.counts.starts.flying) old.running.items index a (story.changes t).flies at_index
 
     -- it reaches none that is in flight
     far : slice_get (states_in old.project es) a.unit ≡ Some Begun → (p : ℕ) → Contains u.reaches p → p ≢ a.unit
@@ -292,7 +292,7 @@ module _ (is_modelled : Bool) (child : Answers) (first old : UnitExecutor) (at n
         → IsTrue is_modelled → AnswersCalling (call_basis_on_any child old.setup old.project done') a.unit (is_started es a.unit) result now.world now.counts new.world new.counts
     answers_on_any done' same result said so named same_calls lands t =
         let flies = so_flies t in
-        let carries = all_get (λ (x : RunningUnit). FliesAgain old.setup old.project old.done.items at.world now.world x) old.aloft.items index a ((story.again t).waits) at_index u there in
+        let carries = all_get (λ (x : RunningUnit). FliesAgain old.setup old.project old.done.items at.world now.world x) old.running.items index a ((story.again t).waits) at_index u there in
         let (answer, left, mid, ends, only, behind) = lands t in
         let asks = asks_now child old.setup old.project order a.unit u there old.done.items at.world now.world now.counts still a.begun.command a.begun.awaited carries (anew t u there) in
         answers_calling (call_basis_on_any child old.setup old.project done') a.unit u there a.begun.command (asks ∙ same)

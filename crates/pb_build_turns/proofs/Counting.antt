@@ -65,33 +65,33 @@ without_none n (x ∷ ns) all = by (is_some (child_of x.begun)) (without_none n 
     by true more = ap (λ l. x.unit ∷ l) more ∙ sym (without_other x.unit n (launched_of ns) (λ e. all.0 (sym e)))
     by false more = more
 
-pub launched_left : (aloft : List RunningUnit) (index : ℕ) (a : RunningUnit) → AreApart (places_of aloft) → slice_get aloft index ≡ Some a → launched_of (remove aloft index) ≡ events.without a.unit (launched_of aloft)
+pub launched_left : (running : List RunningUnit) (index : ℕ) (a : RunningUnit) → AreApart (places_of running) → slice_get running index ≡ Some a → launched_of (remove running index) ≡ events.without a.unit (launched_of running)
 launched_left [] index a apart at = absurd (clash at)
-launched_left (x ∷ aloft) zero a apart at = subst (λ (y : RunningUnit). launched_of aloft ≡ events.without y.unit (if_so (is_some (child_of x.begun)) x.unit ++ launched_of aloft)) (injective at) (by (is_some (child_of x.begun)))
+launched_left (x ∷ running) zero a apart at = subst (λ (y : RunningUnit). launched_of running ≡ events.without y.unit (if_so (is_some (child_of x.begun)) x.unit ++ launched_of running)) (injective at) (by (is_some (child_of x.begun)))
   where
-    by : (b : Bool) → launched_of aloft ≡ events.without x.unit (if_so b x.unit ++ launched_of aloft)
-    by true = sym (without_first x.unit (launched_of aloft))
-    by false = without_none x.unit aloft apart.0
-launched_left (x ∷ aloft) (suc k) a apart at = by (is_some (child_of x.begun)) (launched_left aloft k a apart.1 at)
+    by : (b : Bool) → launched_of running ≡ events.without x.unit (if_so b x.unit ++ launched_of running)
+    by true = sym (without_first x.unit (launched_of running))
+    by false = without_none x.unit running apart.0
+launched_left (x ∷ running) (suc k) a apart at = by (is_some (child_of x.begun)) (launched_left running k a apart.1 at)
   where
     ne : x.unit ≢ a.unit
-    ne = all_get (λ m. x.unit ≢ m) (places_of aloft) k a.unit apart.0 (get_map (λ (y : RunningUnit). y.unit) aloft k a at)
+    ne = all_get (λ m. x.unit ≢ m) (places_of running) k a.unit apart.0 (get_map (λ (y : RunningUnit). y.unit) running k a at)
 
-    by : (b : Bool) → launched_of (remove aloft k) ≡ events.without a.unit (launched_of aloft) → if_so b x.unit ++ launched_of (remove aloft k) ≡ events.without a.unit (if_so b x.unit ++ launched_of aloft)
-    by true more = ap (λ l. x.unit ∷ l) more ∙ sym (without_other x.unit a.unit (launched_of aloft) ne)
+    by : (b : Bool) → launched_of (remove running k) ≡ events.without a.unit (launched_of running) → if_so b x.unit ++ launched_of (remove running k) ≡ events.without a.unit (if_so b x.unit ++ launched_of running)
+    by true more = ap (λ l. x.unit ∷ l) more ∙ sym (without_other x.unit a.unit (launched_of running) ne)
     by false more = more
 
 -- as many children as tickets
-as_many : (aloft : List RunningUnit) → length (tickets_of aloft) ≡ length (launched_of aloft)
+as_many : (running : List RunningUnit) → length (tickets_of running) ≡ length (launched_of running)
 as_many [] = refl
-as_many (x ∷ aloft) = by (child_of x.begun) (as_many aloft)
+as_many (x ∷ running) = by (child_of x.begun) (as_many running)
   where
-    by : (o : Option SpawnedChild) → length (tickets_of aloft) ≡ length (launched_of aloft) → length (ticket_in o ++ tickets_of aloft) ≡ length (if_so (is_some o) x.unit ++ launched_of aloft)
+    by : (o : Option SpawnedChild) → length (tickets_of running) ≡ length (launched_of running) → length (ticket_in o ++ tickets_of running) ≡ length (if_so (is_some o) x.unit ++ launched_of running)
     by None more = more
     by (Some l) more = ap suc more
 
-pub children_are : (now : Counts) (aloft : List RunningUnit) → map ticket_of_child now.starts.flying ≡ tickets_of aloft → length now.starts.flying ≡ length (launched_of aloft)
-children_are now aloft tickets = sym (length-map now.starts.flying ticket_of_child) ∙ ap length tickets ∙ as_many aloft
+pub children_are : (now : Counts) (running : List RunningUnit) → map ticket_of_child now.starts.flying ≡ tickets_of running → length now.starts.flying ≡ length (launched_of running)
+children_are now running tickets = sym (length-map now.starts.flying ticket_of_child) ∙ ap length tickets ∙ as_many running
 
 -- The cause is that since the first.
 
@@ -117,7 +117,7 @@ tried_or_not old new (inr more) = elim (cases_eq (up old.count) old.count) [
 
 -- A unit begins.
 
-module _ (project : Project) (first now new : BuildState) (started : List ℕ) (aloft : List RunningUnit) (es : List (Event BadUnit)) (given unit : ℕ) (goes : CountersSoFar project first now started aloft es given)
+module _ (project : Project) (first now new : BuildState) (started : List ℕ) (running : List RunningUnit) (es : List (Event BadUnit)) (given unit : ℕ) (goes : CountersSoFar project first now started running es given)
     (is_given : given ≡ count_due (states_in project es)) (untouched : slice_get (states_in project es) unit ≡ Some Untouched) (heard : new.heard ≡ now.heard) where
   lines_begun : Appends first.heard.taken new.heard.taken (due_first given (slice_set (states_in project es) unit Begun))
   lines_begun =
@@ -139,19 +139,19 @@ module _ (project : Project) (first now new : BuildState) (started : List ℕ) (
   settings_begun None same = ap (λ (s : Starts). s.settings) same ∙ goes.settings
   settings_begun (Some l) lifted = ap (λ (s : Starts). s.settings) lifted.lifted ∙ goes.settings
 
-  most_begun : (o : Option SpawnedChild) → length now.counts.starts.flying ≡ length (launched_of aloft) → MatchOption o (new.most ≡ now.most) (λ l. new.most ≡ max now.most (length now.counts.starts.flying + 1)) → new.most ≡ max first.most (peak (Began unit (is_some o) ∷ es))
+  most_begun : (o : Option SpawnedChild) → length now.counts.starts.flying ≡ length (launched_of running) → MatchOption o (new.most ≡ now.most) (λ l. new.most ≡ max now.most (length now.counts.starts.flying + 1)) → new.most ≡ max first.most (peak (Began unit (is_some o) ∷ es))
   most_begun None long same = same ∙ goes.most
   most_begun (Some l) long more =
       let e : length now.counts.starts.flying ≡ length (launched_after es) = long ∙ ap length goes.launched_are in
       omega (arith, more, e, goes.most)
 
-  pub goes_begun : (a : RunningUnit) → a.unit ≡ unit → new.counts.failures ≡ now.counts.failures → BeginsBy (child_of a.begun) now.counts.starts new.counts.starts → length now.counts.starts.flying ≡ length (launched_of aloft)
+  pub goes_begun : (a : RunningUnit) → a.unit ≡ unit → new.counts.failures ≡ now.counts.failures → BeginsBy (child_of a.begun) now.counts.starts new.counts.starts → length now.counts.starts.flying ≡ length (launched_of running)
       → MatchOption (child_of a.begun) (new.most ≡ now.most) (λ l. new.most ≡ max now.most (length now.counts.starts.flying + 1))
-      → CountersSoFar project first new (started ++ if_so (is_some (child_of a.begun)) unit) (aloft ++ a ∷ []) (Began unit (is_some (child_of a.begun)) ∷ es) given
+      → CountersSoFar project first new (started ++ if_so (is_some (child_of a.begun)) unit) (running ++ a ∷ []) (Began unit (is_some (child_of a.begun)) ∷ es) given
   goes_begun a its failures begins long most = record {
     started_are = ap (λ l. l ++ if_so (is_some (child_of a.begun)) unit) goes.started_are;
-    launched_are = flat_more (λ (x : RunningUnit). if_so (is_some (child_of x.begun)) x.unit) aloft (a ∷ []) ∙ ap (λ l. launched_of aloft ++ l) (append-nil (if_so (is_some (child_of a.begun)) a.unit))
-        ∙ ap (λ n. launched_of aloft ++ if_so (is_some (child_of a.begun)) n) its ∙ ap (λ l. l ++ if_so (is_some (child_of a.begun)) unit) goes.launched_are;
+    launched_are = flat_more (λ (x : RunningUnit). if_so (is_some (child_of x.begun)) x.unit) running (a ∷ []) ∙ ap (λ l. launched_of running ++ l) (append-nil (if_so (is_some (child_of a.begun)) a.unit))
+        ∙ ap (λ n. launched_of running ++ if_so (is_some (child_of a.begun)) n) its ∙ ap (λ l. l ++ if_so (is_some (child_of a.begun)) unit) goes.launched_are;
     lines = lines_begun;
     faults = faults_begun;
     failures = failures ∙ goes.failures;
@@ -270,8 +270,8 @@ names_answering project next unit u launched (Device key NumbersSpent) old new t
 names_answering project next unit u launched Sink old new there may es = tt
 names_answering project next unit u launched OutOfMemory old new there may es = tt
 
-module _ (project : Project) (first now new : BuildState) (started : List ℕ) (aloft : List RunningUnit) (es : List (Event BadUnit)) (given : ℕ) (goes : CountersSoFar project first now started aloft es given)
-    (is_given : given ≡ count_due (states_in project es)) (index : ℕ) (a : RunningUnit) (at : slice_get aloft index ≡ Some a) (begun : slice_get (states_in project es) a.unit ≡ Some Begun) (heard : new.heard ≡ now.heard) where
+module _ (project : Project) (first now new : BuildState) (started : List ℕ) (running : List RunningUnit) (es : List (Event BadUnit)) (given : ℕ) (goes : CountersSoFar project first now started running es given)
+    (is_given : given ≡ count_due (states_in project es)) (index : ℕ) (a : RunningUnit) (at : slice_get running index ≡ Some a) (begun : slice_get (states_in project es) a.unit ≡ Some Begun) (heard : new.heard ≡ now.heard) where
   lines_same : (n : ℕ) → Appends first.heard.taken now.heard.taken (due_first n (states_in project es)) → Appends first.heard.taken new.heard.taken (due_first n (states_in project es))
   lines_same n lines = subst (λ (x : SinkState). Appends first.heard.taken x.taken (due_first n (states_in project es))) (sym heard) lines
 
@@ -286,11 +286,11 @@ module _ (project : Project) (first now new : BuildState) (started : List ℕ) (
   settings_same None same = ap (λ (s : Starts). s.settings) same ∙ goes.settings
   settings_same (Some l) landed = ap (λ (s : Starts). s.settings) landed ∙ goes.settings
 
-  pub goes_answered : AreApart (places_of aloft) → (answer : Answer BadUnit) → new.counts.failures ≡ now.counts.failures → LandsBy (child_of a.begun) now.counts.starts new.counts.starts → new.most ≡ now.most
-      → CountersSoFar project first new started (remove aloft index) (Gave a.unit answer ∷ es) given
+  pub goes_answered : AreApart (places_of running) → (answer : Answer BadUnit) → new.counts.failures ≡ now.counts.failures → LandsBy (child_of a.begun) now.counts.starts new.counts.starts → new.most ≡ now.most
+      → CountersSoFar project first new started (remove running index) (Gave a.unit answer ∷ es) given
   goes_answered apart answer failures lands most = record {
     started_are = goes.started_are;
-    launched_are = launched_left aloft index a apart at ∙ ap (events.without a.unit) goes.launched_are;
+    launched_are = launched_left running index a apart at ∙ ap (events.without a.unit) goes.launched_are;
     lines = subst (Appends first.heard.taken new.heard.taken) (sym (due_first_answered given (states_in project es) a.unit answer is_given begun)) (lines_same given goes.lines);
     faults = faults_same;
     failures = failures ∙ goes.failures;
@@ -335,9 +335,9 @@ module _ (project : Project) (first now new : BuildState) (started : List ℕ) (
 
 -- Lines are handed out.
 
-module _ (project : Project) (first now new : BuildState) (started : List ℕ) (aloft : List RunningUnit) (es : List (Event BadUnit)) (given : ℕ) (goes : CountersSoFar project first now started aloft es given)
+module _ (project : Project) (first now new : BuildState) (started : List ℕ) (running : List RunningUnit) (es : List (Event BadUnit)) (given : ℕ) (goes : CountersSoFar project first now started running es given)
     (counts : new.counts ≡ now.counts) (most : new.most ≡ now.most) where
-  pub goes_told : Appends now.heard.taken new.heard.taken (due_after given (states_in project es)) → new.heard.faults ≡ now.heard.faults → CountersSoFar project first new started aloft es (count_due (states_in project es))
+  pub goes_told : Appends now.heard.taken new.heard.taken (due_after given (states_in project es)) → new.heard.faults ≡ now.heard.faults → CountersSoFar project first new started running es (count_due (states_in project es))
   goes_told lines faults = record {
     started_are = goes.started_are;
     launched_are = goes.launched_are;

@@ -1,4 +1,4 @@
--- Why units have begun, whatever the records hold: where a unit begins, answers or is dropped, and over a basis.
+-- Why units have begun, whatever the records hold: where a unit begins, answers or is dropped, and over a build context.
 use Rattle.std.proofs.Common.{◌≡◌, ◌≢◌, ◌∙◌, ◌<◌, ◌⊎◌, inl, inr, Bool, true, false, List, ◌∷◌, ℕ, Option, Some, None, Contains, IsTrue, is_some, length, refl, sym, ap, subst, slice_get, slice_set}
 use Rattle.std.proofs.lemmas.Bool.{false≢true}
 use Rattle.std.specs.FinMap as finite
@@ -179,7 +179,7 @@ module _ (project : Project) (sources : World) where
       unstarted = f.unstarted;
     }
 
--- Over a basis, where what the runs gave from nothing is noted.
+-- Over a build context, where what the runs gave from nothing is noted.
 
 -- what was good before a beginning is good
 good_later : (project : Project) (before es : List (Event BadUnit)) → IsLawful (needs_of project) es → OrBefore before es → (places : List ℕ) → are_good (states_in project before) places ≡ true → are_good (states_in project es) places ≡ true
@@ -265,11 +265,11 @@ module _ (is_modelled : Bool) (child : Answers) (first old : UnitExecutor) (at n
 
   -- A unit answers.
 
-  module _ (index : ℕ) (a : RunningUnit) (u : Planned) (there : unit_at old.project a.unit ≡ Some u) (at_index : slice_get old.aloft.items index ≡ Some a) (only : IsTrue is_modelled → ChangesOnly (is_of (records_folder old.project) u.key) now.world new.world)
+  module _ (index : ℕ) (a : RunningUnit) (u : Planned) (there : unit_at old.project a.unit ≡ Some u) (at_index : slice_get old.running.items index ≡ Some a) (only : IsTrue is_modelled → ChangesOnly (is_of (records_folder old.project) u.key) now.world new.world)
       (same : IsTrue is_modelled → child_of a.begun ≡ None → lacks_number (records (records_folder old.project) now.world u.key) ≡ false → new.world ≡ now.world)
       (folder : IsTrue is_modelled → child_of a.begun ≡ None → (q : List ℕ) → is_at_or_below u.out q ≡ true → finite.get new.world.files q ≡ finite.get now.world.files q) where
     so : IsTrue is_modelled → FliesIn old.project es now.world now.counts.starts.flying a
-    so t = all_get (FliesIn old.project es now.world now.counts.starts.flying) old.aloft.items index a (story.changes t).flies at_index
+    so t = all_get (FliesIn old.project es now.world now.counts.starts.flying) old.running.items index a (story.changes t).flies at_index
 
     -- a fault came in its place
     pub unanswered_began : IsTrue is_modelled → AllBeganOnAny old.setup old.project old.done.items es old.reasons.items at.world new.world

@@ -28,7 +28,7 @@ use Rattle.pb_command_types.specs.Targets.{unit_at}
 use Rattle.pb_build_result.specs.declared.bad_unit.BadUnit.{BadUnit}
 use Rattle.pb_command_types.specs.declared.project.Project.{Project}
 use Rattle.pb_command_types.specs.declared.project.Setup.{Setup}
-use Rattle.pb_run.specs.UnitSteps.{Premise, BuildContext, basis, BuildInvariant, outcomes_in}
+use Rattle.pb_run.specs.UnitSteps.{Premise, BuildContext, build_context, BuildInvariant, outcomes_in}
 use Rattle.pb_run.specs.Invariants.{IsInOrder}
 use Rattle.pb_message_units.specs.Telling.{unit_lines}
 use Rattle.pb_run.proofs.Shown.{each_of}
@@ -86,13 +86,13 @@ no_answer answer e = cc
 none_begun : (project : Project) (place : ℕ) → HasBegun (untouched project) place → ⊥
 none_begun project place (s, at, begun) = false≢true (sym begun ∙ ap is_untouched (untouched_at (needs_of project) place s at))
 
-pub story_first : (is_modelled : Bool) (child : Answers) (c : UnitExecutor) (at : BuildState) (still : ℕ → Type 0) → c.aloft.items ≡ [] → c.started.items ≡ [] → History is_modelled child c at c at still [] 0
-story_first is_modelled child c at still aloft started = record {
+pub story_first : (is_modelled : Bool) (child : Answers) (c : UnitExecutor) (at : BuildState) (still : ℕ → Type 0) → c.running.items ≡ [] → c.started.items ≡ [] → History is_modelled child c at c at still [] 0
+story_first is_modelled child c at still running started = record {
   setup = refl;
   project = refl;
   goes = record {
     started_are = started;
-    launched_are = ap launched_of aloft;
+    launched_are = ap launched_of running;
     lines = appends_none at.heard.taken;
     faults = refl;
     failures = refl;
@@ -102,17 +102,17 @@ story_first is_modelled child c at still aloft started = record {
   };
   numbers = refl;
   taken = λ t. refl;
-  changes = λ t. changes_first c.project at.world c.aloft.items at.counts.starts.flying aloft;
+  changes = λ t. changes_first c.project at.world c.running.items at.counts.starts.flying running;
   happened = λ t f s keeps. record {
     keeps = keeps;
-    begun = subst (AllByRecursion _) (sym aloft) tt;
+    begun = subst (AllByRecursion _) (sym running) tt;
     gave = λ place answer is. absurd (no_answer answer (untouched_at (needs_of c.project) place (Answered answer) is));
   };
   unrecorded = λ t. none_in_flight c.project at.world;
   childless = λ t place u q there state apart started inside. refl;
-  again = λ t. replays_first c.setup c.project c.done.items c.aloft.items at.world aloft;
-  anew = λ t. replies_first child c.setup c.project c.done.items c.aloft.items at.world at.counts.starts.flying still aloft;
-  left = λ t. recordings_first child c.setup c.project c.done.items c.aloft.items c.store.next at.world aloft;
+  again = λ t. replays_first c.setup c.project c.done.items c.running.items at.world running;
+  anew = λ t. replies_first child c.setup c.project c.done.items c.running.items at.world at.counts.starts.flying still running;
+  left = λ t. recordings_first child c.setup c.project c.done.items c.running.items c.store.next at.world running;
   began = λ t place has. absurd (none_begun c.project place has);
   quiet = λ t none numbered. refl;
   calls = λ t f s keeps. (refl, refl);
@@ -137,7 +137,7 @@ all_given b done es gave k answer at =
       noted = g.noted;
     }
 
-module _ (b : BuildContext) (done : List (Option (List Directive))) (aloft : List RunningUnit) (next : Option ℕ) (es : List (Event BadUnit)) (w : World) (flying : List ChildInFlight) (still : ℕ → Type 0) (h : HistoryHolds b done aloft next es w flying still) where
+module _ (b : BuildContext) (done : List (Option (List Directive))) (running : List RunningUnit) (next : Option ℕ) (es : List (Event BadUnit)) (w : World) (flying : List ChildInFlight) (still : ℕ → Type 0) (h : HistoryHolds b done running next es w flying still) where
   all_told : AllTold b.project es 0 b.project.plan.planned (outcomes_in b) done (states_in b.project es)
   all_told = all_given b done es h.gave
 
@@ -206,20 +206,20 @@ says_first_rows b es done gave = (
 -- The ends.
 
 module _ {S : Type 0} (is_modelled : Bool) (child : Answers) (Turns : S → List ℕ → List ℕ → Step → S → Type 0) (first c d : UnitExecutor) (from last : S) (at mid new : BuildState) (still still' : ℕ → Type 0) (es : List (Event BadUnit))
-    (said : first.done.items ≡ nothing_said first.project) (drained : Drained mid.counts new.counts) (landed : new.counts.starts.flying ≡ []) (heard : new.heard ≡ mid.heard) (same : d ≡ record c { aloft = d.aloft })
-    (told : (fw : World) (events : List (Event BadUnit)) → IsTrue is_modelled → Changes c.project fw c.aloft.items events mid.world mid.counts.starts.flying
-    → StaysTold child c.project fw events c.aloft.items d.aloft.items mid.world new.world new.counts.starts.flying)
-    (happened : (b : BuildContext) (events : List (Event BadUnit)) → IsTrue is_modelled → b.project ≡ c.project → HistoryHolds b c.done.items c.aloft.items c.store.next events mid.world mid.counts.starts.flying still
-    → HistoryHolds b d.done.items d.aloft.items d.store.next events new.world new.counts.starts.flying still')
+    (said : first.done.items ≡ nothing_said first.project) (drained : Drained mid.counts new.counts) (landed : new.counts.starts.flying ≡ []) (heard : new.heard ≡ mid.heard) (same : d ≡ record c { running = d.running })
+    (told : (fw : World) (events : List (Event BadUnit)) → IsTrue is_modelled → Changes c.project fw c.running.items events mid.world mid.counts.starts.flying
+    → StaysTold child c.project fw events c.running.items d.running.items mid.world new.world new.counts.starts.flying)
+    (happened : (b : BuildContext) (events : List (Event BadUnit)) → IsTrue is_modelled → b.project ≡ c.project → HistoryHolds b c.done.items c.running.items c.store.next events mid.world mid.counts.starts.flying still
+    → HistoryHolds b d.done.items d.running.items d.store.next events new.world new.counts.starts.flying still')
     (order : IsInOrder first.project) where
-  -- what a basis keeps at first
+  -- what a build context keeps at first
   abbrev Since : (BuildContext → Type 0) → Setup → Project → Type 0
-  Since Stand setup project = IsTrue is_modelled → (f : Premise) (sources : World) → BuildInvariant (basis f child setup project sources) (untouched project) first.done.items first.store.next at.world → Stand (basis f child setup project sources)
+  Since Stand setup project = IsTrue is_modelled → (f : Premise) (sources : World) → BuildInvariant (build_context f child setup project sources) (untouched project) first.done.items first.store.next at.world → Stand (build_context f child setup project sources)
 
   since_first : (Stand : BuildContext → Type 0) → c.setup ≡ first.setup → c.project ≡ first.project → Since Stand c.setup c.project → IsTrue is_modelled → Grounding child first.setup first.project first.store.next at.world Stand
   since_first Stand setup project since t f sources keeps =
       subst (λ (s : Setup). Since Stand s first.project) setup (subst (λ (p : Project). Since Stand c.setup p) project since) t f sources
-      (subst (λ ds. BuildInvariant (basis f child first.setup first.project sources) (untouched first.project) ds first.store.next at.world) (sym said) keeps)
+      (subst (λ ds. BuildInvariant (build_context f child first.setup first.project sources) (untouched first.project) ds first.store.next at.world) (sym said) keeps)
 
   lawful : c.project ≡ first.project → Flies Turns (needs_of first.project) Anyhow Anything from es last → IsLawful (needs_of c.project) es
   lawful project flies = subst (λ (p : Project). IsLawful (needs_of p) es) (sym project) (steps_are_lawful Turns (needs_of first.project) Anyhow Anything from es last flies)
@@ -228,13 +228,13 @@ module _ {S : Type 0} (is_modelled : Bool) (child : Answers) (Turns : S → List
   abbrev commands : ℕ → Planned → Command
   commands place u = command_of c.setup c.project u c.done.items
 
-  began_new : (fault : BuildFault) (before : List (Event BadUnit)) (reasons : Reasons) → reasons ≡ c.reasons.items → IsLawful (needs_of c.project) es → CameAfter c.project fault before es → (IsTrue is_modelled → Changes c.project at.world c.aloft.items es mid.world mid.counts.starts.flying)
+  began_new : (fault : BuildFault) (before : List (Event BadUnit)) (reasons : Reasons) → reasons ≡ c.reasons.items → IsLawful (needs_of c.project) es → CameAfter c.project fault before es → (IsTrue is_modelled → Changes c.project at.world c.running.items es mid.world mid.counts.starts.flying)
       → (IsTrue is_modelled → AllBeganOnAny c.setup c.project c.done.items before c.reasons.items at.world mid.world) → IsTrue is_modelled → AllBeganOnAny c.setup c.project c.done.items before reasons at.world new.world
   began_new fault before reasons is flies came changed began t =
       subst (λ (items : Reasons). AllBegan c.project (from_nothing c.project.workspace.target at.world) commands before items at.world new.world) (sym is)
       ((told at.world es t (changed t)).began (from_nothing c.project.workspace.target at.world) commands fault before c.reasons.items flies came (began t))
 
-  started_new : (fault : BuildFault) (before : List (Event BadUnit)) → (IsTrue is_modelled → Changes c.project at.world c.aloft.items es mid.world mid.counts.starts.flying)
+  started_new : (fault : BuildFault) (before : List (Event BadUnit)) → (IsTrue is_modelled → Changes c.project at.world c.running.items es mid.world mid.counts.starts.flying)
       → (IsTrue is_modelled → StartedOnAny c.setup c.project c.done.items fault before es at.world mid.world) → IsTrue is_modelled → StartedOnAny c.setup c.project c.done.items fault before es at.world new.world
   started_new fault before changed had t = (told at.world es t (changed t)).started (from_nothing c.project.workspace.target at.world) commands fault before (had t)
 
@@ -280,11 +280,11 @@ module _ {S : Type 0} (is_modelled : Bool) (child : Answers) (Turns : S → List
     told = since_first (λ b. StandsCut b fault es ends.before at.world new.world) ends.setup ends.project (λ t f sources keeps.
         let h = ends.happened t f sources keeps in
         record {
-          stands = stands (basis f child c.setup c.project sources) d.done.items d.aloft.items d.store.next es new.world new.counts.starts.flying still' (happened (basis f child c.setup c.project sources) es t refl h);
+          stands = stands (build_context f child c.setup c.project sources) d.done.items d.running.items d.store.next es new.world new.counts.starts.flying still' (happened (build_context f child c.setup c.project sources) es t refl h);
           reasons = c.reasons.items;
-          began = began_from_nothing (basis f child c.setup c.project sources) (ordered ends.project) es c.done.items c.store.next mid.world h.keeps at.world keeps.sources_stay ends.before c.reasons.items new.world (lawful ends.project flies) (or_before c.project fault ends.before es ends.came)
+          began = began_from_nothing (build_context f child c.setup c.project sources) (ordered ends.project) es c.done.items c.store.next mid.world h.keeps at.world keeps.sources_stay ends.before c.reasons.items new.world (lawful ends.project flies) (or_before c.project fault ends.before es ends.came)
               (began_new fault ends.before c.reasons.items refl (lawful ends.project flies) ends.came ends.changes ends.began t);
-          started = started_from_nothing (basis f child c.setup c.project sources) (ordered ends.project) es c.done.items c.store.next mid.world h.keeps at.world keeps.sources_stay fault ends.before new.world (started_new fault ends.before ends.changes ends.started t);
+          started = started_from_nothing (build_context f child c.setup c.project sources) (ordered ends.project) es c.done.items c.store.next mid.world h.keeps at.world keeps.sources_stay fault ends.before new.world (started_new fault ends.before ends.changes ends.started t);
         });
     calls = since_first (λ b. CallsCut (call_basis b) fault asked es ends.before at.world at.counts mid.world mid.counts) ends.setup ends.project ends.calls;
     calls_on_any = λ t. on_first (λ s p. CallsCutOnAny child s p c.done.items fault asked es ends.before at.world at.counts mid.world mid.counts) ends.setup ends.project (ends.calls_on_any t);
@@ -295,14 +295,14 @@ module _ {S : Type 0} (is_modelled : Bool) (child : Answers) (Turns : S → List
   untold given s = record {
     setup = s.setup;
     project = s.project;
-    stops = stops_refused c.project at mid mid c.started.items c.aloft.items es given s.goes refl refl is_modelled refl;
+    stops = stops_refused c.project at mid mid c.started.items c.running.items es given s.goes refl refl is_modelled refl;
     spent = tt;
     before = es;
     came = inl refl;
     names = tt;
     most = s.goes.most;
     changes = s.changes;
-    beside = λ t. beside_none c.project at.world c.aloft.items es mid.world mid.counts.starts.flying (s.changes t) c.aloft.items refl;
+    beside = λ t. beside_none c.project at.world c.running.items es mid.world mid.counts.starts.flying (s.changes t) c.running.items refl;
     unrecorded = s.unrecorded;
     childless = s.childless;
     again = λ t. (s.again t).gave;
@@ -379,7 +379,7 @@ module _ {S : Type 0} (is_modelled : Bool) (child : Answers) (Turns : S → List
       only = λ t. subst (λ (p : Project). OnlyOf p es at.world new.world) story.project (told at.world es t (story.changes t)).changes.only;
       last_world = mid.world;
       dropping = λ t. subst (λ (p : Project). ChangesInFlight p es None mid.world new.world) story.project
-          ((told at.world es t (story.changes t)).alone es None (beside_none c.project at.world c.aloft.items es mid.world mid.counts.starts.flying (story.changes t) c.aloft.items refl));
+          ((told at.world es t (story.changes t)).alone es None (beside_none c.project at.world c.running.items es mid.world mid.counts.starts.flying (story.changes t) c.running.items refl));
       numbers = (c.store.next, story.numbers);
       taken = λ t. subst (λ (p : Project). NumbersGiven (LacksNumber p at.world) es first.store.next c.store.next) story.project (story.taken t);
       unkept = λ t. subst (λ (p : Project). KeepsNoneOfBad p es new.world) story.project (told at.world es t (story.changes t)).changes.unkept;
@@ -392,10 +392,10 @@ module _ {S : Type 0} (is_modelled : Bool) (child : Answers) (Turns : S → List
       left = λ t. on_first (λ s p. AllLeaveRecords child s p es c.done.items first.store.next at.world new.world) story.setup story.project ((told at.world es t (story.changes t)).left c.setup c.done.items first.store.next (lawful story.project flown.flies) (story.left t).gave);
       told = since_first (λ b. StandsWhole b es d.reasons.items summary c.store.next at.world new.world) story.setup story.project (λ t f sources keeps.
           let h = story.happened t f sources keeps in
-          subst (λ (n : Option ℕ). StandsWhole (basis f child c.setup c.project sources) es d.reasons.items summary n at.world new.world) (ap (λ (x : UnitExecutor). x.store.next) same)
-          (stands_whole (basis f child c.setup c.project sources) d.done.items d.aloft.items d.store.next es new.world new.counts.starts.flying still' (happened (basis f child c.setup c.project sources) es t refl h)
+          subst (λ (n : Option ℕ). StandsWhole (build_context f child c.setup c.project sources) es d.reasons.items summary n at.world new.world) (ap (λ (x : UnitExecutor). x.store.next) same)
+          (stands_whole (build_context f child c.setup c.project sources) d.done.items d.running.items d.store.next es new.world new.counts.starts.flying still' (happened (build_context f child c.setup c.project sources) es t refl h)
           (ap is_finished (sym states_are) ∙ finished) (length_states (needs_of c.project) es ∙ length-map c.project.plan.planned (λ (u : Planned). u.needs)) d.reasons.items at.world
-          (began_from_nothing (basis f child c.setup c.project sources) (ordered story.project) es c.done.items c.store.next mid.world h.keeps at.world keeps.sources_stay es d.reasons.items new.world (lawful story.project flown.flies) (inl refl) (began_whole t)) d.started.items started_is summary now_is));
+          (began_from_nothing (build_context f child c.setup c.project sources) (ordered story.project) es c.done.items c.store.next mid.world h.keeps at.world keeps.sources_stay es d.reasons.items new.world (lawful story.project flown.flies) (inl refl) (began_whole t)) d.started.items started_is summary now_is));
       calls = since_first (λ b. CallsOver (call_basis b) es at.world at.counts mid.world mid.counts) story.setup story.project story.calls;
       calls_on_any = λ t. on_first (λ s p. CallsOnAny child s p c.done.items es at.world at.counts mid.world mid.counts) story.setup story.project (story.calls_on_any t);
     }
@@ -433,7 +433,7 @@ ends_before is_modelled child Turns setup project next from at none = record {
   anew = λ t. (replies_first child setup project [] [] at.world [] (λ n. Unit {0}) refl).gave;
   left = λ t. (recordings_first child setup project [] [] next at.world refl).gave;
   told = λ t f sources keeps. record {
-    stands = stands (basis f child setup project sources) (nothing_said project) [] next [] at.world [] (λ n. Unit {0}) record {
+    stands = stands (build_context f child setup project sources) (nothing_said project) [] next [] at.world [] (λ n. Unit {0}) record {
       keeps = keeps;
       begun = tt;
       gave = λ place answer is. absurd (no_answer answer (untouched_at (needs_of project) place (Answered answer) is));
@@ -447,6 +447,6 @@ ends_before is_modelled child Turns setup project next from at none = record {
 }
 
 pub states_long : {S : Type 0} (Turns : S → List ℕ → List ℕ → Step → S → Type 0) (first c d : UnitExecutor) (from last : S) (es : List (Event BadUnit)) (table : Table BadUnit) (flying : List ℕ) → IsFlown Turns (needs_of first.project) from es last table flying
-    → needs_of c.project ≡ needs_of first.project → d ≡ record c { aloft = d.aloft } → length table.states ≡ length d.project.plan.planned
+    → needs_of c.project ≡ needs_of first.project → d ≡ record c { running = d.running } → length table.states ≡ length d.project.plan.planned
 states_long Turns first c d from last es table flying flown needs same =
     ap length flown.states_are ∙ length_states (needs_of first.project) es ∙ ap length (sym needs) ∙ length-map c.project.plan.planned (λ (u : Planned). u.needs) ∙ ap (λ (x : UnitExecutor). length x.project.plan.planned) (sym same)

@@ -51,8 +51,8 @@ none_of (Some x) is = absurd (false≢true (sym is))
 
 -- A unit begins.
 
-module _ (b : BuildContext) (order : IsInOrder b.project) (done : List (Option (List Directive))) (aloft : List RunningUnit) (next next' : Option ℕ) (es : List (Event BadUnit)) (w w' : World)
-    (flying flying' : List ChildInFlight) (still still' : ℕ → Type 0) (h : HistoryHolds b done aloft next es w flying still)
+module _ (b : BuildContext) (order : IsInOrder b.project) (done : List (Option (List Directive))) (running : List RunningUnit) (next next' : Option ℕ) (es : List (Event BadUnit)) (w w' : World)
+    (flying flying' : List ChildInFlight) (still still' : ℕ → Type 0) (h : HistoryHolds b done running next es w flying still)
     (unit : ℕ) (u : Planned) (there : unit_at b.project unit ≡ Some u) (may : MayBegin (needs_of b.project) (states_in b.project es) unit) where
   pub can : CanBegin b (states_in b.project es) done unit u next w
   can = can_begin b order (states_in b.project es) done next w h.keeps unit u there may
@@ -94,10 +94,10 @@ module _ (b : BuildContext) (order : IsInOrder b.project) (done : List (Option (
     }
 
     -- the units that were in flight
-    pub happened_begun : HistoryHolds b done aloft next' (Began unit spawned ∷ es) w' flying' still'
+    pub happened_begun : HistoryHolds b done running next' (Began unit spawned ∷ es) w' flying' still'
     happened_begun = record {
       keeps = keeps;
-      begun = all_as (FliesSo b es next w flying still) (FliesSo b (Began unit spawned ∷ es) next' w' flying' still') aloft flies_on h.begun;
+      begun = all_as (FliesSo b es next w flying still) (FliesSo b (Began unit spawned ∷ es) next' w' flying' still') running flies_on h.begun;
       gave = λ place answer at. let (ne, before) = answered_before (states_in b.project es) unit place answer Untouched may.untouched at in given_on place answer ne (h.gave place answer before);
     }
 
@@ -113,9 +113,9 @@ module _ (b : BuildContext) (order : IsInOrder b.project) (done : List (Option (
           (started_now es unit spawned ∙ flag)
 
       -- and this one
-      pub happened_more : HistoryHolds b done (aloft ++ a ∷ []) next' (Began unit spawned ∷ es) w' flying' still'
+      pub happened_more : HistoryHolds b done (running ++ a ∷ []) next' (Began unit spawned ∷ es) w' flying' still'
       happened_more = record {
         keeps = keeps;
-        begun = all_more (FliesSo b (Began unit spawned ∷ es) next' w' flying' still') aloft (a ∷ []) happened_begun.begun (own, tt);
+        begun = all_more (FliesSo b (Began unit spawned ∷ es) next' w' flying' still') running (a ∷ []) happened_begun.begun (own, tt);
         gave = happened_begun.gave;
       }

@@ -190,15 +190,15 @@ LaunchedAfter project next first before o = IfSome o (λ launched. NumbersGiven 
 
 -- Nothing has begun.
 
-pub recordings_first : (child : Answers) (setup : Setup) (project : Project) (done : List (Option (List Directive))) (aloft : List RunningUnit) (next : Option ℕ) (w : World) → aloft ≡ [] → Recordings child setup project done aloft [] next w w
-recordings_first child setup project done aloft next w none = record {
+pub recordings_first : (child : Answers) (setup : Setup) (project : Project) (done : List (Option (List Directive))) (running : List RunningUnit) (next : Option ℕ) (w : World) → running ≡ [] → Recordings child setup project done running [] next w w
+recordings_first child setup project done running next w none = record {
   carries = subst (AllByRecursion (CarriesNumber project [] next w)) (sym none) tt;
   gave = λ place answer state. absurd (no_answer (needs_of project) place answer state);
 }
 
 module _ (is_modelled : Bool) (child : Answers) (first old : UnitExecutor) (at now new : BuildState) (still : ℕ → Type 0) (es : List (Event BadUnit)) (given : ℕ) (story : History is_modelled child first at old now still es given) (order : IsInOrder old.project) (lawful : IsLawful (needs_of old.project) es) where
-  flown : IsTrue is_modelled → (k : ℕ) (a : RunningUnit) → slice_get old.aloft.items k ≡ Some a → FliesIn old.project es now.world now.counts.starts.flying a
-  flown t k a at_k = all_get (FliesIn old.project es now.world now.counts.starts.flying) old.aloft.items k a (story.changes t).flies at_k
+  flown : IsTrue is_modelled → (k : ℕ) (a : RunningUnit) → slice_get old.running.items k ≡ Some a → FliesIn old.project es now.world now.counts.starts.flying a
+  flown t k a at_k = all_get (FliesIn old.project es now.world now.counts.starts.flying) old.running.items k a (story.changes t).flies at_k
 
   -- A unit begins.
 
@@ -214,13 +214,13 @@ module _ (is_modelled : Bool) (child : Answers) (first old : UnitExecutor) (at n
 
     -- it has
     pub begun_left : (next : Option ℕ) (begun : unit_begun) → MatchOption (child_of begun) (next ≡ old.store.next) (λ launched. (old.store.next ≡ Some launched.number) × (next ≡ after launched.number))
-        → (aloft' : List RunningUnit) → aloft' ≡ old.aloft.items ++ record { unit = unit; begun = begun } ∷ []
-        → IsTrue is_modelled → Recordings child old.setup old.project old.done.items aloft' (Began unit (is_some (child_of begun)) ∷ es) first.store.next at.world new.world
-    begun_left next begun number aloft' more t = record {
+        → (running' : List RunningUnit) → running' ≡ old.running.items ++ record { unit = unit; begun = begun } ∷ []
+        → IsTrue is_modelled → Recordings child old.setup old.project old.done.items running' (Began unit (is_some (child_of begun)) ∷ es) first.store.next at.world new.world
+    begun_left next begun number running' more t = record {
       carries =
           subst (AllByRecursion (CarriesNumber old.project (Began unit (is_some (child_of begun)) ∷ es) first.store.next at.world)) (sym more)
-          (all_more (CarriesNumber old.project (Began unit (is_some (child_of begun)) ∷ es) first.store.next at.world) old.aloft.items (record { unit = unit; begun = begun } ∷ [])
-          (all_at_each (CarriesNumber old.project es first.store.next at.world) (CarriesNumber old.project (Began unit (is_some (child_of begun)) ∷ es) first.store.next at.world) old.aloft.items
+          (all_more (CarriesNumber old.project (Began unit (is_some (child_of begun)) ∷ es) first.store.next at.world) old.running.items (record { unit = unit; begun = begun } ∷ [])
+          (all_at_each (CarriesNumber old.project es first.store.next at.world) (CarriesNumber old.project (Began unit (is_some (child_of begun)) ∷ es) first.store.next at.world) old.running.items
           (λ k a at_k carries.
           number_on (child_of a.begun) (events_before es a.unit) (events_before (Began unit (is_some (child_of begun)) ∷ es) a.unit)
           (before_other es unit a.unit (is_some (child_of begun)) (another (states_in old.project es) unit a.unit may.untouched (Begun, (flown t k a at_k).state, refl))) carries)
@@ -240,7 +240,7 @@ module _ (is_modelled : Bool) (child : Answers) (first old : UnitExecutor) (at n
 
   -- A unit answers.
 
-  module _ (index : ℕ) (a : RunningUnit) (u : Planned) (there : unit_at old.project a.unit ≡ Some u) (at_index : slice_get old.aloft.items index ≡ Some a) (only : IsTrue is_modelled → ChangesOnly (is_of (records_folder old.project) u.key) now.world new.world) where
+  module _ (index : ℕ) (a : RunningUnit) (u : Planned) (there : unit_at old.project a.unit ≡ Some u) (at_index : slice_get old.running.items index ≡ Some a) (only : IsTrue is_modelled → ChangesOnly (is_of (records_folder old.project) u.key) now.world new.world) where
     -- a fault came in its place
     pub unanswered_left : IsTrue is_modelled → AllLeaveRecords child old.setup old.project es old.done.items first.store.next at.world new.world
     unanswered_left t =
@@ -254,11 +254,11 @@ module _ (is_modelled : Bool) (child : Answers) (first old : UnitExecutor) (at n
         → (next : Option ℕ) → (IsTrue is_modelled → is_started es a.unit ≡ false → ran.bad ≡ None → lacks_number (records (records_folder old.project) at.world u.key) ≡ true → TakesNext old.store.next next)
         → (IsTrue is_modelled → (answer : Result Ended StartFault) × (left : World) × (mid : Counts) × EndsBy a.begun.awaited answer (IsOk (well_of ran)) still now.world left now.counts mid × ChangesOnly (is_at_or_below (place_of (records_folder old.project) u.key)) left new.world)
         → (IsTrue is_modelled → IsSome ran.bad → ChangesOnly (is_at_or_below u.out) now.world new.world)
-        → (aloft' : List RunningUnit) (done' : List (Option (List Directive))) → aloft' ≡ remove old.aloft.items index → done' ≡ slice_set old.done.items a.unit ran.directives
-        → IsTrue is_modelled → Recordings child old.setup old.project done' aloft' (Gave a.unit record { fault = ran.bad; lines = lines } ∷ es) first.store.next at.world new.world
-    answered_left ran lines kept next lacked lands unkept aloft' done' is set t = record {
+        → (running' : List RunningUnit) (done' : List (Option (List Directive))) → running' ≡ remove old.running.items index → done' ≡ slice_set old.done.items a.unit ran.directives
+        → IsTrue is_modelled → Recordings child old.setup old.project done' running' (Gave a.unit record { fault = ran.bad; lines = lines } ∷ es) first.store.next at.world new.world
+    answered_left ran lines kept next lacked lands unkept running' done' is set t = record {
       carries = subst (AllByRecursion (CarriesNumber old.project es first.store.next at.world)) (sym is)
-          (all_left (CarriesNumber old.project es first.store.next at.world) (CarriesNumber old.project es first.store.next at.world) old.aloft.items index (λ j y at_j ne carries. carries) ((story.left t).carries));
+          (all_left (CarriesNumber old.project es first.store.next at.world) (CarriesNumber old.project es first.store.next at.world) old.running.items index (λ j y at_j ne carries. carries) ((story.left t).carries));
       gave = λ place answer state_after. elim (answered_cases (states_in old.project es) a.unit place answer its_answer Begun state state_after) [
         | inl (same, its) ↦
             subst (λ (x : Answer BadUnit). LeavesRecord child old.setup old.project done' (is_started es place) (events_before es place) (events_until (Gave a.unit its_answer ∷ es) place) first.store.next at.world new.world place x) its
@@ -293,10 +293,10 @@ module _ (is_modelled : Bool) (child : Answers) (first old : UnitExecutor) (at n
         sees asks = sees_on old.project order es lawful a.unit u there (ap is_good_at state) old.setup a.unit u has there old.done.items a.begun.command asks now.world new.world (only t)
 
         waits : CarriesAnew child old.setup old.project old.done.items now.world now.counts.starts.flying still u a.begun.command a.begun.awaited
-        waits = all_get (FliesAnew child old.setup old.project old.done.items now.world now.counts.starts.flying still) old.aloft.items index a (story.anew t).waits at_index u there
+        waits = all_get (FliesAnew child old.setup old.project old.done.items now.world now.counts.starts.flying still) old.running.items index a (story.anew t).waits at_index u there
 
         replays : CarriesAgain old.setup old.project old.done.items at.world now.world u a.begun.command a.begun.awaited
-        replays = all_get (λ (x : RunningUnit). FliesAgain old.setup old.project old.done.items at.world now.world x) old.aloft.items index a ((story.again t).waits) at_index u there
+        replays = all_get (λ (x : RunningUnit). FliesAgain old.setup old.project old.done.items at.world now.world x) old.running.items index a ((story.again t).waits) at_index u there
 
         own : LeavesRecord child old.setup old.project done' (is_started es a.unit) (events_before es a.unit) (events_until (Gave a.unit its_answer ∷ es) a.unit) first.store.next at.world new.world a.unit its_answer
         own =
@@ -308,7 +308,7 @@ module _ (is_modelled : Bool) (child : Answers) (first old : UnitExecutor) (at n
                   let (ended, left, mid, ends, stands) = kept t (ap is_some good) in
                   anew_by child old.setup old.project order a.unit u there far old.done.items done' (commands a.unit u has there) a.begun.command now.world new.world now.counts still sees (only t) old.store.next a.begun.awaited
                   (sym flies.started ∙ started) waits (λ number. NumbersGiven (LacksNumber old.project at.world) (events_before es a.unit) first.store.next (Some number))
-                  (all_get (CarriesNumber old.project es first.store.next at.world) old.aloft.items index a ((story.left t).carries) at_index)
+                  (all_get (CarriesNumber old.project es first.store.next at.world) old.running.items index a ((story.left t).carries) at_index)
                   (IsTrue true) left mid ended ends stands (IsOk (well_of ran)) left' mid' answer' ends' refl behind;
               again = λ none good.
                   let (ended, left, mid, ends, stands) = kept t (ap is_some good) in (

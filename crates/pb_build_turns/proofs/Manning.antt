@@ -1,4 +1,4 @@
--- A crew stays manned.
+-- A crew stays consistent.
 use Rattle.std.proofs.Common.{◌≡◌, ◌≢◌, ◌∙◌, ◌<◌, ◌+◌, ◌++◌, ◌||◌, ◌==◌, Bool, true, false, List, [], ◌∷◌, ℕ, Option, Some, None, Contains, if◌then◌else◌, refl, sym, ap, subst, inl, inr, cond, map, length, arith, slice_get, append-nil, eq-eqb}
 use Rattle.std.proofs.lemmas.Bool.{cases_eq, false≢true}
 use Rattle.std.proofs.lemmas.List.{map-append}
@@ -105,73 +105,73 @@ flies_by ticket (f ∷ fs) has = elim (contains_cases f.ticket (map ticket_of_ch
     either true h = refl
     either false h = h
 
-pub flying_of : (c : UnitExecutor) (counts : Counts) (index : ℕ) (a : RunningUnit) → IsConsistent c counts → slice_get c.aloft.items index ≡ Some a → IfSome (child_of a.begun) (λ l. is_flying l.ticket counts.starts.flying ≡ true)
-flying_of c counts index a manned at = by (child_of a.begun) refl
+pub flying_of : (c : UnitExecutor) (counts : Counts) (index : ℕ) (a : RunningUnit) → IsConsistent c counts → slice_get c.running.items index ≡ Some a → IfSome (child_of a.begun) (λ l. is_flying l.ticket counts.starts.flying ≡ true)
+flying_of c counts index a consistent at = by (child_of a.begun) refl
   where
     by : (o : Option SpawnedChild) → (child_of a.begun) ≡ o → IfSome o (λ l. is_flying l.ticket counts.starts.flying ≡ true)
     by None is = tt
     by (Some l) is =
-        flies_by l.ticket counts.starts.flying (subst (λ ts. Contains ts l.ticket) (sym manned.tickets) (has_given (λ (x : RunningUnit). ticket_in (child_of x.begun)) c.aloft.items index a l.ticket at (ap ticket_in is)))
+        flies_by l.ticket counts.starts.flying (subst (λ ts. Contains ts l.ticket) (sym consistent.tickets) (has_given (λ (x : RunningUnit). ticket_in (child_of x.begun)) c.running.items index a l.ticket at (ap ticket_in is)))
 
 -- after a fault: the same units, and a next number that may have grown
-pub manned_same : (old new : UnitExecutor) (before now : Counts) → IsConsistent old before → new.project ≡ old.project → new.store.folder ≡ old.store.folder → new.done.items ≡ old.done.items → length new.reasons.items ≡ length old.reasons.items → new.aloft.items ≡ old.aloft.items → TakesNumber old.store.next new.store.next
+pub manned_same : (old new : UnitExecutor) (before now : Counts) → IsConsistent old before → new.project ≡ old.project → new.store.folder ≡ old.store.folder → new.done.items ≡ old.done.items → length new.reasons.items ≡ length old.reasons.items → new.running.items ≡ old.running.items → TakesNumber old.store.next new.store.next
     → now.starts.flying ≡ before.starts.flying → IsConsistent new now
-manned_same old new before now manned project folder done reasons aloft next flying = record {
-  order = subst IsInOrder (sym project) manned.order;
-  folder = folder ∙ manned.folder ∙ ap records_folder (sym project);
-  long = ap length done ∙ manned.long ∙ ap (λ (p : Project). length p.plan.planned) (sym project);
-  reasoned = reasons ∙ manned.reasoned ∙ ap (λ (p : Project). length p.plan.planned) (sym project);
-  units = subst (λ (p : Project). AllByRecursion (IsOfPlan p) new.aloft.items) (sym project) (subst (AllByRecursion (IsOfPlan old.project)) (sym aloft) manned.units);
-  units_apart = subst (λ (items : List RunningUnit). AreApart (places_of items)) (sym aloft) manned.units_apart;
-  tickets = ap (map ticket_of_child) flying ∙ manned.tickets ∙ ap tickets_of (sym aloft);
-  tickets_apart = subst (λ (items : List RunningUnit). AreApart (tickets_of items)) (sym aloft) manned.tickets_apart;
-  numbers_apart = subst (λ (items : List RunningUnit). AreApart (numbers_of items)) (sym aloft) manned.numbers_apart;
-  before = subst (λ (items : List RunningUnit). AllByRecursion (IsBefore new.store.next) (numbers_of items)) (sym aloft)
-      (all_as (IsBefore old.store.next) (IsBefore new.store.next) (numbers_of old.aloft.items) (λ n. before_next old.store.next new.store.next n next) manned.before);
+manned_same old new before now consistent project folder done reasons running next flying = record {
+  order = subst IsInOrder (sym project) consistent.order;
+  folder = folder ∙ consistent.folder ∙ ap records_folder (sym project);
+  long = ap length done ∙ consistent.long ∙ ap (λ (p : Project). length p.plan.planned) (sym project);
+  reasoned = reasons ∙ consistent.reasoned ∙ ap (λ (p : Project). length p.plan.planned) (sym project);
+  units = subst (λ (p : Project). AllByRecursion (IsOfPlan p) new.running.items) (sym project) (subst (AllByRecursion (IsOfPlan old.project)) (sym running) consistent.units);
+  units_apart = subst (λ (items : List RunningUnit). AreApart (places_of items)) (sym running) consistent.units_apart;
+  tickets = ap (map ticket_of_child) flying ∙ consistent.tickets ∙ ap tickets_of (sym running);
+  tickets_apart = subst (λ (items : List RunningUnit). AreApart (tickets_of items)) (sym running) consistent.tickets_apart;
+  numbers_apart = subst (λ (items : List RunningUnit). AreApart (numbers_of items)) (sym running) consistent.numbers_apart;
+  before = subst (λ (items : List RunningUnit). AllByRecursion (IsBefore new.store.next) (numbers_of items)) (sym running)
+      (all_as (IsBefore old.store.next) (IsBefore new.store.next) (numbers_of old.running.items) (λ n. before_next old.store.next new.store.next n next) consistent.before);
 }
 
 -- a unit more in flight
-module _ (old new : UnitExecutor) (before now : Counts) (a : RunningUnit) (manned : IsConsistent old before) (free : Contains (places_of old.aloft.items) a.unit → ⊥) (of_plan : IsOfPlan old.project a)
-    (project : new.project ≡ old.project) (folder : new.store.folder ≡ old.store.folder) (done : new.done.items ≡ old.done.items) (reasons : length new.reasons.items ≡ length old.reasons.items) (aloft : new.aloft.items ≡ old.aloft.items ++ a ∷ [])
+module _ (old new : UnitExecutor) (before now : Counts) (a : RunningUnit) (consistent : IsConsistent old before) (free : Contains (places_of old.running.items) a.unit → ⊥) (of_plan : IsOfPlan old.project a)
+    (project : new.project ≡ old.project) (folder : new.store.folder ≡ old.store.folder) (done : new.done.items ≡ old.done.items) (reasons : length new.reasons.items ≡ length old.reasons.items) (running : new.running.items ≡ old.running.items ++ a ∷ [])
     (next : TakesNumber old.store.next new.store.next) (begins : BeginsBy (child_of a.begun) before.starts now.starts)
     (number : (l : SpawnedChild) → (child_of a.begun) ≡ Some l → (old.store.next ≡ Some l.number) × (new.store.next ≡ after l.number)) where
-  tickets_are : tickets_of new.aloft.items ≡ tickets_of old.aloft.items ++ ticket_in (child_of a.begun)
-  tickets_are = ap tickets_of aloft ∙ flat_more (λ (x : RunningUnit). ticket_in (child_of x.begun)) old.aloft.items (a ∷ []) ∙ ap (λ ts. tickets_of old.aloft.items ++ ts) (append-nil (ticket_in (child_of a.begun)))
+  tickets_are : tickets_of new.running.items ≡ tickets_of old.running.items ++ ticket_in (child_of a.begun)
+  tickets_are = ap tickets_of running ∙ flat_more (λ (x : RunningUnit). ticket_in (child_of x.begun)) old.running.items (a ∷ []) ∙ ap (λ ts. tickets_of old.running.items ++ ts) (append-nil (ticket_in (child_of a.begun)))
 
-  numbers_are : numbers_of new.aloft.items ≡ numbers_of old.aloft.items ++ number_in (child_of a.begun)
-  numbers_are = ap numbers_of aloft ∙ flat_more (λ (x : RunningUnit). number_in (child_of x.begun)) old.aloft.items (a ∷ []) ∙ ap (λ ns. numbers_of old.aloft.items ++ ns) (append-nil (number_in (child_of a.begun)))
+  numbers_are : numbers_of new.running.items ≡ numbers_of old.running.items ++ number_in (child_of a.begun)
+  numbers_are = ap numbers_of running ∙ flat_more (λ (x : RunningUnit). number_in (child_of x.begun)) old.running.items (a ∷ []) ∙ ap (λ ns. numbers_of old.running.items ++ ns) (append-nil (number_in (child_of a.begun)))
 
-  places_are : places_of new.aloft.items ≡ places_of old.aloft.items ++ a.unit ∷ []
-  places_are = ap places_of aloft ∙ map-append place_of_unit old.aloft.items (a ∷ [])
+  places_are : places_of new.running.items ≡ places_of old.running.items ++ a.unit ∷ []
+  places_are = ap places_of running ∙ map-append place_of_unit old.running.items (a ∷ [])
 
-  flies : (o : Option SpawnedChild) → BeginsBy o before.starts now.starts → map ticket_of_child now.starts.flying ≡ tickets_of old.aloft.items ++ ticket_in o
-  flies None same = ap (λ (s : Starts). map ticket_of_child s.flying) same ∙ manned.tickets ∙ sym (append-nil (tickets_of old.aloft.items))
+  flies : (o : Option SpawnedChild) → BeginsBy o before.starts now.starts → map ticket_of_child now.starts.flying ≡ tickets_of old.running.items ++ ticket_in o
+  flies None same = ap (λ (s : Starts). map ticket_of_child s.flying) same ∙ consistent.tickets ∙ sym (append-nil (tickets_of old.running.items))
   flies (Some l) lifted =
-      ap (λ (s : Starts). map ticket_of_child s.flying) lifted.lifted ∙ map-append ticket_of_child before.starts.flying (lifted.child ∷ []) ∙ ap (λ ts. ts ++ ticket_of_child lifted.child ∷ []) manned.tickets ∙ ap (λ t. tickets_of old.aloft.items ++ t ∷ []) lifted.its
+      ap (λ (s : Starts). map ticket_of_child s.flying) lifted.lifted ∙ map-append ticket_of_child before.starts.flying (lifted.child ∷ []) ∙ ap (λ ts. ts ++ ticket_of_child lifted.child ∷ []) consistent.tickets ∙ ap (λ t. tickets_of old.running.items ++ t ∷ []) lifted.its
 
-  tickets_so : (o : Option SpawnedChild) → BeginsBy o before.starts now.starts → AreApart (tickets_of old.aloft.items ++ ticket_in o)
-  tickets_so None same = subst AreApart (sym (append-nil (tickets_of old.aloft.items))) manned.tickets_apart
-  tickets_so (Some l) lifted = apart_more (tickets_of old.aloft.items) l.ticket manned.tickets_apart (subst (AllByRecursion (λ t. t ≢ l.ticket)) manned.tickets (free_ticket l.ticket before.starts.flying lifted.free))
+  tickets_so : (o : Option SpawnedChild) → BeginsBy o before.starts now.starts → AreApart (tickets_of old.running.items ++ ticket_in o)
+  tickets_so None same = subst AreApart (sym (append-nil (tickets_of old.running.items))) consistent.tickets_apart
+  tickets_so (Some l) lifted = apart_more (tickets_of old.running.items) l.ticket consistent.tickets_apart (subst (AllByRecursion (λ t. t ≢ l.ticket)) consistent.tickets (free_ticket l.ticket before.starts.flying lifted.free))
 
-  numbers_so : (o : Option SpawnedChild) → (child_of a.begun) ≡ o → AreApart (numbers_of old.aloft.items ++ number_in o)
-  numbers_so None is = subst AreApart (sym (append-nil (numbers_of old.aloft.items))) manned.numbers_apart
-  numbers_so (Some l) is = apart_more (numbers_of old.aloft.items) l.number manned.numbers_apart (below_apart l.number (numbers_of old.aloft.items) (subst (λ o. AllByRecursion (IsBefore o) (numbers_of old.aloft.items)) (number l is).0 manned.before))
+  numbers_so : (o : Option SpawnedChild) → (child_of a.begun) ≡ o → AreApart (numbers_of old.running.items ++ number_in o)
+  numbers_so None is = subst AreApart (sym (append-nil (numbers_of old.running.items))) consistent.numbers_apart
+  numbers_so (Some l) is = apart_more (numbers_of old.running.items) l.number consistent.numbers_apart (below_apart l.number (numbers_of old.running.items) (subst (λ o. AllByRecursion (IsBefore o) (numbers_of old.running.items)) (number l is).0 consistent.before))
 
-  before_old : AllByRecursion (IsBefore new.store.next) (numbers_of old.aloft.items)
-  before_old = all_as (IsBefore old.store.next) (IsBefore new.store.next) (numbers_of old.aloft.items) (λ n. before_next old.store.next new.store.next n next) manned.before
+  before_old : AllByRecursion (IsBefore new.store.next) (numbers_of old.running.items)
+  before_old = all_as (IsBefore old.store.next) (IsBefore new.store.next) (numbers_of old.running.items) (λ n. before_next old.store.next new.store.next n next) consistent.before
 
-  before_so : (o : Option SpawnedChild) → (child_of a.begun) ≡ o → AllByRecursion (IsBefore new.store.next) (numbers_of old.aloft.items ++ number_in o)
-  before_so None is = all_more (IsBefore new.store.next) (numbers_of old.aloft.items) [] before_old tt
-  before_so (Some l) is = all_more (IsBefore new.store.next) (numbers_of old.aloft.items) (l.number ∷ []) before_old (subst (λ o. IsBefore o l.number) (sym (number l is).1) (own_before l.number), tt)
+  before_so : (o : Option SpawnedChild) → (child_of a.begun) ≡ o → AllByRecursion (IsBefore new.store.next) (numbers_of old.running.items ++ number_in o)
+  before_so None is = all_more (IsBefore new.store.next) (numbers_of old.running.items) [] before_old tt
+  before_so (Some l) is = all_more (IsBefore new.store.next) (numbers_of old.running.items) (l.number ∷ []) before_old (subst (λ o. IsBefore o l.number) (sym (number l is).1) (own_before l.number), tt)
 
   pub manned_begun : IsConsistent new now
   manned_begun = record {
-    order = subst IsInOrder (sym project) manned.order;
-    folder = folder ∙ manned.folder ∙ ap records_folder (sym project);
-    long = ap length done ∙ manned.long ∙ ap (λ (p : Project). length p.plan.planned) (sym project);
-    reasoned = reasons ∙ manned.reasoned ∙ ap (λ (p : Project). length p.plan.planned) (sym project);
-    units = subst (λ (p : Project). AllByRecursion (IsOfPlan p) new.aloft.items) (sym project) (subst (AllByRecursion (IsOfPlan old.project)) (sym aloft) (all_more (IsOfPlan old.project) old.aloft.items (a ∷ []) manned.units (of_plan, tt)));
-    units_apart = subst AreApart (sym places_are) (apart_more (places_of old.aloft.items) a.unit manned.units_apart (none_among a.unit (places_of old.aloft.items) free));
+    order = subst IsInOrder (sym project) consistent.order;
+    folder = folder ∙ consistent.folder ∙ ap records_folder (sym project);
+    long = ap length done ∙ consistent.long ∙ ap (λ (p : Project). length p.plan.planned) (sym project);
+    reasoned = reasons ∙ consistent.reasoned ∙ ap (λ (p : Project). length p.plan.planned) (sym project);
+    units = subst (λ (p : Project). AllByRecursion (IsOfPlan p) new.running.items) (sym project) (subst (AllByRecursion (IsOfPlan old.project)) (sym running) (all_more (IsOfPlan old.project) old.running.items (a ∷ []) consistent.units (of_plan, tt)));
+    units_apart = subst AreApart (sym places_are) (apart_more (places_of old.running.items) a.unit consistent.units_apart (none_among a.unit (places_of old.running.items) free));
     tickets = flies (child_of a.begun) begins ∙ sym tickets_are;
     tickets_apart = subst AreApart (sym tickets_are) (tickets_so (child_of a.begun) begins);
     numbers_apart = subst AreApart (sym numbers_are) (numbers_so (child_of a.begun) refl);
@@ -179,35 +179,35 @@ module _ (old new : UnitExecutor) (before now : Counts) (a : RunningUnit) (manne
   }
 
 -- a unit less
-module _ (old new : UnitExecutor) (before now : Counts) (index : ℕ) (a : RunningUnit) (manned : IsConsistent old before) (at : slice_get old.aloft.items index ≡ Some a)
-    (project : new.project ≡ old.project) (folder : new.store.folder ≡ old.store.folder) (done : length new.done.items ≡ length old.done.items) (reasons : length new.reasons.items ≡ length old.reasons.items) (aloft : new.aloft.items ≡ remove old.aloft.items index)
+module _ (old new : UnitExecutor) (before now : Counts) (index : ℕ) (a : RunningUnit) (consistent : IsConsistent old before) (at : slice_get old.running.items index ≡ Some a)
+    (project : new.project ≡ old.project) (folder : new.store.folder ≡ old.store.folder) (done : length new.done.items ≡ length old.done.items) (reasons : length new.reasons.items ≡ length old.reasons.items) (running : new.running.items ≡ remove old.running.items index)
     (next : TakesNumber old.store.next new.store.next) (lands : LandsBy (child_of a.begun) before.starts now.starts) where
-  flies_less : (o : Option SpawnedChild) → (child_of a.begun) ≡ o → LandsBy o before.starts now.starts → map ticket_of_child now.starts.flying ≡ tickets_of (remove old.aloft.items index)
-  flies_less None is same = ap (λ (s : Starts). map ticket_of_child s.flying) same ∙ manned.tickets ∙ sym (flat_stays (λ (x : RunningUnit). ticket_in (child_of x.begun)) old.aloft.items index a at (ap ticket_in is))
+  flies_less : (o : Option SpawnedChild) → (child_of a.begun) ≡ o → LandsBy o before.starts now.starts → map ticket_of_child now.starts.flying ≡ tickets_of (remove old.running.items index)
+  flies_less None is same = ap (λ (s : Starts). map ticket_of_child s.flying) same ∙ consistent.tickets ∙ sym (flat_stays (λ (x : RunningUnit). ticket_in (child_of x.begun)) old.running.items index a at (ap ticket_in is))
   flies_less (Some l) is landed =
-      ap (λ (s : Starts). map ticket_of_child s.flying) landed ∙ tickets_without l.ticket before.starts.flying ∙ ap (events.without l.ticket) manned.tickets
-      ∙ sym (flat_without (λ (x : RunningUnit). ticket_in (child_of x.begun)) old.aloft.items index a l.ticket manned.tickets_apart at (ap ticket_in is))
+      ap (λ (s : Starts). map ticket_of_child s.flying) landed ∙ tickets_without l.ticket before.starts.flying ∙ ap (events.without l.ticket) consistent.tickets
+      ∙ sym (flat_without (λ (x : RunningUnit). ticket_in (child_of x.begun)) old.running.items index a l.ticket consistent.tickets_apart at (ap ticket_in is))
 
-  places_apart : AreApart (places_of (remove old.aloft.items index))
+  places_apart : AreApart (places_of (remove old.running.items index))
   places_apart =
-      subst AreApart (flat_ones place_of_unit (remove old.aloft.items index)) (apart_flat (λ (x : RunningUnit). x.unit ∷ []) old.aloft.items index (subst AreApart (sym (flat_ones place_of_unit old.aloft.items)) manned.units_apart))
+      subst AreApart (flat_ones place_of_unit (remove old.running.items index)) (apart_flat (λ (x : RunningUnit). x.unit ∷ []) old.running.items index (subst AreApart (sym (flat_ones place_of_unit old.running.items)) consistent.units_apart))
 
   pub manned_answered : IsConsistent new now
   manned_answered = record {
-    order = subst IsInOrder (sym project) manned.order;
-    folder = folder ∙ manned.folder ∙ ap records_folder (sym project);
-    long = done ∙ manned.long ∙ ap (λ (p : Project). length p.plan.planned) (sym project);
-    reasoned = reasons ∙ manned.reasoned ∙ ap (λ (p : Project). length p.plan.planned) (sym project);
-    units = subst (λ (p : Project). AllByRecursion (IsOfPlan p) new.aloft.items) (sym project) (subst (AllByRecursion (IsOfPlan old.project)) (sym aloft) (all_removed (IsOfPlan old.project) old.aloft.items index manned.units));
-    units_apart = subst (λ (items : List RunningUnit). AreApart (places_of items)) (sym aloft) places_apart;
-    tickets = flies_less (child_of a.begun) refl lands ∙ ap tickets_of (sym aloft);
-    tickets_apart = subst (λ (items : List RunningUnit). AreApart (tickets_of items)) (sym aloft) (apart_flat (λ (x : RunningUnit). ticket_in (child_of x.begun)) old.aloft.items index manned.tickets_apart);
-    numbers_apart = subst (λ (items : List RunningUnit). AreApart (numbers_of items)) (sym aloft) (apart_flat (λ (x : RunningUnit). number_in (child_of x.begun)) old.aloft.items index manned.numbers_apart);
-    before = subst (λ (items : List RunningUnit). AllByRecursion (IsBefore new.store.next) (numbers_of items)) (sym aloft)
-        (all_flat (IsBefore new.store.next) (λ (x : RunningUnit). number_in (child_of x.begun)) old.aloft.items index
-        (all_as (IsBefore old.store.next) (IsBefore new.store.next) (numbers_of old.aloft.items) (λ n. before_next old.store.next new.store.next n next) manned.before));
+    order = subst IsInOrder (sym project) consistent.order;
+    folder = folder ∙ consistent.folder ∙ ap records_folder (sym project);
+    long = done ∙ consistent.long ∙ ap (λ (p : Project). length p.plan.planned) (sym project);
+    reasoned = reasons ∙ consistent.reasoned ∙ ap (λ (p : Project). length p.plan.planned) (sym project);
+    units = subst (λ (p : Project). AllByRecursion (IsOfPlan p) new.running.items) (sym project) (subst (AllByRecursion (IsOfPlan old.project)) (sym running) (all_removed (IsOfPlan old.project) old.running.items index consistent.units));
+    units_apart = subst (λ (items : List RunningUnit). AreApart (places_of items)) (sym running) places_apart;
+    tickets = flies_less (child_of a.begun) refl lands ∙ ap tickets_of (sym running);
+    tickets_apart = subst (λ (items : List RunningUnit). AreApart (tickets_of items)) (sym running) (apart_flat (λ (x : RunningUnit). ticket_in (child_of x.begun)) old.running.items index consistent.tickets_apart);
+    numbers_apart = subst (λ (items : List RunningUnit). AreApart (numbers_of items)) (sym running) (apart_flat (λ (x : RunningUnit). number_in (child_of x.begun)) old.running.items index consistent.numbers_apart);
+    before = subst (λ (items : List RunningUnit). AllByRecursion (IsBefore new.store.next) (numbers_of items)) (sym running)
+        (all_flat (IsBefore new.store.next) (λ (x : RunningUnit). number_in (child_of x.begun)) old.running.items index
+        (all_as (IsBefore old.store.next) (IsBefore new.store.next) (numbers_of old.running.items) (λ n. before_next old.store.next new.store.next n next) consistent.before));
   }
 
   -- the places of those that are left
-  pub places_left : places_of new.aloft.items ≡ remove (places_of old.aloft.items) index
-  places_left = ap places_of aloft ∙ map_removed place_of_unit old.aloft.items index
+  pub places_left : places_of new.running.items ≡ remove (places_of old.running.items) index
+  places_left = ap places_of running ∙ map_removed place_of_unit old.running.items index

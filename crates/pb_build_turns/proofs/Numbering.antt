@@ -45,38 +45,38 @@ some_or_none None = inr refl
 some_or_none (Some l) = inl refl
 
 -- a unit whose child flies is in flight
-launched_flies : (aloft : List RunningUnit) (n : ℕ) → Contains (launched_of aloft) n → Contains (places_of aloft) n
+launched_flies : (running : List RunningUnit) (n : ℕ) → Contains (launched_of running) n → Contains (places_of running) n
 launched_flies [] n has = has
-launched_flies (x ∷ aloft) n has = by (child_of x.begun) (λ more. launched_flies aloft n more) has
+launched_flies (x ∷ running) n has = by (child_of x.begun) (λ more. launched_flies running n more) has
   where
-    by : (o : Option SpawnedChild) → (Contains (launched_of aloft) n → Contains (places_of aloft) n) → Contains (if_so (is_some o) x.unit ++ launched_of aloft) n → Contains (x.unit ∷ places_of aloft) n
-    by None flies more = contains_tail x.unit (places_of aloft) n (flies more)
-    by (Some l) flies more = elim (contains_cases x.unit (launched_of aloft) n more) [
-      | inl same ↦ subst (λ m. Contains (m ∷ places_of aloft) n) (sym same) (contains_head n (places_of aloft))
-      | inr rest ↦ contains_tail x.unit (places_of aloft) n (flies rest)
+    by : (o : Option SpawnedChild) → (Contains (launched_of running) n → Contains (places_of running) n) → Contains (if_so (is_some o) x.unit ++ launched_of running) n → Contains (x.unit ∷ places_of running) n
+    by None flies more = contains_tail x.unit (places_of running) n (flies more)
+    by (Some l) flies more = elim (contains_cases x.unit (launched_of running) n more) [
+      | inl same ↦ subst (λ m. Contains (m ∷ places_of running) n) (sym same) (contains_head n (places_of running))
+      | inr rest ↦ contains_tail x.unit (places_of running) n (flies rest)
     ]
 
 -- one in flight that is among those whose children fly has a child
-pub has_child : (aloft : List RunningUnit) (index : ℕ) (a : RunningUnit) → AreApart (places_of aloft) → slice_get aloft index ≡ Some a → Contains (launched_of aloft) a.unit → IsSome (child_of a.begun)
+pub has_child : (running : List RunningUnit) (index : ℕ) (a : RunningUnit) → AreApart (places_of running) → slice_get running index ≡ Some a → Contains (launched_of running) a.unit → IsSome (child_of a.begun)
 has_child [] index a apart at has = absurd (clash at)
-has_child (x ∷ aloft) zero a apart at has = elim (some_or_none (child_of a.begun)) [
+has_child (x ∷ running) zero a apart at has = elim (some_or_none (child_of a.begun)) [
   | inl some ↦ some
-  | inr none ↦ absurd (differs a.unit a.unit (places_of aloft) (subst (λ (y : RunningUnit). AllByRecursion (λ m. y.unit ≢ m) (places_of aloft)) same apart.0) (launched_flies aloft a.unit (left none)) refl)
+  | inr none ↦ absurd (differs a.unit a.unit (places_of running) (subst (λ (y : RunningUnit). AllByRecursion (λ m. y.unit ≢ m) (places_of running)) same apart.0) (launched_flies running a.unit (left none)) refl)
 ]
   where
     same : x ≡ a
     same = injective at
 
-    left : child_of a.begun ≡ None → Contains (launched_of aloft) a.unit
-    left none = subst (λ (o : Option SpawnedChild). Contains (if_so (is_some o) x.unit ++ launched_of aloft) a.unit) (ap (λ (y : RunningUnit). child_of y.begun) same ∙ none) has
-has_child (x ∷ aloft) (suc index) a apart at has = has_child aloft index a apart.1 at (by (child_of x.begun) has)
+    left : child_of a.begun ≡ None → Contains (launched_of running) a.unit
+    left none = subst (λ (o : Option SpawnedChild). Contains (if_so (is_some o) x.unit ++ launched_of running) a.unit) (ap (λ (y : RunningUnit). child_of y.begun) same ∙ none) has
+has_child (x ∷ running) (suc index) a apart at has = has_child running index a apart.1 at (by (child_of x.begun) has)
   where
     other : x.unit ≢ a.unit
-    other = differs x.unit a.unit (places_of aloft) apart.0 (at_contains (places_of aloft) index a.unit (get_map place_of_unit aloft index a at))
+    other = differs x.unit a.unit (places_of running) apart.0 (at_contains (places_of running) index a.unit (get_map place_of_unit running index a at))
 
-    by : (o : Option SpawnedChild) → Contains (if_so (is_some o) x.unit ++ launched_of aloft) a.unit → Contains (launched_of aloft) a.unit
+    by : (o : Option SpawnedChild) → Contains (if_so (is_some o) x.unit ++ launched_of running) a.unit → Contains (launched_of running) a.unit
     by None more = more
-    by (Some l) more = elim (contains_cases x.unit (launched_of aloft) a.unit more) [
+    by (Some l) more = elim (contains_cases x.unit (launched_of running) a.unit more) [
       | inl same ↦ absurd (other same)
       | inr rest ↦ rest
     ]
@@ -139,9 +139,9 @@ begun_taken is_modelled child first old at now still es given unit story next o 
     numbers_begun (LacksNumber old.project at.world) es first.store.next old.store.next next unit o number (story.taken t)
 
 module _ (is_modelled : Bool) (child : Answers) (first old : UnitExecutor) (at now : BuildState) (still : ℕ → Type 0) (es : List (Event BadUnit)) (given : ℕ) (story : History is_modelled child first at old now still es given)
-    (index : ℕ) (a : RunningUnit) (u : Planned) (at_index : slice_get old.aloft.items index ≡ Some a) (there : unit_at old.project a.unit ≡ Some u) (started : is_started es a.unit ≡ is_some (child_of a.begun)) where
+    (index : ℕ) (a : RunningUnit) (u : Planned) (at_index : slice_get old.running.items index ≡ Some a) (there : unit_at old.project a.unit ≡ Some u) (started : is_started es a.unit ≡ is_some (child_of a.begun)) where
   carries_its : IsTrue is_modelled → CarriesAgain old.setup old.project old.done.items at.world now.world u a.begun.command a.begun.awaited
-  carries_its t = all_get (λ (x : RunningUnit). FliesAgain old.setup old.project old.done.items at.world now.world x) old.aloft.items index a ((story.again t).waits) at_index u there
+  carries_its t = all_get (λ (x : RunningUnit). FliesAgain old.setup old.project old.done.items at.world now.world x) old.running.items index a ((story.again t).waits) at_index u there
 
   -- one that has no child, and whose record lacked a number, takes the next
   pub lacked_taken : (ran : Ran) (next : Option ℕ) → (IsTrue is_modelled → awaits_number a.begun.awaited ≡ true → lacks_number (records (records_folder old.project) now.world u.key) ≡ true → is_some ran.bad ≡ false → TakesNext old.store.next next)

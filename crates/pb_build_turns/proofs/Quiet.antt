@@ -62,9 +62,9 @@ module _ (project : Project) (es : List (Event BadUnit)) (first w w' : World) (p
   quiet_answered (Some l) started same quiet = λ none numbered. absurd (false≢true (sym (none_started es place none) ∙ started))
 
 pub answered_quiet : (is_modelled : Bool) (child : Answers) (first old : UnitExecutor) (at now new : BuildState) (still : ℕ → Type 0) (es : List (Event BadUnit)) (given : ℕ) → History is_modelled child first at old now still es given
-    → (index : ℕ) (a : RunningUnit) (u : Planned) → unit_at old.project a.unit ≡ Some u → slice_get old.aloft.items index ≡ Some a → (answer : Answer BadUnit)
+    → (index : ℕ) (a : RunningUnit) (u : Planned) → unit_at old.project a.unit ≡ Some u → slice_get old.running.items index ≡ Some a → (answer : Answer BadUnit)
     → (IsTrue is_modelled → (child_of a.begun) ≡ None → lacks_number (records (records_folder old.project) now.world u.key) ≡ false → new.world ≡ now.world)
     → IsTrue is_modelled → IsQuiet old.project (Gave a.unit answer ∷ es) at.world new.world
 answered_quiet is_modelled child first old at now new still es given story index a u there at_index answer same t =
-    let so = all_get (FliesIn old.project es now.world now.counts.starts.flying) old.aloft.items index a (story.changes t).flies at_index in
+    let so = all_get (FliesIn old.project es now.world now.counts.starts.flying) old.running.items index a (story.changes t).flies at_index in
     quiet_answered old.project es at.world now.world new.world a.unit u there (child_of a.begun) so.started (same t) (story.quiet t)

@@ -20,7 +20,7 @@ use Rattle.pb_build_result.specs.declared.bad_unit.BadUnit.{BadUnit}
 use Rattle.pb_record.specs.declared.record.Needed.{Needed}
 use Rattle.pb_record.specs.declared.record.Needed.TheVariants.{Copies, Numbers}
 use Rattle.pb_record.specs.declared.record.Record.{Record}
-use Rattle.pb_run.specs.UnitSteps.{TrustedRecords, BuildContext, basis, HasRecord, HoldsRecords, command_in, key_in, records_in}
+use Rattle.pb_run.specs.UnitSteps.{TrustedRecords, BuildContext, build_context, HasRecord, HoldsRecords, command_in, key_in, records_in}
 use Rattle.pb_run.specs.Invariants.{records_folder}
 use Rattle.pb_store_soundness.specs.Grounded.{RecordMap}
 use Rattle.pb_store_soundness.specs.Records.{number_in, number_of, reading, records}
@@ -136,15 +136,15 @@ dropped_count (ticket ∷ tickets) old new (result, may, more) = dropped_count t
 
 pub leaves_records : {S : Type 0} (Turns : S → List ℕ → List ℕ → Step → S → Type 0) → LeavesRecords Turns
 leaves_records Turns child setup project next from last summary old new ends success sources keeps place u there =
-    let b = basis TrustedRecords child setup project sources in
+    let b = build_context TrustedRecords child setup project sources in
     let whole = ends.told refl TrustedRecords sources keeps in
     let holds : HoldsRecords b (states_in project ends.es) whole.stands.next new.world = whole.stands.keeps.records in
     holds.recorded place (ends.good success place u there)
 
 pub starts_none_again : {S : Type 0} (Turns : S → List ℕ → List ℕ → Step → S → Type 0) → StartsNoneAgain Turns
-starts_none_again Turns child setup project next from last summary old new ends footing sources keeps each =
-    let whole = ends.told refl footing sources keeps in
-    let none : started_by ends.es ≡ [] = starts_nothing (basis footing child setup project sources) ends.es ends.reasons old.world new.world (steps_are_lawful Turns (needs_of project) Anyhow Anything from ends.es last ends.flies) whole.began each in (
+starts_none_again Turns child setup project next from last summary old new ends premise sources keeps each =
+    let whole = ends.told refl premise sources keeps in
+    let none : started_by ends.es ≡ [] = starts_nothing (build_context premise child setup project sources) ends.es ends.reasons old.world new.world (steps_are_lawful Turns (needs_of project) Anyhow Anything from ends.es last ends.flies) whole.began each in (
       dropped_count (map ticket_of_child ends.mid.starts.flying) ends.mid new.counts ends.drained ∙ ends.starts ∙ ap (λ places. upped (length places) old.counts.starts.count) none,
       ends.started ∙ ap (λ places. flat_map (λ place. key_in (unit_at project place)) places) none,
     )

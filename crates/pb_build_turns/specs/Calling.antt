@@ -118,7 +118,7 @@ pub record CallBasis : Type 0 where
   pub command : ℕ → Planned → Command
   pub sees : ℕ → Planned → World → World
 
--- for a basis: the command and the view of each unit in a clean build, whatever the world is
+-- for a build context: the command and the view of each unit in a clean build, whatever the world is
 abbrev pub call_basis : BuildContext → CallBasis
 call_basis b = record { child = b.child; project = b.project; command = command_in b; sees = λ place u w. view_in b place u }
 

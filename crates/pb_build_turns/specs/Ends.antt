@@ -23,7 +23,7 @@ use Rattle.pb_place_types.specs.declared.place.StartFault.TheVariants as start
 use Rattle.pb_command_types.specs.Targets.{unit_at}
 use Rattle.pb_command_types.specs.declared.project.Project.{Project}
 use Rattle.pb_command_types.specs.declared.project.Setup.{Setup}
-use Rattle.pb_run.specs.UnitSteps.{Premise, BuildContext, basis, BuildInvariant, TrustedRecords, HasRecord}
+use Rattle.pb_run.specs.UnitSteps.{Premise, BuildContext, build_context, BuildInvariant, TrustedRecords, HasRecord}
 use Rattle.pb_run.specs.Invariants.{records_folder}
 use Rattle.pb_store_soundness.specs.Apart.{is_of}
 use Rattle.pb_build_turns.specs.Calling.{CallsCut, CallsCutOnAny, CallsOver, CallsOnAny, call_basis}
@@ -68,7 +68,7 @@ Dropped (ticket ∷ tickets) old new = (result : Result Ended StartFault) × IfE
 abbrev pub Drained : Counts → Counts → Type 0
 Drained old new = Dropped (map ticket_of_child old.starts.flying) old new
 
--- the rows of a basis: the units and their outcomes in a clean build, up to and including the first bad one
+-- the rows of a build context: the units and their outcomes in a clean build, up to and including the first bad one
 abbrev pub rows_in : BuildContext → List Row
 rows_in b = rows_of b.child b.setup b.project b.sources
 
@@ -76,10 +76,10 @@ rows_in b = rows_of b.child b.setup b.project b.sources
 abbrev pub nothing_said : Project → List (Option (List Directive))
 nothing_said project = map (λ (u : Planned). None) project.plan.planned
 
--- for each basis that satisfies `BuildInvariant` before a unit has begun, this is true
+-- for each build context that satisfies `BuildInvariant` before a unit has begun, this is true
 abbrev pub Grounding : Answers → Setup → Project → Option ℕ → World → (BuildContext → Type 0) → Type 0
-Grounding child setup project next w Since = (footing : Premise) (sources : World)
-    → BuildInvariant (basis footing child setup project sources) (untouched project) (nothing_said project) next w → Since (basis footing child setup project sources)
+Grounding child setup project next w Since = (premise : Premise) (sources : World)
+    → BuildInvariant (build_context premise child setup project sources) (untouched project) (nothing_said project) next w → Since (build_context premise child setup project sources)
 
 -- what is true after some events: what `BuildInvariant` requires; each unit that has answered has its outcome of a clean build;
 -- and the lines that are due, and the first n of them, are those of the first rows
@@ -213,11 +213,11 @@ StartsNothing = (b : BuildContext) (es : List (Event BadUnit)) (reasons : Reason
 -- if a build over true records succeeds, each unit has its record afterwards
 abbrev pub LeavesRecords : {S : Type 0} → (S → List ℕ → List ℕ → Step → S → Type 0) → Type 0
 LeavesRecords {S} Turns = (child : Answers) (setup : Setup) (project : Project) (next : Option ℕ) (from last : S) (summary : Summary) (old new : BuildState) → EndsWhole true child Turns setup project next from last summary old new
-    → summary.success ≡ true → (sources : World) → BuildInvariant (basis TrustedRecords child setup project sources) (untouched project) (nothing_said project) next old.world
-    → EachHasRecord (basis TrustedRecords child setup project sources) new.world
+    → summary.success ≡ true → (sources : World) → BuildInvariant (build_context TrustedRecords child setup project sources) (untouched project) (nothing_said project) next old.world
+    → EachHasRecord (build_context TrustedRecords child setup project sources) new.world
 
 -- and if each unit has its record at first, no child is started, and none is reported as started
 abbrev pub StartsNoneAgain : {S : Type 0} → (S → List ℕ → List ℕ → Step → S → Type 0) → Type 0
 StartsNoneAgain {S} Turns = (child : Answers) (setup : Setup) (project : Project) (next : Option ℕ) (from last : S) (summary : Summary) (old new : BuildState) → EndsWhole true child Turns setup project next from last summary old new
-    → (footing : Premise) (sources : World) → BuildInvariant (basis footing child setup project sources) (untouched project) (nothing_said project) next old.world
-    → EachHasRecord (basis footing child setup project sources) old.world → (new.counts.starts.count ≡ old.counts.starts.count) × (summary.started ≡ [])
+    → (premise : Premise) (sources : World) → BuildInvariant (build_context premise child setup project sources) (untouched project) (nothing_said project) next old.world
+    → EachHasRecord (build_context premise child setup project sources) old.world → (new.counts.starts.count ≡ old.counts.starts.count) × (summary.started ≡ [])

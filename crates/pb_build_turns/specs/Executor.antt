@@ -38,7 +38,7 @@ abbrev pub place_of_unit : RunningUnit → ℕ
 place_of_unit a = a.unit
 
 abbrev pub places_of : List RunningUnit → List ℕ
-places_of aloft = map place_of_unit aloft
+places_of running = map place_of_unit running
 
 abbrev pub ticket_in : Option SpawnedChild → List ℕ
 ticket_in None = []
@@ -53,13 +53,13 @@ ticket_of_child child = child.ticket
 
 -- of units in flight: the tickets of their children, then their run numbers, then the units that have a child
 abbrev pub tickets_of : List RunningUnit → List ℕ
-tickets_of aloft = flat_map (λ (a : RunningUnit). ticket_in (child_of a.begun)) aloft
+tickets_of running = flat_map (λ (a : RunningUnit). ticket_in (child_of a.begun)) running
 
 abbrev pub numbers_of : List RunningUnit → List ℕ
-numbers_of aloft = flat_map (λ (a : RunningUnit). number_in (child_of a.begun)) aloft
+numbers_of running = flat_map (λ (a : RunningUnit). number_in (child_of a.begun)) running
 
 abbrev pub launched_of : List RunningUnit → List ℕ
-launched_of aloft = flat_map (λ (a : RunningUnit). if_so (is_some (child_of a.begun)) a.unit) aloft
+launched_of running = flat_map (λ (a : RunningUnit). if_so (is_some (child_of a.begun)) a.unit) running
 
 -- no two of these numbers are equal
 abbrev pub AreApart : List ℕ → Type 0
@@ -84,12 +84,12 @@ pub record IsConsistent (c : UnitExecutor) (counts : Counts) : Type 0 where
   pub folder : c.store.folder ≡ records_folder c.project
   pub long : length c.done.items ≡ length c.project.plan.planned
   pub reasoned : length c.reasons.items ≡ length c.project.plan.planned
-  pub units : AllByRecursion (IsOfPlan c.project) c.aloft.items
-  pub units_apart : AreApart (places_of c.aloft.items)
-  pub tickets : map ticket_of_child counts.starts.flying ≡ tickets_of c.aloft.items
-  pub tickets_apart : AreApart (tickets_of c.aloft.items)
-  pub numbers_apart : AreApart (numbers_of c.aloft.items)
-  pub before : AllByRecursion (IsBefore c.store.next) (numbers_of c.aloft.items)
+  pub units : AllByRecursion (IsOfPlan c.project) c.running.items
+  pub units_apart : AreApart (places_of c.running.items)
+  pub tickets : map ticket_of_child counts.starts.flying ≡ tickets_of c.running.items
+  pub tickets_apart : AreApart (tickets_of c.running.items)
+  pub numbers_apart : AreApart (numbers_of c.running.items)
+  pub before : AllByRecursion (IsBefore c.store.next) (numbers_of c.running.items)
 
 -- the child of a unit in flight writes into the unit's own folder
 abbrev pub WritesOwn : Project → List ChildInFlight → RunningUnit → Type 0
@@ -99,4 +99,4 @@ WritesOwn project flying a = (unit : Planned) → unit_at project a.unit ≡ Som
 pub record IsAble (is_modelled : Bool) (c : UnitExecutor) (at : At) : Type 0 where
   -- the store has the numbers of its records
   pub numbers : IsTrue is_modelled → HasNumbers (records (records_folder c.project) at.world) c.store.numbers
-  pub writes : AllByRecursion (WritesOwn c.project at.counts.starts.flying) c.aloft.items
+  pub writes : AllByRecursion (WritesOwn c.project at.counts.starts.flying) c.running.items

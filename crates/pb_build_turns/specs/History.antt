@@ -28,7 +28,7 @@ use Rattle.pb_command_types.specs.declared.project.Project.{Project}
 use Rattle.pb_command_types.specs.declared.project.Setup.{Setup}
 use Rattle.pb_record.specs.declared.record.Record.{Record}
 use Rattle.pb_run.specs.Steps.{HasCause, is_of_start}
-use Rattle.pb_run.specs.UnitSteps.{Premise, BuildContext, basis, outcomes_in, command_in, BuildInvariant, IsBegun, WritesTo, child_of, key_at, needed_keys}
+use Rattle.pb_run.specs.UnitSteps.{Premise, BuildContext, build_context, outcomes_in, command_in, BuildInvariant, IsBegun, WritesTo, child_of, key_at, needed_keys}
 use Rattle.pb_run.specs.Running.{record_of}
 use Rattle.pb_run.specs.Outcome.{Outcome, directives_in}
 use Rattle.pb_run.specs.Invariants.{records_folder}
@@ -59,9 +59,9 @@ upped (suc k) n = up (upped k n)
 
 -- so far no call failed, and no failure was injected; the lines of the first n units were written; one child was
 -- started for each unit that began with one; and no more children were in flight at once than the events imply
-pub record CountersSoFar (project : Project) (first now : BuildState) (started : List ℕ) (aloft : List RunningUnit) (es : List (Event BadUnit)) (given : ℕ) : Type 0 where
+pub record CountersSoFar (project : Project) (first now : BuildState) (started : List ℕ) (running : List RunningUnit) (es : List (Event BadUnit)) (given : ℕ) : Type 0 where
   pub started_are : started ≡ started_by es
-  pub launched_are : launched_of aloft ≡ launched_after es
+  pub launched_are : launched_of running ≡ launched_after es
   pub lines : Appends first.heard.taken now.heard.taken (due_first given (states_in project es))
   pub faults : now.heard.faults ≡ first.heard.faults
   pub failures : now.counts.failures ≡ first.counts.failures
@@ -228,7 +228,7 @@ AllBeganOnAny setup project done es reasons first now = AllBegan project (from_n
 abbrev pub StartedOnAny : Setup → Project → List (Option (List Directive)) → BuildFault → List (Event BadUnit) → List (Event BadUnit) → World → World → Type 0
 StartedOnAny setup project done fault before es first now = HadDiffered project (from_nothing project.workspace.target first) (λ place u. command_of setup project u done) fault before es first now
 
--- the same for a basis: with its sources, and with the command of each unit after the outcomes of a clean build
+-- the same for a build context: with its sources, and with the command of each unit after the outcomes of a clean build
 abbrev pub AllBeganFor : BuildContext → List (Event BadUnit) → Reasons → World → World → Type 0
 AllBeganFor b es reasons first now = AllBegan b.project b.sources (command_in b) es reasons first now
 
@@ -260,8 +260,8 @@ pub record ChangesInFlight (project : Project) (es : List (Event BadUnit)) (aske
   pub files : (q : List ℕ) → ((place : ℕ) (u : Planned) → slice_get (states_in project es) place ≡ Some Begun → asked ≢ Some place → is_started es place ≡ true → unit_at project place ≡ Some u → is_at_or_below u.out q ≡ false) → finite.get new.files q ≡ finite.get old.files q
 
 -- whatever a build rests on: the units in flight, and what has changed
-pub record Changes (project : Project) (first : World) (aloft : List RunningUnit) (es : List (Event BadUnit)) (world : World) (flying : List ChildInFlight) : Type 0 where
-  pub flies : AllByRecursion (FliesIn project es world flying) aloft
+pub record Changes (project : Project) (first : World) (running : List RunningUnit) (es : List (Event BadUnit)) (world : World) (flying : List ChildInFlight) : Type 0 where
+  pub flies : AllByRecursion (FliesIn project es world flying) running
   pub only : OnlyOf project es first world
   pub unkept : KeepsNoneOfBad project es world
 
@@ -271,8 +271,8 @@ AllAnswerAgain setup project es done first = (place : ℕ) (answer : Answer BadU
     → AnswersAgain setup project done first place answer
 
 -- and those in flight without a child wait to do so
-pub record Replays (setup : Setup) (project : Project) (done : List (Option (List Directive))) (aloft : List RunningUnit) (es : List (Event BadUnit)) (first now : World) : Type 0 where
-  pub waits : AllByRecursion (λ (a : RunningUnit). FliesAgain setup project done first now a) aloft
+pub record Replays (setup : Setup) (project : Project) (done : List (Option (List Directive))) (running : List RunningUnit) (es : List (Event BadUnit)) (first now : World) : Type 0 where
+  pub waits : AllByRecursion (λ (a : RunningUnit). FliesAgain setup project done first now a) running
   pub gave : AllAnswerAgain setup project es done first
 
 -- each unit that answered with a child did so by the child's reply to what it sees of this world, whether the records
@@ -281,8 +281,8 @@ abbrev pub AllAnswerAnew : Answers → Setup → Project → List (Event BadUnit
 AllAnswerAnew child setup project es done now = (place : ℕ) (answer : Answer BadUnit) → slice_get (states_in project es) place ≡ Some (Answered answer) → is_started es place ≡ true → AnswersAnew child setup project done now place answer
 
 -- and those in flight with a child wait to do so
-pub record Replies (child : Answers) (setup : Setup) (project : Project) (done : List (Option (List Directive))) (aloft : List RunningUnit) (es : List (Event BadUnit)) (now : World) (flying : List ChildInFlight) (still : ℕ → Type 0) : Type 0 where
-  pub waits : AllByRecursion (FliesAnew child setup project done now flying still) aloft
+pub record Replies (child : Answers) (setup : Setup) (project : Project) (done : List (Option (List Directive))) (running : List RunningUnit) (es : List (Event BadUnit)) (now : World) (flying : List ChildInFlight) (still : ℕ → Type 0) : Type 0 where
+  pub waits : AllByRecursion (FliesAnew child setup project done now flying still) running
   pub gave : AllAnswerAnew child setup project es done now
 
 -- the events before the unit at an index answered
@@ -320,8 +320,8 @@ abbrev pub CarriesNumber : Project → List (Event BadUnit) → Option ℕ → W
 CarriesNumber project es next first a = IfSome (child_of a.begun) (λ launched. NumbersGiven (LacksNumber project first) (events_before es a.unit) next (Some launched.number))
 
 -- the records of the units that answered, and the numbers of those in flight
-pub record Recordings (child : Answers) (setup : Setup) (project : Project) (done : List (Option (List Directive))) (aloft : List RunningUnit) (es : List (Event BadUnit)) (next : Option ℕ) (first now : World) : Type 0 where
-  pub carries : AllByRecursion (CarriesNumber project es next first) aloft
+pub record Recordings (child : Answers) (setup : Setup) (project : Project) (done : List (Option (List Directive))) (running : List RunningUnit) (es : List (Event BadUnit)) (next : Option ℕ) (first now : World) : Type 0 where
+  pub carries : AllByRecursion (CarriesNumber project es next first) running
   pub gave : AllLeaveRecords child setup project es done next first now
 
 -- a unit in flight has begun as in `IsBegun`, and all that it reaches is good
@@ -332,9 +332,9 @@ pub record FliesSo (b : BuildContext) (es : List (Event BadUnit)) (next : Option
   pub started : is_started es a.unit ≡ is_some (child_of a.begun)
 
 -- what has happened: what `BuildInvariant` requires, the units in flight, and those that have answered
-pub record HistoryHolds (b : BuildContext) (done : List (Option (List Directive))) (aloft : List RunningUnit) (next : Option ℕ) (es : List (Event BadUnit)) (world : World) (flying : List ChildInFlight) (still : ℕ → Type 0) : Type 0 where
+pub record HistoryHolds (b : BuildContext) (done : List (Option (List Directive))) (running : List RunningUnit) (next : Option ℕ) (es : List (Event BadUnit)) (world : World) (flying : List ChildInFlight) (still : ℕ → Type 0) : Type 0 where
   pub keeps : BuildInvariant b (states_in b.project es) done next world
-  pub begun : AllByRecursion (FliesSo b es next world flying still) aloft
+  pub begun : AllByRecursion (FliesSo b es next world flying still) running
   pub gave : (place : ℕ) (answer : Answer BadUnit) → slice_get (states_in b.project es) place ≡ Some (Answered answer) → HasGiven b es done place answer
 
 -- as long as no child is started, the world is the first one, if no record lacked a number then
@@ -357,27 +357,27 @@ NotesStarted project es now = (place : ℕ) (s : State BadUnit) → slice_get (s
 abbrev pub untouched : Project → List (State BadUnit)
 untouched project = states_in project []
 
--- for each basis that satisfied `BuildInvariant` at first, this is true
+-- for each build context that satisfied `BuildInvariant` at first, this is true
 abbrev pub FromFirst : Answers → UnitExecutor → BuildState → UnitExecutor → (BuildContext → Type 0) → Type 0
-FromFirst child first at c Since = (footing : Premise) (sources : World)
-    → BuildInvariant (basis footing child c.setup c.project sources) (untouched c.project) first.done.items first.store.next at.world
-    → Since (basis footing child c.setup c.project sources)
+FromFirst child first at c Since = (premise : Premise) (sources : World)
+    → BuildInvariant (build_context premise child c.setup c.project sources) (untouched c.project) first.done.items first.store.next at.world
+    → Since (build_context premise child c.setup c.project sources)
 
 -- the story of a crew between two moments
 pub record History (is_modelled : Bool) (child : Answers) (first : UnitExecutor) (at : BuildState) (c : UnitExecutor) (now : BuildState) (still : ℕ → Type 0) (es : List (Event BadUnit)) (given : ℕ) : Type 0 where
   pub setup : c.setup ≡ first.setup
   pub project : c.project ≡ first.project
-  pub goes : CountersSoFar c.project at now c.started.items c.aloft.items es given
+  pub goes : CountersSoFar c.project at now c.started.items c.running.items es given
   pub numbers : NumbersGiven IsUntold es first.store.next c.store.next
-  pub changes : IsTrue is_modelled → Changes c.project at.world c.aloft.items es now.world now.counts.starts.flying
+  pub changes : IsTrue is_modelled → Changes c.project at.world c.running.items es now.world now.counts.starts.flying
   pub unrecorded : IsTrue is_modelled → KeepsNoneInFlight c.project es None now.world
   pub childless : IsTrue is_modelled → KeepsChildless c.project es None at.world now.world
-  pub again : IsTrue is_modelled → Replays c.setup c.project c.done.items c.aloft.items es at.world now.world
-  pub anew : IsTrue is_modelled → Replies child c.setup c.project c.done.items c.aloft.items es now.world now.counts.starts.flying still
-  pub left : IsTrue is_modelled → Recordings child c.setup c.project c.done.items c.aloft.items es first.store.next at.world now.world
+  pub again : IsTrue is_modelled → Replays c.setup c.project c.done.items c.running.items es at.world now.world
+  pub anew : IsTrue is_modelled → Replies child c.setup c.project c.done.items c.running.items es now.world now.counts.starts.flying still
+  pub left : IsTrue is_modelled → Recordings child c.setup c.project c.done.items c.running.items es first.store.next at.world now.world
   pub began : IsTrue is_modelled → AllBeganOnAny c.setup c.project c.done.items es c.reasons.items at.world now.world
   pub quiet : IsTrue is_modelled → IsQuiet c.project es at.world now.world
-  pub happened : IsTrue is_modelled → FromFirst child first at c (λ b. HistoryHolds b c.done.items c.aloft.items c.store.next es now.world now.counts.starts.flying still)
+  pub happened : IsTrue is_modelled → FromFirst child first at c (λ b. HistoryHolds b c.done.items c.running.items c.store.next es now.world now.counts.starts.flying still)
   pub taken : IsTrue is_modelled → NumbersGiven (LacksNumber c.project at.world) es first.store.next c.store.next
   pub calls : IsTrue is_modelled → FromFirst child first at c (λ b. CallsOver (call_basis b) es at.world at.counts now.world now.counts)
   pub calls_on_any : IsTrue is_modelled → CallsOnAny child c.setup c.project c.done.items es at.world at.counts now.world now.counts
@@ -416,8 +416,8 @@ pub record StoryEnds (is_modelled : Bool) (child : Answers) (fault : BuildFault)
   pub came : CameAfter c.project fault before es
   pub names : NamesUnit c.project fault asked before es
   pub most : now.most ≡ max at.most (peak before)
-  pub changes : IsTrue is_modelled → Changes c.project at.world c.aloft.items es now.world now.counts.starts.flying
-  pub beside : IsTrue is_modelled → AllByRecursion (FliesBeside c.project before asked) c.aloft.items
+  pub changes : IsTrue is_modelled → Changes c.project at.world c.running.items es now.world now.counts.starts.flying
+  pub beside : IsTrue is_modelled → AllByRecursion (FliesBeside c.project before asked) c.running.items
   pub unrecorded : IsTrue is_modelled → KeepsNoneInFlight c.project before asked now.world
   pub childless : IsTrue is_modelled → KeepsChildless c.project before asked at.world now.world
   pub again : IsTrue is_modelled → AllAnswerAgain c.setup c.project es c.done.items at.world
@@ -425,7 +425,7 @@ pub record StoryEnds (is_modelled : Bool) (child : Answers) (fault : BuildFault)
   pub left : IsTrue is_modelled → AllLeaveRecords child c.setup c.project es c.done.items first.store.next at.world now.world
   pub began : IsTrue is_modelled → AllBeganOnAny c.setup c.project c.done.items before c.reasons.items at.world now.world
   pub started : IsTrue is_modelled → StartedOnAny c.setup c.project c.done.items fault before es at.world now.world
-  pub happened : IsTrue is_modelled → FromFirst child first at c (λ b. HistoryHolds b c.done.items c.aloft.items c.store.next es now.world now.counts.starts.flying still)
+  pub happened : IsTrue is_modelled → FromFirst child first at c (λ b. HistoryHolds b c.done.items c.running.items c.store.next es now.world now.counts.starts.flying still)
   pub caused : IsTrue is_modelled → Spends (LacksNumber c.project at.world) fault first.store.next es
   pub calls : IsTrue is_modelled → FromFirst child first at c (λ b. CallsCut (call_basis b) fault asked es before at.world at.counts now.world now.counts)
   pub calls_on_any : IsTrue is_modelled → CallsCutOnAny child c.setup c.project c.done.items fault asked es before at.world at.counts now.world now.counts

@@ -18,46 +18,46 @@ use std::alloc::Global;
 
 /// Drops the unit in flight that began first.
 fn drop_first<P: Place>(alloc: Global, crew: &mut UnitExecutor, place: &mut P)
-    requires manned { IsConsistent crew.old (P.at place.old).counts }
-    requires some { 0 < length crew.old.aloft.items }
-    ensures manned { IsConsistent crew.new (P.at place.new).counts }
+    requires consistent { IsConsistent crew.old (P.at place.old).counts }
+    requires some { 0 < length crew.old.running.items }
+    ensures consistent { IsConsistent crew.new (P.at place.new).counts }
 
     // The first unit is no longer in flight; nothing else of the crew has changed.
-    ensures less { length crew.new.aloft.items < length crew.old.aloft.items }
-    ensures aloft { crew.new.aloft.items ≡ remove crew.old.aloft.items 0 }
-    ensures same { crew.new ≡ record crew.old { aloft = crew.new.aloft } }
+    ensures less { length crew.new.running.items < length crew.old.running.items }
+    ensures running { crew.new.running.items ≡ remove crew.old.running.items 0 }
+    ensures same { crew.new ≡ record crew.old { running = crew.new.running } }
 
     // The end of its child, if it has one, was awaited.
     ensures dropped { (new : Counts)
-        → Dropped (tickets_of crew.new.aloft.items) (P.at place.new).counts new
-        → Dropped (tickets_of crew.old.aloft.items) (P.at place.old).counts new }
+        → Dropped (tickets_of crew.new.running.items) (P.at place.new).counts new
+        → Dropped (tickets_of crew.old.running.items) (P.at place.old).counts new }
     ensures most { (P.at place.new).most ≡ (P.at place.old).most }
 
     // What has happened so far is still true.
     ensures told { (first : World) (es : List (Event BadUnit)) → IsTrue P.is_modelled
-        → Changes crew.old.project first crew.old.aloft.items es
+        → Changes crew.old.project first crew.old.running.items es
         (P.at place.old).world (P.at place.old).counts.starts.flying
         → StaysTold P.child crew.old.project first es
-        crew.old.aloft.items crew.new.aloft.items
+        crew.old.running.items crew.new.running.items
         (P.at place.old).world (P.at place.new).world (P.at place.new).counts.starts.flying }
     ensures happened { (b : BuildContext) (es : List (Event BadUnit)) → IsTrue P.is_modelled
         → b.project ≡ crew.old.project
-        → HistoryHolds b crew.old.done.items crew.old.aloft.items crew.old.store.next es
+        → HistoryHolds b crew.old.done.items crew.old.running.items crew.old.store.next es
         (P.at place.old).world (P.at place.old).counts.starts.flying (P.at place.old).still
-        → HistoryHolds b crew.new.done.items crew.new.aloft.items crew.new.store.next es
+        → HistoryHolds b crew.new.done.items crew.new.running.items crew.new.store.next es
         (P.at place.new).world (P.at place.new).counts.starts.flying (P.at place.new).still }
 {
-    let aloft = crew.aloft.remove(0);
-    drop_unit(alloc, place, &aloft.begun);
+    let running = crew.running.remove(0);
+    drop_unit(alloc, place, &running.begun);
 }
 
 /// Drops all units in flight, in the order in which they began. Then no child is in flight. It
 /// makes no other call of the place.
 pub(crate) fn drain<P: Place>(alloc: Global, crew: &mut UnitExecutor, place: &mut P)
-    requires manned { IsConsistent crew.old (P.at place.old).counts }
+    requires consistent { IsConsistent crew.old (P.at place.old).counts }
 
     // No unit is in flight; nothing else of the crew has changed.
-    ensures same { crew.new ≡ record crew.old { aloft = crew.new.aloft } }
+    ensures same { crew.new ≡ record crew.old { running = crew.new.running } }
     ensures landed { (P.at place.new).counts.starts.flying ≡ [] }
 
     // The end of each child was awaited once.
@@ -66,19 +66,19 @@ pub(crate) fn drain<P: Place>(alloc: Global, crew: &mut UnitExecutor, place: &mu
 
     // What has happened so far is still true.
     ensures told { (first : World) (es : List (Event BadUnit)) → IsTrue P.is_modelled
-        → Changes crew.old.project first crew.old.aloft.items es
+        → Changes crew.old.project first crew.old.running.items es
         (P.at place.old).world (P.at place.old).counts.starts.flying
         → StaysTold P.child crew.old.project first es
-        crew.old.aloft.items crew.new.aloft.items
+        crew.old.running.items crew.new.running.items
         (P.at place.old).world (P.at place.new).world (P.at place.new).counts.starts.flying }
     ensures happened { (b : BuildContext) (es : List (Event BadUnit)) → IsTrue P.is_modelled
         → b.project ≡ crew.old.project
-        → HistoryHolds b crew.old.done.items crew.old.aloft.items crew.old.store.next es
+        → HistoryHolds b crew.old.done.items crew.old.running.items crew.old.store.next es
         (P.at place.old).world (P.at place.old).counts.starts.flying (P.at place.old).still
-        → HistoryHolds b crew.new.done.items crew.new.aloft.items crew.new.store.next es
+        → HistoryHolds b crew.new.done.items crew.new.running.items crew.new.store.next es
         (P.at place.new).world (P.at place.new).counts.starts.flying (P.at place.new).still }
 {
-    while !crew.aloft.is_empty() {
+    while !crew.running.is_empty() {
         drop_first(alloc, crew, place);
     }
 }

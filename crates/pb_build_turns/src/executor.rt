@@ -45,7 +45,7 @@ pub struct UnitExecutor {
     /// run.
     pub done: Vec<Option<Directives>>,
     /// The units in flight, in the order in which they began.
-    pub aloft: Vec<RunningUnit>,
+    pub running: Vec<RunningUnit>,
     /// The units for which a child was started, in order.
     pub started: Vec<usize>,
     /// For each unit its first difference: none if it has not begun; some difference or none if it
@@ -65,37 +65,37 @@ fn put<T: Drop>(items: &mut Vec<T>, item: T)
 }
 
 /// Makes room for one more unit in flight, and for one more that was started.
-fn make_room(aloft: &mut Vec<RunningUnit>, started: &mut Vec<usize>) -> Result<(), AllocError>
-    ensures aloft { aloft.new.items ≡ aloft.old.items }
+fn make_room(running: &mut Vec<RunningUnit>, started: &mut Vec<usize>) -> Result<(), AllocError>
+    ensures running { running.new.items ≡ running.old.items }
     ensures started { started.new.items ≡ started.old.items }
-    ensures room { OnOk result (vec_len aloft.new < vec_capacity aloft.new) }
+    ensures room { OnOk result (vec_len running.new < vec_capacity running.new) }
     ensures more { OnOk result (vec_len started.new < vec_capacity started.new) }
 {
-    aloft.reserve(1)?;
+    running.reserve(1)?;
     started.reserve(1)?;
     Ok(())
 }
 
 /// Notes a unit that has begun.
 fn note_begun(
-    aloft: &mut Vec<RunningUnit>,
+    running: &mut Vec<RunningUnit>,
     started: &mut Vec<usize>,
     reasons: &mut Vec<Option<Option<Difference>>>,
     unit: usize,
     mut begun: Begun,
 )
-    requires room { vec_len aloft.old < vec_capacity aloft.old }
+    requires room { vec_len running.old < vec_capacity running.old }
     requires more { vec_len started.old < vec_capacity started.old }
     requires within { unit < length reasons.old.items }
-    ensures aloft { aloft.new.items
-        ≡ aloft.old.items ++ record { unit = unit; begun = noted begun } ∷ [] }
+    ensures running { running.new.items
+        ≡ running.old.items ++ record { unit = unit; begun = noted begun } ∷ [] }
     ensures started { started.new.items
         ≡ started.old.items ++ if_so (is_some (child_of begun)) unit }
     ensures reasons { reasons.new.items ≡ slice_set reasons.old.items unit (Some begun.difference) }
 {
     let spawned = begun.has_child();
     let difference = begun.difference.take();
-    put(aloft, RunningUnit { unit, begun });
+    put(running, RunningUnit { unit, begun });
     if spawned {
         put(started, unit);
     }
@@ -109,20 +109,20 @@ fn begin_at<P: Place>(
     place: &mut P,
     unit: usize,
 ) -> Result<bool, BuildFault>
-    requires manned { IsConsistent crew.old (P.at place.old).counts }
+    requires consistent { IsConsistent crew.old (P.at place.old).counts }
     requires able { IsAble P.is_modelled crew.old (P.at place.old) }
     requires unit { unit < length (needs_of crew.old.project) }
-    requires grounded { Contains (places_of crew.old.aloft.items) unit → ⊥ }
-    ensures manned { IsConsistent crew.new (P.at place.new).counts }
+    requires grounded { Contains (places_of crew.old.running.items) unit → ⊥ }
+    ensures consistent { IsConsistent crew.new (P.at place.new).counts }
     ensures able { OnOk result (IsAble P.is_modelled crew.new (P.at place.new)) }
     ensures project { crew.new.project ≡ crew.old.project }
     ensures flying { OnOk result
-        (places_of crew.new.aloft.items ≡ places_of crew.old.aloft.items ++ unit ∷ []) }
+        (places_of crew.new.running.items ≡ places_of crew.old.running.items ++ unit ∷ []) }
     ensures story { (first : UnitExecutor) (at : BuildState) (heard : SinkState)
         (es : List (Event BadUnit))
         (given : ℕ)
         → History P.is_modelled P.child first at crew.old (moment (P.at place.old) heard)
-        (P.at place.old).still es given → places_of crew.old.aloft.items ≡ flying_after es
+        (P.at place.old).still es given → places_of crew.old.running.items ≡ flying_after es
         → IsLawful (needs_of crew.old.project) es
         → given ≡ count_due (states_in crew.old.project es)
         → MayBegin (needs_of crew.old.project) (states_in crew.old.project es) unit
@@ -137,7 +137,7 @@ fn begin_at<P: Place>(
         (Began unit spawned ∷ es)) }
 {
     // Room is made before the spawn, so that a child in flight is always noted.
-    match make_room(&mut crew.aloft, &mut crew.started) {
+    match make_room(&mut crew.running, &mut crew.started) {
         Ok(()) => {}
         Err(_) => return Err(BuildFault::OutOfMemory),
     }
@@ -158,7 +158,7 @@ fn begin_at<P: Place>(
     };
     let spawned = begun.has_child();
     note_begun(
-        &mut crew.aloft,
+        &mut crew.running,
         &mut crew.started,
         &mut crew.reasons,
         unit,
@@ -194,22 +194,22 @@ fn answer_at<P: Place>(
     place: &mut P,
     index: usize,
 ) -> Result<Answer<BadUnit>, BuildFault>
-    requires manned { IsConsistent crew.old (P.at place.old).counts }
+    requires consistent { IsConsistent crew.old (P.at place.old).counts }
     requires able { IsAble P.is_modelled crew.old (P.at place.old) }
-    requires within { index < length (places_of crew.old.aloft.items) }
-    ensures manned { IsConsistent crew.new (P.at place.new).counts }
+    requires within { index < length (places_of crew.old.running.items) }
+    ensures consistent { IsConsistent crew.new (P.at place.new).counts }
     ensures able { OnOk result (IsAble P.is_modelled crew.new (P.at place.new)) }
     ensures project { crew.new.project ≡ crew.old.project }
-    ensures flying { places_of crew.new.aloft.items
-        ≡ remove (places_of crew.old.aloft.items) index }
+    ensures flying { places_of crew.new.running.items
+        ≡ remove (places_of crew.old.running.items) index }
     ensures story { (first : UnitExecutor) (at : BuildState) (heard : SinkState)
         (es : List (Event BadUnit))
         (given unit : ℕ)
         → History P.is_modelled P.child first at crew.old (moment (P.at place.old) heard)
-        (P.at place.old).still es given → places_of crew.old.aloft.items ≡ flying_after es
+        (P.at place.old).still es given → places_of crew.old.running.items ≡ flying_after es
         → IsLawful (needs_of crew.old.project) es
         → given ≡ count_due (states_in crew.old.project es)
-        → slice_get (places_of crew.old.aloft.items) index ≡ Some unit
+        → slice_get (places_of crew.old.running.items) index ≡ Some unit
         → slice_get (states_in crew.old.project es) unit ≡ Some state.Begun
         → MatchResult result
         (λ answer.
@@ -220,7 +220,7 @@ fn answer_at<P: Place>(
         (moment (P.at place.new) heard) (P.at place.new).still es) }
 {
     // The unit leaves the list first: even after a fault it is no longer in flight.
-    let RunningUnit { unit, begun } = crew.aloft.remove(index);
+    let RunningUnit { unit, begun } = crew.running.remove(index);
     let project = &crew.project;
     let planned = &project.units()[unit];
     let outcome = match answer_unit(alloc, place, &mut crew.store, project, unit, planned, begun) {
@@ -231,11 +231,11 @@ fn answer_at<P: Place>(
 }
 
 /// The places of the units in flight.
-fn places_of(alloc: Global, aloft: &[RunningUnit]) -> Result<Vec<usize>, AllocError>
-    ensures { IfOk result (λ places. places.items ≡ places_of aloft.now) }
+fn places_of(alloc: Global, running: &[RunningUnit]) -> Result<Vec<usize>, AllocError>
+    ensures { IfOk result (λ places. places.items ≡ places_of running.now) }
 {
     let mut places = Vec::new(alloc);
-    for one in aloft {
+    for one in running {
         places.push(one.unit)?;
     }
     Ok(places)
@@ -244,7 +244,7 @@ fn places_of(alloc: Global, aloft: &[RunningUnit]) -> Result<Vec<usize>, AllocEr
 impl<P: Place, O: Out> Executor<P, O, BadUnit, BuildFault> for UnitExecutor {
     ghost needs = { λ crew. needs_of crew.project };
 
-    ghost flying = { λ crew. places_of crew.aloft.items };
+    ghost flying = { λ crew. places_of crew.running.items };
 
     ghost holds = { λ crew place out. IsConsistent crew (P.at place).counts };
 
@@ -259,7 +259,7 @@ impl<P: Place, O: Out> Executor<P, O, BadUnit, BuildFault> for UnitExecutor {
         crew (moment (P.at place) (O.heard out)) (P.at place).still es };
 
     fn flying(&self, alloc: Global) -> Result<Vec<usize>, AllocError> {
-        places_of(alloc, self.aloft.as_slice())
+        places_of(alloc, self.running.as_slice())
     }
 
     fn begin(

@@ -150,7 +150,7 @@ pub fn run_turns<P: Place, O: Out, T: Turn>(
         project,
         store,
         done,
-        aloft: Vec::new(alloc),
+        running: Vec::new(alloc),
         started: Vec::new(alloc),
         reasons,
     };

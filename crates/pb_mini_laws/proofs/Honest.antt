@@ -12,7 +12,7 @@ use Rattle.pb_workspace_types.specs.declared.options.Options.{Options}
 use Rattle.pb_place_types.specs.World.{World, from_nothing}
 use Rattle.pb_command_types.specs.declared.project.Project.{Project}
 use Rattle.pb_command_types.specs.Targets.{unit_at}
-use Rattle.pb_run.specs.UnitSteps.{TrustedRecords, command_in, basis}
+use Rattle.pb_run.specs.UnitSteps.{TrustedRecords, command_in, build_context}
 use Rattle.pb_run.specs.Outcome.{directives_of, outcomes}
 use Rattle.pb_build_session.specs.declared.step.SessionStep.{SessionStep}
 use Rattle.pb_build_session.specs.declared.step.SessionStep.TheVariants.{Write, Remove, Set, Unset, Build, Die, Fuse}
@@ -62,7 +62,7 @@ small_builds_are_honest options w small units place u v at alike seen =
     small_compiler_is_honest (setup_of options (environment_of options w.variables) units.toolchain) units.project u
     (directives_of (take place (outcomes small_compiler (setup_of options (environment_of options w.variables) units.toolchain) units.project (from_nothing (environment_of options w.variables).target w)))) v
     (small.setup units.toolchain) (of_project options w small units.project units.is place u at)
-    (subst (CanTell (command_in (basis TrustedRecords small_compiler (setup_of options (environment_of options w.variables) units.toolchain) units.project (from_nothing (environment_of options w.variables).target w)) place u)) (sym seen)
+    (subst (CanTell (command_in (build_context TrustedRecords small_compiler (setup_of options (environment_of options w.variables) units.toolchain) units.project (from_nothing (environment_of options w.variables).target w)) place u)) (sym seen)
     (small.can_tell units.project units.toolchain units.is units.says place u at))
 
 -- whatever the schedule

@@ -122,7 +122,7 @@ module _ (b : BuildContext) (order : IsInOrder b.project) (i : ℕ) (u : Planned
       → ((t : ℕ) (f : ChildInFlight) → child_at t flying ≡ Some f → child_at t flying' ≡ Some f) → KeepsStillOutside (is_of (records_folder b.project) u.key) flying still still' → IsBegun b other its next' w' flying' still'
   others_at_folder w' next' flying' still' only taken left flies keeps =
       stays_begun b order states done i u None other its next next' None w w' flying flying' still still' at bad can.keeps apart only taken
-      (if_records b.footing (Left (records_in b w) (records_in b w') u.key None) (left_dropped (records_in b w) (records_in b w') u.key left))
+      (if_records b.premise (Left (records_in b w) (records_in b w') u.key None) (left_dropped (records_in b w) (records_in b w') u.key left))
       (λ theirs is e. no_number theirs.number e) (λ theirs is f there. flies theirs.ticket f there) (λ theirs is stands stood. keeps theirs.ticket stands stood)
 
   pub others_begun : (folder : List ℕ) (w' : World) (next' : Option ℕ) (flying' : List ChildInFlight) (still' : ℕ → Type 0) → folder ≡ records_folder b.project → ChangesOnly (is_of folder u.key) w w' → TakesNumber next next'

@@ -146,7 +146,7 @@ module _ (b : BuildContext) (order : IsInOrder b.project) (i : ℕ) (u : Planned
       others_kept other its flying' mid later flies stays holds apart =
           others_landed b order i u at u.key c l next w flying still states done can w1 landed_so other its v2 flying' later apart
           (kept_only (records_folder b.project) u.key u.out w w1 v2 (order.folders i u at) landed_so keeping.only)
-          (left_kept b order i u at states done (begun_with u.key c (awaited.Child l)) next w flying still can w1 landed_so v2 keeping.only b.footing l.number (map (input_in c.target w1) j.names) ended
+          (left_kept b order i u at states done (begun_with u.key c (awaited.Child l)) next w flying still can w1 landed_so v2 keeping.only b.premise l.number (map (input_in c.target w1) j.names) ended
           (its_record b order i u at states done (begun_with u.key c (awaited.Child l)) next w flying still can l refl) keeping.left)
           flies
           (λ t ne stands stood. still_over (is_of (records_folder b.project) u.key) t l.ticket flying w w1 still mid later ne (only_out b order i u at w w1 landed_so) stays

@@ -36,10 +36,10 @@ module _ (begun : Begun) where
     answered_whole result came = record {
       answers = unit_whole result came.answers;
       ends = record { lands = came.ends.lands; same = came.ends.same; untaken = came.ends.untaken; most = came.ends.most };
-      build = λ footing setup sources told. record {
-        outcome = λ states done can. (came.build footing setup sources told).outcome states done (answer_parts _ index key before.next old.world old.counts.starts.flying old.still states done u can);
-        keeps = λ states done can. (came.build footing setup sources told).keeps states done (answer_parts _ index key before.next old.world old.counts.starts.flying old.still states done u can);
-        others = λ states done other its can apart. (came.build footing setup sources told).others states done other its (answer_parts _ index key before.next old.world old.counts.starts.flying old.still states done u can) apart;
+      build = λ premise setup sources told. record {
+        outcome = λ states done can. (came.build premise setup sources told).outcome states done (answer_parts _ index key before.next old.world old.counts.starts.flying old.still states done u can);
+        keeps = λ states done can. (came.build premise setup sources told).keeps states done (answer_parts _ index key before.next old.world old.counts.starts.flying old.still states done u can);
+        others = λ states done other its can apart. (came.build premise setup sources told).others states done other its (answer_parts _ index key before.next old.world old.counts.starts.flying old.still states done u can) apart;
       };
       store = came.store;
       changes = came.changes;

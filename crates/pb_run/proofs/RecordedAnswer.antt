@@ -136,13 +136,13 @@ module _ (b : BuildContext) (order : IsInOrder b.project) (place : ℕ) (u : Pla
     pub its_flight : (launched : SpawnedChild) → child_of begun ≡ Some launched → IsInFlight b.child begun.command (view_in b place u) launched.ticket flying still
     its_flight launched is = (waits_child b u begun.command (view_in b place u) begun.awaited launched next w flying still is its_waits).0
 
-    pub its_record : (launched : SpawnedChild) → child_of begun ≡ Some launched → AwaitsBy b.footing b u launched.number next w
+    pub its_record : (launched : SpawnedChild) → child_of begun ≡ Some launched → AwaitsBy b.premise b u launched.number next w
     its_record launched is = (waits_child b u begun.command (view_in b place u) begun.awaited launched next w flying still is its_waits).1
 
     record_waits : (again : Replayed) → begun.awaited ≡ awaited.Record again → WaitsBy b u begun.command (view_in b place u) (awaited.Record again) next w flying still
     record_waits again is = subst (λ (o : Awaited). WaitsBy b u begun.command (view_in b place u) o next w flying still) is its_waits
 
-    pub its_same : (again : Replayed) → begun.awaited ≡ awaited.Record again → IsUnchanged b.footing b u begun.command w
+    pub its_same : (again : Replayed) → begun.awaited ≡ awaited.Record again → IsUnchanged b.premise b u begun.command w
     its_same again is = (record_waits again is).0
 
     pub its_again : (again : Replayed) → begun.awaited ≡ awaited.Record again → IsReplayed (records_in b w u.key) again
@@ -161,12 +161,12 @@ module _ (b : BuildContext) (order : IsInOrder b.project) (place : ℕ) (u : Pla
 
     -- after a fault: no unit's state is changed
     pub keeps_fault : (w' : World) (next' : Option ℕ) → ChangesOnly (is_of Folder u.key) w w'
-        → IfRecords b.footing (Sound reading judge b.child Folder w'.files) → IfRecords b.footing (IsAhead (records_in b w') next') → BuildInvariant b states done next' w'
+        → IfRecords b.premise (Sound reading judge b.child Folder w'.files) → IfRecords b.premise (IsAhead (records_in b w') next') → BuildInvariant b states done next' w'
     keeps_fault w' next' only sound ahead = keeps_over b order states done place u there begun_bad next w w' can.keeps only states done next' (λ p apart. refl) (λ p apart. refl) can.keeps.long
         record {
           stands = λ good. absurd (false≢true (sym begun_bad ∙ good));
           reaches = λ good. absurd (false≢true (sym begun_bad ∙ good));
-          recorded = never_by b.footing (is_good_at (slice_get states place) ≡ true) (HasRecord b w' place) (λ good. false≢true (sym begun_bad ∙ good));
+          recorded = never_by b.premise (is_good_at (slice_get states place) ≡ true) (HasRecord b w' place) (λ good. false≢true (sym begun_bad ∙ good));
           begun = λ untouched. begun_untouched begun_state refl (sym can.state ∙ untouched);
         } sound ahead
       where
@@ -176,7 +176,7 @@ module _ (b : BuildContext) (order : IsInOrder b.project) (place : ℕ) (u : Pla
     -- after its answer, good or bad: a good one stands, and has its record
     pub keeps_answered : (w' : World) (next' : Option ℕ) (ran : Ran) (lines : List ℕ) → ChangesOnly (is_of Folder u.key) w w'
         → slice_get (outcomes_in b) place ≡ Some (outcome_by (files_in u.out w'.files) ran)
-        → IfRecords b.footing (Sound reading judge b.child Folder w'.files) → IfRecords b.footing (IsAhead (records_in b w') next') → IfRecords b.footing (ran.bad ≡ None → HasRecord b w' place)
+        → IfRecords b.premise (Sound reading judge b.child Folder w'.files) → IfRecords b.premise (IsAhead (records_in b w') next') → IfRecords b.premise (ran.bad ≡ None → HasRecord b w' place)
         → BuildInvariant b (slice_set states place (CheckedReply record { fault = ran.bad; lines = lines })) (slice_set done place ran.directives) next' w'
     keeps_answered w' next' ran lines only outcome sound ahead recorded =
         keeps_over b order states done place u there begun_bad next w w' can.keeps only (slice_set states place (CheckedReply answer)) (slice_set done place ran.directives) next'
@@ -194,7 +194,7 @@ module _ (b : BuildContext) (order : IsInOrder b.project) (place : ℕ) (u : Pla
             holds = refl;
           };
           reaches = λ good. can.reaches;
-          recorded = recorded_by b.footing recorded;
+          recorded = recorded_by b.premise recorded;
           begun = λ untouched. answered_untouched (CheckedReply answer) refl (sym now ∙ untouched);
         } sound ahead
       where
@@ -222,7 +222,7 @@ module _ (b : BuildContext) (order : IsInOrder b.project) (place : ℕ) (u : Pla
         noted_at (y ∷ xs) zero x less = refl
         noted_at (y ∷ xs) (suc i) x less = noted_at xs i x (omega (arith, less))
 
-        recorded_by : (footing : Premise) → IfRecords footing (ran.bad ≡ None → HasRecord b w' place)
-            → IfRecords footing (is_good_at (slice_get (slice_set states place (CheckedReply answer)) place) ≡ true → HasRecord b w' place)
+        recorded_by : (premise : Premise) → IfRecords premise (ran.bad ≡ None → HasRecord b w' place)
+            → IfRecords premise (is_good_at (slice_get (slice_set states place (CheckedReply answer)) place) ≡ true → HasRecord b w' place)
         recorded_by TrustedRecords has = λ good. has (well good)
         recorded_by NoRecords has = tt

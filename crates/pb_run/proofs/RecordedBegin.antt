@@ -39,12 +39,12 @@ untouched_begun : (s : State BadUnit) → s ≡ begun_state → Some s ≡ Some 
 untouched_begun s is e = cc
 
 -- by what a build rests on
-pub by_footing : (footing : Premise) (b : BuildContext) (states : List (State BadUnit)) (next : Option ℕ) (w : World) (Fact : Type 0) → HoldsBy footing b states next w
-    → (Sound reading judge b.child (records_folder b.project) w.files → IsAhead (records_in b w) next → Fact) → IfRecords footing Fact
+pub by_footing : (premise : Premise) (b : BuildContext) (states : List (State BadUnit)) (next : Option ℕ) (w : World) (Fact : Type 0) → HoldsBy premise b states next w
+    → (Sound reading judge b.child (records_folder b.project) w.files → IsAhead (records_in b w) next → Fact) → IfRecords premise Fact
 by_footing TrustedRecords b states next w Fact holds gives = gives holds.sound holds.ahead
 by_footing NoRecords b states next w Fact holds gives = tt
 
-pub never_by : (footing : Premise) (Given Fact : Type 0) → (Given → ⊥) → IfRecords footing (Given → Fact)
+pub never_by : (premise : Premise) (Given Fact : Type 0) → (Given → ⊥) → IfRecords premise (Given → Fact)
 never_by TrustedRecords Given Fact never = λ given. absurd (never given)
 never_by NoRecords Given Fact never = tt
 
@@ -76,14 +76,14 @@ module _ (b : BuildContext) (order : IsInOrder b.project) (states : List (State 
         record {
           stands = λ good. absurd (not_good good);
           reaches = λ good. absurd (not_good good);
-          recorded = never_by b.footing (is_good_at (slice_get (slice_set states place begun_state) place) ≡ true) (HasRecord b w' place) not_good;
+          recorded = never_by b.premise (is_good_at (slice_get (slice_set states place begun_state) place) ≡ true) (HasRecord b w' place) not_good;
           begun = λ untouched. untouched_begun begun_state refl (sym now_begun ∙ untouched);
         }
-        (by_footing b.footing b states next w (Sound reading judge b.child (records_folder b.project) w'.files) can.keeps.records (λ was more. sound was))
-        (by_footing b.footing b states next w (IsAhead (records_in b w') next') can.keeps.records (λ was more. ahead more))
+        (by_footing b.premise b states next w (Sound reading judge b.child (records_folder b.project) w'.files) can.keeps.records (λ was more. sound was))
+        (by_footing b.premise b states next w (IsAhead (records_in b w') next') can.keeps.records (λ was more. ahead more))
 
     -- a record of it may be kept with the number that was given
-    pub awaits : (footing : Premise) (number : ℕ) (next' : Option ℕ) → HoldsBy footing b states next w → records_in b w' u.key ≡ None → next ≡ Some number → next' ≡ after number → AwaitsBy footing b u number next' w'
+    pub awaits : (premise : Premise) (number : ℕ) (next' : Option ℕ) → HoldsBy premise b states next w → records_in b w' u.key ≡ None → next ≡ Some number → next' ≡ after number → AwaitsBy premise b u number next' w'
     awaits NoRecords number next' holds gone given then' = tt
     awaits TrustedRecords number next' holds gone given then' =
         let ahead : IsAhead (records_in b w) (Some number) = subst (IsAhead (records_in b w)) given holds.ahead in
@@ -114,12 +114,12 @@ module _ (b : BuildContext) (order : IsInOrder b.project) (states : List (State 
           emptied = emptied;
           stands = stands;
         },
-        awaits b.footing launched.number next' can.keeps.records gone given then',
+        awaits b.premise launched.number next' can.keeps.records gone given then',
       );
     }
 
     -- and without one, where nothing differs
-    unchanged_by : (footing : Premise) (c : _) → HoldsBy footing b states next w → (r : Record) × IsSame reading (records_folder b.project) u.key c w r → IsUnchanged footing b u c w
+    unchanged_by : (premise : Premise) (c : _) → HoldsBy premise b states next w → (r : Record) × IsSame reading (records_folder b.project) u.key c w r → IsUnchanged premise b u c w
     unchanged_by TrustedRecords c holds same = same
     unchanged_by NoRecords c holds (r, same) = none_some r (sym (holds place u there can.untouched) ∙ same.stands)
 
@@ -129,5 +129,5 @@ module _ (b : BuildContext) (order : IsInOrder b.project) (states : List (State 
       unit = u;
       there = there;
       command = is_command;
-      waits = subst (λ (o : Awaited). WaitsBy b u begun.command (view_in b place u) o next w flying still) (sym is_awaited) (unchanged_by b.footing begun.command can.keeps.records same, gives);
+      waits = subst (λ (o : Awaited). WaitsBy b u begun.command (view_in b place u) o next w flying still) (sym is_awaited) (unchanged_by b.premise begun.command can.keeps.records same, gives);
     }

@@ -100,7 +100,7 @@ module _ (b : BuildContext) (order : IsInOrder b.project) (states : List (State 
 pub record IsAfter (b : BuildContext) (states states' : List (State BadUnit)) (done' : List (Option (List Directive))) (place : ℕ) (u : Planned) (w' : World) : Type 0 where
   pub stands : is_good_at (slice_get states' place) ≡ true → StandsGood b done' w' place
   pub reaches : is_good_at (slice_get states' place) ≡ true → are_good states u.reaches ≡ true
-  pub recorded : IfRecords b.footing (is_good_at (slice_get states' place) ≡ true → HasRecord b w' place)
+  pub recorded : IfRecords b.premise (is_good_at (slice_get states' place) ≡ true → HasRecord b w' place)
   pub begun : slice_get states' place ≡ Some Untouched → ⊥
 
 module _ (b : BuildContext) (order : IsInOrder b.project) (states : List (State BadUnit)) (done : List (Option (List Directive))) (place : ℕ) (u : Planned) (there : unit_at b.project place ≡ Some u) (bad : is_good_at (slice_get states place) ≡ false)
@@ -161,8 +161,8 @@ module _ (b : BuildContext) (order : IsInOrder b.project) (states : List (State 
     still_good places good = all_of (λ p. is_good_at (slice_get states' p)) places
         (λ p has. let it = all_at (λ q. is_good_at (slice_get states q)) places p good has in ap is_good_at (others p (good_apart p it)) ∙ it)
 
-    holds_over : (footing : Premise) → HoldsBy footing b states next w → IfRecords footing (is_good_at (slice_get states' place) ≡ true → HasRecord b w' place)
-        → IfRecords footing (Sound reading judge b.child (records_folder b.project) w'.files) → IfRecords footing (IsAhead (records_in b w') next') → HoldsBy footing b states' next' w'
+    holds_over : (premise : Premise) → HoldsBy premise b states next w → IfRecords premise (is_good_at (slice_get states' place) ≡ true → HasRecord b w' place)
+        → IfRecords premise (Sound reading judge b.child (records_folder b.project) w'.files) → IfRecords premise (IsAhead (records_in b w') next') → HoldsBy premise b states' next' w'
     holds_over TrustedRecords holds its sound ahead = record {
       honest = holds.honest;
       sound = sound;
@@ -177,7 +177,7 @@ module _ (b : BuildContext) (order : IsInOrder b.project) (states : List (State 
       | inr apart ↦ record_still b.project order place u there w w' only reading p v at apart ∙ holds p v at (sym (others p apart) ∙ untouched)
     ]
 
-    pub keeps_over : IfRecords b.footing (Sound reading judge b.child (records_folder b.project) w'.files) → IfRecords b.footing (IsAhead (records_in b w') next') → BuildInvariant b states' done' next' w'
+    pub keeps_over : IfRecords b.premise (Sound reading judge b.child (records_folder b.project) w'.files) → IfRecords b.premise (IsAhead (records_in b w') next') → BuildInvariant b states' done' next' w'
     keeps_over sound ahead = record {
       long = long;
       sources_stay = sources_still b.project order place u there w w' only ∙ keeps.sources_stay;
@@ -189,5 +189,5 @@ module _ (b : BuildContext) (order : IsInOrder b.project) (states : List (State 
         | inl e ↦ still_good v.reaches (subst (λ (x : Planned). are_good states x.reaches ≡ true) (one u v (sym there ∙ ap (unit_at b.project) (sym e) ∙ at)) (this.reaches (subst (λ q. is_good_at (slice_get states' q) ≡ true) e good)))
         | inr apart ↦ still_good v.reaches (keeps.closed p v (was_good p apart good) at)
       ];
-      records = holds_over b.footing keeps.records this.recorded sound ahead;
+      records = holds_over b.premise keeps.records this.recorded sound ahead;
     }

@@ -60,11 +60,11 @@ module _ (b : BuildContext) (order : IsInOrder b.project) (place : ℕ) (u : Pla
   for = its_for b order place u there states done begun next w flying still can
 
   -- what is kept where the child has landed
-  pub landed_sound : (footing : Premise) (number : ℕ) → HoldsBy footing b states next w → AwaitsBy footing b u number next w → IfRecords footing (Sound reading judge b.child Folder w1.files)
+  pub landed_sound : (premise : Premise) (number : ℕ) → HoldsBy premise b states next w → AwaitsBy premise b u number next w → IfRecords premise (Sound reading judge b.child Folder w1.files)
   landed_sound TrustedRecords number holds waits = sound_out b order place u there w w1 landed waits.gone holds.sound
   landed_sound NoRecords number holds waits = tt
 
-  pub landed_ahead : (footing : Premise) → HoldsBy footing b states next w → IfRecords footing (IsAhead (records_in b w1) next)
+  pub landed_ahead : (premise : Premise) → HoldsBy premise b states next w → IfRecords premise (IsAhead (records_in b w1) next)
   landed_ahead TrustedRecords holds = ahead_alike (records_in b w) (records_in b w1) next alike holds.ahead
   landed_ahead NoRecords holds = tt
 
@@ -108,17 +108,17 @@ module _ (b : BuildContext) (order : IsInOrder b.project) (place : ℕ) (u : Pla
 
   module _ (w2 : World) (kept : ChangesOnly (is_at_or_below (place_of (records_folder b.project) u.key)) w1 w2) where
     -- in the words of the call: sound, and ahead
-    pub kept_sound : (footing : Premise) (number : ℕ) (names : List InputName) (ended : Ended) → HoldsBy footing b states next w → AwaitsBy footing b u number next w
+    pub kept_sound : (premise : Premise) (number : ℕ) (names : List InputName) (ended : Ended) → HoldsBy premise b states next w → AwaitsBy premise b u number next w
         → seen_by begun.command w ≡ view_in b place u → judge begun.command (b.child begun.command (view_in b place u)) ≡ Some names
         → ended ≡ ended_by (b.child begun.command (view_in b place u)) → files_in u.out w1.files ≡ replied_files u.out (b.child begun.command (view_in b place u))
         → (IsKept judge b.child Folder u.key begun.command (needed_keys b.project u) names ended number w1 → Sound reading judge b.child Folder w1.files → Sound reading judge b.child Folder w2.files)
-        → IfRecords footing (Sound reading judge b.child Folder w2.files)
+        → IfRecords premise (Sound reading judge b.child Folder w2.files)
     kept_sound TrustedRecords number names ended holds waits sees good is_ended made gives = gives (is_kept number names ended holds waits sees good is_ended made) (landed_sound TrustedRecords number holds waits)
     kept_sound NoRecords number names ended holds waits sees good is_ended made gives = tt
 
-    pub kept_ahead : (footing : Premise) (number : ℕ) → HoldsBy footing b states next w → AwaitsBy footing b u number next w
+    pub kept_ahead : (premise : Premise) (number : ℕ) → HoldsBy premise b states next w → AwaitsBy premise b u number next w
         → (IsBefore next number → HasNeeds (records_in b w1) Folder begun.command.reads (needed_keys b.project u) number → IsAhead (records_in b w1) next → IsAhead (records_in b w2) next)
-        → IfRecords footing (IsAhead (records_in b w2) next)
+        → IfRecords premise (IsAhead (records_in b w2) next)
     kept_ahead TrustedRecords number holds waits gives = gives waits.before (landed_needs number waits) (landed_ahead TrustedRecords holds)
     kept_ahead NoRecords number holds waits gives = tt
 
@@ -143,8 +143,8 @@ module _ (b : BuildContext) (order : IsInOrder b.project) (place : ℕ) (u : Pla
         }
 
     -- the unit has its record
-    pub kept_record : (footing : Premise) (number : ℕ) (names : List InputName) (ended : Ended) → HoldsBy footing b states next w → AwaitsBy footing b u number next w
-        → records_in b w2 u.key ≡ Some (kept_of Folder u.key begun.command (map (input_in begun.command.target w1) names) number (numbered (records_in b w1) (needed_keys b.project u)) ended) → IfRecords footing (HasRecord b w2 place)
+    pub kept_record : (premise : Premise) (number : ℕ) (names : List InputName) (ended : Ended) → HoldsBy premise b states next w → AwaitsBy premise b u number next w
+        → records_in b w2 u.key ≡ Some (kept_of Folder u.key begun.command (map (input_in begun.command.target w1) names) number (numbered (records_in b w1) (needed_keys b.project u)) ended) → IfRecords premise (HasRecord b w2 place)
     kept_record TrustedRecords number names ended holds waits stands =
         let inputs = map (input_in begun.command.target w1) names in
         let r = kept_of Folder u.key begun.command inputs number (numbered (records_in b w1) (needed_keys b.project u)) ended in
@@ -165,9 +165,9 @@ module _ (b : BuildContext) (order : IsInOrder b.project) (place : ℕ) (u : Pla
     kept_record NoRecords number names ended holds waits stands = tt
 
     -- what others find in its place
-    pub left_kept : (footing : Premise) (number : ℕ) (inputs : List Input) (ended : Ended) → AwaitsBy footing b u number next w
+    pub left_kept : (premise : Premise) (number : ℕ) (inputs : List Input) (ended : Ended) → AwaitsBy premise b u number next w
         → Leaves (Some (kept_of Folder u.key begun.command inputs number (numbered (records_in b w1) (needed_keys b.project u)) ended)) (records_in b w1 u.key) (records_in b w2 u.key)
-        → IfRecords footing (Left (records_in b w) (records_in b w2) u.key (Some number))
+        → IfRecords premise (Left (records_in b w) (records_in b w2) u.key (Some number))
     left_kept TrustedRecords number inputs ended waits left = elim left [
       | inl gone ↦ vanished gone
       | inr more ↦ elim more [

@@ -51,7 +51,7 @@ abbrev pub IfRecords : Premise → Type 0 → Type 0
 IfRecords TrustedRecords Fact = Fact
 IfRecords NoRecords Fact = Unit {0}
 
-pub if_records : (footing : Premise) (Fact : Type 0) → Fact → IfRecords footing Fact
+pub if_records : (premise : Premise) (Fact : Type 0) → Fact → IfRecords premise Fact
 if_records TrustedRecords Fact fact = fact
 if_records NoRecords Fact fact = tt
 
@@ -167,7 +167,7 @@ module _ (b : BuildContext) (order : IsInOrder b.project) (place : ℕ) (u : Pla
       before = before_taken next next' number taken waits.before;
     }
 
-    pub awaits_by : (footing : Premise) (next next' : Option ℕ) (given : Option ℕ) (number : ℕ) → TakesNumber next next' → IfRecords footing (Left At At' u.key given) → given ≢ Some number → AwaitsBy footing b v number next w → AwaitsBy footing b v number next' w'
+    pub awaits_by : (premise : Premise) (next next' : Option ℕ) (given : Option ℕ) (number : ℕ) → TakesNumber next next' → IfRecords premise (Left At At' u.key given) → given ≢ Some number → AwaitsBy premise b v number next w → AwaitsBy premise b v number next' w'
     awaits_by TrustedRecords next next' given number taken left apart waits = awaits_still next next' given number taken left apart waits
     awaits_by NoRecords next next' given number taken left apart waits = tt
 
@@ -202,7 +202,7 @@ module _ (b : BuildContext) (order : IsInOrder b.project) (place : ℕ) (u : Pla
       needed = needed_still c for r r.needed (sound.each v.key r is.stands).says (sym (ap (λ (d : Command). d.reads) is.asked)) is.needed;
     }
 
-    pub unchanged_by : (footing : Premise) (states : List (State BadUnit)) (next : Option ℕ) (c : Command) → IsFor b.project v c → HoldsBy footing b states next w → IsUnchanged footing b v c w → IsUnchanged footing b v c w'
+    pub unchanged_by : (premise : Premise) (states : List (State BadUnit)) (next : Option ℕ) (c : Command) → IsFor b.project v c → HoldsBy premise b states next w → IsUnchanged premise b v c w → IsUnchanged premise b v c w'
     unchanged_by TrustedRecords states next c for holds (r, is) = (r, same_still c r for holds.sound is)
     unchanged_by NoRecords states next c for holds is = is
 
@@ -228,18 +228,18 @@ module _ (b : BuildContext) (order : IsInOrder b.project) (place : ℕ) (u : Pla
     }
 
     pub waits_still : (c : Command) (view : World) (by : Awaited) (states : List (State BadUnit)) (next next' given : Option ℕ) (flying flying' : List ChildInFlight) (still still' : ℕ → Type 0)
-        → IsFor b.project v c → HoldsBy b.footing b states next w → TakesNumber next next' → IfRecords b.footing (Left At At' u.key given)
+        → IsFor b.project v c → HoldsBy b.premise b states next w → TakesNumber next next' → IfRecords b.premise (Left At At' u.key given)
         → ((theirs : SpawnedChild) → child_in by ≡ Some theirs → given ≢ Some theirs.number)
         → ((theirs : SpawnedChild) → child_in by ≡ Some theirs → (its : ChildInFlight) → child_at theirs.ticket flying ≡ Some its → child_at theirs.ticket flying' ≡ Some its)
         → ((theirs : SpawnedChild) → child_in by ≡ Some theirs → ((x y : World) → ChangesOnly (is_of Folder u.key) x y → StandsStill theirs.ticket flying x y) → still theirs.ticket → still' theirs.ticket)
         → WaitsBy b v c view by next w flying still → WaitsBy b v c view by next' w' flying' still'
     waits_still c view (awaited.Record again) states next next' given flying flying' still still' for holds taken left numbers flies_on stands_on (same, gives) = (
-      unchanged_by b.footing states next c for holds same,
+      unchanged_by b.premise states next c for holds same,
       ap (option_map replayed) (record_still b.project order place u there w w' only reading other v at another) ∙ gives,
     )
     waits_still c view (awaited.Child theirs) states next next' given flying flying' still still' for holds taken left numbers flies_on stands_on (in_flight, awaits) = (
       in_flight_still c view theirs.ticket flying flying' still still' for (flies_on theirs refl) (stands_on theirs refl) in_flight,
-      awaits_by b.footing next next' given theirs.number taken left (numbers theirs refl) awaits,
+      awaits_by b.premise next next' given theirs.number taken left (numbers theirs refl) awaits,
     )
 
 -- a unit with a child waits for its end
@@ -257,7 +257,7 @@ pub stays_begun : (b : BuildContext) (order : IsInOrder b.project) (states : Lis
     (next next' given : Option ℕ) (w w' : World) (flying flying' : List ChildInFlight) (still still' : ℕ → Type 0)
     → unit_at b.project place ≡ Some u → is_good_at (slice_get states place) ≡ false → BuildInvariant b states done next w
     → BeginsApart b states place launched other its next w flying still
-    → ChangesOnly (is_of (records_folder b.project) u.key) w w' → TakesNumber next next' → IfRecords b.footing (Left (records_in b w) (records_in b w') u.key given)
+    → ChangesOnly (is_of (records_folder b.project) u.key) w w' → TakesNumber next next' → IfRecords b.premise (Left (records_in b w) (records_in b w') u.key given)
     → ((theirs : SpawnedChild) → child_of its ≡ Some theirs → given ≢ Some theirs.number)
     → ((theirs : SpawnedChild) → child_of its ≡ Some theirs → (c : ChildInFlight) → child_at theirs.ticket flying ≡ Some c → child_at theirs.ticket flying' ≡ Some c)
     → ((theirs : SpawnedChild) → child_of its ≡ Some theirs → ((x y : World) → ChangesOnly (is_of (records_folder b.project) u.key) x y → StandsStill theirs.ticket flying x y) → still theirs.ticket → still' theirs.ticket)

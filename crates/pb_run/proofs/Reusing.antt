@@ -137,7 +137,7 @@ module _ (b : BuildContext) (order : IsInOrder b.project) (i : ℕ) (u : Planned
   abbrev begun : Begun
   begun = begun_with key c (awaited.Record again)
 
-  same_now : IsUnchanged b.footing b u c w
+  same_now : IsUnchanged b.premise b u c w
   same_now = its_same b order i u at states done begun next w flying still can again refl
 
   gives : IsReplayed (records_in b w u.key) again
@@ -161,7 +161,7 @@ module _ (b : BuildContext) (order : IsInOrder b.project) (i : ℕ) (u : Planned
   -- the outcome, by what the record gives again
   pub replay_gives : (j : Validated) → j ≡ judgement_by b.project u again.ended (answered_of b.project u c again.ended (file_at (dep_info_of b.project u) w.files)) → slice_get (outcomes_in b) i ≡ Some (outcome_by (files_in u.out w.files) j.ran)
   replay_gives j is_judged =
-      let (r, stands, backs) = replay_backs b order i u at states done begun next w flying still can b.footing can.keeps.records same_now sees in
+      let (r, stands, backs) = replay_backs b order i u at states done begun next w flying still can b.premise can.keeps.records same_now sees in
       let again_is : again ≡ replayed r = one again (replayed r) (sym gives ∙ ap (option_map replayed) stands) in
       let replies : b.child c (view_in b i u) ≡ b.child (command_in b i u) (view_in b i u) = ap (λ (d : Command). b.child d (view_in b i u)) is_command in
       judged_gives b order i u at done w c again.ended w.files j stand is_command
@@ -187,19 +187,19 @@ module _ (b : BuildContext) (order : IsInOrder b.project) (i : ℕ) (u : Planned
   pub keeps_unchanged : (w' : World) → w' ≡ w → BuildInvariant b states done next w'
   keeps_unchanged w' same = subst (BuildInvariant b states done next) (sym same) can.keeps
 
-  sound_of : (footing : Premise) → HoldsBy footing b states next w → IfRecords footing (Sound reading judge b.child (records_folder b.project) w.files)
+  sound_of : (premise : Premise) → HoldsBy premise b states next w → IfRecords premise (Sound reading judge b.child (records_folder b.project) w.files)
   sound_of TrustedRecords holds = holds.sound
   sound_of NoRecords holds = tt
 
-  ahead_of : (footing : Premise) → HoldsBy footing b states next w → IfRecords footing (IsAhead (records_in b w) next)
+  ahead_of : (premise : Premise) → HoldsBy premise b states next w → IfRecords premise (IsAhead (records_in b w) next)
   ahead_of TrustedRecords holds = holds.ahead
   ahead_of NoRecords holds = tt
 
   keeps_bad_here : (ran : Ran) (lines : List ℕ) → is_some ran.bad ≡ true → slice_get (outcomes_in b) i ≡ Some (outcome_by (files_in u.out w.files) ran)
       → BuildInvariant b (slice_set states i (Answered record { fault = ran.bad; lines = lines })) (slice_set done i ran.directives) next w
   keeps_bad_here ran lines bad outcome = keeps_answered b order i u at states done begun next w flying still can w next ran lines (only_same _ w) outcome
-      (sound_of b.footing can.keeps.records) (ahead_of b.footing can.keeps.records)
-      (if_records b.footing (ran.bad ≡ None → HasRecord b w i) (λ good. absurd (not_none ran.bad bad good)))
+      (sound_of b.premise can.keeps.records) (ahead_of b.premise can.keeps.records)
+      (if_records b.premise (ran.bad ≡ None → HasRecord b w i) (λ good. absurd (not_none ran.bad bad good)))
 
   pub keeps_bad_again : (w' : World) (ran : Ran) (lines : List ℕ) → w' ≡ w → is_some ran.bad ≡ true → slice_get (outcomes_in b) i ≡ Some (outcome_by (files_in u.out w'.files) ran)
       → BuildInvariant b (slice_set states i (Answered record { fault = ran.bad; lines = lines })) (slice_set done i ran.directives) next w'
@@ -212,11 +212,11 @@ module _ (b : BuildContext) (order : IsInOrder b.project) (i : ℕ) (u : Planned
   renewing_none = record { sound = λ r makes sound. sound; ahead = λ r makes ahead. ahead; only = only_same _ w; left = inr (inl refl); same = λ has. refl }
 
   module _ (w' : World) (next' : Option ℕ) (renews : Renewing b.child (records_folder b.project) u.key (needed_keys b.project u) c next next' w w') where
-    sound_new : IfRecords b.footing (Sound reading judge b.child (records_folder b.project) w'.files)
-    sound_new = migrated_sound b order i u at states done begun next w flying still can w' next' renews.only b.footing can.keeps.records same_now sees renews.sound
+    sound_new : IfRecords b.premise (Sound reading judge b.child (records_folder b.project) w'.files)
+    sound_new = migrated_sound b order i u at states done begun next w flying still can w' next' renews.only b.premise can.keeps.records same_now sees renews.sound
 
-    ahead_new : IfRecords b.footing (IsAhead (records_in b w') next')
-    ahead_new = migrated_ahead b order i u at states done begun next w flying still can w' next' renews.only b.footing can.keeps.records same_now sees renews.ahead
+    ahead_new : IfRecords b.premise (IsAhead (records_in b w') next')
+    ahead_new = migrated_ahead b order i u at states done begun next w flying still can w' next' renews.only b.premise can.keeps.records same_now sees renews.ahead
 
     only_new : ChangesOnly (is_of (records_folder b.project) u.key) w w'
     only_new = only_place b order i u at w w' renews.only
@@ -227,8 +227,8 @@ module _ (b : BuildContext) (order : IsInOrder b.project) (i : ℕ) (u : Planned
     renewed_by : (ran : Ran) (lines : List ℕ) → records_in b w' u.key ≡ migrated next (numbered (records_in b w) (needed_keys b.project u)) (records_in b w u.key) → ((s : Record) → records_in b w' u.key ≡ Some s → is_some (number_of s) ≡ true)
         → slice_get (outcomes_in b) i ≡ Some (outcome_by (files_in u.out w'.files) ran) → BuildInvariant b (slice_set states i (Answered record { fault = ran.bad; lines = lines })) (slice_set done i ran.directives) next' w'
     renewed_by ran lines stands has outcome = keeps_answered b order i u at states done begun next w flying still can w' next' ran lines only_new outcome sound_new ahead_new
-        (on_good b.footing (ran.bad ≡ None) (HasRecord b w' i)
-        (migrated_record b order i u at states done begun next w flying still can w' next' renews.only b.footing can.keeps.records same_now stands has))
+        (on_good b.premise (ran.bad ≡ None) (HasRecord b w' i)
+        (migrated_record b order i u at states done begun next w flying still can w' next' renews.only b.premise can.keeps.records same_now stands has))
 
     pub keeps_renewed : (ran : Ran) (lines : List ℕ) → Renewed (records_folder b.project) u.key (needed_keys b.project u) next next' w w' → slice_get (outcomes_in b) i ≡ Some (outcome_by (files_in u.out w'.files) ran)
         → BuildInvariant b (slice_set states i (Answered record { fault = ran.bad; lines = lines })) (slice_set done i ran.directives) next' w'
@@ -239,7 +239,7 @@ module _ (b : BuildContext) (order : IsInOrder b.project) (i : ℕ) (u : Planned
         → KeepsStillOutside (is_of (records_folder b.project) u.key) flying still still' → IsBegun b other its next' w' flying' still'
     others_renewed other its flying' still' apart taken flies keeps =
         stays_begun b order states done i u None other its next next' next w w' flying flying' still still' at (begun_bad b order i u at states done begun next w flying still can) can.keeps apart only_new taken
-        (left_migrated b order i u at states done begun next w flying still can w' next' renews.only b.footing can.keeps.records same_now renews.left)
+        (left_migrated b order i u at states done begun next w flying still can w' next' renews.only b.premise can.keeps.records same_now renews.left)
         (λ theirs is. numbers_apart b u c states i None other its next w flying still same_now apart theirs is)
         (λ theirs is f there. ap (child_at theirs.ticket) flies ∙ there) (λ theirs is stands stood. keeps theirs.ticket stands stood)
 
@@ -261,6 +261,6 @@ module _ (b : BuildContext) (order : IsInOrder b.project) (i : ℕ) (u : Planned
   others_unchanged other its w' flying' still' apart same flies keeps =
       stays_begun b order states done i u None other its next next next w w' flying flying' still still' at (begun_bad b order i u at states done begun next w flying still can) can.keeps apart
       (subst (ChangesOnly (is_of (records_folder b.project) u.key) w) (sym same) (only_same _ w)) (inl refl)
-      (if_records b.footing (Left (records_in b w) (records_in b w') u.key next) (as_before (ap (λ (v : World). records (records_folder b.project) v u.key) same)))
+      (if_records b.premise (Left (records_in b w) (records_in b w') u.key next) (as_before (ap (λ (v : World). records (records_folder b.project) v u.key) same)))
       (λ theirs is. numbers_apart b u c states i None other its next w flying still same_now apart theirs is)
       (λ theirs is f there. ap (child_at theirs.ticket) flies ∙ there) (λ theirs is stands stood. keeps theirs.ticket stood)

@@ -63,7 +63,7 @@ pub no_some : {A : Type 0} (o : Option A) → is_some o ≡ false → o ≡ None
 no_some None good = refl
 no_some (Some x) good = absurd (false≢true (sym good))
 
-pub on_good : (footing : Premise) (Given Fact : Type 0) → IfRecords footing Fact → IfRecords footing (Given → Fact)
+pub on_good : (premise : Premise) (Given Fact : Type 0) → IfRecords premise Fact → IfRecords premise (Given → Fact)
 on_good TrustedRecords Given Fact has = λ given. has
 on_good NoRecords Given Fact has = tt
 
@@ -103,17 +103,17 @@ module _ (b : BuildContext) (order : IsInOrder b.project) (i : ℕ) (u : Planned
   abbrev begun : Begun
   begun = begun_with key c (awaited.Child l)
 
-  waits : AwaitsBy b.footing b u l.number next w
+  waits : AwaitsBy b.premise b u l.number next w
   waits = its_record b order i u at states done begun next w flying still can l refl
 
   is_command : c ≡ command_in b i u
   is_command = its_command b order i u at states done begun next w flying still can
 
-  sound_now : IfRecords b.footing (Sound reading judge b.child (records_folder b.project) w1.files)
-  sound_now = landed_sound b order i u at states done begun next w flying still can w1 landed b.footing l.number can.keeps.records waits
+  sound_now : IfRecords b.premise (Sound reading judge b.child (records_folder b.project) w1.files)
+  sound_now = landed_sound b order i u at states done begun next w flying still can w1 landed b.premise l.number can.keeps.records waits
 
-  ahead_now : IfRecords b.footing (IsAhead (records_in b w1) next)
-  ahead_now = landed_ahead b order i u at states done begun next w flying still can w1 landed b.footing can.keeps.records
+  ahead_now : IfRecords b.premise (IsAhead (records_in b w1) next)
+  ahead_now = landed_ahead b order i u at states done begun next w flying still can w1 landed b.premise can.keeps.records
 
   only_now : ChangesOnly (is_of (records_folder b.project) u.key) w w1
   only_now = only_out b order i u at w w1 landed
@@ -126,7 +126,7 @@ module _ (b : BuildContext) (order : IsInOrder b.project) (i : ℕ) (u : Planned
   keeps_bad_now : (ran : Ran) (lines : List ℕ) → is_some ran.bad ≡ true → slice_get (outcomes_in b) i ≡ Some (outcome_by (files_in u.out w1.files) ran)
       → BuildInvariant b (slice_set states i (CheckedReply record { fault = ran.bad; lines = lines })) (slice_set done i ran.directives) next w1
   keeps_bad_now ran lines bad outcome = keeps_answered b order i u at states done begun next w flying still can w1 next ran lines only_now outcome sound_now ahead_now
-      (if_records b.footing (ran.bad ≡ None → HasRecord b w1 i) (λ good. absurd (not_none ran.bad bad good)))
+      (if_records b.premise (ran.bad ≡ None → HasRecord b w1 i) (λ good. absurd (not_none ran.bad bad good)))
 
   pub keeps_bad : (w' : World) (ran : Ran) (lines : List ℕ) → w' ≡ w1 → is_some ran.bad ≡ true → slice_get (outcomes_in b) i ≡ Some (outcome_by (files_in u.out w'.files) ran)
       → BuildInvariant b (slice_set states i (CheckedReply record { fault = ran.bad; lines = lines })) (slice_set done i ran.directives) next w'
@@ -173,11 +173,11 @@ module _ (b : BuildContext) (order : IsInOrder b.project) (i : ℕ) (u : Planned
     made_so = made ∙ sym (ap (replied_files u.out) replies)
 
     module _ (w2 : World) (kept : Keeping b.child (records_folder b.project) u.key (needed_keys b.project u) c l.number j.names ended next w1 w2) where
-      sound_kept : IfRecords b.footing (Sound reading judge b.child (records_folder b.project) w2.files)
-      sound_kept = kept_sound b order i u at states done begun next w flying still can w1 landed w2 kept.only b.footing l.number j.names ended can.keeps.records waits sees judged_so ended_so made_so kept.sound
+      sound_kept : IfRecords b.premise (Sound reading judge b.child (records_folder b.project) w2.files)
+      sound_kept = kept_sound b order i u at states done begun next w flying still can w1 landed w2 kept.only b.premise l.number j.names ended can.keeps.records waits sees judged_so ended_so made_so kept.sound
 
-      ahead_kept : IfRecords b.footing (IsAhead (records_in b w2) next)
-      ahead_kept = kept_ahead b order i u at states done begun next w flying still can w1 landed w2 kept.only b.footing l.number can.keeps.records waits kept.ahead
+      ahead_kept : IfRecords b.premise (IsAhead (records_in b w2) next)
+      ahead_kept = kept_ahead b order i u at states done begun next w flying still can w1 landed w2 kept.only b.premise l.number can.keeps.records waits kept.ahead
 
       only_kept : ChangesOnly (is_of (records_folder b.project) u.key) w w2
       only_kept = only_join b order i u at w w1 w2 only_now (only_place b order i u at w1 w2 kept.only)
@@ -190,12 +190,12 @@ module _ (b : BuildContext) (order : IsInOrder b.project) (i : ℕ) (u : Planned
       pub keeps_good : (lines : List ℕ) → Stands (records_folder b.project) u.key (needed_keys b.project u) c l.number j.names ended w1 w2 → slice_get (outcomes_in b) i ≡ Some (outcome_by (files_in u.out w2.files) j.ran)
           → BuildInvariant b (slice_set states i (CheckedReply record { fault = j.ran.bad; lines = lines })) (slice_set done i j.ran.directives) next w2
       keeps_good lines stands outcome = keeps_answered b order i u at states done begun next w flying still can w2 next j.ran lines only_kept outcome sound_kept ahead_kept
-          (on_good b.footing (j.ran.bad ≡ None) (HasRecord b w2 i)
-          (kept_record b order i u at states done begun next w flying still can w1 landed w2 kept.only b.footing l.number j.names ended can.keeps.records waits stands))
+          (on_good b.premise (j.ran.bad ≡ None) (HasRecord b w2 i)
+          (kept_record b order i u at states done begun next w flying still can w1 landed w2 kept.only b.premise l.number j.names ended can.keeps.records waits stands))
 
   -- Another unit that has begun.
   pub others_landed : (other : ℕ) (its : Begun) (w' : World) (flying' : List ChildInFlight) (still' : ℕ → Type 0) → BeginsApart b states i (Some l) other its next w flying still
-      → ChangesOnly (is_of (records_folder b.project) u.key) w w' → IfRecords b.footing (Left (records_in b w) (records_in b w') u.key (Some l.number)) → flying' ≡ without l.ticket flying
+      → ChangesOnly (is_of (records_folder b.project) u.key) w w' → IfRecords b.premise (Left (records_in b w) (records_in b w') u.key (Some l.number)) → flying' ≡ without l.ticket flying
       → ((t : ℕ) → t ≢ l.ticket → ((x y : World) → ChangesOnly (is_of (records_folder b.project) u.key) x y → StandsStill t flying x y) → still t → still' t)
       → IsBegun b other its next w' flying' still'
   others_landed other its w' flying' still' apart only left flies stands_on =
@@ -213,7 +213,7 @@ module _ (b : BuildContext) (order : IsInOrder b.project) (i : ℕ) (u : Planned
       → IsBegun b other its next w' flying' still'
   others_unkept other its w' flying' still' apart same flies stands_on =
       others_landed other its w' flying' still' apart (subst (ChangesOnly (is_of (records_folder b.project) u.key) w) (sym same) only_now)
-      (if_records b.footing (Left (records_in b w) (records_in b w') u.key (Some l.number))
+      (if_records b.premise (Left (records_in b w) (records_in b w') u.key (Some l.number))
       (subst (λ (v : World). Left (records_in b w) (records_in b v) u.key (Some l.number)) (sym same) (left_landed b order i u at states done begun next w flying still can w1 landed (Some l.number)))) flies stands_on
 
   -- what stood still over the end of the child

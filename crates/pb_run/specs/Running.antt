@@ -27,7 +27,7 @@ use Rattle.pb_command_types.specs.declared.project.Setup.{Setup}
 use Rattle.pb_record.specs.declared.record.InputName.{InputName}
 use Rattle.pb_record.specs.declared.record.Record.{Record}
 use Rattle.pb_run.specs.Steps.{BeginsBy, Lands, started, NumbersInTurn, StepMakes, StepStopsAt, StepTakes, starts, MayAnswer, MayBegin}
-use Rattle.pb_run.specs.UnitSteps.{needed_keys, BuildContext, BuildInvariant, IsBegun, CanBegin, BeginsApart, KeepsOthersStill, WritesTo, child_of, outcomes_in, CanAnswer, awaits_number, Premise, basis}
+use Rattle.pb_run.specs.UnitSteps.{needed_keys, BuildContext, BuildInvariant, IsBegun, CanBegin, BeginsApart, KeepsOthersStill, WritesTo, child_of, outcomes_in, CanAnswer, awaits_number, Premise, build_context}
 use Rattle.pb_run.specs.Outcome.{judgement_by, names_in, ran_of, unstarted, outcome_by, directives_in}
 use Rattle.pb_run.specs.Invariants.{records_folder, IsCommandOf}
 use Rattle.pb_run.specs.declared.begun.Awaited.{Awaited}
@@ -327,7 +327,7 @@ pub record DropsBuild (b : BuildContext) (index : ℕ) (u : Planned) (begun : Be
 pub record HasBegun (is_modelled : Bool) (child : Answers) (setup : Setup) (project : Project) (done : List (Option (List Directive))) (index : ℕ) (u : Planned) (result : Result Begun StepFault) (before now : Store) (old new : At) : Type 0 where
   pub begins : IfOk result (BeginsUnit is_modelled child project u (command_of setup project u done) before now old new)
   pub fails : IfErr result (FailsToBegin is_modelled project u (command_of setup project u done) old new)
-  pub build : (footing : Premise) (sources : World) → IsTrue is_modelled → BeginsBuild (basis footing child setup project sources) done index u result before.next now.next old new
+  pub build : (premise : Premise) (sources : World) → IsTrue is_modelled → BeginsBuild (build_context premise child setup project sources) done index u result before.next now.next old new
   pub store : KeepsStore is_modelled result before now new
   pub changes : ChangesUnit (records_folder project) u.key None Begins (MayBegin before.next) result old new
 
@@ -335,7 +335,7 @@ pub record HasBegun (is_modelled : Bool) (child : Answers) (setup : Setup) (proj
 pub record HasAnswered (is_modelled : Bool) (child : Answers) (project : Project) (index : ℕ) (u : Planned) (begun : Begun) (result : Result Ran StepFault) (before now : Store) (old new : At) : Type 0 where
   pub answers : IfOk result (AnswersUnit is_modelled project u begun before now old new)
   pub ends : EndsUnit is_modelled project u begun result before now old new
-  pub build : (footing : Premise) (setup : Setup) (sources : World) → IsTrue is_modelled → AnswersBuild (basis footing child setup project sources) index u begun result before.next now.next old new
+  pub build : (premise : Premise) (setup : Setup) (sources : World) → IsTrue is_modelled → AnswersBuild (build_context premise child setup project sources) index u begun result before.next now.next old new
   pub store : KeepsStore is_modelled result before now new
   pub changes : ChangesUnit (records_folder project) u.key (child_of begun) (Lands (child_of begun)) (MayAnswer before.next (child_of begun)) result old new
 

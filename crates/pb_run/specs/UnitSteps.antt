@@ -41,16 +41,16 @@ pub data Premise : Type 0 where
   TrustedRecords : Premise
   NoRecords : Premise
 
--- what the facts of a build are about: its footing, the child, the setup, the project and the sources
+-- what the facts of a build are about: its premise, the child, the setup, the project and the sources
 pub record BuildContext : Type 0 where
-  pub footing : Premise
+  pub premise : Premise
   pub child : Answers
   pub setup : Setup
   pub project : Project
   pub sources : World
 
-abbrev pub basis : Premise → Answers → Setup → Project → World → BuildContext
-basis footing child setup project sources = record { footing = footing; child = child; setup = setup; project = project; sources = sources }
+abbrev pub build_context : Premise → Answers → Setup → Project → World → BuildContext
+build_context premise child setup project sources = record { premise = premise; child = child; setup = setup; project = project; sources = sources }
 
 -- the outcome of each unit in a clean build
 abbrev pub outcomes_in : BuildContext → List Outcome
@@ -114,13 +114,13 @@ HoldsBy TrustedRecords b states next w = HoldsRecords b states next w
 HoldsBy NoRecords b states next w = (place : ℕ) (u : Planned) → unit_at b.project place ≡ Some u → slice_get states place ≡ Some Untouched → records_in b w u.key ≡ None
 
 -- what is true while units are in these states: there is a note for each state; the sources are unchanged; each good
--- unit has its files, and all that it reaches is good; and the records are as the footing requires
+-- unit has its files, and all that it reaches is good; and the records are as the premise requires
 pub record BuildInvariant (b : BuildContext) (states : List (State BadUnit)) (done : List (Option (List Directive))) (next : Option ℕ) (w : World) : Type 0 where
   pub long : length done ≡ length states
   pub sources_stay : from_nothing b.project.workspace.target w ≡ b.sources
   pub good : (place : ℕ) → is_good_at (slice_get states place) ≡ true → StandsGood b done w place
   pub closed : (place : ℕ) (u : Planned) → is_good_at (slice_get states place) ≡ true → unit_at b.project place ≡ Some u → are_good states u.reaches ≡ true
-  pub records : HoldsBy b.footing b states next w
+  pub records : HoldsBy b.premise b states next w
 
 -- A unit that has begun and not answered.
 
@@ -180,8 +180,8 @@ IsUnchanged NoRecords b u c w = ⊥
 
 -- either the unit has a child, or nothing differs from its record and it carries what that record replays
 abbrev pub WaitsBy : BuildContext → Planned → Command → World → Awaited → Option ℕ → World → List ChildInFlight → (ℕ → Type 0) → Type 0
-WaitsBy b u c view (awaited.Child launched) next w flying still = IsInFlight b.child c view launched.ticket flying still × AwaitsBy b.footing b u launched.number next w
-WaitsBy b u c view (awaited.Record again) next w flying still = IsUnchanged b.footing b u c w × IsReplayed (records_in b w u.key) again
+WaitsBy b u c view (awaited.Child launched) next w flying still = IsInFlight b.child c view launched.ticket flying still × AwaitsBy b.premise b u launched.number next w
+WaitsBy b u c view (awaited.Record again) next w flying still = IsUnchanged b.premise b u c w × IsReplayed (records_in b w u.key) again
 
 -- the unit at an index has begun in this way
 pub record IsBegun (b : BuildContext) (place : ℕ) (begun : Begun) (next : Option ℕ) (w : World) (flying : List ChildInFlight) (still : ℕ → Type 0) : Type 0 where

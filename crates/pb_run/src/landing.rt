@@ -13,7 +13,7 @@ ghost use Rattle.pb_command_types.specs.Targets.{dep_info_of};
 ghost use Rattle.pb_command_types.specs.declared.project.Setup.{Setup};
 ghost use Rattle.pb_run.specs.Running.{AnswersBuild, AnswersUnit, EndsUnit, ChangesUnit, KeepsStore, HasEnded, dep_info_looked, HasAnswered};
 ghost use Rattle.pb_run.specs.Steps.{Lands, started, MayAnswer, MayFollow, StepLooks, StepMakes, StepTakes};
-ghost use Rattle.pb_run.specs.UnitSteps.{Premise, WritesTo, basis, begun_with, child_in, key_at, needed_keys};
+ghost use Rattle.pb_run.specs.UnitSteps.{Premise, WritesTo, build_context, begun_with, child_in, key_at, needed_keys};
 ghost use Rattle.pb_run.specs.Outcome.{judgement_by, outcome_by, directives_in, unstarted};
 ghost use Rattle.pb_run.specs.Invariants.{IsCommandOf, records_folder};
 ghost use Rattle.pb_run.specs.declared.begun.Awaited.TheVariants as awaited;
@@ -188,8 +188,8 @@ fn land<P: Place>(
     ensures ends { EndsUnit P.is_modelled project.now unit.now
         (begun_with unit.now.key command.now (awaited.Child launched.now)) result
         store.old store.new (P.at place.old) (P.at place.new) }
-    ensures build { (footing : Premise) (setup : Setup) (sources : World) → IsTrue P.is_modelled →
-        AnswersBuild (basis footing P.child setup project.now sources) index unit.now
+    ensures build { (premise : Premise) (setup : Setup) (sources : World) → IsTrue P.is_modelled →
+        AnswersBuild (build_context premise P.child setup project.now sources) index unit.now
         (begun_with unit.now.key command.now (awaited.Child launched.now)) result
         store.old.next store.new.next (P.at place.old) (P.at place.new) }
     ensures store { KeepsStore P.is_modelled result store.old store.new (P.at place.new) }
@@ -257,8 +257,8 @@ fn reuse<P: Place>(
     ensures ends { EndsUnit P.is_modelled project.now unit.now
         (begun_with unit.now.key command.now (awaited.Record again.now)) result
         store.old store.new (P.at place.old) (P.at place.new) }
-    ensures build { (footing : Premise) (setup : Setup) (sources : World) → IsTrue P.is_modelled →
-        AnswersBuild (basis footing P.child setup project.now sources) index unit.now
+    ensures build { (premise : Premise) (setup : Setup) (sources : World) → IsTrue P.is_modelled →
+        AnswersBuild (build_context premise P.child setup project.now sources) index unit.now
         (begun_with unit.now.key command.now (awaited.Record again.now)) result
         store.old.next store.new.next (P.at place.old) (P.at place.new) }
     ensures store { KeepsStore P.is_modelled result store.old store.new (P.at place.new) }

@@ -11,7 +11,7 @@ ghost use Rattle.pb_command_types.specs.Targets.{unit_at};
 ghost use Rattle.pb_command_types.specs.declared.project.Setup.{Setup};
 ghost use Rattle.pb_run.specs.Running.{DropsBuild, IsOf, Begins, BeginsBuild, BeginsUnit, ChangesUnit, Differs, FailsToBegin, KeepsStore, HasTold, RunsUnit, told_of};
 ghost use Rattle.pb_run.specs.Steps.{Drops, IsOfUnit, bare, MayBegin};
-ghost use Rattle.pb_run.specs.UnitSteps.{Premise, BuildContext, WritesTo, basis, child_of};
+ghost use Rattle.pb_run.specs.UnitSteps.{Premise, BuildContext, WritesTo, build_context, child_of};
 ghost use Rattle.pb_run.specs.Invariants.{IsInOrder, records_folder};
 ghost use Rattle.pb_store_soundness.specs.Records.{records};
 ghost use Rattle.pb_store.specs.Folder.{HasNumbers};
@@ -115,8 +115,9 @@ pub fn begin_unit<P: Place>(
 
     // Over sound records, or over none: the unit has begun if this ends well, and the others wait
     // as before.
-    ensures build { (footing : Premise) (sources : World) → IsTrue P.is_modelled →
-        BeginsBuild (basis footing P.child setup.now project.now sources) done.now index unit.now
+    ensures build { (premise : Premise) (sources : World) → IsTrue P.is_modelled →
+        BeginsBuild (build_context premise P.child setup.now project.now sources) done.now index
+        unit.now
         (bare result) store.old.next store.new.next (P.at place.old) (P.at place.new) }
 
     // After a success the store has the numbers of its records. Only this unit's folder and record

@@ -11,17 +11,17 @@ use Rattle.pb_build_turns.proofs.dropping.drain.Given as goal
 
 abbrev pub invariant-loop-alloc : goal.invariant-loop-alloc
 invariant-loop-alloc g l = record {
-  manned : IsConsistent l.crew (g.P.Place.at l.place).counts;
-  same : l.crew ≡ record l.fn.crew { aloft = l.crew.aloft };
+  consistent : IsConsistent l.crew (g.P.Place.at l.place).counts;
+  same : l.crew ≡ record l.fn.crew { running = l.crew.running };
   most : (g.P.Place.at l.place).most ≡ (g.P.Place.at l.fn.place).most;
-  dropped : (new : Counts) → Dropped (tickets_of l.crew.aloft.items) (g.P.Place.at l.place).counts new → Dropped (tickets_of l.fn.crew.aloft.items) (g.P.Place.at l.fn.place).counts new;
+  dropped : (new : Counts) → Dropped (tickets_of l.crew.running.items) (g.P.Place.at l.place).counts new → Dropped (tickets_of l.fn.crew.running.items) (g.P.Place.at l.fn.place).counts new;
   told : (first : World) (es : List (Event BadUnit)) → IsTrue g.P.Place.is_modelled
-      → Changes l.fn.crew.project first l.fn.crew.aloft.items es (g.P.Place.at l.fn.place).world (g.P.Place.at l.fn.place).counts.starts.flying
-      → StaysTold g.P.Place.child l.fn.crew.project first es l.fn.crew.aloft.items l.crew.aloft.items (g.P.Place.at l.fn.place).world (g.P.Place.at l.place).world (g.P.Place.at l.place).counts.starts.flying;
+      → Changes l.fn.crew.project first l.fn.crew.running.items es (g.P.Place.at l.fn.place).world (g.P.Place.at l.fn.place).counts.starts.flying
+      → StaysTold g.P.Place.child l.fn.crew.project first es l.fn.crew.running.items l.crew.running.items (g.P.Place.at l.fn.place).world (g.P.Place.at l.place).world (g.P.Place.at l.place).counts.starts.flying;
   happened : (b : BuildContext) (es : List (Event BadUnit)) → IsTrue g.P.Place.is_modelled → b.project ≡ l.fn.crew.project
-      → HistoryHolds b l.fn.crew.done.items l.fn.crew.aloft.items l.fn.crew.store.next es (g.P.Place.at l.fn.place).world (g.P.Place.at l.fn.place).counts.starts.flying (g.P.Place.at l.fn.place).still
-      → HistoryHolds b l.crew.done.items l.crew.aloft.items l.crew.store.next es (g.P.Place.at l.place).world (g.P.Place.at l.place).counts.starts.flying (g.P.Place.at l.place).still;
+      → HistoryHolds b l.fn.crew.done.items l.fn.crew.running.items l.fn.crew.store.next es (g.P.Place.at l.fn.place).world (g.P.Place.at l.fn.place).counts.starts.flying (g.P.Place.at l.fn.place).still
+      → HistoryHolds b l.crew.done.items l.crew.running.items l.crew.store.next es (g.P.Place.at l.place).world (g.P.Place.at l.place).counts.starts.flying (g.P.Place.at l.place).still;
 }
 
 abbrev pub decreases-loop-alloc : goal.decreases-loop-alloc
-decreases-loop-alloc g l = length l.crew.aloft.items
+decreases-loop-alloc g l = length l.crew.running.items

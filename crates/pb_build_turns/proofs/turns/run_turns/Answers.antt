@@ -27,13 +27,13 @@ returns-in-Err-nothing_noted-2 g c = ends_before g.P.Place.is_modelled g.P.Place
 
 pub sum_up-requires-clause-long : goal.sum_up-requires-clause-long
 sum_up-requires-clause-long g c =
-    let first : UnitExecutor = record { setup = c.args.setup; project = c.args.project; store = c.args.store; done = c.in-Ok-nothing_noted.done; aloft = c.new.result; started = c.new-2.result; reasons = c.in-Ok-nothing_noted-2.reasons } in
+    let first : UnitExecutor = record { setup = c.args.setup; project = c.args.project; store = c.args.store; done = c.in-Ok-nothing_noted.done; running = c.new.result; started = c.new-2.result; reasons = c.in-Ok-nothing_noted-2.reasons } in
     let (es, flown) = c.in-Ok-driven.ensures.flown in
     states_long g.T.Turn.turns first c.drive-driven.new.crew c.drain.new.crew c.args.turn.now c.drive-driven.new.turn es c.drive-driven.new.flight _ flown c.drive-driven.ensures.needs c.drain.ensures.same
 
 pub returns-in-Ok-sum_up : goal.returns-in-Ok-sum_up
 returns-in-Ok-sum_up g c =
-    let first : UnitExecutor = record { setup = c.args.setup; project = c.args.project; store = c.args.store; done = c.in-Ok-nothing_noted.done; aloft = c.new.result; started = c.new-2.result; reasons = c.in-Ok-nothing_noted-2.reasons } in
+    let first : UnitExecutor = record { setup = c.args.setup; project = c.args.project; store = c.args.store; done = c.in-Ok-nothing_noted.done; running = c.new.result; started = c.new-2.result; reasons = c.in-Ok-nothing_noted-2.reasons } in
     let at : BuildState = moment (g.P.Place.at c.args.place.now) (g.O.Out.heard c.args.out.now) in
     let mid : BuildState = moment (g.P.Place.at c.drive-driven.new.place) (g.O.Out.heard c.drive-driven.new.out) in
     let new : BuildState = moment (g.P.Place.at c.drain.new.place) (g.O.Out.heard c.drive-driven.new.out) in
@@ -47,7 +47,7 @@ returns-in-Ok-sum_up g c =
 
 pub returns-in-Err-sum_up : goal.returns-in-Err-sum_up
 returns-in-Err-sum_up g c =
-    let first : UnitExecutor = record { setup = c.args.setup; project = c.args.project; store = c.args.store; done = c.in-Ok-nothing_noted.done; aloft = c.new.result; started = c.new-2.result; reasons = c.in-Ok-nothing_noted-2.reasons } in
+    let first : UnitExecutor = record { setup = c.args.setup; project = c.args.project; store = c.args.store; done = c.in-Ok-nothing_noted.done; running = c.new.result; started = c.new-2.result; reasons = c.in-Ok-nothing_noted-2.reasons } in
     let at : BuildState = moment (g.P.Place.at c.args.place.now) (g.O.Out.heard c.args.out.now) in
     let mid : BuildState = moment (g.P.Place.at c.drive-driven.new.place) (g.O.Out.heard c.drive-driven.new.out) in
     let new : BuildState = moment (g.P.Place.at c.drain.new.place) (g.O.Out.heard c.drive-driven.new.out) in
@@ -61,7 +61,7 @@ returns-in-Err-sum_up g c =
 
 pub returns-in-Err-driven : goal.returns-in-Err-driven
 returns-in-Err-driven g c =
-    let first : UnitExecutor = record { setup = c.args.setup; project = c.args.project; store = c.args.store; done = c.in-Ok-nothing_noted.done; aloft = c.new.result; started = c.new-2.result; reasons = c.in-Ok-nothing_noted-2.reasons } in
+    let first : UnitExecutor = record { setup = c.args.setup; project = c.args.project; store = c.args.store; done = c.in-Ok-nothing_noted.done; running = c.new.result; started = c.new-2.result; reasons = c.in-Ok-nothing_noted-2.reasons } in
     let at : BuildState = moment (g.P.Place.at c.args.place.now) (g.O.Out.heard c.args.out.now) in
     let mid : BuildState = moment (g.P.Place.at c.drive-driven.new.place) (g.O.Out.heard c.drive-driven.new.out) in
     let new : BuildState = moment (g.P.Place.at c.drain.new.place) (g.O.Out.heard c.drive-driven.new.out) in

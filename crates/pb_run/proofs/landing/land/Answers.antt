@@ -6,7 +6,7 @@ use Rattle.pb_place_types.specs.Counts.{Starts, without}
 use Rattle.pb_place_types.specs.Paths.{is_at_or_below}
 use Rattle.pb_place_types.specs.World.{ChangesOnly}
 use Rattle.pb_command_types.specs.Targets.{dep_info_of}
-use Rattle.pb_run.specs.UnitSteps.{basis, needed_keys}
+use Rattle.pb_run.specs.UnitSteps.{build_context, needed_keys}
 use Rattle.pb_run.specs.Running.{dep_info_looked}
 use Rattle.pb_run.specs.Invariants.{records_folder}
 use Rattle.pb_run.specs.declared.begun.Awaited.TheVariants as awaited
@@ -40,8 +40,8 @@ returns-in-Err-clause-ends g c = record {
 }
 
 pub returns-in-Err-clause-build : goal.returns-in-Err-clause-build
-returns-in-Err-clause-build g c footing setup sources told =
-    land_failed (basis footing g.P.Place.child setup c.args.project.now sources) c.is_in_order.ensures c.args.index c.args.unit.now c.requires.unit c.args.command.now c.args.launched.now c.args.store.now.next (g.P.Place.at c.args.place.now) (g.P.Place.at c.finish.new.place)
+returns-in-Err-clause-build g c premise setup sources told =
+    land_failed (build_context premise g.P.Place.child setup c.args.project.now sources) c.is_in_order.ensures c.args.index c.args.unit.now c.requires.unit c.args.command.now c.args.launched.now c.args.store.now.next (g.P.Place.at c.args.place.now) (g.P.Place.at c.finish.new.place)
     c.in-Err.ensures.only c.in-Err.ensures.still (g.P.Place.at c.finish.new.place) refl (λ t stood. stood)
     (flying_answer c.args.store.now.next c.args.launched.now c.in-Err.fault (g.P.Place.at c.args.place.now).counts.starts (g.P.Place.at c.finish.new.place).counts.starts (c.in-Err.ensures.takes c.args.store.now.next).0) c.in-Err.fault
 
@@ -73,8 +73,8 @@ returns-in-Err-judged_now-clause-ends g c = record {
 }
 
 pub returns-in-Err-judged_now-clause-build : goal.returns-in-Err-judged_now-clause-build
-returns-in-Err-judged_now-clause-build g c footing setup sources told =
-    land_failed (basis footing g.P.Place.child setup c.args.project.now sources) c.is_in_order.ensures c.args.index c.args.unit.now c.requires.unit c.args.command.now c.args.launched.now c.args.store.now.next (g.P.Place.at c.args.place.now) (g.P.Place.at c.finish.new.place)
+returns-in-Err-judged_now-clause-build g c premise setup sources told =
+    land_failed (build_context premise g.P.Place.child setup c.args.project.now sources) c.is_in_order.ensures c.args.index c.args.unit.now c.requires.unit c.args.command.now c.args.launched.now c.args.store.now.next (g.P.Place.at c.args.place.now) (g.P.Place.at c.finish.new.place)
     c.in-Ok.ensures.only c.in-Ok.ensures.still (g.P.Place.at c.judged_now.new.place) c.in-Err-judged_now.ensures.quiet.world c.in-Err-judged_now.ensures.quiet.still
     (flying_follow c.in-Err-judged_now.fault (g.P.Place.at c.finish.new.place).counts.starts (g.P.Place.at c.judged_now.new.place).counts.starts c.in-Err-judged_now.ensures.quiet.takes.0 ∙ ap (λ (s : Starts). s.flying) (c.in-Ok.ensures.takes c.args.store.now.next).1) c.in-Err-judged_now.fault
 
@@ -128,8 +128,8 @@ returns-then-is_some-clause-ends g c = record {
 }
 
 pub returns-then-is_some-clause-build : goal.returns-then-is_some-clause-build
-returns-then-is_some-clause-build g c footing setup sources told =
-    land_bad (basis footing g.P.Place.child setup c.args.project.now sources) c.is_in_order.ensures c.args.index c.args.unit.now c.requires.unit c.args.command.now c.args.launched.now c.args.store.now.next (g.P.Place.at c.args.place.now) (g.P.Place.at c.finish.new.place)
+returns-then-is_some-clause-build g c premise setup sources told =
+    land_bad (build_context premise g.P.Place.child setup c.args.project.now sources) c.is_in_order.ensures c.args.index c.args.unit.now c.requires.unit c.args.command.now c.args.launched.now c.args.store.now.next (g.P.Place.at c.args.place.now) (g.P.Place.at c.finish.new.place)
     c.in-Ok.ensures.only c.in-Ok.ensures.still c.in-Ok.ended c.in-Ok-judged_now.judgement (c.in-Ok.ensures.ended told).lands (c.in-Ok-judged_now.ensures.judged told) (g.P.Place.at c.judged_now.new.place) c.in-Ok-judged_now.ensures.quiet.world c.in-Ok-judged_now.ensures.quiet.still
     (ap (λ (s : Starts). s.flying) (c.in-Ok-judged_now.ensures.quiet.takes.1 ∙ (c.in-Ok.ensures.takes c.args.store.now.next).1)) (sym c.is_some.ensures ∙ c.if-is_some.true)
 
@@ -170,8 +170,8 @@ returns-in-Err-needed_keys-clause-ends g c = record {
 }
 
 pub returns-in-Err-needed_keys-clause-build : goal.returns-in-Err-needed_keys-clause-build
-returns-in-Err-needed_keys-clause-build g c footing setup sources told =
-    land_failed (basis footing g.P.Place.child setup c.args.project.now sources) c.is_in_order.ensures c.args.index c.args.unit.now c.requires.unit c.args.command.now c.args.launched.now c.args.store.now.next (g.P.Place.at c.args.place.now) (g.P.Place.at c.finish.new.place)
+returns-in-Err-needed_keys-clause-build g c premise setup sources told =
+    land_failed (build_context premise g.P.Place.child setup c.args.project.now sources) c.is_in_order.ensures c.args.index c.args.unit.now c.requires.unit c.args.command.now c.args.launched.now c.args.store.now.next (g.P.Place.at c.args.place.now) (g.P.Place.at c.finish.new.place)
     c.in-Ok.ensures.only c.in-Ok.ensures.still (g.P.Place.at c.judged_now.new.place) c.in-Ok-judged_now.ensures.quiet.world c.in-Ok-judged_now.ensures.quiet.still
     (ap (λ (s : Starts). s.flying) (c.in-Ok-judged_now.ensures.quiet.takes.1 ∙ (c.in-Ok.ensures.takes c.args.store.now.next).1)) _
 
@@ -251,11 +251,11 @@ returns-in-Ok-keep-clause-ends g c = record {
 }
 
 pub returns-in-Ok-keep-clause-build : goal.returns-in-Ok-keep-clause-build
-returns-in-Ok-keep-clause-build g c footing setup sources told =
+returns-in-Ok-keep-clause-build g c premise setup sources told =
     let keeping : Keeping g.P.Place.child (records_folder c.args.project.now) c.args.unit.now.key (needed_keys c.args.project.now c.args.unit.now) c.args.command.now c.args.launched.now.number c.in-Ok-judged_now.judgement.names c.in-Ok.ended c.args.store.now.next (g.P.Place.at c.finish.new.place).world (g.P.Place.at c.keep.new.place).world =
     keeping_moved g.P.Place.child c.args.store.now.folder (records_folder c.args.project.now) c.args.key.now c.args.unit.now.key c.as_slice.result.now (needed_keys c.args.project.now c.args.unit.now) c.args.command.now c.args.launched.now.number c.as_slice-2.result.now c.in-Ok-judged_now.judgement.names c.in-Ok.ended (g.P.Place.at c.judged_now.new.place).world (g.P.Place.at c.finish.new.place).world (g.P.Place.at c.keep.new.place).world c.requires.folder c.requires.key (c.as_slice.ensures ∙ c.in-Ok-needed_keys.ensures) c.as_slice-2.ensures c.in-Ok-judged_now.ensures.quiet.world c.args.store.now.next
     record { sound = (c.in-Ok-keep.ensures.record told).sound judge; ahead = (c.in-Ok-keep.ensures.record told).ahead; left = inr (inr (c.in-Ok-keep.ensures.record told).stands); only = c.in-Ok-keep.ensures.only.only } in
-    land_kept (basis footing g.P.Place.child setup c.args.project.now sources) c.is_in_order.ensures c.args.index c.args.unit.now c.requires.unit c.args.command.now c.args.launched.now c.args.store.now.next (g.P.Place.at c.args.place.now) (g.P.Place.at c.finish.new.place)
+    land_kept (build_context premise g.P.Place.child setup c.args.project.now sources) c.is_in_order.ensures c.args.index c.args.unit.now c.requires.unit c.args.command.now c.args.launched.now c.args.store.now.next (g.P.Place.at c.args.place.now) (g.P.Place.at c.finish.new.place)
     c.in-Ok.ensures.only c.in-Ok.ensures.still c.in-Ok.ended c.in-Ok-judged_now.judgement (c.in-Ok.ensures.ended told).lands (c.in-Ok-judged_now.ensures.judged told) (sym c.is_some.ensures ∙ c.if-is_some.false) (g.P.Place.at c.keep.new.place) keeping (ap (λ (s : Starts). s.flying) (c.in-Ok-keep.ensures.only.takes.0 ∙ c.in-Ok-judged_now.ensures.quiet.takes.1 ∙ (c.in-Ok.ensures.takes c.args.store.now.next).1))
     (still_after (is_at_or_below (place_of (records_folder c.args.project.now) c.args.unit.now.key)) (without c.args.launched.now.ticket (g.P.Place.at c.args.place.now).counts.starts.flying) (g.P.Place.at c.judged_now.new.place).counts.starts.flying (g.P.Place.at c.finish.new.place).still (g.P.Place.at c.judged_now.new.place).still (g.P.Place.at c.keep.new.place).still c.in-Ok-judged_now.ensures.quiet.still (ap (λ (s : Starts). s.flying) (c.in-Ok-judged_now.ensures.quiet.takes.1 ∙ (c.in-Ok.ensures.takes c.args.store.now.next).1))
     (at_place (λ p. KeepsStillOutside (is_at_or_below p) (g.P.Place.at c.judged_now.new.place).counts.starts.flying (g.P.Place.at c.judged_now.new.place).still (g.P.Place.at c.keep.new.place).still) c.args.store.now.folder (records_folder c.args.project.now) c.args.key.now c.args.unit.now.key c.requires.folder c.requires.key c.in-Ok-keep.ensures.only.still)) c.keep.new.self.next c.in-Ok-keep.ensures.next
@@ -298,11 +298,11 @@ returns-clause-ends g c = record {
 }
 
 pub returns-clause-build : goal.returns-clause-build
-returns-clause-build g c footing setup sources told =
+returns-clause-build g c premise setup sources told =
     let keeping : Keeping g.P.Place.child (records_folder c.args.project.now) c.args.unit.now.key (needed_keys c.args.project.now c.args.unit.now) c.args.command.now c.args.launched.now.number c.in-Ok-judged_now.judgement.names c.in-Ok.ended c.args.store.now.next (g.P.Place.at c.finish.new.place).world (g.P.Place.at c.keep.new.place).world =
     keeping_moved g.P.Place.child c.args.store.now.folder (records_folder c.args.project.now) c.args.key.now c.args.unit.now.key c.as_slice.result.now (needed_keys c.args.project.now c.args.unit.now) c.args.command.now c.args.launched.now.number c.as_slice-2.result.now c.in-Ok-judged_now.judgement.names c.in-Ok.ended (g.P.Place.at c.judged_now.new.place).world (g.P.Place.at c.finish.new.place).world (g.P.Place.at c.keep.new.place).world c.requires.folder c.requires.key (c.as_slice.ensures ∙ c.in-Ok-needed_keys.ensures) c.as_slice-2.ensures c.in-Ok-judged_now.ensures.quiet.world c.args.store.now.next
     record { sound = (c.in-Err-keep.ensures.record told).sound judge; ahead = (c.in-Err-keep.ensures.record told).ahead; left = (c.in-Err-keep.ensures.record told).stands; only = c.in-Err-keep.ensures.only.only } in
-    land_unkept (basis footing g.P.Place.child setup c.args.project.now sources) c.is_in_order.ensures c.args.index c.args.unit.now c.requires.unit c.args.command.now c.args.launched.now c.args.store.now.next (g.P.Place.at c.args.place.now) (g.P.Place.at c.finish.new.place)
+    land_unkept (build_context premise g.P.Place.child setup c.args.project.now sources) c.is_in_order.ensures c.args.index c.args.unit.now c.requires.unit c.args.command.now c.args.launched.now c.args.store.now.next (g.P.Place.at c.args.place.now) (g.P.Place.at c.finish.new.place)
     c.in-Ok.ensures.only c.in-Ok.ensures.still c.in-Ok.ended c.in-Ok-judged_now.judgement (c.in-Ok.ensures.ended told).lands (c.in-Ok-judged_now.ensures.judged told) (sym c.is_some.ensures ∙ c.if-is_some.false) (g.P.Place.at c.keep.new.place) keeping (ap (λ (s : Starts). s.flying) (c.in-Err-keep.ensures.only.takes.0 ∙ c.in-Ok-judged_now.ensures.quiet.takes.1 ∙ (c.in-Ok.ensures.takes c.args.store.now.next).1))
     (still_after (is_at_or_below (place_of (records_folder c.args.project.now) c.args.unit.now.key)) (without c.args.launched.now.ticket (g.P.Place.at c.args.place.now).counts.starts.flying) (g.P.Place.at c.judged_now.new.place).counts.starts.flying (g.P.Place.at c.finish.new.place).still (g.P.Place.at c.judged_now.new.place).still (g.P.Place.at c.keep.new.place).still c.in-Ok-judged_now.ensures.quiet.still (ap (λ (s : Starts). s.flying) (c.in-Ok-judged_now.ensures.quiet.takes.1 ∙ (c.in-Ok.ensures.takes c.args.store.now.next).1))
     (at_place (λ p. KeepsStillOutside (is_at_or_below p) (g.P.Place.at c.judged_now.new.place).counts.starts.flying (g.P.Place.at c.judged_now.new.place).still (g.P.Place.at c.keep.new.place).still) c.args.store.now.folder (records_folder c.args.project.now) c.args.key.now c.args.unit.now.key c.requires.folder c.requires.key c.in-Err-keep.ensures.only.still)) c.keep.new.self.next c.in-Err-keep.ensures.next (step.Store c.in-Err-keep.fault)

@@ -7,7 +7,7 @@ use Rattle.pb_place_types.specs.Paths.{is_at_or_below}
 use Rattle.pb_place_types.specs.World.{ChangesOnly}
 use Rattle.pb_command_types.specs.Targets.{dep_info_of}
 use Rattle.pb_run.specs.Steps.{Lands, MayAnswer}
-use Rattle.pb_run.specs.UnitSteps.{basis, needed_keys}
+use Rattle.pb_run.specs.UnitSteps.{build_context, needed_keys}
 use Rattle.pb_run.specs.Running.{dep_info_looked}
 use Rattle.pb_run.specs.Outcome.{directives_in, outcome_by, unstarted}
 use Rattle.pb_run.specs.Invariants.{records_folder}
@@ -49,8 +49,8 @@ returns-in-Err-clause-ends g c = record {
 }
 
 pub returns-in-Err-clause-build : goal.returns-in-Err-clause-build
-returns-in-Err-clause-build g c footing setup sources told =
-    reuse_failed (basis footing g.P.Place.child setup c.args.project.now sources) c.is_in_order.ensures c.args.index c.args.unit.now c.requires.unit c.args.command.now c.args.again.now c.args.store.now.next (g.P.Place.at c.args.place.now) (g.P.Place.at c.judged_now.new.place)
+returns-in-Err-clause-build g c premise setup sources told =
+    reuse_failed (build_context premise g.P.Place.child setup c.args.project.now sources) c.is_in_order.ensures c.args.index c.args.unit.now c.requires.unit c.args.command.now c.args.again.now c.args.store.now.next (g.P.Place.at c.args.place.now) (g.P.Place.at c.judged_now.new.place)
     c.in-Err.ensures.quiet.world (flying_alone c.args.store.now.next c.in-Err.fault (g.P.Place.at c.args.place.now).counts.starts (g.P.Place.at c.judged_now.new.place).counts.starts (alone_told c.args.store.now.next c.in-Err.fault (g.P.Place.at c.args.place.now).counts (g.P.Place.at c.judged_now.new.place).counts c.in-Err.ensures.quiet.takes).0) c.in-Err.ensures.quiet.still c.in-Err.fault
 
 pub returns-in-Err-clause-changes : goal.returns-in-Err-clause-changes
@@ -100,8 +100,8 @@ returns-then-is_some-clause-ends g c = record {
 }
 
 pub returns-then-is_some-clause-build : goal.returns-then-is_some-clause-build
-returns-then-is_some-clause-build g c footing setup sources told =
-    reuse_bad (basis footing g.P.Place.child setup c.args.project.now sources) c.is_in_order.ensures c.args.index c.args.unit.now c.requires.unit c.args.command.now c.args.again.now c.args.store.now.next (g.P.Place.at c.args.place.now) (g.P.Place.at c.judged_now.new.place)
+returns-then-is_some-clause-build g c premise setup sources told =
+    reuse_bad (build_context premise g.P.Place.child setup c.args.project.now sources) c.is_in_order.ensures c.args.index c.args.unit.now c.requires.unit c.args.command.now c.args.again.now c.args.store.now.next (g.P.Place.at c.args.place.now) (g.P.Place.at c.judged_now.new.place)
     c.in-Ok.ensures.quiet.world c.in-Ok.ensures.quiet.takes.1 c.in-Ok.ensures.quiet.still c.in-Ok.judgement (c.in-Ok.ensures.judged told) c.unstarted-ran.result c.unstarted-ran.ensures (sym c.is_some.ensures ∙ c.if-is_some.true)
 
 pub returns-then-is_some-clause-store : goal.returns-then-is_some-clause-store
@@ -167,8 +167,8 @@ returns-then-again-clause-ends g c = record {
 }
 
 pub returns-then-again-clause-build : goal.returns-then-again-clause-build
-returns-then-again-clause-build g c footing setup sources told =
-    reuse_numbered (basis footing g.P.Place.child setup c.args.project.now sources) c.is_in_order.ensures c.args.index c.args.unit.now c.requires.unit c.args.command.now c.args.again.now c.args.store.now.next (g.P.Place.at c.args.place.now) (g.P.Place.at c.judged_now.new.place)
+returns-then-again-clause-build g c premise setup sources told =
+    reuse_numbered (build_context premise g.P.Place.child setup c.args.project.now sources) c.is_in_order.ensures c.args.index c.args.unit.now c.requires.unit c.args.command.now c.args.again.now c.args.store.now.next (g.P.Place.at c.args.place.now) (g.P.Place.at c.judged_now.new.place)
     c.in-Ok.ensures.quiet.world c.in-Ok.ensures.quiet.takes.1 c.in-Ok.ensures.quiet.still c.in-Ok.judgement (c.in-Ok.ensures.judged told) c.unstarted-ran.result c.unstarted-ran.ensures c.if-again.true
 
 pub returns-then-again-clause-store : goal.returns-then-again-clause-store
@@ -205,8 +205,8 @@ returns-in-Err-needed_keys-clause-ends g c = record {
 }
 
 pub returns-in-Err-needed_keys-clause-build : goal.returns-in-Err-needed_keys-clause-build
-returns-in-Err-needed_keys-clause-build g c footing setup sources told =
-    reuse_failed (basis footing g.P.Place.child setup c.args.project.now sources) c.is_in_order.ensures c.args.index c.args.unit.now c.requires.unit c.args.command.now c.args.again.now c.args.store.now.next (g.P.Place.at c.args.place.now) (g.P.Place.at c.judged_now.new.place)
+returns-in-Err-needed_keys-clause-build g c premise setup sources told =
+    reuse_failed (build_context premise g.P.Place.child setup c.args.project.now sources) c.is_in_order.ensures c.args.index c.args.unit.now c.requires.unit c.args.command.now c.args.again.now c.args.store.now.next (g.P.Place.at c.args.place.now) (g.P.Place.at c.judged_now.new.place)
     c.in-Ok.ensures.quiet.world c.in-Ok.ensures.quiet.takes.1 c.in-Ok.ensures.quiet.still (step.Store store.OutOfMemory)
 
 pub returns-in-Err-needed_keys-clause-changes : goal.returns-in-Err-needed_keys-clause-changes
@@ -279,11 +279,11 @@ returns-in-Ok-migrate-clause-ends g c = record {
 }
 
 pub returns-in-Ok-migrate-clause-build : goal.returns-in-Ok-migrate-clause-build
-returns-in-Ok-migrate-clause-build g c footing setup sources told =
+returns-in-Ok-migrate-clause-build g c premise setup sources told =
     let renewing : Renewing g.P.Place.child (records_folder c.args.project.now) c.args.unit.now.key (needed_keys c.args.project.now c.args.unit.now) c.args.command.now c.args.store.now.next c.migrate.new.self.next (g.P.Place.at c.args.place.now).world (g.P.Place.at c.migrate.new.place).world =
     renewing_moved c.args.store.now.folder (records_folder c.args.project.now) c.args.key.now c.args.unit.now.key c.as_slice.result.now (needed_keys c.args.project.now c.args.unit.now) c.args.store.now.next c.migrate.new.self.next (g.P.Place.at c.judged_now.new.place).world (g.P.Place.at c.args.place.now).world (g.P.Place.at c.migrate.new.place).world c.requires.folder c.requires.key (c.as_slice.ensures ∙ c.in-Ok-needed_keys.ensures) c.in-Ok.ensures.quiet.world g.P.Place.child c.args.command.now
     record { sound = (c.in-Ok-migrate.ensures.record told).sound judge c.args.command.now; ahead = (c.in-Ok-migrate.ensures.record told).ahead judge c.args.command.now; only = c.in-Ok-migrate.ensures.only.only; left = inr (inr (c.in-Ok-migrate.ensures.record told).stands); same = λ has. ((c.in-Ok-migrate.ensures.record told).unused has).1 } in
-    reuse_renewed (basis footing g.P.Place.child setup c.args.project.now sources) c.is_in_order.ensures c.args.index c.args.unit.now c.requires.unit c.args.command.now c.args.again.now c.args.store.now.next (g.P.Place.at c.args.place.now) (g.P.Place.at c.migrate.new.place) (Lands None) (MayAnswer c.args.store.now.next None) (ended_well c.unstarted-ran.result) c.migrate.new.self.next renewing
+    reuse_renewed (build_context premise g.P.Place.child setup c.args.project.now sources) c.is_in_order.ensures c.args.index c.args.unit.now c.requires.unit c.args.command.now c.args.again.now c.args.store.now.next (g.P.Place.at c.args.place.now) (g.P.Place.at c.migrate.new.place) (Lands None) (MayAnswer c.args.store.now.next None) (ended_well c.unstarted-ran.result) c.migrate.new.self.next renewing
     (changes_place (Lands None) (MayAnswer c.args.store.now.next None) (ended_well c.unstarted-ran.result) (records_folder c.args.project.now) c.args.unit.now.key (g.P.Place.at c.args.place.now) (g.P.Place.at c.judged_now.new.place) (g.P.Place.at c.migrate.new.place) c.in-Ok.ensures.quiet.world c.in-Ok.ensures.quiet.still c.in-Ok.ensures.quiet.takes.1
     (at_place (λ p. ChangesOnly (is_at_or_below p) (g.P.Place.at c.judged_now.new.place).world (g.P.Place.at c.migrate.new.place).world) c.args.store.now.folder (records_folder c.args.project.now) c.args.key.now c.args.unit.now.key c.requires.folder c.requires.key c.in-Ok-migrate.ensures.only.only)
     (at_place (λ p. KeepsStillOutside (is_at_or_below p) (g.P.Place.at c.judged_now.new.place).counts.starts.flying (g.P.Place.at c.judged_now.new.place).still (g.P.Place.at c.migrate.new.place).still) c.args.store.now.folder (records_folder c.args.project.now) c.args.key.now c.args.unit.now.key c.requires.folder c.requires.key c.in-Ok-migrate.ensures.only.still)
@@ -328,11 +328,11 @@ returns-clause-ends g c = record {
 }
 
 pub returns-clause-build : goal.returns-clause-build
-returns-clause-build g c footing setup sources told =
+returns-clause-build g c premise setup sources told =
     let renewing : Renewing g.P.Place.child (records_folder c.args.project.now) c.args.unit.now.key (needed_keys c.args.project.now c.args.unit.now) c.args.command.now c.args.store.now.next c.migrate.new.self.next (g.P.Place.at c.args.place.now).world (g.P.Place.at c.migrate.new.place).world =
     renewing_moved c.args.store.now.folder (records_folder c.args.project.now) c.args.key.now c.args.unit.now.key c.as_slice.result.now (needed_keys c.args.project.now c.args.unit.now) c.args.store.now.next c.migrate.new.self.next (g.P.Place.at c.judged_now.new.place).world (g.P.Place.at c.args.place.now).world (g.P.Place.at c.migrate.new.place).world c.requires.folder c.requires.key (c.as_slice.ensures ∙ c.in-Ok-needed_keys.ensures) c.in-Ok.ensures.quiet.world g.P.Place.child c.args.command.now
     record { sound = (c.in-Err-migrate.ensures.record told).sound judge c.args.command.now; ahead = (c.in-Err-migrate.ensures.record told).ahead judge c.args.command.now; only = c.in-Err-migrate.ensures.only.only; left = (c.in-Err-migrate.ensures.record told).stands; same = λ has. ((c.in-Err-migrate.ensures.record told).unused has).1 } in
-    reuse_unrenewed (basis footing g.P.Place.child setup c.args.project.now sources) c.is_in_order.ensures c.args.index c.args.unit.now c.requires.unit c.args.command.now c.args.again.now c.args.store.now.next (g.P.Place.at c.args.place.now) (g.P.Place.at c.migrate.new.place) (Lands None) (MayAnswer c.args.store.now.next None) (ended_badly (step.Store c.in-Err-migrate.fault)) c.migrate.new.self.next renewing
+    reuse_unrenewed (build_context premise g.P.Place.child setup c.args.project.now sources) c.is_in_order.ensures c.args.index c.args.unit.now c.requires.unit c.args.command.now c.args.again.now c.args.store.now.next (g.P.Place.at c.args.place.now) (g.P.Place.at c.migrate.new.place) (Lands None) (MayAnswer c.args.store.now.next None) (ended_badly (step.Store c.in-Err-migrate.fault)) c.migrate.new.self.next renewing
     (changes_place (Lands None) (MayAnswer c.args.store.now.next None) (ended_badly (step.Store c.in-Err-migrate.fault)) (records_folder c.args.project.now) c.args.unit.now.key (g.P.Place.at c.args.place.now) (g.P.Place.at c.judged_now.new.place) (g.P.Place.at c.migrate.new.place) c.in-Ok.ensures.quiet.world c.in-Ok.ensures.quiet.still c.in-Ok.ensures.quiet.takes.1
     (at_place (λ p. ChangesOnly (is_at_or_below p) (g.P.Place.at c.judged_now.new.place).world (g.P.Place.at c.migrate.new.place).world) c.args.store.now.folder (records_folder c.args.project.now) c.args.key.now c.args.unit.now.key c.requires.folder c.requires.key c.in-Err-migrate.ensures.only.only)
     (at_place (λ p. KeepsStillOutside (is_at_or_below p) (g.P.Place.at c.judged_now.new.place).counts.starts.flying (g.P.Place.at c.judged_now.new.place).still (g.P.Place.at c.migrate.new.place).still) c.args.store.now.folder (records_folder c.args.project.now) c.args.key.now c.args.unit.now.key c.requires.folder c.requires.key c.in-Err-migrate.ensures.only.still)

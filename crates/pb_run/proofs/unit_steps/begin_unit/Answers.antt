@@ -3,7 +3,7 @@ use Rattle.std.proofs.lemmas.Bool.{false≢true}
 use Rattle.pb_place_types.specs.Counts.{Counts, Starts}
 use Rattle.pb_run.specs.Running.{Begins, ChangesUnit, DropsFor, Launches}
 use Rattle.pb_run.specs.Steps.{StartsRise, fault_in, MayBegin}
-use Rattle.pb_run.specs.UnitSteps.{basis}
+use Rattle.pb_run.specs.UnitSteps.{build_context}
 use Rattle.pb_run.specs.Invariants.{records_folder}
 use Rattle.pb_run.specs.declared.begun.SpawnedChild.{SpawnedChild}
 use Rattle.pb_run.specs.declared.faults.StepFault.{StepFault}
@@ -26,23 +26,23 @@ pub returns-in-Err-clause-fails : goal.returns-in-Err-clause-fails
 returns-in-Err-clause-fails g c = record { stops = λ told. inl (memory_first _ (g.P.Place.at c.args.place.now).counts); cause = λ told is. absurd (false≢true is); spared = λ told. inl refl; tried = λ told. inl refl; most = refl }
 
 pub returns-in-Err-clause-build : goal.returns-in-Err-clause-build
-returns-in-Err-clause-build g c footing sources told = begin_failed (basis footing g.P.Place.child c.args.setup.now c.args.project.now sources) c.is_in_order.ensures c.args.index c.args.unit.now c.requires.unit c.args.done.now c.args.store.now.next (g.P.Place.at c.args.place.now) (g.P.Place.at c.args.place.now) refl refl (λ t stood. stood) (step.Store store.OutOfMemory)
+returns-in-Err-clause-build g c premise sources told = begin_failed (build_context premise g.P.Place.child c.args.setup.now c.args.project.now sources) c.is_in_order.ensures c.args.index c.args.unit.now c.requires.unit c.args.done.now c.args.store.now.next (g.P.Place.at c.args.place.now) (g.P.Place.at c.args.place.now) refl refl (λ t stood. stood) (step.Store store.OutOfMemory)
 
 pub returns-in-Err-command-clause-fails : goal.returns-in-Err-command-clause-fails
 returns-in-Err-command-clause-fails g c = record { stops = λ told. inl (memory_first _ (g.P.Place.at c.args.place.now).counts); cause = λ told is. absurd (false≢true is); spared = λ told. inl refl; tried = λ told. inl refl; most = refl }
 
 pub returns-in-Err-command-clause-build : goal.returns-in-Err-command-clause-build
-returns-in-Err-command-clause-build g c footing sources told = begin_failed (basis footing g.P.Place.child c.args.setup.now c.args.project.now sources) c.is_in_order.ensures c.args.index c.args.unit.now c.requires.unit c.args.done.now c.args.store.now.next (g.P.Place.at c.args.place.now) (g.P.Place.at c.args.place.now) refl refl (λ t stood. stood) (step.Store store.OutOfMemory)
+returns-in-Err-command-clause-build g c premise sources told = begin_failed (build_context premise g.P.Place.child c.args.setup.now c.args.project.now sources) c.is_in_order.ensures c.args.index c.args.unit.now c.requires.unit c.args.done.now c.args.store.now.next (g.P.Place.at c.args.place.now) (g.P.Place.at c.args.place.now) refl refl (λ t stood. stood) (step.Store store.OutOfMemory)
 
 -- The look failed, or found nothing.
 
 pub returns-in-Err-compare-clause-build : goal.returns-in-Err-compare-clause-build
-returns-in-Err-compare-clause-build g c footing sources told =
-    begin_failed (basis footing g.P.Place.child c.args.setup.now c.args.project.now sources) c.is_in_order.ensures c.args.index c.args.unit.now c.requires.unit c.args.done.now c.args.store.now.next (g.P.Place.at c.args.place.now) (g.P.Place.at c.compare.new.place) c.in-Err-compare.ensures.quiet.world c.in-Err-compare.ensures.quiet.takes.0 c.in-Err-compare.ensures.quiet.still (fault_in c.named.result)
+returns-in-Err-compare-clause-build g c premise sources told =
+    begin_failed (build_context premise g.P.Place.child c.args.setup.now c.args.project.now sources) c.is_in_order.ensures c.args.index c.args.unit.now c.requires.unit c.args.done.now c.args.store.now.next (g.P.Place.at c.args.place.now) (g.P.Place.at c.compare.new.place) c.in-Err-compare.ensures.quiet.world c.in-Err-compare.ensures.quiet.takes.0 c.in-Err-compare.ensures.quiet.still (fault_in c.named.result)
 
 pub returns-in-Same-clause-build : goal.returns-in-Same-clause-build
-returns-in-Same-clause-build g c footing sources told =
-    begin_same (basis footing g.P.Place.child c.args.setup.now c.args.project.now sources) c.is_in_order.ensures c.args.index c.args.unit.now c.requires.unit c.args.done.now c.args.store.now.next (g.P.Place.at c.args.place.now) (g.P.Place.at c.compare.new.place) c.in-Ok-compare.ensures.quiet.world c.in-Ok-compare.ensures.quiet.takes.0 c.in-Ok-compare.ensures.quiet.still
+returns-in-Same-clause-build g c premise sources told =
+    begin_same (build_context premise g.P.Place.child c.args.setup.now c.args.project.now sources) c.is_in_order.ensures c.args.index c.args.unit.now c.requires.unit c.args.done.now c.args.store.now.next (g.P.Place.at c.args.place.now) (g.P.Place.at c.compare.new.place) c.in-Ok-compare.ensures.quiet.world c.in-Ok-compare.ensures.quiet.takes.0 c.in-Ok-compare.ensures.quiet.still
     c.into_text-in-Same.result c.in-Ok-command.command c.in-Same.again c.in-Ok-command.ensures
     (unchanged_is_same.same (records_folder c.args.project.now) c.args.unit.now.key c.in-Ok-command.command (g.P.Place.at c.args.place.now).world
     (compared_first c.args.store.now.folder (records_folder c.args.project.now) _ c.args.unit.now.key c.in-Ok-command.command (g.P.Place.at c.args.place.now).world c.in-Ok-compare.compared _ c.requires.folder (c.new-key.ensures ∙ c.in-Ok.ensures) c.in-Same.is (c.in-Ok-compare.ensures.compares told).first))
@@ -76,8 +76,8 @@ returns-in-Ok-launch-clause-begins g c = record {
 }
 
 pub returns-in-Ok-launch-clause-build : goal.returns-in-Ok-launch-clause-build
-returns-in-Ok-launch-clause-build g c footing sources told =
-    begin_launched (basis footing g.P.Place.child c.args.setup.now c.args.project.now sources) c.is_in_order.ensures c.args.index c.args.unit.now c.requires.unit c.args.done.now c.args.store.now.next (g.P.Place.at c.args.place.now) (g.P.Place.at c.launch.new.place) (λ (l : SpawnedChild). StartsRise l.ticket) (MayBegin c.args.store.now.next) (launched_well c.in-Ok-launch.launched) c.launch.new.store.next
+returns-in-Ok-launch-clause-build g c premise sources told =
+    begin_launched (build_context premise g.P.Place.child c.args.setup.now c.args.project.now sources) c.is_in_order.ensures c.args.index c.args.unit.now c.requires.unit c.args.done.now c.args.store.now.next (g.P.Place.at c.args.place.now) (g.P.Place.at c.launch.new.place) (λ (l : SpawnedChild). StartsRise l.ticket) (MayBegin c.args.store.now.next) (launched_well c.in-Ok-launch.launched) c.launch.new.store.next
     (changes_after (λ (l : SpawnedChild). StartsRise l.ticket) (MayBegin c.args.store.now.next) (launched_well c.in-Ok-launch.launched) _ _ _ (records_folder c.args.project.now) c.args.unit.now.key (g.P.Place.at c.args.place.now) (g.P.Place.at c.compare.new.place) (g.P.Place.at c.launch.new.place) c.in-Ok-compare.ensures.quiet.world c.in-Ok-compare.ensures.quiet.still c.in-Ok-compare.ensures.quiet.takes.0
     (changes_moved _ _ _ c.args.store.now.folder (records_folder c.args.project.now) _ c.args.unit.now.key None (g.P.Place.at c.compare.new.place) (g.P.Place.at c.launch.new.place) c.requires.folder (c.new-key.ensures ∙ c.in-Ok.ensures) c.in-Ok-launch.ensures.changes)
     (lifted_after c.in-Ok-launch.launched.ticket (g.P.Place.at c.args.place.now).counts (g.P.Place.at c.compare.new.place).counts (g.P.Place.at c.launch.new.place).counts c.in-Ok-compare.ensures.quiet.takes.1 c.in-Ok-compare.ensures.quiet.takes.0 c.in-Ok-launch.ensures.changes.takes))
@@ -94,8 +94,8 @@ returns-in-Ok-launch-clause-changes g c =
     (lifted_after c.in-Ok-launch.launched.ticket (g.P.Place.at c.args.place.now).counts (g.P.Place.at c.compare.new.place).counts (g.P.Place.at c.launch.new.place).counts c.in-Ok-compare.ensures.quiet.takes.1 c.in-Ok-compare.ensures.quiet.takes.0 c.in-Ok-launch.ensures.changes.takes)
 
 pub returns-in-Err-launch-clause-build : goal.returns-in-Err-launch-clause-build
-returns-in-Err-launch-clause-build g c footing sources told =
-    begin_stopped (basis footing g.P.Place.child c.args.setup.now c.args.project.now sources) c.is_in_order.ensures c.args.index c.args.unit.now c.requires.unit c.args.done.now c.args.store.now.next (g.P.Place.at c.args.place.now) (g.P.Place.at c.launch.new.place) (λ (l : SpawnedChild). StartsRise l.ticket) (MayBegin c.args.store.now.next) (launched_badly c.in-Err-launch.fault) c.launch.new.store.next
+returns-in-Err-launch-clause-build g c premise sources told =
+    begin_stopped (build_context premise g.P.Place.child c.args.setup.now c.args.project.now sources) c.is_in_order.ensures c.args.index c.args.unit.now c.requires.unit c.args.done.now c.args.store.now.next (g.P.Place.at c.args.place.now) (g.P.Place.at c.launch.new.place) (λ (l : SpawnedChild). StartsRise l.ticket) (MayBegin c.args.store.now.next) (launched_badly c.in-Err-launch.fault) c.launch.new.store.next
     (changes_after (λ (l : SpawnedChild). StartsRise l.ticket) (MayBegin c.args.store.now.next) (launched_badly c.in-Err-launch.fault) _ _ _ (records_folder c.args.project.now) c.args.unit.now.key (g.P.Place.at c.args.place.now) (g.P.Place.at c.compare.new.place) (g.P.Place.at c.launch.new.place) c.in-Ok-compare.ensures.quiet.world c.in-Ok-compare.ensures.quiet.still c.in-Ok-compare.ensures.quiet.takes.0
     (changes_moved _ _ _ c.args.store.now.folder (records_folder c.args.project.now) _ c.args.unit.now.key None (g.P.Place.at c.compare.new.place) (g.P.Place.at c.launch.new.place) c.requires.folder (c.new-key.ensures ∙ c.in-Ok.ensures) c.in-Err-launch.ensures.changes)
     (begun_after c.args.store.now.next c.in-Err-launch.fault (g.P.Place.at c.args.place.now).counts (g.P.Place.at c.compare.new.place).counts (g.P.Place.at c.launch.new.place).counts c.in-Ok-compare.ensures.quiet.takes.1 c.in-Ok-compare.ensures.quiet.takes.0 c.in-Err-launch.ensures.changes.takes))
