@@ -157,14 +157,14 @@ BuildsBy {S} is_modelled child Picks options pick picked result old new =
 
 -- the first in plan order of the units that may begin is picked
 abbrev pub PicksFirstOf : First → List ℕ → ℕ → First → Type 0
-PicksFirstOf old ready place new = PicksFirst ready place
+PicksFirstOf old ready index new = PicksFirst ready index
 
 abbrev pub BuildsFirst : Bool → Answers → Options → Result Summary BuildFault → BuildState → BuildState → Type 0
 BuildsFirst is_modelled child options result old new = let pick : First = record {} in BuildsBy is_modelled child PicksFirstOf options pick pick result old new
 
 -- the last in plan order of the units that may begin is picked
 abbrev pub PicksLastOf : Last → List ℕ → ℕ → Last → Type 0
-PicksLastOf old ready place new = PicksLast ready place
+PicksLastOf old ready index new = PicksLast ready index
 
 abbrev pub BuildsLast : Bool → Answers → Options → Result Summary BuildFault → BuildState → BuildState → Type 0
 BuildsLast is_modelled child options result old new = let pick : Last = record {} in BuildsBy is_modelled child PicksLastOf options pick pick result old new

@@ -99,7 +99,7 @@ rows_for child options w units = rows_of child (setup_of options (environment_of
 -- each unit that has answered is good or bad as it is by these outcomes, with the same fault
 abbrev pub AnswersAs : List Outcome → Project → List (Event BadUnit) → Type 0
 AnswersAs given project es =
-    (place : ℕ) (answer : Answer BadUnit) → slice_get (states_in project es) place ≡ Some (Answered answer) → (outcome : Outcome) × (slice_get given place ≡ Some outcome) × (answer.fault ≡ fault_in outcome)
+    (index : ℕ) (answer : Answer BadUnit) → slice_get (states_in project es) index ≡ Some (Answered answer) → (outcome : Outcome) × (slice_get given index ≡ Some outcome) × (answer.fault ≡ fault_in outcome)
 
 -- the units began and answered in such events, by the schedule, each good or bad as in a clean build;
 -- one child was started for the query and one for each unit that began with a child; what differed for each is noted
@@ -117,12 +117,12 @@ pub record GivesAll (premise : Premise) (child : Answers) (Schedule : Project �
   pub finished : is_finished (states_in flown.units.project flown.es) ≡ true
   -- each unit that took a run number took the next one, beginning with the number after those of the records
   pub numbers : (after : Option ℕ) × NumbersGiven (LacksNumber flown.units.project old.world) flown.es (next_in (records_of options old.world.variables) old.world) after
-  pub unnoted : (place : ℕ) → slice_get (states_in flown.units.project flown.es) place ≡ Some Untouched → slice_get flown.reasons place ≡ Some None
+  pub unnoted : (index : ℕ) → slice_get (states_in flown.units.project flown.es) index ≡ Some Untouched → slice_get flown.reasons index ≡ Some None
   -- the summary and the lines are those of a clean build, and say for each unit whether a child was started
   pub answer : summary ≡ summary_of flown.units.project flown.es flown.reasons (rows_for child options old.world flown.units)
   pub lines : Appends old.heard.taken new.heard.taken (said_from flown.units.project flown.es 0 (rows_for child options old.world flown.units))
   -- the folder of each good unit contains exactly its files
-  pub files : (place : ℕ) (u : Planned) (made : Map) (directives : Option (List Directive)) (messages : List Message) → slice_get (rows_for child options old.world flown.units) place ≡ Some record { unit = u; outcome = Good made directives messages } → files_in u.out new.world.files ≡ made
+  pub files : (index : ℕ) (u : Planned) (made : Map) (directives : Option (List Directive)) (messages : List Message) → slice_get (rows_for child options old.world flown.units) index ≡ Some record { unit = u; outcome = Good made directives messages } → files_in u.out new.world.files ≡ made
   -- a child was started for a unit that began if and only if something differed from its record
   pub began : AllBeganFor (context_of premise child options old.world flown.units) flown.es flown.reasons old.world new.world
 

@@ -47,16 +47,16 @@ has_given _ = false
 -- child's reply to its command in its view
 abbrev pub outcome_after : Answers → Setup → Project → World → List Outcome → Planned → Outcome
 outcome_after child setup project sources done u =
-    if list_all (λ place. has_given (slice_get done place)) u.needs then given_to project u (command_after setup project done u) (child (command_after setup project done u) (view_of done sources u)) else Waiting
+    if list_all (λ index. has_given (slice_get done index)) u.needs then given_to project u (command_after setup project done u) (child (command_after setup project done u) (view_of done sources u)) else Waiting
 
 -- Outcomes are those of a build if and only if there is one for each unit of the plan, and each follows from those
 -- before it.
 abbrev pub OutcomesAreThese : Type 0
 OutcomesAreThese = (child : Answers) (setup : Setup) (project : Project) (sources : World) (os : List Outcome) → (os ≡ outcomes child setup project sources)
-    ↔ ((length os ≡ length project.plan.planned) × ((place : ℕ) (u : Planned) → slice_get project.plan.planned place ≡ Some u → slice_get os place ≡ Some (outcome_after child setup project sources (take place os) u)))
+    ↔ ((length os ≡ length project.plan.planned) × ((index : ℕ) (u : Planned) → slice_get project.plan.planned index ≡ Some u → slice_get os index ≡ Some (outcome_after child setup project sources (take index os) u)))
 
 -- Inputs are found in a reply to the command of a unit of a plan if and only if they are those of a good answer in it.
 abbrev pub InputsAreJudged : Type 0
-InputsAreJudged = (setup : Setup) (project : Project) (u : Planned) (done : List (Option (List Directive))) (selection : Selection) (place : ℕ) (r : Reply) (names : List InputName)
-    → IsSettled project.workspace → IsPlan project.workspace project.features selection project.profile project.plan → slice_get project.plan.planned place ≡ Some u
+InputsAreJudged = (setup : Setup) (project : Project) (u : Planned) (done : List (Option (List Directive))) (selection : Selection) (index : ℕ) (r : Reply) (names : List InputName)
+    → IsSettled project.workspace → IsPlan project.workspace project.features selection project.profile project.plan → slice_get project.plan.planned index ≡ Some u
     → (judge (command_of setup project u done) r ≡ Some names) ↔ IsOkAnd (answer_in project u (command_of setup project u done) r) (λ answered. answered.inputs ≡ names)

@@ -33,4 +33,4 @@ EndsAreThese = (states : List (State BadUnit)) → let first = prefix_len (λ s.
 
 -- The key at an index is that of its unit, if there is one; and an outcome is bad if and only if it has a fault.
 abbrev pub RowsAreThese : Type 0
-RowsAreThese = ((project : Project) (place : ℕ) → key_at project place ≡ map (λ (u : Planned). u.key) (option_to_list (unit_at project place))) × ((o : Outcome) → rows.is_bad o ≡ is_some (fault_in o))
+RowsAreThese = ((project : Project) (index : ℕ) → key_at project index ≡ map (λ (u : Planned). u.key) (option_to_list (unit_at project index))) × ((o : Outcome) → rows.is_bad o ≡ is_some (fault_in o))

@@ -32,7 +32,7 @@ pub record IsSummary (project : Project) (es : List (Event BadUnit)) (reasons : 
   -- the keys of the units for which a child was started, in the order in which they started
   pub started : summary.started ≡ map (λ (u : Planned). u.key) (filter_map (unit_at project) (started_by es))
   -- the first difference of each of them
-  pub differences : summary.differences ≡ filter_map (λ place. option_flatten (option_flatten (slice_get reasons place))) (started_by es)
+  pub differences : summary.differences ≡ filter_map (λ index. option_flatten (option_flatten (slice_get reasons index))) (started_by es)
   -- in plan order, the keys of the units that began and from whose records nothing differed
   pub kept : summary.kept ≡ filter_map kept_in (zip project.plan.planned reasons)
   -- by key, the directives of the runs

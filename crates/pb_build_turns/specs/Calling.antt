@@ -50,16 +50,16 @@ ran_again project u r files = unstarted (ran_of project u (asked_command r.asked
 
 -- the unit at an index answered by the record that it had at first: its fault, its lines and its directives follow from
 -- that record, from its command, and from the files of that time
-pub record AnswersAgain (setup : Setup) (project : Project) (done : List (Option (List Directive))) (first : World) (place : ℕ) (answer : Answer BadUnit) : Type 0 where
+pub record AnswersAgain (setup : Setup) (project : Project) (done : List (Option (List Directive))) (first : World) (index : ℕ) (answer : Answer BadUnit) : Type 0 where
   pub unit : Planned
-  pub there : unit_at project place ≡ Some unit
+  pub there : unit_at project index ≡ Some unit
   pub kept : Record
   pub here : records (records_folder project) first unit.key ≡ Some kept
   pub asks : asked_command kept.asked ≡ command_of setup project unit done
   pub inputs : Agrees project.workspace.target kept.inputs first
   pub fault : answer.fault ≡ (ran_again project unit kept first.files).bad
   pub lines : answer.lines ≡ unit_lines project unit false (ran_again project unit kept first.files).messages
-  pub noted : slice_get done place ≡ Some (ran_again project unit kept first.files).directives
+  pub noted : slice_get done index ≡ Some (ran_again project unit kept first.files).directives
 
 -- A unit in flight that waits for such an answer.
 
@@ -89,15 +89,15 @@ ran_anew project u c reply = ran_of project u c (ended_by reply) (replied_files 
 
 -- the unit at an index answered what its child returns for what it sees of this world: its folder contains exactly the
 -- files of that reply, and its fault, its lines and its directives follow from the reply
-pub record AnswersAnew (child : Answers) (setup : Setup) (project : Project) (done : List (Option (List Directive))) (now : World) (place : ℕ) (answer : Answer BadUnit) : Type 0 where
+pub record AnswersAnew (child : Answers) (setup : Setup) (project : Project) (done : List (Option (List Directive))) (now : World) (index : ℕ) (answer : Answer BadUnit) : Type 0 where
   pub unit : Planned
-  pub there : unit_at project place ≡ Some unit
+  pub there : unit_at project index ≡ Some unit
   pub reply : Reply
   pub replies : reply ≡ reply_in child (command_of setup project unit done) now
   pub files : files_in unit.out now.files ≡ replied_files unit.out reply
   pub fault : answer.fault ≡ (ran_anew project unit (command_of setup project unit done) reply).bad
   pub lines : answer.lines ≡ unit_lines project unit true (ran_anew project unit (command_of setup project unit done) reply).messages
-  pub noted : slice_get done place ≡ Some (ran_anew project unit (command_of setup project unit done) reply).directives
+  pub noted : slice_get done index ≡ Some (ran_anew project unit (command_of setup project unit done) reply).directives
 
 -- A unit in flight that waits for such an answer.
 
@@ -120,7 +120,7 @@ pub record CallBasis : Type 0 where
 
 -- for a build context: the command and the view of each unit in a clean build, whatever the world is
 abbrev pub call_basis : BuildContext → CallBasis
-call_basis b = record { child = b.child; project = b.project; command = command_in b; sees = λ place u w. view_in b place u }
+call_basis b = record { child = b.child; project = b.project; command = command_in b; sees = λ index u w. view_in b index u }
 
 -- for any records, true or not: the command of a unit after the directives that are noted, and what that command sees
 -- of the world
@@ -128,8 +128,8 @@ abbrev pub call_basis_on_any : Answers → Setup → Project → List (Option (L
 call_basis_on_any child setup project done = record {
   child = child;
   project = project;
-  command = λ place u. command_of setup project u done;
-  sees = λ place u w. seen_by (command_of setup project u done) w;
+  command = λ index u. command_of setup project u done;
+  sees = λ index u w. seen_by (command_of setup project u done) w;
 }
 
 -- A unit begins.
@@ -140,26 +140,26 @@ CallsToBegin child project u c false before old after new = (after ≡ before) �
 CallsToBegin child project u c true before old after new = (ticket : ℕ) × Launches child c ticket (past_look project u c before old) new
 
 -- the unit at an index began with exactly these calls
-pub record BeginsCalling (b : CallBasis) (place : ℕ) (spawned : Bool) (before : World) (old : Counts) (after : World) (new : Counts) : Type 0 where
+pub record BeginsCalling (b : CallBasis) (index : ℕ) (spawned : Bool) (before : World) (old : Counts) (after : World) (new : Counts) : Type 0 where
   pub unit : Planned
-  pub there : unit_at b.project place ≡ Some unit
+  pub there : unit_at b.project index ≡ Some unit
   pub only : ChangesOnly (is_of (records_folder b.project) unit.key) before after
-  pub calls : CallsToBegin b.child b.project unit (b.command place unit) spawned before old after new
+  pub calls : CallsToBegin b.child b.project unit (b.command index unit) spawned before old after new
 
 -- the unit at an index could not begin: it stopped at a call of its comparison; or something differed, and it stopped
 -- as its child was launched
-pub record StopsBeginning (b : CallBasis) (place : ℕ) (fault : BuildFault) (w : World) (old : Counts) (after : World) (new : Counts) : Type 0 where
+pub record StopsBeginning (b : CallBasis) (index : ℕ) (fault : BuildFault) (w : World) (old : Counts) (after : World) (new : Counts) : Type 0 where
   pub unit : Planned
-  pub there : unit_at b.project place ≡ Some unit
+  pub there : unit_at b.project index ≡ Some unit
   pub only : ChangesOnly (is_of (records_folder b.project) unit.key) w after
   pub named : IsOfUnit unit.key fault
-  pub stops : StopsToBegin b.project unit (b.command place unit) (fault_in fault) w old new
+  pub stops : StopsToBegin b.project unit (b.command index unit) (fault_in fault) w old new
 
 -- A unit answers.
 
 -- the reply of the child to the command of the unit at an index, from what it sees of a world
 abbrev pub reply_by : CallBasis → ℕ → Planned → World → Reply
-reply_by b place u w = b.child (b.command place u) (b.sees place u w)
+reply_by b index u w = b.child (b.command index u) (b.sees index u w)
 
 -- a child ended with this reply, and the unit's folder contains exactly the files of the reply
 pub record EndsAsReplied (reply : Reply) (u : Planned) (ended : Ended) (left : World) : Type 0 where
@@ -172,35 +172,35 @@ FliesFor c flying launched = (spawned : ChildInFlight) × (child_at launched.tic
 
 -- the answer of the unit at an index was taken: the end of its child was awaited, if it has one, and then exactly the
 -- calls of the answer were made. Contracts state this only for a modelled place
-pub record AnswersCalling (b : CallBasis) (place : ℕ) (spawned : Bool) (result : Result (Unit {0}) BuildFault) (before : World) (old : Counts) (after : World) (new : Counts) : Type 0 where
+pub record AnswersCalling (b : CallBasis) (index : ℕ) (spawned : Bool) (result : Result (Unit {0}) BuildFault) (before : World) (old : Counts) (after : World) (new : Counts) : Type 0 where
   pub unit : Planned
-  pub there : unit_at b.project place ≡ Some unit
+  pub there : unit_at b.project index ≡ Some unit
   pub by : Awaited
   pub is_child : spawned ≡ is_some (child_in by)
-  pub its : IfSome (child_in by) (FliesFor (b.command place unit) old.starts.flying)
+  pub its : IfSome (child_in by) (FliesFor (b.command index unit) old.starts.flying)
   pub counts_now : GivesRecord (records (records_folder b.project) before unit.key) by
   pub left : World
   pub mid : Counts
   pub answer : Result Ended StartFault
   pub ends : EndsBy by answer (IsOk result) (λ ticket. Unit {0}) before left old mid
-  pub replied : spawned ≡ true → IfOk answer (λ ended. EndsAsReplied (reply_by b place unit left) unit ended left)
+  pub replied : spawned ≡ true → IfOk answer (λ ended. EndsAsReplied (reply_by b index unit left) unit ended left)
   pub only : ChangesOnly (is_at_or_below (place_of (records_folder b.project) unit.key)) left after
   pub named : IfErr result (IsOfUnit unit.key)
-  pub calls : CallsBehind by (answered_called b.project unit (b.command place unit) left by) answer (bare result) mid new
+  pub calls : CallsBehind by (answered_called b.project unit (b.command index unit) left by) answer (bare result) mid new
 
 -- All calls.
 
 -- over these events, exactly these calls were made between a first and a last moment of the place
 abbrev pub CallsOver : CallBasis → List (Event BadUnit) → World → Counts → World → Counts → Type 0
 CallsOver b [] first at last now = (last ≡ first) × (now ≡ at)
-CallsOver b (Began place spawned ∷ es) first at last now = (before : World) × (old : Counts) × CallsOver b es first at before old × BeginsCalling b place spawned before old last now
-CallsOver b (Gave place answer ∷ es) first at last now = (before : World) × (old : Counts) × CallsOver b es first at before old × AnswersCalling b place (is_started es place) (Ok tt) before old last now
+CallsOver b (Began index spawned ∷ es) first at last now = (before : World) × (old : Counts) × CallsOver b es first at before old × BeginsCalling b index spawned before old last now
+CallsOver b (Gave index answer ∷ es) first at last now = (before : World) × (old : Counts) × CallsOver b es first at before old × AnswersCalling b index (is_started es index) (Ok tt) before old last now
 
 -- the calls of the event that ended with a fault: those of an answer, or those of a unit that could not begin; none, if
 -- the sink failed or memory ran out
 abbrev pub StopsLast : CallBasis → BuildFault → Option ℕ → List (Event BadUnit) → List (Event BadUnit) → World → Counts → World → Counts → Type 0
-StopsLast b fault (Some place) es before w old after new = AnswersCalling b place (is_started before place) (Err fault) w old after new
-StopsLast b fault None es before w old after new = (((fault ≡ Sink) ⊎ (fault ≡ OutOfMemory)) × (after ≡ w) × (new ≡ old)) ⊎ ((place : ℕ) × (spawned : Bool) × (es ≡ Began place spawned ∷ before) × StopsBeginning b place fault w old after new)
+StopsLast b fault (Some index) es before w old after new = AnswersCalling b index (is_started before index) (Err fault) w old after new
+StopsLast b fault None es before w old after new = (((fault ≡ Sink) ⊎ (fault ≡ OutOfMemory)) × (after ≡ w) × (new ≡ old)) ⊎ ((index : ℕ) × (spawned : Bool) × (es ≡ Began index spawned ∷ before) × StopsBeginning b index fault w old after new)
 
 -- exactly these calls were made: first over the events before a fault, and then those of the fault
 abbrev pub CallsCut : CallBasis → BuildFault → Option ℕ → List (Event BadUnit) → List (Event BadUnit) → World → Counts → World → Counts → Type 0

@@ -87,7 +87,7 @@ pub record OutcomeHolds (b : BuildContext) (es : List (Event BadUnit)) (new : Wo
   pub done : List (Option (List Directive))
   pub next : Option ℕ
   pub keeps : BuildInvariant b (states_in b.project es) done next new
-  pub gave : (place : ℕ) (answer : Answer BadUnit) → slice_get (states_in b.project es) place ≡ Some (Answered answer) → HasGiven b es done place answer
+  pub gave : (index : ℕ) (answer : Answer BadUnit) → slice_get (states_in b.project es) index ≡ Some (Answered answer) → HasGiven b es done index answer
   pub lines : due (states_in b.project es) ≡ said_from b.project es 0 (take (count_due (states_in b.project es)) (rows_in b))
   pub first_lines : (n : ℕ) → due_first n (states_in b.project es) ≡ said_from b.project es 0 (take n (take (count_due (states_in b.project es)) (rows_in b)))
 
@@ -117,7 +117,7 @@ pub record EndsWhole {S : Type 0} (is_modelled : Bool) (child : Answers) (Turns 
   pub flies : Flies Turns (needs_of project) Anyhow Anything from es last
   pub finished : is_finished (states_in project es) ≡ true
   pub success : summary.success ≡ is_success (bad_told project.plan.planned (states_in project es) (first_bad (states_in project es)))
-  pub good : summary.success ≡ true → (place : ℕ) (u : Planned) → unit_at project place ≡ Some u → is_good_at (slice_get (states_in project es) place) ≡ true
+  pub good : summary.success ≡ true → (index : ℕ) (u : Planned) → unit_at project index ≡ Some u → is_good_at (slice_get (states_in project es) index) ≡ true
   pub bad : summary.bad ≡ key_told (bad_told project.plan.planned (states_in project es) (first_bad (states_in project es)))
   pub said : summary.said ≡ said_told (bad_told project.plan.planned (states_in project es) (first_bad (states_in project es)))
   pub started : summary.started ≡ started_keys project es
@@ -126,7 +126,7 @@ pub record EndsWhole {S : Type 0} (is_modelled : Bool) (child : Answers) (Turns 
   pub kept : summary.kept ≡ kept_of project.plan.planned reasons
   pub done : List (Option (List Directive))
   pub directives : summary.directives ≡ noted_told project.plan.planned done (first_bad (states_in project es))
-  pub unnoted : (place : ℕ) → slice_get (states_in project es) place ≡ Some Untouched → slice_get reasons place ≡ Some None
+  pub unnoted : (index : ℕ) → slice_get (states_in project es) index ≡ Some Untouched → slice_get reasons index ≡ Some None
   pub noted : NotesStarted project es reasons
   pub lines : Appends old.heard.taken new.heard.taken (due (states_in project es))
   pub faults : new.heard.faults ≡ old.heard.faults
@@ -199,12 +199,12 @@ TurnsEnd is_modelled child Turns setup project next from last (Err fault) old ne
 -- are due are those of the first rows. Once all have answered, up to and including the first bad one, they are those of
 -- all rows
 abbrev pub SaysFirstRows : Type 0
-SaysFirstRows = (b : BuildContext) (es : List (Event BadUnit)) (done : List (Option (List Directive))) → ((place : ℕ) (answer : Answer BadUnit) → slice_get (states_in b.project es) place ≡ Some (Answered answer) → HasGiven b es done place answer)
+SaysFirstRows = (b : BuildContext) (es : List (Event BadUnit)) (done : List (Option (List Directive))) → ((index : ℕ) (answer : Answer BadUnit) → slice_get (states_in b.project es) index ≡ Some (Answered answer) → HasGiven b es done index answer)
     → (due (states_in b.project es) ≡ said_from b.project es 0 (take (count_due (states_in b.project es)) (rows_in b))) × (is_finished (states_in b.project es) ≡ true → count_due (states_in b.project es) ≡ length (rows_in b))
 
 -- each unit has its record, and nothing differs from it
 abbrev pub EachHasRecord : BuildContext → World → Type 0
-EachHasRecord b w = (place : ℕ) (u : Planned) → unit_at b.project place ≡ Some u → HasRecord b w place
+EachHasRecord b w = (index : ℕ) (u : Planned) → unit_at b.project index ≡ Some u → HasRecord b w index
 
 -- if each unit has its record at first, no child is started
 abbrev pub StartsNothing : Type 0

@@ -148,14 +148,14 @@ IsUntold unit lacks = ⊥
 
 -- the unit at an index has its outcome of a clean build: its fault, its lines, which say whether a child was started
 -- for it, and its directives, which are noted
-pub record HasGiven (b : BuildContext) (es : List (Event BadUnit)) (done : List (Option (List Directive))) (place : ℕ) (answer : Answer BadUnit) : Type 0 where
+pub record HasGiven (b : BuildContext) (es : List (Event BadUnit)) (done : List (Option (List Directive))) (index : ℕ) (answer : Answer BadUnit) : Type 0 where
   pub unit : Planned
-  pub there : unit_at b.project place ≡ Some unit
+  pub there : unit_at b.project index ≡ Some unit
   pub outcome : Outcome
-  pub is : slice_get (outcomes_in b) place ≡ Some outcome
+  pub is : slice_get (outcomes_in b) index ≡ Some outcome
   pub fault : answer.fault ≡ fault_in outcome
-  pub lines : answer.lines ≡ unit_lines b.project unit (is_started es place) (messages_in outcome)
-  pub noted : slice_get done place ≡ Some (directives_in outcome)
+  pub lines : answer.lines ≡ unit_lines b.project unit (is_started es index) (messages_in outcome)
+  pub noted : slice_get done index ≡ Some (directives_in outcome)
 
 -- the events before the unit at an index began
 abbrev pub events_before : List (Event BadUnit) → ℕ → List (Event BadUnit)
@@ -166,11 +166,11 @@ events_before (Gave unit answer ∷ es) place = events_before es place
 -- only files in the output folders and the records of units that have begun were changed
 pub record OnlyOf (project : Project) (es : List (Event BadUnit)) (old new : World) : Type 0 where
   pub variables : new.variables ≡ old.variables
-  pub files : (q : List ℕ) → ((place : ℕ) (u : Planned) → HasBegun (states_in project es) place → unit_at project place ≡ Some u → is_of (records_folder project) u.key q ≡ false) → finite.get new.files q ≡ finite.get old.files q
+  pub files : (q : List ℕ) → ((index : ℕ) (u : Planned) → HasBegun (states_in project es) index → unit_at project index ≡ Some u → is_of (records_folder project) u.key q ≡ false) → finite.get new.files q ≡ finite.get old.files q
 
 -- whether the unit at an index has a record without a number
 abbrev pub LacksNumber : Project → World → ℕ → Bool → Type 0
-LacksNumber project w place lacks = (u : Planned) → unit_at project place ≡ Some u → lacks_number (records (records_folder project) w u.key) ≡ lacks
+LacksNumber project w index lacks = (u : Planned) → unit_at project index ≡ Some u → lacks_number (records (records_folder project) w u.key) ≡ lacks
 
 -- this unit has no record that counts
 abbrev pub HasNoRecord : Project → Planned → World → Type 0
@@ -178,55 +178,55 @@ HasNoRecord project u w = records (records_folder project) w u.key ≡ None
 
 -- a unit in flight for which a child was started has no record; the unit whose answer was taken is excepted
 abbrev pub KeepsNoneInFlight : Project → List (Event BadUnit) → Option ℕ → World → Type 0
-KeepsNoneInFlight project es asked w = (place : ℕ) (u : Planned) → unit_at project place ≡ Some u → slice_get (states_in project es) place ≡ Some Begun → asked ≢ Some place → is_started es place ≡ true → HasNoRecord project u w
+KeepsNoneInFlight project es asked w = (index : ℕ) (u : Planned) → unit_at project index ≡ Some u → slice_get (states_in project es) index ≡ Some Begun → asked ≢ Some index → is_started es index ≡ true → HasNoRecord project u w
 
 -- if no child was started for a unit in flight, its folder and its record are as at first; the unit whose answer was
 -- taken is excepted
 abbrev pub KeepsChildless : Project → List (Event BadUnit) → Option ℕ → World → World → Type 0
-KeepsChildless project es asked first w = (place : ℕ) (u : Planned) (q : List ℕ) → unit_at project place ≡ Some u → slice_get (states_in project es) place ≡ Some Begun → asked ≢ Some place → is_started es place ≡ false → is_of (records_folder project) u.key q ≡ true
+KeepsChildless project es asked first w = (index : ℕ) (u : Planned) (q : List ℕ) → unit_at project index ≡ Some u → slice_get (states_in project es) index ≡ Some Begun → asked ≢ Some index → is_started es index ≡ false → is_of (records_folder project) u.key q ≡ true
     → finite.get w.files q ≡ finite.get first.files q
 
 -- the first difference of the unit at an index when it began, in a world in which only units that had begun before had
 -- changed anything. A child was started for the unit if and only if something differed, and the difference is noted
-pub record BeganFor (project : Project) (sources : World) (command : ℕ → Planned → Command) (es : List (Event BadUnit)) (reasons : Reasons) (first now : World) (place : ℕ) : Type 0 where
+pub record BeganFor (project : Project) (sources : World) (command : ℕ → Planned → Command) (es : List (Event BadUnit)) (reasons : Reasons) (first now : World) (index : ℕ) : Type 0 where
   pub unit : Planned
-  pub there : unit_at project place ≡ Some unit
+  pub there : unit_at project index ≡ Some unit
   pub world : World
   pub sources_stay : from_nothing project.workspace.target world ≡ sources
   pub record_stays : finite.get world.files (place_of (records_folder project) unit.key) ≡ finite.get first.files (place_of (records_folder project) unit.key)
-  pub only : OnlyOf project (events_before es place) first world
+  pub only : OnlyOf project (events_before es index) first world
   pub reaches : are_good (states_in project es) unit.reaches ≡ true
   pub reached_stay : (p : ℕ) (v : Planned) (q : List ℕ) → Contains unit.reaches p → unit_at project p ≡ Some v → is_of (records_folder project) v.key q ≡ true → finite.get world.files q ≡ finite.get now.files q
-  pub answered_stay : (p : ℕ) (v : Planned) (a : Answer BadUnit) (q : List ℕ) → slice_get (states_in project (events_before es place)) p ≡ Some (Answered a) → slice_get (states_in project es) p ≡ Some (Answered a) → unit_at project p ≡ Some v
+  pub answered_stay : (p : ℕ) (v : Planned) (a : Answer BadUnit) (q : List ℕ) → slice_get (states_in project (events_before es index)) p ≡ Some (Answered a) → slice_get (states_in project es) p ≡ Some (Answered a) → unit_at project p ≡ Some v
       → is_of (records_folder project) v.key q ≡ true → finite.get world.files q ≡ finite.get now.files q
-  pub unrecorded : KeepsNoneInFlight project (events_before es place) None world
-  pub waiting_stay : KeepsChildless project (events_before es place) None first world
+  pub unrecorded : KeepsNoneInFlight project (events_before es index) None world
+  pub waiting_stay : KeepsChildless project (events_before es index) None first world
   pub difference : Option Difference
-  pub named : FirstDifference (records_folder project) unit.key (command place unit) world difference
-  pub started : is_started es place ≡ is_some difference
-  pub noted : slice_get reasons place ≡ Some (Some difference)
+  pub named : FirstDifference (records_folder project) unit.key (command index unit) world difference
+  pub started : is_started es index ≡ is_some difference
+  pub noted : slice_get reasons index ≡ Some (Some difference)
   pub folder_stays : difference ≡ None → (q : List ℕ) → is_at_or_below unit.out q ≡ true → finite.get now.files q ≡ finite.get first.files q
   pub kept_stays : difference ≡ None → lacks_number (records (records_folder project) first unit.key) ≡ false → (q : List ℕ) → is_of (records_folder project) unit.key q ≡ true → finite.get now.files q ≡ finite.get first.files q
-  pub unstarted : started_by (events_before es place) ≡ [] → ((p : ℕ) → LacksNumber project first p false) → world ≡ first
+  pub unstarted : started_by (events_before es index) ≡ [] → ((p : ℕ) → LacksNumber project first p false) → world ≡ first
 
 -- each unit that has begun did so for its first difference
 abbrev pub AllBegan : Project → World → (ℕ → Planned → Command) → List (Event BadUnit) → Reasons → World → World → Type 0
-AllBegan project sources command es reasons first now = (place : ℕ) → HasBegun (states_in project es) place → BeganFor project sources command es reasons first now place
+AllBegan project sources command es reasons first now = (index : ℕ) → HasBegun (states_in project es) index → BeganFor project sources command es reasons first now index
 
 -- if a unit could not begin because of its start, or because memory ran out as its child was tried, something had
 -- differed for it; that is stated as if its child had been started
 abbrev pub HadDiffered : Project → World → (ℕ → Planned → Command) → BuildFault → List (Event BadUnit) → List (Event BadUnit) → World → World → Type 0
 HadDiffered project sources command fault before es first now =
-    (place : ℕ) (spawned : Bool) → es ≡ Began place spawned ∷ before → (is_of_start fault ≡ true) ⊎ (spawned ≡ true) → (reasons : Reasons) × BeganFor project sources command (Began place true ∷ before) reasons first now place
+    (index : ℕ) (spawned : Bool) → es ≡ Began index spawned ∷ before → (is_of_start fault ≡ true) ⊎ (spawned ≡ true) → (reasons : Reasons) × BeganFor project sources command (Began index true ∷ before) reasons first now index
 
 -- the same over any records, true or not: with the sources of the first world, and with the command of each unit after
 -- the directives that are noted
 abbrev pub AllBeganOnAny : Setup → Project → List (Option (List Directive)) → List (Event BadUnit) → Reasons → World → World → Type 0
-AllBeganOnAny setup project done es reasons first now = AllBegan project (from_nothing project.workspace.target first) (λ place u. command_of setup project u done) es reasons first now
+AllBeganOnAny setup project done es reasons first now = AllBegan project (from_nothing project.workspace.target first) (λ index u. command_of setup project u done) es reasons first now
 
 -- and something had differed for a unit that could not begin
 abbrev pub StartedOnAny : Setup → Project → List (Option (List Directive)) → BuildFault → List (Event BadUnit) → List (Event BadUnit) → World → World → Type 0
-StartedOnAny setup project done fault before es first now = HadDiffered project (from_nothing project.workspace.target first) (λ place u. command_of setup project u done) fault before es first now
+StartedOnAny setup project done fault before es first now = HadDiffered project (from_nothing project.workspace.target first) (λ index u. command_of setup project u done) fault before es first now
 
 -- the same for a build context: with its sources, and with the command of each unit after the outcomes of a clean build
 abbrev pub AllBeganFor : BuildContext → List (Event BadUnit) → Reasons → World → World → Type 0
@@ -238,7 +238,7 @@ StartedFor b fault before es first now = HadDiffered b.project b.sources (comman
 
 -- a bad unit for which a child was started has no record
 abbrev pub KeepsNoneOfBad : Project → List (Event BadUnit) → World → Type 0
-KeepsNoneOfBad project es w = (place : ℕ) (u : Planned) (answer : Answer BadUnit) → unit_at project place ≡ Some u → slice_get (states_in project es) place ≡ Some (Answered answer) → IsSome answer.fault → is_started es place ≡ true → HasNoRecord project u w
+KeepsNoneOfBad project es w = (index : ℕ) (u : Planned) (answer : Answer BadUnit) → unit_at project index ≡ Some u → slice_get (states_in project es) index ≡ Some (Answered answer) → IsSome answer.fault → is_started es index ≡ true → HasNoRecord project u w
 
 -- a unit in flight has begun; if it has a child, the child writes into the unit's folder, and the unit has no record
 pub record FliesIn (project : Project) (es : List (Event BadUnit)) (world : World) (flying : List ChildInFlight) (a : RunningUnit) : Type 0 where
@@ -257,7 +257,7 @@ pub record FliesBeside (project : Project) (es : List (Event BadUnit)) (asked : 
 -- was taken is not among these
 pub record ChangesInFlight (project : Project) (es : List (Event BadUnit)) (asked : Option ℕ) (old new : World) : Type 0 where
   pub variables : new.variables ≡ old.variables
-  pub files : (q : List ℕ) → ((place : ℕ) (u : Planned) → slice_get (states_in project es) place ≡ Some Begun → asked ≢ Some place → is_started es place ≡ true → unit_at project place ≡ Some u → is_at_or_below u.out q ≡ false) → finite.get new.files q ≡ finite.get old.files q
+  pub files : (q : List ℕ) → ((index : ℕ) (u : Planned) → slice_get (states_in project es) index ≡ Some Begun → asked ≢ Some index → is_started es index ≡ true → unit_at project index ≡ Some u → is_at_or_below u.out q ≡ false) → finite.get new.files q ≡ finite.get old.files q
 
 -- whatever a build rests on: the units in flight, and what has changed
 pub record Changes (project : Project) (first : World) (running : List RunningUnit) (es : List (Event BadUnit)) (world : World) (flying : List ChildInFlight) : Type 0 where
@@ -267,8 +267,8 @@ pub record Changes (project : Project) (first : World) (running : List RunningUn
 
 -- each unit that answered without a child did so by the record that it had at first
 abbrev pub AllAnswerAgain : Setup → Project → List (Event BadUnit) → List (Option (List Directive)) → World → Type 0
-AllAnswerAgain setup project es done first = (place : ℕ) (answer : Answer BadUnit) → slice_get (states_in project es) place ≡ Some (Answered answer) → is_started es place ≡ false
-    → AnswersAgain setup project done first place answer
+AllAnswerAgain setup project es done first = (index : ℕ) (answer : Answer BadUnit) → slice_get (states_in project es) index ≡ Some (Answered answer) → is_started es index ≡ false
+    → AnswersAgain setup project done first index answer
 
 -- and those in flight without a child wait to do so
 pub record Replays (setup : Setup) (project : Project) (done : List (Option (List Directive))) (running : List RunningUnit) (es : List (Event BadUnit)) (first now : World) : Type 0 where
@@ -278,7 +278,7 @@ pub record Replays (setup : Setup) (project : Project) (done : List (Option (Lis
 -- each unit that answered with a child did so by the child's reply to what it sees of this world, whether the records
 -- are true or not
 abbrev pub AllAnswerAnew : Answers → Setup → Project → List (Event BadUnit) → List (Option (List Directive)) → World → Type 0
-AllAnswerAnew child setup project es done now = (place : ℕ) (answer : Answer BadUnit) → slice_get (states_in project es) place ≡ Some (Answered answer) → is_started es place ≡ true → AnswersAnew child setup project done now place answer
+AllAnswerAnew child setup project es done now = (index : ℕ) (answer : Answer BadUnit) → slice_get (states_in project es) index ≡ Some (Answered answer) → is_started es index ≡ true → AnswersAnew child setup project done now index answer
 
 -- and those in flight with a child wait to do so
 pub record Replies (child : Answers) (setup : Setup) (project : Project) (done : List (Option (List Directive))) (running : List RunningUnit) (es : List (Event BadUnit)) (now : World) (flying : List ChildInFlight) (still : ℕ → Type 0) : Type 0 where
@@ -300,9 +300,9 @@ record_anew child setup project done now u number = record_of project u (command
 -- Good, with a child: the record of that child, with the number that was next as the unit began.
 -- Good, without a child: the first record, with a number if it had none.
 -- Bad, without a child: what was there at first
-pub record LeavesRecord (child : Answers) (setup : Setup) (project : Project) (done : List (Option (List Directive))) (started : Bool) (before until : List (Event BadUnit)) (next : Option ℕ) (first now : World) (place : ℕ) (answer : Answer BadUnit) : Type 0 where
+pub record LeavesRecord (child : Answers) (setup : Setup) (project : Project) (done : List (Option (List Directive))) (started : Bool) (before until : List (Event BadUnit)) (next : Option ℕ) (first now : World) (index : ℕ) (answer : Answer BadUnit) : Type 0 where
   pub unit : Planned
-  pub there : unit_at project place ≡ Some unit
+  pub there : unit_at project index ≡ Some unit
   pub anew : started ≡ true → answer.fault ≡ None
       → (number : ℕ) × NumbersGiven (LacksNumber project first) before next (Some number) × (records (records_folder project) now unit.key ≡ Some (record_anew child setup project done now unit number))
   pub again : started ≡ false → answer.fault ≡ None
@@ -312,8 +312,8 @@ pub record LeavesRecord (child : Answers) (setup : Setup) (project : Project) (d
 
 -- each unit that answered has left such a record, whether the records are true or not
 abbrev pub AllLeaveRecords : Answers → Setup → Project → List (Event BadUnit) → List (Option (List Directive)) → Option ℕ → World → World → Type 0
-AllLeaveRecords child setup project es done next first now = (place : ℕ) (answer : Answer BadUnit) → slice_get (states_in project es) place ≡ Some (Answered answer)
-    → LeavesRecord child setup project done (is_started es place) (events_before es place) (events_until es place) next first now place answer
+AllLeaveRecords child setup project es done next first now = (index : ℕ) (answer : Answer BadUnit) → slice_get (states_in project es) index ≡ Some (Answered answer)
+    → LeavesRecord child setup project done (is_started es index) (events_before es index) (events_until es index) next first now index answer
 
 -- the child of a unit in flight was launched with the run number that was next as the unit began
 abbrev pub CarriesNumber : Project → List (Event BadUnit) → Option ℕ → World → RunningUnit → Type 0
@@ -335,21 +335,21 @@ pub record FliesSo (b : BuildContext) (es : List (Event BadUnit)) (next : Option
 pub record HistoryHolds (b : BuildContext) (done : List (Option (List Directive))) (running : List RunningUnit) (next : Option ℕ) (es : List (Event BadUnit)) (world : World) (flying : List ChildInFlight) (still : ℕ → Type 0) : Type 0 where
   pub keeps : BuildInvariant b (states_in b.project es) done next world
   pub begun : AllByRecursion (FliesSo b es next world flying still) running
-  pub gave : (place : ℕ) (answer : Answer BadUnit) → slice_get (states_in b.project es) place ≡ Some (Answered answer) → HasGiven b es done place answer
+  pub gave : (index : ℕ) (answer : Answer BadUnit) → slice_get (states_in b.project es) index ≡ Some (Answered answer) → HasGiven b es done index answer
 
 -- as long as no child is started, the world is the first one, if no record lacked a number then
 abbrev pub IsQuiet : Project → List (Event BadUnit) → World → World → Type 0
-IsQuiet project es first now = started_by es ≡ [] → ((place : ℕ) → LacksNumber project first place false) → now ≡ first
+IsQuiet project es first now = started_by es ≡ [] → ((index : ℕ) → LacksNumber project first index false) → now ≡ first
 
 -- the note of a unit that has not begun is as at first
 abbrev pub NotesUnbegun : Project → List (Event BadUnit) → Reasons → Reasons → Type 0
-NotesUnbegun project es first now = (place : ℕ) → slice_get (states_in project es) place ≡ Some Untouched → slice_get now place ≡ slice_get first place
+NotesUnbegun project es first now = (index : ℕ) → slice_get (states_in project es) index ≡ Some Untouched → slice_get now index ≡ slice_get first index
 
 -- the first difference of each unit that has begun is noted; there is one if and only if a child was started for the
 -- unit
 abbrev pub NotesStarted : Project → List (Event BadUnit) → Reasons → Type 0
-NotesStarted project es now = (place : ℕ) (s : State BadUnit) → slice_get (states_in project es) place ≡ Some s → s ≢ Untouched
-    → (d : Option Difference) × (slice_get now place ≡ Some (Some d)) × (is_some d ≡ is_started es place)
+NotesStarted project es now = (index : ℕ) (s : State BadUnit) → slice_get (states_in project es) index ≡ Some s → s ≢ Untouched
+    → (d : Option Difference) × (slice_get now index ≡ Some (Some d)) × (is_some d ≡ is_started es index)
 
 -- The story.
 

@@ -86,7 +86,7 @@ is_success (Some bad) = false
 
 -- the keys of the units whose child was started, in the order in which they started
 abbrev pub started_keys : Project → List (Event BadUnit) → List (List ℕ)
-started_keys project es = flat_map (λ place. key_in (unit_at project place)) (started_by es)
+started_keys project es = flat_map (λ index. key_in (unit_at project index)) (started_by es)
 
 -- the key and the fault of a bad unit (below, what its child printed)
 abbrev pub key_told : Option (List ℕ × BadUnit) → Option (List ℕ × UnitFault)
@@ -110,7 +110,7 @@ difference_in (Some (Some (Some difference))) = difference ∷ []
 
 -- the first differences of the units that were started, in the order in which they started
 abbrev pub differences_of : List (Event BadUnit) → Reasons → List Difference
-differences_of es reasons = flat_map (λ place. difference_in (slice_get reasons place)) (started_by es)
+differences_of es reasons = flat_map (λ index. difference_in (slice_get reasons index)) (started_by es)
 
 abbrev pub kept_key : List ℕ → Option (Option Difference) → List (List ℕ)
 kept_key key None = []
@@ -153,7 +153,7 @@ bad_with (Some u) (Some s) = with_key u.key (fault_of s)
 -- the key and the fault of the unit at an index, by its answer
 abbrev pub bad_told : List Planned → List (State BadUnit) → Option ℕ → Option (List ℕ × BadUnit)
 bad_told units states None = None
-bad_told units states (Some place) = bad_with (slice_get units place) (slice_get states place)
+bad_told units states (Some index) = bad_with (slice_get units index) (slice_get states index)
 
 -- the keys of these units with the directives that are noted for them
 abbrev pub noted_of : List Planned → List (Option (List Directive)) → List (List ℕ × List Directive)
@@ -172,11 +172,11 @@ noted_told units noted bad = noted_of (take (count_told (length units) bad) unit
 
 -- the keys of the units at these indices
 abbrev pub keys_at : List Planned → List ℕ → List (List ℕ)
-keys_at units places = flat_map (λ place. key_in (slice_get units place)) places
+keys_at units places = flat_map (λ index. key_in (slice_get units index)) places
 
 -- the first differences of the units at these indices
 abbrev pub differences_at : Reasons → List ℕ → List Difference
-differences_at reasons places = flat_map (λ place. difference_in (slice_get reasons place)) places
+differences_at reasons places = flat_map (λ index. difference_in (slice_get reasons index)) places
 
 abbrev pub summary_by : List Planned → List (State BadUnit) → List (Option (List Directive)) → List ℕ → Reasons → Option ℕ → Summary
 summary_by units states noted started reasons bad = record {

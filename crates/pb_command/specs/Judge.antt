@@ -69,6 +69,6 @@ judge c r = judge_in c c.out r
 
 -- For the command of each unit of a plan, this is the judgement of the unit's answer.
 abbrev pub JudgesAsAnswered : Type 0
-JudgesAsAnswered = (setup : Setup) (project : Project) (u : Planned) (done : List (Option (List Directive))) (selection : Selection) (place : ℕ) (r : Reply)
-    → IsSettled project.workspace → IsPlan project.workspace project.features selection project.profile project.plan → slice_get project.plan.planned place ≡ Some u
+JudgesAsAnswered = (setup : Setup) (project : Project) (u : Planned) (done : List (Option (List Directive))) (selection : Selection) (index : ℕ) (r : Reply)
+    → IsSettled project.workspace → IsPlan project.workspace project.features selection project.profile project.plan → slice_get project.plan.planned index ≡ Some u
     → judge (command_of setup project u done) r ≡ inputs_if (answered_of project u (command_of setup project u done) (ended_by r) (file_at (dep_info_of project u) (replied_files u.out r)))

@@ -23,7 +23,7 @@ folder_in None = []
 folder_in (Some unit) = unit.out ∷ []
 
 abbrev pub read_at : Project → ℕ → List (List ℕ)
-read_at project place = folder_in (unit_at project place)
+read_at project index = folder_in (unit_at project index)
 
 -- the output folders of all units that a unit reaches, in plan order
 abbrev pub reads_of : Project → Planned → List (List ℕ)
@@ -39,7 +39,7 @@ folder_words_in (Some unit) = if is_library unit.unit.what then folder_words uni
 
 -- the same for the unit at an index, if it is a library
 abbrev pub folder_words_at : Project → ℕ → List (List ℕ)
-folder_words_at project place = folder_words_in (unit_at project place)
+folder_words_at project index = folder_words_in (unit_at project index)
 
 -- the same for each library that a unit reaches, in plan order
 abbrev pub dependency_words : Project → Planned → List (List ℕ)
@@ -55,7 +55,7 @@ leads Run kind = false
 
 -- the crate name of the library of the package at an index
 abbrev pub library_name_at : Project → ℕ → List ℕ
-library_name_at project place = library_name (library_in (slice_get project.workspace.packages place))
+library_name_at project index = library_name (library_in (slice_get project.workspace.packages index))
 
 -- the name of the library in source code: the dependency's key with `_` for each `-` if `package` renames it, else its
 -- own crate name

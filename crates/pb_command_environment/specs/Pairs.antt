@@ -73,11 +73,11 @@ out_pairs (Some unit) = (codes "OUT_DIR", unit.out) ∷ []
 
 -- the folder of the run at an index, and the variables that the run has set
 abbrev pub run_at : Project → List (Option (List Directive)) → ℕ → List (List ℕ × List ℕ)
-run_at project done place = out_pairs (unit_at project place) ++ flat_map env_pair (said_at done place)
+run_at project done index = out_pairs (unit_at project index) ++ flat_map env_pair (said_at done index)
 
 abbrev pub run_there : Project → List (Option (List Directive)) → Option ℕ → List (List ℕ × List ℕ)
 run_there project done None = []
-run_there project done (Some place) = run_at project done place
+run_there project done (Some index) = run_at project done index
 
 -- the same for the run of the unit's own package
 abbrev pub own_run_pairs : Project → Planned → List (Option (List Directive)) → List (List ℕ × List ℕ)
@@ -183,7 +183,7 @@ passed_by project (Some unit) said = if is_run unit.unit.what then linked_pairs 
 
 -- the metadata of the run at an index
 unfoldable pub passed_at : Project → List (Option (List Directive)) → ℕ → List (List ℕ × List ℕ)
-passed_at project done place = passed_by project (unit_at project place) (said_at done place)
+passed_at project done index = passed_by project (unit_at project index) (said_at done index)
 
 -- the metadata of each run that the unit needs, in plan order
 abbrev pub passed_pairs : Project → Planned → List (Option (List Directive)) → List (List ℕ × List ℕ)

@@ -17,7 +17,7 @@ use Rattle.pb_unit.specs.declared.unit.What.TheVariants.{Bin}
 
 -- the crate name of the library of the package at an index
 abbrev pub crate_at : Project → ℕ → List ℕ
-crate_at project place = library_name (library_in (slice_get project.workspace.packages place))
+crate_at project index = library_name (library_in (slice_get project.workspace.packages index))
 
 -- the name by which a source calls an entry's library: the crate's own
 -- name, or the entry's key with `_` for each `-` if `package` renames it

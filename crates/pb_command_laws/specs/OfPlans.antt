@@ -24,7 +24,7 @@ use Rattle.pb_command_laws.specs.Variables.{HasVariables, compile_table, run_tab
 -- the lines of the run on its own side, whose files are in this folder
 pub data Hears (project : Project) (u : Planned) (p : Package) (done : List (Option (List Directive))) : List Directive → Option (List ℕ) → Type 0 where
   nothing : (is : (hears u.unit.what && is_some p.script) ≡ false) → Hears project u p done [] None
-  own_run : (is : (hears u.unit.what && is_some p.script) ≡ true) (place : ℕ) (run : Planned) (there : unit_at project place ≡ Some run) (same : run.unit ≡ unit u.unit.owner u.unit.side Run) → Hears project u p done (said_at done place) (Some run.out)
+  own_run : (is : (hears u.unit.what && is_some p.script) ≡ true) (index : ℕ) (run : Planned) (there : unit_at project index ≡ Some run) (same : run.unit ≡ unit u.unit.owner u.unit.side Run) → Hears project u p done (said_at done index) (Some run.out)
 
 -- a compile: what it starts, what it hears, its variables, whose
 -- names ascend so that each occurs once, and what its arguments say

@@ -33,13 +33,13 @@ abbrev pub folder_of : Project → OfPlan → List ℕ
 folder_of project u = below (profile_folder project.workspace project.profile) (key_of project.workspace u)
 
 -- the crate name and the file of the library of the package at an index, on a side
-pub record IsLibraryOf (project : Project) (place : ℕ) (side : Side) (crate file : List ℕ) : Type 0 where
+pub record IsLibraryOf (project : Project) (index : ℕ) (side : Side) (crate file : List ℕ) : Type 0 where
   pub owner : Package
   pub library : Library
-  pub package_at : slice_get project.workspace.packages place ≡ Some owner
+  pub package_at : slice_get project.workspace.packages index ≡ Some owner
   pub made : owner.library ≡ Some library
   pub crate_is : crate ≡ library.name
-  pub file_is : file_in (folder_of project (unit place side Lib)) (codes "lib" ++ crate ++ codes ".rlib") ≡ Some file
+  pub file_is : file_in (folder_of project (unit index side Lib)) (codes "lib" ++ crate ++ codes ".rlib") ≡ Some file
 
 -- a library of this name and file is wanted:
 -- - that of an entry which is enabled on the unit's side and leads to a package with a library; the library is that of
@@ -55,14 +55,14 @@ abbrev pub LibrariesAreWanted : Type 0
 LibrariesAreWanted = (project : Project) (u : Planned) (p : Package) → StandsInPlan project u p → is_run u.unit.what ≡ false → (name file : List ℕ) → IsLibrary project u p name file ↔ IsWanted project u p name file
 
 -- the run of the package at an index, on a side, is at this index of the plan
-pub record IsRunOf (project : Project) (owner : ℕ) (side : Side) (place : ℕ) : Type 0 where
+pub record IsRunOf (project : Project) (owner : ℕ) (side : Side) (index : ℕ) : Type 0 where
   pub run : Planned
-  pub there : unit_at project place ≡ Some run
+  pub there : unit_at project index ≡ Some run
   pub is : run.unit ≡ unit owner side Run
 
 -- A library or a binary hears the run of its package on its side, if the package has a script; otherwise it hears none.
 pub record HearsOwnRun (project : Project) (u : Planned) (p : Package) : Type 0 where
-  pub some : is_some p.script ≡ true → (place : ℕ) × (own_run project u ≡ Some place) × IsRunOf project u.unit.owner u.unit.side place
+  pub some : is_some p.script ≡ true → (index : ℕ) × (own_run project u ≡ Some index) × IsRunOf project u.unit.owner u.unit.side index
   pub none : is_some p.script ≡ false → own_run project u ≡ None
 
 abbrev pub CompilesHearRuns : Type 0

@@ -18,8 +18,8 @@ LinesAreTrimmed = (line : List ℕ) → let rest = drop (prefix_len is_blank lin
 -- of the first line that does not read, with that line's number, counted from 1
 pub data AreRead {T U : Type 0} (read : List ℕ → Result T Problem) (all : List T → U) (lines : List (List ℕ)) : Result U LineFault → Type 0 where
   each : (parts : List T) (are : AllZip (λ line part. read line ≡ Ok part) lines parts) → AreRead read all lines (Ok (all parts))
-  first : (place : ℕ) (line : List ℕ) (problem : Problem) (there : slice_get lines place ≡ Some line) (wrong : read line ≡ Err problem)
-      (before : (n : ℕ) (other : List ℕ) → n < place → slice_get lines n ≡ Some other → is_ok (read other) ≡ true) → AreRead read all lines (Err (fault_at (place + 1) problem))
+  first : (index : ℕ) (line : List ℕ) (problem : Problem) (there : slice_get lines index ≡ Some line) (wrong : read line ≡ Err problem)
+      (before : (n : ℕ) (other : List ℕ) → n < index → slice_get lines n ≡ Some other → is_ok (read other) ≡ true) → AreRead read all lines (Err (fault_at (index + 1) problem))
 
 -- The directives of an output are those of its lines, one after another.
 abbrev pub OutputsAreRead : Type 0

@@ -64,7 +64,7 @@ compile_table setup project unit p said ran =
 -- the output folder of the unit at an index
 abbrev pub folder_at : Project → Option ℕ → Option (List ℕ)
 folder_at project None = None
-folder_at project (Some place) = option_map (λ (u : Planned). u.out) (unit_at project place)
+folder_at project (Some index) = option_map (λ (u : Planned). u.out) (unit_at project index)
 
 -- The law of compiles.
 abbrev pub CompilesHave : Type 0
@@ -84,7 +84,7 @@ links_of_run project u = if is_run u.unit.what then option_and_then (λ (p : Pac
 
 -- the metadata of the run at an index, as variables for what its package links
 abbrev pub handed_on : Project → List (Option (List Directive)) → ℕ → List (List ℕ × List ℕ)
-handed_on project done place = option_map_or (λ links. passed links (said_at done place)) (option_and_then (links_of_run project) (unit_at project place)) []
+handed_on project done index = option_map_or (λ links. passed links (said_at done index)) (option_and_then (links_of_run project) (unit_at project index)) []
 
 -- the variables of a run: those of every unit, what its package links, `1` for each
 -- feature that is on, its folder, the platform, the settings of its package, the

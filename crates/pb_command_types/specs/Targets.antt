@@ -22,7 +22,7 @@ abbrev pub package_of : Project → Planned → Option Package
 package_of project unit = slice_get project.workspace.packages unit.unit.owner
 
 abbrev pub unit_at : Project → ℕ → Option Planned
-unit_at project place = slice_get project.plan.planned place
+unit_at project index = slice_get project.plan.planned index
 
 abbrev pub library_in : Option Package → Option Library
 library_in None = None
@@ -141,7 +141,7 @@ is_one_of test owner (Some unit) = test unit.unit.what && (unit.unit.owner == ow
 
 -- among the needs of a unit, the index of the one that passes this test and is of the package at this index
 abbrev pub needed : (What → Bool) → Project → Planned → ℕ → Option ℕ
-needed test project unit owner = find (λ place. is_one_of test owner (unit_at project place)) unit.needs
+needed test project unit owner = find (λ index. is_one_of test owner (unit_at project index)) unit.needs
 
 -- the run of its own package's script, if the unit needs it
 abbrev pub own_run : Project → Planned → Option ℕ
@@ -153,7 +153,7 @@ file_there project (Some unit) = made_file_of project unit
 
 abbrev pub file_at : Project → Option ℕ → Option (List ℕ)
 file_at project None = None
-file_at project (Some place) = file_there project (unit_at project place)
+file_at project (Some index) = file_there project (unit_at project index)
 
 -- the file of the library of this package that the unit needs
 abbrev pub library_file : Project → Planned → ℕ → Option (List ℕ)
@@ -172,11 +172,11 @@ said_in (Some (Some directives)) = directives
 
 -- the directives of the run at an index of the plan
 abbrev pub said_at : List (Option (List Directive)) → ℕ → List Directive
-said_at done place = said_in (slice_get done place)
+said_at done index = said_in (slice_get done index)
 
 abbrev pub said_there : List (Option (List Directive)) → Option ℕ → List Directive
 said_there done None = []
-said_there done (Some place) = said_at done place
+said_there done (Some index) = said_at done index
 
 -- the directives of the run of the unit's own package
 abbrev pub own_said : Project → Planned → List (Option (List Directive)) → List Directive

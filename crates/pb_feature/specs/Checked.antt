@@ -12,9 +12,9 @@ abbrev pub is_lesser : Package → Package → Bool
 is_lesser p q = is_lt (slice_cmp nat_cmp p.name q.name)
 
 -- the package at this index has this fault, and no package of a lesser name among the first n has one
-pub record IsFirstBelow (ps : List Package) (n place : ℕ) (fault : FeatureFault) : Type 0 where
+pub record IsFirstBelow (ps : List Package) (n index : ℕ) (fault : FeatureFault) : Type 0 where
   pub owner : Package
-  pub package_at : slice_get ps place ≡ Some owner
+  pub package_at : slice_get ps index ≡ Some owner
   pub told : package_fault owner ≡ Some fault
   pub first : (q : ℕ) (other : Package) → q < n → slice_get ps q ≡ Some other → is_lesser other owner ≡ true → package_fault other ≡ None
 

@@ -67,7 +67,7 @@ pub record IsFirstFault (ws : Workspace) (fault : FeatureFault) : Type 0 where
 
 -- no item of any package has a fault
 abbrev pub ItemsAreRight : Workspace → Type 0
-ItemsAreRight ws = (place : ℕ) (owner : Package) → slice_get ws.packages place ≡ Some owner → package_fault owner ≡ None
+ItemsAreRight ws = (index : ℕ) (owner : Package) → slice_get ws.packages index ≡ Some owner → package_fault owner ≡ None
 
 -- a requested feature is one of a selected package
 pub data IsAnswered (ws : Workspace) (selection : Selection) (text : List ℕ) : Type 0 where

@@ -25,8 +25,8 @@ use Rattle.pb_build.specs.Session.{Point, Carries, Course, ByPicked}
 
 -- the small compiler can report what it reads for each unit of a project: on the unit's command, in the unit's view
 abbrev pub CanTellUnits : Setup → Project → World → Type 0
-CanTellUnits setup project sources = (place : ℕ) (u : Planned) → unit_at project place ≡ Some u
-    → CanTell (command_after setup project (take place (outcomes small_compiler setup project sources)) u) (view_of (take place (outcomes small_compiler setup project sources)) sources u)
+CanTellUnits setup project sources = (index : ℕ) (u : Planned) → unit_at project index ≡ Some u
+    → CanTell (command_after setup project (take index (outcomes small_compiler setup project sources)) u) (view_of (take index (outcomes small_compiler setup project sources)) sources u)
 
 -- the same for whatever project and version of the compiler a build finds in a world
 abbrev pub CanTellBuild : Options → World → Type 0

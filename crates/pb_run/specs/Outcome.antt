@@ -57,7 +57,7 @@ files_at _ = finite.empty
 -- the files of the units at these indices, over other files
 abbrev pub with_made : List Outcome → List ℕ → Map → Map
 with_made done [] m = m
-with_made done (place ∷ places) m = over (files_at (slice_get done place)) (with_made done places m)
+with_made done (index ∷ places) m = over (files_at (slice_get done index)) (with_made done places m)
 
 -- the sources, with the files of each unit that this one reaches
 abbrev pub view_of : List Outcome → World → Planned → World
@@ -118,7 +118,7 @@ command_after setup project done u = command_of setup project u (directives_of d
 -- the child's reply to the unit's command in the unit's view
 abbrev pub outcome_of : Answers → Setup → Project → World → List Outcome → Planned → Outcome
 outcome_of child setup project sources done u =
-    if list_all (λ place. is_good_at (slice_get done place)) u.needs then judged project u (command_after setup project done u) (child (command_after setup project done u) (view_of done sources u)) else Waiting
+    if list_all (λ index. is_good_at (slice_get done index)) u.needs then judged project u (command_after setup project done u) (child (command_after setup project done u) (view_of done sources u)) else Waiting
 
 -- the outcomes of all units, in plan order
 abbrev pub outcomes : Answers → Setup → Project → World → List Outcome

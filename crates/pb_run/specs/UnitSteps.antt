@@ -58,10 +58,10 @@ outcomes_in b = outcomes b.child b.setup b.project b.sources
 
 -- the command of the unit at an index, after the outcomes of the units before it (below, its view)
 abbrev pub command_in : BuildContext → ℕ → Planned → Command
-command_in b place u = command_after b.setup b.project (take place (outcomes_in b)) u
+command_in b index u = command_after b.setup b.project (take index (outcomes_in b)) u
 
 abbrev pub view_in : BuildContext → ℕ → Planned → World
-view_in b place u = view_of (take place (outcomes_in b)) b.sources u
+view_in b index u = view_of (take index (outcomes_in b)) b.sources u
 
 -- the records that count in a world
 abbrev pub records_in : BuildContext → World → RecordMap
@@ -70,35 +70,35 @@ records_in b w = records (records_folder b.project) w
 -- The units that have answered and are good.
 
 -- the outcome of the unit at an index is good: its directives are noted, and its files are in its output folder
-pub record StandsGood (b : BuildContext) (done : List (Option (List Directive))) (w : World) (place : ℕ) : Type 0 where
+pub record StandsGood (b : BuildContext) (done : List (Option (List Directive))) (w : World) (index : ℕ) : Type 0 where
   pub unit : Planned
-  pub there : unit_at b.project place ≡ Some unit
+  pub there : unit_at b.project index ≡ Some unit
   pub files : Map
   pub directives : Option (List Directive)
   pub messages : List Message
-  pub good : slice_get (outcomes_in b) place ≡ Some (Good files directives messages)
-  pub noted : slice_get done place ≡ Some directives
+  pub good : slice_get (outcomes_in b) index ≡ Some (Good files directives messages)
+  pub noted : slice_get done index ≡ Some directives
   pub holds : files_in unit.out w.files ≡ files
 
 -- the unit at an index has a grounded record with a number; the record reads the same folders as the unit, and nothing
 -- differs from it
-pub record HasRecord (b : BuildContext) (w : World) (place : ℕ) : Type 0 where
+pub record HasRecord (b : BuildContext) (w : World) (index : ℕ) : Type 0 where
   pub unit : Planned
-  pub there : unit_at b.project place ≡ Some unit
+  pub there : unit_at b.project index ≡ Some unit
   pub kept : Record
   pub here : records_in b w unit.key ≡ Some kept
   pub number : ℕ
   pub numbered : number_of kept ≡ Some number
   pub grounded : Grounded (records_in b w) unit.key number
   pub reads : kept.asked.reads ≡ reads_of b.project unit
-  pub same : IsSame reading (records_folder b.project) unit.key (command_in b place unit) w kept
+  pub same : IsSame reading (records_folder b.project) unit.key (command_in b index unit) w kept
 
 -- What stays true while units begin and answer.
 
 -- the child is honest on the command of each unit, in each world with these sources in which it sees the unit's view
 abbrev pub IsHonestOnUnits : BuildContext → Type 0
-IsHonestOnUnits b = (place : ℕ) (u : Planned) (w : World) → unit_at b.project place ≡ Some u → from_nothing b.project.workspace.target w ≡ b.sources
-    → seen_by (command_in b place u) w ≡ view_in b place u → IsHonest judge b.child (command_in b place u) w
+IsHonestOnUnits b = (index : ℕ) (u : Planned) (w : World) → unit_at b.project index ≡ Some u → from_nothing b.project.workspace.target w ≡ b.sources
+    → seen_by (command_in b index u) w ≡ view_in b index u → IsHonest judge b.child (command_in b index u) w
 
 -- the folder of records is sound; all numbers in its records are below the next number; and each unit that has answered
 -- and is good has its record
@@ -106,20 +106,20 @@ pub record HoldsRecords (b : BuildContext) (states : List (State BadUnit)) (next
   pub honest : IsHonestOnUnits b
   pub sound : Sound reading judge b.child (records_folder b.project) w.files
   pub ahead : IsAhead (records_in b w) next
-  pub recorded : (place : ℕ) → is_good_at (slice_get states place) ≡ true → HasRecord b w place
+  pub recorded : (index : ℕ) → is_good_at (slice_get states index) ≡ true → HasRecord b w index
 
 -- over records, these facts are true; over nothing, no unit that has not begun has a record
 abbrev pub HoldsBy : Premise → BuildContext → List (State BadUnit) → Option ℕ → World → Type 0
 HoldsBy TrustedRecords b states next w = HoldsRecords b states next w
-HoldsBy NoRecords b states next w = (place : ℕ) (u : Planned) → unit_at b.project place ≡ Some u → slice_get states place ≡ Some Untouched → records_in b w u.key ≡ None
+HoldsBy NoRecords b states next w = (index : ℕ) (u : Planned) → unit_at b.project index ≡ Some u → slice_get states index ≡ Some Untouched → records_in b w u.key ≡ None
 
 -- what is true while units are in these states: there is a note for each state; the sources are unchanged; each good
 -- unit has its files, and all that it reaches is good; and the records are as the premise requires
 pub record BuildInvariant (b : BuildContext) (states : List (State BadUnit)) (done : List (Option (List Directive))) (next : Option ℕ) (w : World) : Type 0 where
   pub long : length done ≡ length states
   pub sources_stay : from_nothing b.project.workspace.target w ≡ b.sources
-  pub good : (place : ℕ) → is_good_at (slice_get states place) ≡ true → StandsGood b done w place
-  pub closed : (place : ℕ) (u : Planned) → is_good_at (slice_get states place) ≡ true → unit_at b.project place ≡ Some u → are_good states u.reaches ≡ true
+  pub good : (index : ℕ) → is_good_at (slice_get states index) ≡ true → StandsGood b done w index
+  pub closed : (index : ℕ) (u : Planned) → is_good_at (slice_get states index) ≡ true → unit_at b.project index ≡ Some u → are_good states u.reaches ≡ true
   pub records : HoldsBy b.premise b states next w
 
 -- A unit that has begun and not answered.
@@ -129,7 +129,7 @@ key_in None = []
 key_in (Some u) = u.key ∷ []
 
 abbrev pub key_at : Project → ℕ → List (List ℕ)
-key_at project place = key_in (unit_at project place)
+key_at project index = key_in (unit_at project index)
 
 -- the keys of the units that a unit needs, in plan order
 abbrev pub needed_keys : Project → Planned → List (List ℕ)
@@ -184,11 +184,11 @@ WaitsBy b u c view (awaited.Child launched) next w flying still = IsInFlight b.c
 WaitsBy b u c view (awaited.Record again) next w flying still = IsUnchanged b.premise b u c w × IsReplayed (records_in b w u.key) again
 
 -- the unit at an index has begun in this way
-pub record IsBegun (b : BuildContext) (place : ℕ) (begun : Begun) (next : Option ℕ) (w : World) (flying : List ChildInFlight) (still : ℕ → Type 0) : Type 0 where
+pub record IsBegun (b : BuildContext) (index : ℕ) (begun : Begun) (next : Option ℕ) (w : World) (flying : List ChildInFlight) (still : ℕ → Type 0) : Type 0 where
   pub unit : Planned
-  pub there : unit_at b.project place ≡ Some unit
-  pub command : begun.command ≡ command_in b place unit
-  pub waits : WaitsBy b unit begun.command (view_in b place unit) begun.awaited next w flying still
+  pub there : unit_at b.project index ≡ Some unit
+  pub command : begun.command ≡ command_in b index unit
+  pub waits : WaitsBy b unit begun.command (view_in b index unit) begun.awaited next w flying still
 
 -- the child of a unit that has begun, if it has one, writes into this folder
 abbrev pub WritesTo : List ℕ → Option SpawnedChild → List ChildInFlight → Type 0
@@ -204,22 +204,22 @@ KeepsOthersStill launched inside flying before after =
 -- What each step starts from.
 
 -- the unit at an index can begin: it has not begun, and all that it reaches has answered and is good
-pub record CanBegin (b : BuildContext) (states : List (State BadUnit)) (done : List (Option (List Directive))) (place : ℕ) (u : Planned) (next : Option ℕ) (w : World) : Type 0 where
+pub record CanBegin (b : BuildContext) (states : List (State BadUnit)) (done : List (Option (List Directive))) (index : ℕ) (u : Planned) (next : Option ℕ) (w : World) : Type 0 where
   pub keeps : BuildInvariant b states done next w
-  pub untouched : slice_get states place ≡ Some Untouched
+  pub untouched : slice_get states index ≡ Some Untouched
   pub reaches : are_good states u.reaches ≡ true
 
 -- the unit at an index can answer: it has begun in this way
-pub record CanAnswer (b : BuildContext) (states : List (State BadUnit)) (done : List (Option (List Directive))) (place : ℕ) (u : Planned) (begun : Begun) (next : Option ℕ) (w : World) (flying : List ChildInFlight) (still : ℕ → Type 0) : Type 0 where
+pub record CanAnswer (b : BuildContext) (states : List (State BadUnit)) (done : List (Option (List Directive))) (index : ℕ) (u : Planned) (begun : Begun) (next : Option ℕ) (w : World) (flying : List ChildInFlight) (still : ℕ → Type 0) : Type 0 where
   pub keeps : BuildInvariant b states done next w
-  pub state : slice_get states place ≡ Some begun_state
+  pub state : slice_get states index ≡ Some begun_state
   pub reaches : are_good states u.reaches ≡ true
-  pub begun_so : IsBegun b place begun next w flying still
+  pub begun_so : IsBegun b index begun next w flying still
 
 -- another unit has begun, and all that it reaches is good; if both units have a child, their tickets and run numbers
 -- differ
-pub record BeginsApart (b : BuildContext) (states : List (State BadUnit)) (place : ℕ) (launched : Option SpawnedChild) (other : ℕ) (its : Begun) (next : Option ℕ) (w : World) (flying : List ChildInFlight) (still : ℕ → Type 0) : Type 0 where
-  pub another : other ≢ place
+pub record BeginsApart (b : BuildContext) (states : List (State BadUnit)) (index : ℕ) (launched : Option SpawnedChild) (other : ℕ) (its : Begun) (next : Option ℕ) (w : World) (flying : List ChildInFlight) (still : ℕ → Type 0) : Type 0 where
+  pub another : other ≢ index
   pub unit : Planned
   pub there : unit_at b.project other ≡ Some unit
   pub reaches : are_good states unit.reaches ≡ true

@@ -26,4 +26,4 @@ FoldersArePackages = (project : Project) (u : Planned) → folder_of project u �
 
 -- The directives at an index are those of the run there; none if no run has ended there.
 abbrev pub RunsSay : Type 0
-RunsSay = (done : List (Option (List Directive))) (place : ℕ) → said_at done place ≡ unwrap_or (option_flatten (slice_get done place)) []
+RunsSay = (done : List (Option (List Directive))) (index : ℕ) → said_at done index ≡ unwrap_or (option_flatten (slice_get done index)) []

@@ -10,10 +10,10 @@ use Rattle.pb_unit.specs.declared.plan.Planned.{Planned}
 -- The level above the units at some indices is one more than the greatest of theirs, and 0 if there are none.
 abbrev pub LevelsAreThese : Type 0
 LevelsAreThese = (units : List Planned) (places : List ℕ)
-    → above (map (level_at units) places) ≡ fold max 0 (map (λ place. option_map_or (λ (p : Planned). p.level + 1) (slice_get units place) 1) places)
+    → above (map (level_at units) places) ≡ fold max 0 (map (λ index. option_map_or (λ (p : Planned). p.level + 1) (slice_get units index) 1) places)
 
 -- The name of the package at an index, and whether it has a library; no name and no library if there is no package.
 abbrev pub PackagesHaveNames : Type 0
-PackagesHaveNames = (ws : Workspace) (place : ℕ)
-    → (name_at ws place ≡ option_map_or (λ (p : Package). p.name) (slice_get ws.packages place) [])
-    × (has_library (slice_get ws.packages place) ≡ option_map_or (λ (p : Package). is_some p.library) (slice_get ws.packages place) false)
+PackagesHaveNames = (ws : Workspace) (index : ℕ)
+    → (name_at ws index ≡ option_map_or (λ (p : Package). p.name) (slice_get ws.packages index) [])
+    × (has_library (slice_get ws.packages index) ≡ option_map_or (λ (p : Package). is_some p.library) (slice_get ws.packages index) false)

@@ -35,7 +35,7 @@ set_for_role Host = (λ (s : Seen). option_and_then (λ (p : Profile). p.build_o
 -- that are not members, then those of the role, of the profile, and the built-in ones; each from the profiles of the
 -- line in turn
 abbrev pub keys_for : Package → Side → List Seen → List ProfileKeys
-keys_for p role line = flat_map (λ place. filter_map place line) (set_for p.name ∷ (if p.is_member then [] else set_for (codes "*") ∷ []) ++ set_for_role role ++ (λ (s : Seen). option_map (λ (p : Profile). p.keys) s.table) ∷ built_in_keys ∷ [])
+keys_for p role line = flat_map (λ index. filter_map index line) (set_for p.name ∷ (if p.is_member then [] else set_for (codes "*") ∷ []) ++ set_for_role role ++ (λ (s : Seen). option_map (λ (p : Profile). p.keys) s.table) ∷ built_in_keys ∷ [])
 
 -- the first value of a key, or the default
 abbrev pub first_value : {A : Type 0} → (ProfileKeys → Option A) → List ProfileKeys → A → A
