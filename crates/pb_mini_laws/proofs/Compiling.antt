@@ -277,7 +277,7 @@ module _ (setup : Setup) (project : Project) (u : Planned) (done : List (Option 
       by (Ok r) is =
           let (l, equal, said) = request r is in
           let asked : request_of c.words ≡ Ok (Compile l) = is ∙ ap Ok equal in
-          given_again v w l (subst (λ r. CanTellOf r c v) asked tell) asked a (judge l said (dep_info_text (below l.out_dir l.image) (each_once (names_read c.words c.pairs v))) (is_modelled c.words c.pairs v l asked)) same folders
+          given_again v w l (subst (λ r. CanTellOf r c v) asked tell) asked a (judge l said (dep_info_text (below l.out_dir l.image) (each_once (names_read c.words c.pairs v))) (tells c.words c.pairs v l asked)) same folders
 
 -- what is found in a good reply to a compile: dep-info that reads
 compile_judged : (setup : Setup) (project : Project) (u : Planned) (done : List (Option (List Directive))) (p : Package) (is_of : IsOfProject project u)

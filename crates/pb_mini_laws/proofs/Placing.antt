@@ -59,8 +59,8 @@ project_paths project selection laid target is = record {
   packages = all_from_at (λ (p : Package). At p.folder) project.workspace.packages (λ k p at. (laid.packages p (contains_from_at project.workspace.packages k p at)).folder);
   units = all_from_at (λ (u : Planned). At u.out) project.plan.planned (λ k u at.
       let out : u.out ≡ below (profile_folder project.workspace project.profile) u.key = all_at (λ (x : Planned). x.out ≡ below (profile_folder project.workspace project.profile) x.key) project.plan.planned is.folders k u at in
-      let is_modelled = all_at TellsWhat project.plan.planned (keys_tell_what project.workspace project.features selection project.profile project.plan laid.settled is) k u at in
-      subst At (sym out) (below_is (profile_folder project.workspace project.profile) u.key folder (key_relative u is_modelled)));
+      let tells = all_at TellsWhat project.plan.planned (keys_tell_what project.workspace project.features selection project.profile project.plan laid.settled is) k u at in
+      subst At (sym out) (below_is (profile_folder project.workspace project.profile) u.key folder (key_relative u tells)));
 }
   where
     folder : At (profile_folder project.workspace project.profile)

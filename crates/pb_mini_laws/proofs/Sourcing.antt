@@ -153,4 +153,4 @@ module _ (project : Project) (selection : Selection) (is : IsPlan project.worksp
 
 -- the folder of a unit
 pub key_relative : (u : Planned) → TellsWhat u → is_relative u.key ≡ true
-key_relative u is_modelled = ap (list_all is_name) (parts_lone u.key is_modelled.flat) ∙ ap (λ b. b && true) is_modelled.name
+key_relative u tells = ap (list_all is_name) (parts_lone u.key tells.flat) ∙ ap (λ b. b && true) tells.name

@@ -80,14 +80,14 @@ module _ {V A B : Type 0} (Holds : V → A → Type 0) (told : A → B) (old mid
       (all_push (take i row) all (subst (λ w. Holds w here) same (test.0 passes)))
 
   pub one_fails : (b : Bool) (said : B) → AllByRecursion (Holds old) (take i row) → Decides b (Holds mid here) → b ≡ false → said ≡ told here → IsFirst (Holds old) told row said
-  one_fails b said all test wrong is_modelled = record {
+  one_fails b said all test wrong tells = record {
     before = take i row;
     here = here;
     after = drop (i + 1) row;
     place = sym (take-append-drop i row) ∙ ap (λ rest. take i row ++ rest) (drop_more row i here within ∙ ap (λ x. x ∷ drop (i + 1) row) (sym is));
     hold = all;
     fails = λ holds. let passes = test.1 (subst (λ w. Holds w here) (sym same) holds) in cc;
-    is_modelled = is_modelled;
+    tells = tells;
   }
 
 -- the first of a row whose items are copied out
@@ -101,5 +101,5 @@ module _ {A : Type 0} (Holds : A → Type 0) (row : List A) (i : ℕ) (first : A
     place = sym (take-append-drop i row) ∙ ap (λ rest. take i row ++ rest) (drop_more row i (get_or row i first) within ∙ ap (λ x. x ∷ drop (i + 1) row) (get_or_default row i (get_or row i first) first within));
     hold = all;
     fails = λ holds. let passes = test.1 holds in cc;
-    is_modelled = refl;
+    tells = refl;
   }

@@ -43,7 +43,7 @@ module _ (at : RecordMap) (numbers : List (List ℕ × Option ℕ)) (holds : Has
     place = first.place;
     hold = all_from first.before first.hold;
     fails = λ has. first.fails (holds first.here.0 ∙ has);
-    is_modelled = first.is_modelled;
+    tells = first.tells;
   }
 
   told_from : (needs : List (List ℕ × ℕ)) (number : ℕ) (folder : List ℕ) (files : Map) (found : Option (List ℕ)) → FirstOrAll (IsHeld numbers) needs found → MatchOption found (AreNeeded folder at files (Numbers number needs)) (FirstNeed folder at files (Numbers number needs))

@@ -10,10 +10,11 @@ use Rattle.pb_graph.proofs.Membership.{none, single, head, tail, cases}
 use Rattle.pb_place_types.proofs.PathLemmas.{and_left, and_right, parts_joined}
 use Rattle.pb_place_types.proofs.TakenApart.{parts_lone}
 use Rattle.pb_place_types.proofs.Towards.{plain_parts as parts_whole}
-use Rattle.pb_place_types.proofs.Within.{goes_below}
-use Rattle.pb_place_types.specs.Paths.{below, is_absolute, is_name, is_path, last_of, last_part, leads_up, parts_of, path_of, slashed, stays, stem}
+use Rattle.pb_place_types.proofs.Within.{at_below, at_then_below, goes_below, or_second}
+use Rattle.pb_place_types.specs.Paths.{below, is_absolute, is_at_or_below, is_name, is_path, last_of, last_part, leads_up, parts_of, path_of, slashed, stays, stem}
 use Rattle.pb_place_types.specs.World.{FilesHavePaths, World, has_file, listed_folders}
 use Rattle.pb_workspace_package.specs.Between.{names_in, is_word}
+use Rattle.pb_workspace_package.specs.Sources.{resolved}
 use Rattle.pb_workspace.proofs.FoldersListed.{file_path, folders_each, folders_only}
 use Rattle.pb_workspace.proofs.FoldersPut.{Path}
 use Rattle.pb_workspace.proofs.GlobRelation.{says, shows}
@@ -22,7 +23,7 @@ use Rattle.pb_workspace.proofs.WholeWorkspace.{flat_each, flat_only}
 use Rattle.pb_workspace.specs.GlobWords as glob
 use Rattle.pb_workspace.specs.GlobWords.{Matches}
 use Rattle.pb_workspace.specs.Globs.{is_glob, matches}
-use Rattle.pb_workspace.specs.MemberFolders.{folders_taken, has_manifest, is_fixed, is_kept, led_to, one_step}
+use Rattle.pb_workspace.specs.MemberFolders.{folders_taken, has_manifest, is_fixed, is_kept, kept_step, led_to, one_step}
 use Rattle.pb_workspace.specs.Members.{further, is_excluded, part_matches, parts_match, parts_meant, plain_parts, start_of}
 use Rattle.pb_workspace.specs.declared.workspace_root.WorkspaceRoot.{WorkspaceRoot}
 use Rattle.pb_workspace.specs.declared.member.Part.{Part}
@@ -262,6 +263,30 @@ record Stepped (part : Part) (from to : Path) : Type 0 where
   match : part_matches part name ≡ true
   is : below from name ≡ to
 
+-- a folder in a folder that `exclude` leaves out is left out too
+
+word_some : (name : List ℕ) → is_word name ≡ true → name ≢ []
+word_some [] is = absurd (false≢true is)
+word_some (b ∷ name) is = λ same. cc
+
+excluded_below : (root : List ℕ) (exclude : List (List ℕ)) (folder name : List ℕ) → name ≢ [] → is_excluded root exclude folder ≡ true → is_excluded root exclude (below folder name) ≡ true
+excluded_below root [] folder name some out = absurd (false≢true out)
+excluded_below root (text ∷ exclude) folder name some out = by (is_at_or_below (resolved root text) folder) refl out (λ h. excluded_below root exclude folder name some h)
+  where
+    by : (b : Bool) → is_at_or_below (resolved root text) folder ≡ b → b || is_excluded root exclude folder ≡ true
+        → (is_excluded root exclude folder ≡ true → is_excluded root exclude (below folder name) ≡ true)
+        → is_at_or_below (resolved root text) (below folder name) || is_excluded root exclude (below folder name) ≡ true
+    by true at h later = ap (λ b. b || is_excluded root exclude (below folder name)) (at_below (resolved root text) (below folder name) (at_then_below (resolved root text) folder (below folder name) at (goes_below folder name some)))
+    by false at h later = or_second (is_at_or_below (resolved root text) (below folder name)) _ (later h)
+
+kept_above : (f : WorkspaceRoot) (folder : Path) (names : List (List ℕ)) → Words names → is_kept f (down folder names) ≡ true → is_kept f folder ≡ true
+kept_above f folder [] all kept = kept
+kept_above f folder (name ∷ names) all kept = by (is_excluded f.root f.exclude folder) refl (kept_above f (below folder name) names all.1 kept)
+  where
+    by : (b : Bool) → is_excluded f.root f.exclude folder ≡ b → is_kept f (below folder name) ≡ true → not b ≡ true
+    by true out below_kept = absurd (false≢true (sym (ap not (excluded_below f.root f.exclude folder name (word_some name all.0.some) out)) ∙ below_kept))
+    by false kept below_kept = refl
+
 module _ (sources : World) where
   module _ (paths : FilesHavePaths sources) where
     step_only : (part : Part) (from to : Path) → IsWord part.text → Contains (one_step sources part from) to → Stepped part from to
@@ -279,12 +304,15 @@ module _ (sources : World) where
               is = t.is;
             }
 
-    led_only : (parts : List Part) (folders : List Path) (to : Path) → PartsAreWords parts → Contains (led_to sources parts folders) to → (from : Path) × Contains folders from × Led parts from to
-    led_only [] folders to all there = (to, there, record { names = []; words = tt; match = refl; is = refl })
-    led_only (part ∷ parts) folders to all there =
-        let (mid, among, led) = led_only parts (flat_map (one_step sources part) folders) to all.1 there in
-        let (from, first, steps) = flat_only (one_step sources part) folders mid among in
-        let s = step_only part from mid all.0 steps in
+    kept_only_steps : (f : WorkspaceRoot) (part : Part) (from to : Path) → IsWord part.text → Contains (kept_step sources f part from) to → Stepped part from to
+    kept_only_steps f part from to word there = step_only part from to word (kept_only (is_kept f) (one_step sources part from) to there).0
+
+    led_only : (f : WorkspaceRoot) (parts : List Part) (folders : List Path) (to : Path) → PartsAreWords parts → Contains (led_to sources f parts folders) to → (from : Path) × Contains folders from × Led parts from to
+    led_only f [] folders to all there = (to, there, record { names = []; words = tt; match = refl; is = refl })
+    led_only f (part ∷ parts) folders to all there =
+        let (mid, among, led) = led_only f parts (flat_map (kept_step sources f part) folders) to all.1 there in
+        let (from, first, steps) = flat_only (kept_step sources f part) folders mid among in
+        let s = kept_only_steps f part from mid all.0 steps in
         (from, first, record { names = s.name ∷ led.names; words = (s.word, led.words); match = both _ _ s.match led.match; is = ap (λ folder. down folder led.names) s.is ∙ led.is })
 
   module _ (rest : List ℕ) (some : rest ≢ []) where
@@ -308,13 +336,15 @@ module _ (sources : World) where
             (folders_each sources folder name (joined names rest) all.0.whole (goes_below folder (name ++ 47 ∷ joined names rest) (some_joined (name ∷ names))) (ap (λ q. has_file q sources) (sym found) ∙ file))
             (ap (matches part.text) (last_below folder name all.0.whole) ∙ sym (pattern_matches part name loose) ∙ match)
 
-    led_each : (parts : List Part) (names : List (List ℕ)) (folders : List Path) (from : Path) → Contains folders from → parts_match parts names ≡ true → Words names → has_file (below (down from names) rest) sources ≡ true → Contains (led_to sources parts folders) (down from names)
-    led_each [] [] folders from there match all file = there
-    led_each [] (name ∷ names) folders from there match all file = absurd (false≢true match)
-    led_each (part ∷ parts) [] folders from there match all file = absurd (false≢true match)
-    led_each (part ∷ parts) (name ∷ names) folders from there match all file =
-        led_each parts names (flat_map (one_step sources part) folders) (below from name)
-        (flat_each (one_step sources part) folders from (below from name) there (step_each part from name names (and_left _ _ match) all file)) (and_right _ _ match) all.1 file
+    led_each : (f : WorkspaceRoot) (parts : List Part) (names : List (List ℕ)) (folders : List Path) (from : Path) → is_kept f (down from names) ≡ true → Contains folders from → parts_match parts names ≡ true → Words names → has_file (below (down from names) rest) sources ≡ true → Contains (led_to sources f parts folders) (down from names)
+    led_each f [] [] folders from kept there match all file = there
+    led_each f [] (name ∷ names) folders from kept there match all file = absurd (false≢true match)
+    led_each f (part ∷ parts) [] folders from kept there match all file = absurd (false≢true match)
+    led_each f (part ∷ parts) (name ∷ names) folders from kept there match all file =
+        led_each f parts names (flat_map (kept_step sources f part) folders) (below from name) kept
+        (flat_each (kept_step sources f part) folders from (below from name) there
+        (kept_each (is_kept f) (one_step sources part from) (below from name) (step_each part from name names (and_left _ _ match) all file) (kept_above f (below from name) names all.1 kept)))
+        (and_right _ _ match) all.1 file
 
 -- a folder that a glob takes
 pub record IsTaken (sources : World) (f : WorkspaceRoot) (parts : List Part) (folder : Path) : Type 0 where
@@ -327,9 +357,9 @@ module _ (sources : World) (paths : FilesHavePaths sources) (f : WorkspaceRoot) 
   pub taken_only : Contains (folders_taken sources f (parts_meant f.root text)) folder → IsTaken sources f (parts_meant f.root text) folder
   taken_only among =
       let parts = parts_meant f.root text in
-      let (before, file) = kept_only (has_manifest sources) (filter (is_kept f) (led_to sources parts (codes "/" ∷ []))) folder among in
-      let (there, kept) = kept_only (is_kept f) (led_to sources parts (codes "/" ∷ [])) folder before in
-      let (from, first, led) = led_only sources paths parts (codes "/" ∷ []) folder (parts_are_words f.root text) there in
+      let (before, file) = kept_only (has_manifest sources) (filter (is_kept f) (led_to sources f parts (codes "/" ∷ []))) folder among in
+      let (there, kept) = kept_only (is_kept f) (led_to sources f parts (codes "/" ∷ [])) folder before in
+      let (from, first, led) = led_only sources paths f parts (codes "/" ∷ []) folder (parts_are_words f.root text) there in
       let whole : folder ≡ path_of led.names = sym led.is ∙ ap (λ s. down s led.names) (sym (single (codes "/") from first)) ∙ down_path led.names led.words in
       record {
         path = ap is_path whole ∙ path_before led.names (codes "Cargo.toml") led.words (ap (λ x. is_path (below x (codes "Cargo.toml"))) (sym whole) ∙ file_path sources paths folder folder (below folder (codes "Cargo.toml")) _ refl file);
@@ -344,8 +374,8 @@ module _ (sources : World) (paths : FilesHavePaths sources) (f : WorkspaceRoot) 
       let (whole, are) = path_named folder is.path in
       let words = named_words (names_in folder) are.named are.whole in
       let same : folder ≡ down (codes "/") (names_in folder) = whole ∙ sym (down_path (names_in folder) words) in
-      let led : Contains (led_to sources parts (codes "/" ∷ [])) folder =
-      subst (Contains (led_to sources parts (codes "/" ∷ []))) (sym same)
-      (led_each sources (codes "Cargo.toml") (λ none. cc) parts (names_in folder) (codes "/" ∷ []) (codes "/") (head (codes "/") []) is.match words (ap (λ x. has_file (below x (codes "Cargo.toml")) sources) (sym same) ∙ is.file)) in
-      kept_each (has_manifest sources) (filter (is_kept f) (led_to sources parts (codes "/" ∷ []))) folder
-      (kept_each (is_kept f) (led_to sources parts (codes "/" ∷ [])) folder led (ap not is.kept)) is.file
+      let led : Contains (led_to sources f parts (codes "/" ∷ [])) folder =
+      subst (Contains (led_to sources f parts (codes "/" ∷ []))) (sym same)
+      (led_each sources (codes "Cargo.toml") (λ none. cc) f parts (names_in folder) (codes "/" ∷ []) (codes "/") (ap (is_kept f) (sym same) ∙ ap not is.kept) (head (codes "/") []) is.match words (ap (λ x. has_file (below x (codes "Cargo.toml")) sources) (sym same) ∙ is.file)) in
+      kept_each (has_manifest sources) (filter (is_kept f) (led_to sources f parts (codes "/" ∷ []))) folder
+      (kept_each (is_kept f) (led_to sources f parts (codes "/" ∷ [])) folder led (ap not is.kept)) is.file

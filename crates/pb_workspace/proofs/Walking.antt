@@ -12,8 +12,9 @@ use Rattle.pb_workspace_package.specs.Causes.{is_outside}
 use Rattle.pb_workspace_package.specs.Looks.{Looks}
 use Rattle.pb_workspace_package.proofs.Looking.{Ends, looks_both, looks_first}
 use Rattle.pb_workspace.specs.LookedAt.{step_looked, walk_looked}
-use Rattle.pb_workspace.specs.MemberFolders.{led_to, one_step}
+use Rattle.pb_workspace.specs.MemberFolders.{kept_step, led_to}
 use Rattle.pb_workspace.specs.declared.member.Part.{Part}
+use Rattle.pb_workspace.specs.declared.workspace_root.WorkspaceRoot.{WorkspaceRoot}
 
 -- no part is left
 none_left : (parts : List Part) (i : ℕ) → length parts ≤ i → drop i parts ≡ []
@@ -22,12 +23,12 @@ none_left [] (suc i) end = refl
 none_left (part ∷ parts) zero end = absurd (omega arith)
 none_left (part ∷ parts) (suc i) end = none_left parts i (omega arith)
 
-module _ (target : List ℕ) (w : World) (parts : List Part) (i : ℕ) where
-  pub walk_made : (folders whole : List (List ℕ)) → length parts ≤ i → led_to (from_nothing target w) (drop i parts) folders ≡ whole → folders ≡ whole
-  walk_made folders whole end led = sym (ap (λ ps. led_to (from_nothing target w) ps folders) (none_left parts i end)) ∙ led
+module _ (target : List ℕ) (w : World) (f : WorkspaceRoot) (parts : List Part) (i : ℕ) where
+  pub walk_made : (folders whole : List (List ℕ)) → length parts ≤ i → led_to (from_nothing target w) f (drop i parts) folders ≡ whole → folders ≡ whole
+  walk_made folders whole end led = sym (ap (λ ps. led_to (from_nothing target w) f ps folders) (none_left parts i end)) ∙ led
 
-  pub walk_end : (folders : List (List ℕ)) (c : Counts) → length parts ≤ i → c ≡ past_calls (walk_looked target (from_nothing target w) (drop i parts) folders) c
-  walk_end folders c end = subst (λ ps. c ≡ past_calls (walk_looked target (from_nothing target w) ps folders) c) (sym (none_left parts i end)) refl
+  pub walk_end : (folders : List (List ℕ)) (c : Counts) → length parts ≤ i → c ≡ past_calls (walk_looked target (from_nothing target w) f (drop i parts) folders) c
+  walk_end folders c end = subst (λ ps. c ≡ past_calls (walk_looked target (from_nothing target w) f ps folders) c) (sym (none_left parts i end)) refl
 
   -- one part further, from some folders, in a world that is the same
   module _ (now : World) (part : Part) (lent folders : List (List ℕ)) (held : lent ≡ folders) (lt : i < length parts) (is : part ≡ get_or parts i part) where
@@ -35,25 +36,25 @@ module _ (target : List ℕ) (w : World) (parts : List Part) (i : ℕ) where
     cut_at = let one : suc i ≡ i + 1 = omega arith in drop-cons parts i part lt ∙ ap (λ n. get_or parts i part ∷ drop n parts) one ∙ ap (λ p. p ∷ drop (i + 1) parts) (sym is)
 
     abbrev Led : List (List ℕ) → World → List (List ℕ) → Type 0
-    Led next v fs = next ≡ flat_map (one_step (from_nothing target v) part) fs
+    Led next v fs = next ≡ flat_map (kept_step (from_nothing target v) f part) fs
 
     led_on : (next : List (List ℕ)) → now ≡ w → Led next now lent → Led next w folders
     led_on next same made = subst (Led next w) held (subst (λ v. Led next v lent) same made)
 
-    pub walk_led : (next whole : List (List ℕ)) → now ≡ w → Led next now lent → led_to (from_nothing target w) (drop i parts) folders ≡ whole → led_to (from_nothing target w) (drop (i + 1) parts) next ≡ whole
+    pub walk_led : (next whole : List (List ℕ)) → now ≡ w → Led next now lent → led_to (from_nothing target w) f (drop i parts) folders ≡ whole → led_to (from_nothing target w) f (drop (i + 1) parts) next ≡ whole
     walk_led next whole same made before =
-        ap (led_to (from_nothing target w) (drop (i + 1) parts)) (led_on next same made) ∙ sym (ap (λ ps. led_to (from_nothing target w) ps folders) cut_at) ∙ before
+        ap (led_to (from_nothing target w) f (drop (i + 1) parts)) (led_on next same made) ∙ sym (ap (λ ps. led_to (from_nothing target w) f ps folders) cut_at) ∙ before
 
     pub walk_looks : {T : Type 0} (next : List (List ℕ)) (result : Result T LoadFault) (old mid new : Counts) → now ≡ w → Led next now lent → mid ≡ past_calls (flat_map (step_looked target part) lent) old
-        → Looks result (walk_looked target (from_nothing target w) (drop (i + 1) parts) next) mid new → Looks result (walk_looked target (from_nothing target w) (drop i parts) folders) old new
+        → Looks result (walk_looked target (from_nothing target w) f (drop (i + 1) parts) next) mid new → Looks result (walk_looked target (from_nothing target w) f (drop i parts) folders) old new
     walk_looks next result old mid new same made before more =
-        subst (λ ps. Looks result (walk_looked target (from_nothing target w) ps folders) old new) (sym cut_at)
+        subst (λ ps. Looks result (walk_looked target (from_nothing target w) f ps folders) old new) (sym cut_at)
         (looks_both result (flat_map (step_looked target part) folders) _ old mid new (subst (λ fs. mid ≡ past_calls (flat_map (step_looked target part) fs) old) held before)
-        (subst (λ fs. Looks result (walk_looked target (from_nothing target w) (drop (i + 1) parts) fs) mid new) (led_on next same made) more))
+        (subst (λ fs. Looks result (walk_looked target (from_nothing target w) f (drop (i + 1) parts) fs) mid new) (led_on next same made) more))
 
-    pub walk_stop : (e : LoadFault) (old new : Counts) → is_outside e ≡ true → Ends e (flat_map (step_looked target part) lent) old new → Ends e (walk_looked target (from_nothing target w) (drop i parts) folders) old new
+    pub walk_stop : (e : LoadFault) (old new : Counts) → is_outside e ≡ true → Ends e (flat_map (step_looked target part) lent) old new → Ends e (walk_looked target (from_nothing target w) f (drop i parts) folders) old new
     walk_stop e old new outside before =
-        subst (λ ps. Ends e (walk_looked target (from_nothing target w) ps folders) old new) (sym cut_at)
+        subst (λ ps. Ends e (walk_looked target (from_nothing target w) f ps folders) old new) (sym cut_at)
         (looks_first e (flat_map (step_looked target part) folders) _ old new outside (subst (λ fs. Ends e (flat_map (step_looked target part) fs) old new) held before))
 
 -- the first of some that are left

@@ -20,7 +20,7 @@ use Rattle.pb_workspace.specs.ByFolder.{folders_of, has}
 use Rattle.pb_workspace.specs.Frames.{frame_of}
 use Rattle.pb_workspace.specs.Globs.{is_glob}
 use Rattle.pb_workspace.specs.Loaded.{root_parts, root_read}
-use Rattle.pb_workspace.specs.MemberFolders.{folders_kept, is_fixed, is_manifest, member_folders, one_step}
+use Rattle.pb_workspace.specs.MemberFolders.{folders_kept, is_fixed, is_manifest, kept_step, member_folders}
 use Rattle.pb_workspace.specs.Members.{parts_meant}
 use Rattle.pb_workspace.specs.Rounds.{all_read, draft_at, one_read, parts_at, round, standing_in}
 use Rattle.pb_workspace_package.specs.Looks.{after, listings_at, looked}
@@ -58,9 +58,9 @@ abbrev pub step_looked : List ℕ → Part → List ℕ → List Call
 step_looked target part folder = if is_fixed part then [] else looked target (call.ListFolders folder target)
 
 -- the calls of the parts in turn, each in all folders to which the parts before it lead
-abbrev pub walk_looked : List ℕ → World → List Part → List (List ℕ) → List Call
-walk_looked target sources [] folders = []
-walk_looked target sources (part ∷ parts) folders = flat_map (step_looked target part) folders ++ walk_looked target sources parts (flat_map (one_step sources part) folders)
+abbrev pub walk_looked : List ℕ → World → WorkspaceRoot → List Part → List (List ℕ) → List Call
+walk_looked target sources f [] folders = []
+walk_looked target sources f (part ∷ parts) folders = flat_map (step_looked target part) folders ++ walk_looked target sources f parts (flat_map (kept_step sources f part) folders)
 
 -- the call that asks whether a folder has a manifest
 abbrev pub manifest_looked : List ℕ → List ℕ → List Call
@@ -68,7 +68,7 @@ manifest_looked target folder = looked target (call.IsFile (below folder (codes 
 
 -- a glob is walked, and then the place is asked for a manifest in each folder that `exclude` does not list
 abbrev pub glob_looked : List ℕ → World → WorkspaceRoot → List Part → List Call
-glob_looked target sources f parts = walk_looked target sources parts (codes "/" ∷ []) ++ flat_map (manifest_looked target) (folders_kept sources f parts)
+glob_looked target sources f parts = walk_looked target sources f parts (codes "/" ∷ []) ++ flat_map (manifest_looked target) (folders_kept sources f parts)
 
 -- no call is made for a folder that is written out
 abbrev pub text_looked : List ℕ → World → WorkspaceRoot → List ℕ → List Call

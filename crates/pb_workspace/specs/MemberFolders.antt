@@ -26,18 +26,22 @@ is_fixed part = not (part.is_pattern && is_glob part.text)
 abbrev pub one_step : World → Part → List ℕ → List (List ℕ)
 one_step sources part folder = if is_fixed part then below folder part.text ∷ [] else filter (λ found. matches part.text (last_part found)) (listed_folders folder sources)
 
--- the folders to which several parts lead from some folders, one part after the other
-abbrev pub led_to : World → List Part → List (List ℕ) → List (List ℕ)
-led_to sources [] folders = folders
-led_to sources (part ∷ parts) folders = led_to sources parts (flat_map (one_step sources part) folders)
-
--- `exclude` does not list the folder
+-- `exclude` does not leave out the folder
 abbrev pub is_kept : WorkspaceRoot → List ℕ → Bool
 is_kept f folder = not (is_excluded f.root f.exclude folder)
 
--- the folders to which a glob leads from `/`, without those that `exclude` lists
+-- the same without the folders that `exclude` leaves out, so that no glob looks below them
+abbrev pub kept_step : World → WorkspaceRoot → Part → List ℕ → List (List ℕ)
+kept_step sources f part folder = filter (is_kept f) (one_step sources part folder)
+
+-- the folders to which several parts lead from some folders, one part after the other
+abbrev pub led_to : World → WorkspaceRoot → List Part → List (List ℕ) → List (List ℕ)
+led_to sources f [] folders = folders
+led_to sources f (part ∷ parts) folders = led_to sources f parts (flat_map (kept_step sources f part) folders)
+
+-- the folders to which a glob leads from `/`; without any part it leads to `/` itself, which `exclude` may leave out
 abbrev pub folders_kept : World → WorkspaceRoot → List Part → List (List ℕ)
-folders_kept sources f parts = filter (is_kept f) (led_to sources parts (codes "/" ∷ []))
+folders_kept sources f parts = filter (is_kept f) (led_to sources f parts (codes "/" ∷ []))
 
 -- the folder has a file `Cargo.toml` among the sources
 abbrev pub has_manifest : World → List ℕ → Bool

@@ -16,8 +16,8 @@ use Rattle.pb_workspace_types.specs.declared.workspace.Workspace.{Workspace}
 
 -- the indices of the packages that pass a test, if the first package has the given index
 abbrev pub places_from : (Package → Bool) → ℕ → List Package → List ℕ
-places_from test place [] = []
-places_from test place (p ∷ ps) = if test p then place ∷ places_from test (place + 1) ps else places_from test (place + 1) ps
+places_from test index [] = []
+places_from test index (p ∷ ps) = if test p then index ∷ places_from test (index + 1) ps else places_from test (index + 1) ps
 
 abbrev pub places_where : (Package → Bool) → List Package → List ℕ
 places_where test packages = places_from test 0 packages
@@ -44,7 +44,7 @@ named_members names packages = if name_members names packages then Ok (places_wh
 
 -- the index of the package in the root folder if there is one, else those of all members
 abbrev pub root_or_members : Option ℕ → List Package → List ℕ
-root_or_members (Some place) packages = place ∷ []
+root_or_members (Some index) packages = index ∷ []
 root_or_members None packages = members_of packages
 
 -- the indices that `default-members` selects; a folder in it that is no member is refused only here, when it decides

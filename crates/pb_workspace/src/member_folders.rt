@@ -9,7 +9,7 @@ ghost use Rattle.pb_workspace_package.specs.Looks.{Looks};
 ghost use Rattle.pb_workspace_package.specs.Sources.{resolved};
 ghost use Rattle.pb_workspace.specs.Globs.{matches};
 ghost use Rattle.pb_workspace.specs.LookedAt.{glob_looked, manifest_looked, members_looked, step_looked, text_looked, walk_looked};
-ghost use Rattle.pb_workspace.specs.MemberFolders.{folders_meant, folders_taken, has_manifest, is_fixed, is_kept, is_manifest, led_to, member_folders, one_step};
+ghost use Rattle.pb_workspace.specs.MemberFolders.{folders_meant, folders_taken, has_manifest, is_fixed, is_kept, is_manifest, kept_step, led_to, member_folders, one_step};
 
 use crate::by_folder::{ByFolder, put_folders};
 use crate::glob::{is_glob, matches};
@@ -110,6 +110,50 @@ fn one_step<P: Place>(
     Ok(named)
 }
 
+/// Returns the folders that `exclude` does not leave out.
+///
+/// Errors: out of memory only.
+fn kept_among(
+    alloc: Global,
+    frame: &WorkspaceRoot,
+    folders: Items<PathText>,
+) -> Result<Items<PathText>, AllocError>
+    ensures { IfOk result (λ kept. kept ≡ filter (is_kept frame.now) folders) }
+{
+    let mut kept = Items::new(alloc);
+    for folder in folders.into_vec() {
+        if !is_excluded(alloc, &frame.root, frame.exclude.as_slice(), &folder)? {
+            kept.push(folder)?;
+        }
+    }
+    Ok(kept)
+}
+
+/// Returns the folders to which a part leads from a folder, without those that `exclude` leaves out. So a glob does not
+/// look below them (our own choice).
+///
+/// Errors: those of `one_step`.
+fn kept_step<P: Place>(
+    alloc: Global,
+    place: &mut P,
+    target: &PathText,
+    frame: &WorkspaceRoot,
+    part: &Part,
+    folder: &PathText,
+) -> Result<Items<PathText>, LoadFault>
+    ensures ok { let sources = from_nothing target.now (P.at place.old).world in
+        IsTrue P.is_modelled → IfOk result
+        (λ folders. folders ≡ kept_step sources frame.now part.now folder.now) }
+    ensures outside { IfErr result (λ e. is_outside e ≡ true) }
+    ensures quiet { OnlyLooks result (P.at place.old) (P.at place.new) }
+    ensures looks { Looks result (step_looked target.now part.now folder.now)
+        (P.at place.old).counts (P.at place.new).counts }
+{
+    let folders = one_step(alloc, place, target, part, folder)?;
+    let kept = kept_among(alloc, frame, folders)?;
+    Ok(kept)
+}
+
 /// Appends folders.
 fn add_folders(made: &mut Items<PathText>, folders: Items<PathText>) -> Result<(), AllocError>
     ensures { OnOk result (made.new ≡ made.old ++ folders) }
@@ -127,12 +171,13 @@ fn all_steps<P: Place>(
     alloc: Global,
     place: &mut P,
     target: &PathText,
+    frame: &WorkspaceRoot,
     part: &Part,
     folders: &[PathText],
 ) -> Result<Items<PathText>, LoadFault>
     ensures ok { let sources = from_nothing target.now (P.at place.old).world in
         IsTrue P.is_modelled → IfOk result
-        (λ led. led ≡ flat_map (one_step sources part.now) folders.now) }
+        (λ led. led ≡ flat_map (kept_step sources frame.now part.now) folders.now) }
     ensures outside { IfErr result (λ e. is_outside e ≡ true) }
     ensures quiet { OnlyLooks result (P.at place.old) (P.at place.new) }
     ensures looks { Looks result (flat_map (step_looked target.now part.now) folders.now)
@@ -140,7 +185,7 @@ fn all_steps<P: Place>(
 {
     let mut led = Items::new(alloc);
     for folder in folders {
-        let found = one_step(alloc, place, target, part, folder)?;
+        let found = kept_step(alloc, place, target, frame, part, folder)?;
         add_folders(&mut led, found)?;
     }
     Ok(led)
@@ -148,25 +193,27 @@ fn all_steps<P: Place>(
 
 /// Returns the folders to which several parts lead from some folders, one part after the other.
 ///
-/// Errors: those of `one_step`.
+/// Errors: those of `kept_step`.
 fn led_to<P: Place>(
     alloc: Global,
     place: &mut P,
     target: &PathText,
+    frame: &WorkspaceRoot,
     parts: &[Part],
     begun: Items<PathText>,
 ) -> Result<Items<PathText>, LoadFault>
     ensures ok { let sources = from_nothing target.now (P.at place.old).world in
-        IsTrue P.is_modelled → IfOk result (λ led. led ≡ led_to sources parts.now begun) }
+        IsTrue P.is_modelled → IfOk result (λ led. led ≡ led_to sources frame.now parts.now begun) }
     ensures outside { IfErr result (λ e. is_outside e ≡ true) }
     ensures quiet { OnlyLooks result (P.at place.old) (P.at place.new) }
     ensures looks { let sources = from_nothing target.now (P.at place.old).world in
-        IsTrue P.is_modelled → Looks result (walk_looked target.now sources parts.now begun)
+        IsTrue P.is_modelled → Looks result
+        (walk_looked target.now sources frame.now parts.now begun)
         (P.at place.old).counts (P.at place.new).counts }
 {
     let mut led = begun;
     for part in parts {
-        led = all_steps(alloc, place, target, part, led.as_slice())?;
+        led = all_steps(alloc, place, target, frame, part, led.as_slice())?;
     }
     Ok(led)
 }
@@ -181,25 +228,6 @@ fn root_alone(alloc: Global) -> Result<Items<PathText>, AllocError>
         Ok(root) => alone(alloc, root),
         Err(_) => Err(AllocError),
     }
-}
-
-/// Returns the folders that `exclude` does not list.
-///
-/// Errors: out of memory only.
-fn kept_among(
-    alloc: Global,
-    frame: &WorkspaceRoot,
-    folders: Items<PathText>,
-) -> Result<Items<PathText>, AllocError>
-    ensures { IfOk result (λ kept. kept ≡ filter (is_kept frame.now) folders) }
-{
-    let mut kept = Items::new(alloc);
-    for folder in folders.into_vec() {
-        if !is_excluded(alloc, &frame.root, frame.exclude.as_slice(), &folder)? {
-            kept.push(folder)?;
-        }
-    }
-    Ok(kept)
 }
 
 /// Returns whether a folder has a manifest.
@@ -251,8 +279,8 @@ fn with_manifests<P: Place>(
 }
 
 /// Returns the folders that a glob means: those to which its parts lead from `/`, that `exclude`
-/// does not list, and that have a manifest. For folders that `exclude` lists it makes no call (our
-/// own choice).
+/// does not leave out, and that have a manifest. At and below folders that `exclude` leaves out it makes no call
+/// (our own choice).
 ///
 /// Errors: those of `one_step`; those of `has_manifest`.
 fn folders_taken<P: Place>(
@@ -271,7 +299,7 @@ fn folders_taken<P: Place>(
         (P.at place.old).counts (P.at place.new).counts }
 {
     let begun = root_alone(alloc)?;
-    let led = led_to(alloc, place, target, parts, begun)?;
+    let led = led_to(alloc, place, target, frame, parts, begun)?;
     let kept = kept_among(alloc, frame, led)?;
     with_manifests(alloc, place, target, kept)
 }
@@ -348,7 +376,7 @@ fn folders_of_texts<P: Place>(
 /// Workspaces).
 ///
 /// These are the folders that are written out, and those with a manifest that a glob matches and
-/// `exclude` does not list. A glob never matches a folder at or below the target folder. It looks
+/// `exclude` does not leave out. A glob never matches a folder at or below the target folder. It looks
 /// only where its parts lead: `crates/*` lists the folders in `crates`, and nothing below them (our
 /// own choice).
 ///
