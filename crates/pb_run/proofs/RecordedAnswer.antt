@@ -10,7 +10,7 @@ use Rattle.pb_command.specs.Judge.{judge, judge_in, inputs_if, ended_by}
 use Rattle.pb_directive.specs.declared.directive.Directive.{Directive}
 use Rattle.pb_run_flight.specs.declared.flight.Answer.{Answer}
 use Rattle.pb_run_flight.specs.declared.flight.State.{State}
-use Rattle.pb_run_flight.specs.declared.flight.State.TheVariants.{Untouched, Begun as begun_state, CheckedReply}
+use Rattle.pb_run_flight.specs.declared.flight.State.TheVariants.{Untouched, Begun as begun_state, Answered}
 use Rattle.pb_run_flight.specs.Table.{is_good_at}
 use Rattle.pb_run_flight.proofs.Lists.{get_set_same, get_set_other, length_set}
 use Rattle.pb_place_types.specs.Folders.{files_in}
@@ -177,11 +177,11 @@ module _ (b : BuildContext) (order : IsInOrder b.project) (place : ℕ) (u : Pla
     pub keeps_answered : (w' : World) (next' : Option ℕ) (ran : Ran) (lines : List ℕ) → ChangesOnly (is_of Folder u.key) w w'
         → slice_get (outcomes_in b) place ≡ Some (outcome_by (files_in u.out w'.files) ran)
         → IfRecords b.premise (Sound reading judge b.child Folder w'.files) → IfRecords b.premise (IsAhead (records_in b w') next') → IfRecords b.premise (ran.bad ≡ None → HasRecord b w' place)
-        → BuildInvariant b (slice_set states place (CheckedReply record { fault = ran.bad; lines = lines })) (slice_set done place ran.directives) next' w'
+        → BuildInvariant b (slice_set states place (Answered record { fault = ran.bad; lines = lines })) (slice_set done place ran.directives) next' w'
     keeps_answered w' next' ran lines only outcome sound ahead recorded =
-        keeps_over b order states done place u there begun_bad next w w' can.keeps only (slice_set states place (CheckedReply answer)) (slice_set done place ran.directives) next'
-        (λ p apart. get_set_other states place p (CheckedReply answer) (λ e. apart (sym e))) (λ p apart. get_set_other done place p ran.directives (λ e. apart (sym e)))
-        (length_set done place ran.directives ∙ can.keeps.long ∙ sym (length_set states place (CheckedReply answer)))
+        keeps_over b order states done place u there begun_bad next w w' can.keeps only (slice_set states place (Answered answer)) (slice_set done place ran.directives) next'
+        (λ p apart. get_set_other states place p (Answered answer) (λ e. apart (sym e))) (λ p apart. get_set_other done place p ran.directives (λ e. apart (sym e)))
+        (length_set done place ran.directives ∙ can.keeps.long ∙ sym (length_set states place (Answered answer)))
         record {
           stands = λ good. record {
             unit = u;
@@ -195,23 +195,23 @@ module _ (b : BuildContext) (order : IsInOrder b.project) (place : ℕ) (u : Pla
           };
           reaches = λ good. can.reaches;
           recorded = recorded_by b.premise recorded;
-          begun = λ untouched. answered_untouched (CheckedReply answer) refl (sym now ∙ untouched);
+          begun = λ untouched. answered_untouched (Answered answer) refl (sym now ∙ untouched);
         } sound ahead
       where
         answer : Answer BadUnit
         answer = record { fault = ran.bad; lines = lines }
 
-        now : slice_get (slice_set states place (CheckedReply answer)) place ≡ Some (CheckedReply answer)
-        now = get_set_same states place begun_state (CheckedReply answer) can.state
+        now : slice_get (slice_set states place (Answered answer)) place ≡ Some (Answered answer)
+        now = get_set_same states place begun_state (Answered answer) can.state
 
         none_of : (o : Option BadUnit) → is_none o ≡ true → o ≡ None
         none_of None is = refl
         none_of (Some bad) is = absurd (false≢true is)
 
-        well : is_good_at (slice_get (slice_set states place (CheckedReply answer)) place) ≡ true → ran.bad ≡ None
+        well : is_good_at (slice_get (slice_set states place (Answered answer)) place) ≡ true → ran.bad ≡ None
         well good = none_of ran.bad (sym (ap is_good_at now) ∙ good)
 
-        answered_untouched : (s : State BadUnit) → s ≡ CheckedReply answer → Some s ≡ Some Untouched → ⊥
+        answered_untouched : (s : State BadUnit) → s ≡ Answered answer → Some s ≡ Some Untouched → ⊥
         answered_untouched s is e = cc
 
         long_enough : place < length states → place < length done
@@ -223,6 +223,6 @@ module _ (b : BuildContext) (order : IsInOrder b.project) (place : ℕ) (u : Pla
         noted_at (y ∷ xs) (suc i) x less = noted_at xs i x (omega (arith, less))
 
         recorded_by : (premise : Premise) → IfRecords premise (ran.bad ≡ None → HasRecord b w' place)
-            → IfRecords premise (is_good_at (slice_get (slice_set states place (CheckedReply answer)) place) ≡ true → HasRecord b w' place)
+            → IfRecords premise (is_good_at (slice_get (slice_set states place (Answered answer)) place) ≡ true → HasRecord b w' place)
         recorded_by TrustedRecords has = λ good. has (well good)
         recorded_by NoRecords has = tt

@@ -8,7 +8,7 @@ use Rattle.pb_command.specs.Judge.{ended_by, file_at, inputs_if, judge, replied_
 use Rattle.pb_command.proofs.Judged.{judges_as_answered}
 use Rattle.pb_directive.specs.declared.directive.Directive.{Directive}
 use Rattle.pb_run_flight.specs.declared.flight.State.{State}
-use Rattle.pb_run_flight.specs.declared.flight.State.TheVariants.{CheckedReply}
+use Rattle.pb_run_flight.specs.declared.flight.State.TheVariants.{Answered}
 use Rattle.pb_place_types.specs.Children.{StandsStill, StaysStillBut, child_at, KeepsStill}
 use Rattle.pb_place_types.specs.Counts.{Counts, counted_finish, without}
 use Rattle.pb_place_types.specs.Folders.{files_in}
@@ -124,14 +124,14 @@ module _ (b : BuildContext) (order : IsInOrder b.project) (i : ℕ) (u : Planned
 
   -- a bad answer
   keeps_bad_now : (ran : Ran) (lines : List ℕ) → is_some ran.bad ≡ true → slice_get (outcomes_in b) i ≡ Some (outcome_by (files_in u.out w1.files) ran)
-      → BuildInvariant b (slice_set states i (CheckedReply record { fault = ran.bad; lines = lines })) (slice_set done i ran.directives) next w1
+      → BuildInvariant b (slice_set states i (Answered record { fault = ran.bad; lines = lines })) (slice_set done i ran.directives) next w1
   keeps_bad_now ran lines bad outcome = keeps_answered b order i u at states done begun next w flying still can w1 next ran lines only_now outcome sound_now ahead_now
       (if_records b.premise (ran.bad ≡ None → HasRecord b w1 i) (λ good. absurd (not_none ran.bad bad good)))
 
   pub keeps_bad : (w' : World) (ran : Ran) (lines : List ℕ) → w' ≡ w1 → is_some ran.bad ≡ true → slice_get (outcomes_in b) i ≡ Some (outcome_by (files_in u.out w'.files) ran)
-      → BuildInvariant b (slice_set states i (CheckedReply record { fault = ran.bad; lines = lines })) (slice_set done i ran.directives) next w'
+      → BuildInvariant b (slice_set states i (Answered record { fault = ran.bad; lines = lines })) (slice_set done i ran.directives) next w'
   keeps_bad w' ran lines same bad outcome =
-      subst (BuildInvariant b (slice_set states i (CheckedReply record { fault = ran.bad; lines = lines })) (slice_set done i ran.directives) next) (sym same)
+      subst (BuildInvariant b (slice_set states i (Answered record { fault = ran.bad; lines = lines })) (slice_set done i ran.directives) next) (sym same)
       (keeps_bad_now ran lines bad (subst (λ (v : World). slice_get (outcomes_in b) i ≡ Some (outcome_by (files_in u.out v.files) ran)) same outcome))
 
   -- its answer is that of the unit's view
@@ -188,7 +188,7 @@ module _ (b : BuildContext) (order : IsInOrder b.project) (i : ℕ) (u : Planned
 
       -- a good answer
       pub keeps_good : (lines : List ℕ) → Stands (records_folder b.project) u.key (needed_keys b.project u) c l.number j.names ended w1 w2 → slice_get (outcomes_in b) i ≡ Some (outcome_by (files_in u.out w2.files) j.ran)
-          → BuildInvariant b (slice_set states i (CheckedReply record { fault = j.ran.bad; lines = lines })) (slice_set done i j.ran.directives) next w2
+          → BuildInvariant b (slice_set states i (Answered record { fault = j.ran.bad; lines = lines })) (slice_set done i j.ran.directives) next w2
       keeps_good lines stands outcome = keeps_answered b order i u at states done begun next w flying still can w2 next j.ran lines only_kept outcome sound_kept ahead_kept
           (on_good b.premise (j.ran.bad ≡ None) (HasRecord b w2 i)
           (kept_record b order i u at states done begun next w flying still can w1 landed w2 kept.only b.premise l.number j.names ended can.keeps.records waits stands))
