@@ -1,28 +1,22 @@
 //! The second look after a refusal.
 
-ghost use Rattle.pb_tool_notes.specs.Looks.{LooksAgain};
+ghost use Rattle.pb_tool_notes_pages.specs.Looks.{LooksAgain};
 
-use crate::above::tell_above;
-use crate::asked::tell_missing;
-use crate::circle::tell_circle;
-use crate::features::{tell_all_items, tell_entries, tell_requested};
-use crate::inherited::{tell_no_inherited, tell_taken_sources};
-use crate::kinds::{tell_bad_kinds, tell_bad_profiles};
-use crate::looks::is_file;
-use crate::names::{tell_bad_features, tell_bad_names, tell_bad_versions};
-use crate::note::Notes;
-use crate::page::{Page, text_at};
-use crate::pages::{Pages, pages_of};
-use crate::pairs::{tell_names, tell_same, tell_same_binaries, tell_versions};
-use crate::profiles::{tell_inherits_cycle, tell_no_profile, tell_not_in_override};
-use crate::selected::{tell_binaries, tell_no_package, tell_nothing, tell_patterns};
-use crate::teller::tell_key;
-use crate::toml_fault::{tell_not_toml, tell_too_large};
-use crate::unsupported::{tell_crate_types, tell_resolver, tell_sources, tell_tables, tell_unused};
 use pb_feature::FeatureFault;
 use pb_manifest_types::ManifestFault;
 use pb_place_types::{PathText, Place, PlaceFault};
 use pb_profile::ProfileFault;
+use pb_tool_notes_manifest::{
+    tell_bad_features, tell_bad_kinds, tell_bad_names, tell_bad_profiles, tell_bad_versions,
+    tell_crate_types, tell_inherits_cycle, tell_no_profile, tell_not_in_override, tell_not_toml,
+    tell_resolver, tell_sources, tell_tables, tell_too_large, tell_unused,
+};
+use pb_tool_notes_pages::{Notes, Page, Pages, is_file, pages_of, tell_key, text_at};
+use pb_tool_notes_workspace::{
+    tell_above, tell_all_items, tell_binaries, tell_circle, tell_entries, tell_missing, tell_names,
+    tell_no_inherited, tell_no_package, tell_nothing, tell_patterns, tell_requested, tell_same,
+    tell_same_binaries, tell_taken_sources, tell_versions,
+};
 use pb_unit::PlanFault;
 use pb_workspace_types::{LoadFault, Options};
 use std::alloc::{AllocError, Global};

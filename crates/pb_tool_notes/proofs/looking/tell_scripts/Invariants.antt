@@ -1,4 +1,4 @@
-use Rattle.pb_tool_notes.specs.Looks.{LooksAgain}
+use Rattle.pb_tool_notes_pages.specs.Looks.{LooksAgain}
 use Rattle.pb_tool_notes.proofs.looking.tell_scripts.Given as goal
 
 abbrev pub invariant-loop-page : goal.invariant-loop-page

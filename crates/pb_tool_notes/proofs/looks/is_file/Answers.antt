@@ -1,5 +1,0 @@
-use Rattle.pb_tool_notes.proofs.OneCall.{looks_once}
-use Rattle.pb_tool_notes.proofs.looks.is_file.Goals as goal
-
-pub returns : goal.returns
-returns g c = looks_once _ _ _ _ c.is_file.ensures.looks

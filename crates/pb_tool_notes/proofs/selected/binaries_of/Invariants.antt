@@ -1,5 +1,0 @@
-use Rattle.pb_tool_notes.specs.Looks.{LooksAgain}
-use Rattle.pb_tool_notes.proofs.selected.binaries_of.Given as goal
-
-abbrev pub invariant-loop-page : goal.invariant-loop-page
-invariant-loop-page g l = LooksAgain (g.P.Place.at l.fn.place) (g.P.Place.at l.place)

@@ -1,0 +1,119 @@
+//! Notes on values that are not allowed at their keys.
+
+use pb_manifest_types::letters::is_name;
+use pb_tool_notes_pages::{
+    Kind, Notes, Page, Spot, expected, fits, rule_of, shown, spots_of, tell_key, tell_page,
+};
+use std::alloc::{AllocError, Global};
+use toml::{Table, Value};
+
+/// Adds each value of a table that is not allowed at its key.
+fn tell_values(
+    alloc: Global,
+    notes: &mut Notes,
+    page: &Page,
+    spot: &Spot,
+) -> Result<(), AllocError> {
+    for (key, value) in spot.table {
+        if let Some(rule) = rule_of(spot.kind, key.as_str()) {
+            if !fits(rule, value) {
+                let shown = shown(alloc, value)?;
+                let may = expected(rule);
+                let text = format!(in alloc; "{}; it may be {may}", shown.as_str())?;
+                tell_key(
+                    alloc,
+                    notes,
+                    page,
+                    spot.way.as_str(),
+                    key.as_str(),
+                    text.as_str(),
+                )?;
+            }
+        }
+    }
+    Ok(())
+}
+
+/// Returns whether a table is one of the profiles' tables.
+fn is_of_profiles(kind: Kind) -> bool {
+    matches!(
+        kind,
+        Kind::Profiles | Kind::Profile | Kind::Overrides | Kind::Override
+    )
+}
+
+/// Adds each value outside `[profile]` that is not allowed at its key.
+pub fn tell_bad_kinds(
+    alloc: Global,
+    notes: &mut Notes,
+    page: &Page,
+    table: &Table,
+) -> Result<(), AllocError> {
+    if table.get("package").is_none() {
+        tell_page(alloc, notes, page, "there is no [package]")?;
+    }
+    for spot in spots_of(alloc, table)?.as_slice() {
+        if !is_of_profiles(spot.kind) {
+            tell_values(alloc, notes, page, spot)?;
+        }
+    }
+    Ok(())
+}
+
+/// Returns whether a profile exists without being written.
+fn is_built_in(name: &str) -> bool {
+    matches!(name, "dev" | "release" | "test" | "bench")
+}
+
+/// Returns what is wrong with a profile apart from its values, or an empty text if nothing is.
+fn wrong_with(name: &str, profile: &Table) -> &'static str {
+    if is_built_in(name) {
+        return "";
+    }
+    if name == "debug" {
+        return "no profile may have this name";
+    }
+    if !is_name(name) {
+        return "its name may have ASCII letters, digits, - and _";
+    }
+    if profile.get("inherits").is_none() {
+        return "it has no inherits";
+    }
+    ""
+}
+
+/// Adds each custom profile that is not allowed.
+fn tell_profiles(
+    alloc: Global,
+    notes: &mut Notes,
+    page: &Page,
+    table: &Table,
+) -> Result<(), AllocError> {
+    if let Some(profiles) = table.get("profile").and_then(Value::as_table) {
+        for (name, value) in profiles {
+            if let Some(profile) = value.as_table() {
+                let wrong = wrong_with(name.as_str(), profile);
+                if !wrong.is_empty() {
+                    tell_key(alloc, notes, page, "profile", name.as_str(), wrong)?;
+                }
+            }
+        }
+    }
+    Ok(())
+}
+
+/// Adds each value of `[profile]` that is not allowed at its key, and each custom profile that is
+/// not allowed.
+pub fn tell_bad_profiles(
+    alloc: Global,
+    notes: &mut Notes,
+    page: &Page,
+    table: &Table,
+) -> Result<(), AllocError> {
+    for spot in spots_of(alloc, table)?.as_slice() {
+        if is_of_profiles(spot.kind) {
+            tell_values(alloc, notes, page, spot)?;
+        }
+    }
+    tell_profiles(alloc, notes, page, table)
+}

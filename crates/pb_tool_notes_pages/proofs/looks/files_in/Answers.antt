@@ -1,0 +1,5 @@
+use Rattle.pb_tool_notes_pages.proofs.OneCall.{looks_once}
+use Rattle.pb_tool_notes_pages.proofs.looks.files_in.Goals as goal
+
+pub returns : goal.returns
+returns g c = looks_once _ _ _ _ c.list_directly.ensures.looks

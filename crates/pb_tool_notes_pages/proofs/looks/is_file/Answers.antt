@@ -1,0 +1,5 @@
+use Rattle.pb_tool_notes_pages.proofs.OneCall.{looks_once}
+use Rattle.pb_tool_notes_pages.proofs.looks.is_file.Goals as goal
+
+pub returns : goal.returns
+returns g c = looks_once _ _ _ _ c.is_file.ensures.looks

@@ -1,0 +1,189 @@
+//! A note, and the notes on a refusal.
+
+ghost use Rattle.std.specs.Prelude.{◌≡◌, ◌<◌, ◌++◌, ◌∷◌, [], All, IfOk, IsTrue, ◌↔◌, OnOk, string_bytes, codes};
+ghost use Rattle.pb_tool_notes_pages.specs.Notes.{IsPlain, lines_of};
+
+use pb_data::{Items, Text};
+use std::alloc::{AllocError, Global};
+use std::marker::Model;
+
+/// The greatest number of notes on one refusal.
+pub const MOST_NOTES: usize = 10;
+
+/// The greatest number of bytes of a note.
+const LONGEST: usize = 400;
+
+/// A fact about a refusal, and its position.
+#[derive(Drop)]
+pub struct Note<'a> {
+    /// The path of a manifest; empty if the fact is not about one.
+    pub path: &'a str,
+    /// The line, from 1; 0 if it is not known.
+    pub line: usize,
+    /// The column, from 1; 0 if it is not known.
+    pub column: usize,
+    /// The whole key path, as `dependencies.util.path`; empty if the fact is not about a key.
+    pub key: &'a str,
+    /// The fact.
+    pub text: &'a str,
+}
+
+/// Adds the position of a fact: `in PATH[, line N[, column N]][, key KEY]: `.
+fn push_where(alloc: Global, out: &mut String, note: &Note) -> Result<(), AllocError> {
+    out.push_str("in ")?;
+    out.push_str(note.path)?;
+    if note.line > 0 {
+        let line = note.line;
+        out.push_str(format!(in alloc; ", line {line}")?.as_str())?;
+    }
+    if note.column > 0 {
+        let column = note.column;
+        out.push_str(format!(in alloc; ", column {column}")?.as_str())?;
+    }
+    if !note.key.is_empty() {
+        out.push_str(", key ")?;
+        out.push_str(note.key)?;
+    }
+    out.push_str(": ")
+}
+
+/// Returns the whole text of a note: `[in PATH[, line N[, column N]][, key KEY]: ]TEXT`.
+fn whole(alloc: Global, note: &Note) -> Result<String, AllocError> {
+    let mut out = String::new(alloc);
+    if !note.path.is_empty() {
+        push_where(alloc, &mut out, note)?;
+    }
+    out.push_str(note.text)?;
+    Ok(out)
+}
+
+/// Returns a text with `?` for each control character, and `..` for what exceeds the greatest
+/// length.
+fn plain_text(alloc: Global, text: &str) -> Result<String, AllocError> {
+    let mut out = String::new(alloc);
+    for letter in text.chars() {
+        if out.len() > LONGEST {
+            out.push_str("..")?;
+            break;
+        }
+        out.push(if letter.is_control() { '?' } else { letter })?;
+    }
+    Ok(out)
+}
+
+/// Returns whether a text contains no control character below the blank.
+fn is_plain(text: &str) -> bool
+    ensures { IsTrue result ↔ All IsPlain text.now }
+{
+    text.as_bytes().iter().all(|byte| *byte > 31)
+}
+
+/// The notes on a refusal: at most ten texts without line feeds. Contracts see the texts.
+#[derive(Drop)]
+pub struct Notes {
+    inside: Items<Text>,
+}
+
+impl Model for Notes {
+    ghost use Rattle.std.specs.Prelude.{ℕ, List};
+    ghost use Rattle.pb_tool_notes_pages.specs.Notes.{AreNotes};
+
+    ghost Value = { List (List ℕ) };
+
+    ghost view = { λ a. a.inside };
+
+    ghost invariant = { λ a. AreNotes a.inside };
+}
+
+impl Notes {
+    ghost use Rattle.pb_tool_notes_pages.specs.Notes.{AreNotes};
+
+    /// Returns no notes. It takes no memory.
+    pub fn new(alloc: Global) -> Notes
+        ensures { result ≡ [] }
+    {
+        Notes {
+            inside: Items::new(alloc),
+        }
+    }
+
+    /// Returns whether there are as many notes as allowed.
+    pub fn is_full(&self) -> bool {
+        self.inside.len() >= MOST_NOTES
+    }
+
+    /// Adds a text, if it has no line feed and there are fewer than ten. If memory runs out, the
+    /// text is left out.
+    fn push(&mut self, text: String) {
+        if self.inside.len() < MOST_NOTES && is_plain(text.as_str()) {
+            let _ = self.inside.push(Text::new(text));
+        }
+    }
+
+    /// Adds a note.
+    ///
+    /// Errors: only out of memory.
+    pub fn add(&mut self, alloc: Global, note: &Note) -> Result<(), AllocError> {
+        if self.is_full() {
+            return Ok(());
+        }
+        let text = whole(alloc, note)?;
+        self.push(plain_text(alloc, text.as_str())?);
+        Ok(())
+    }
+
+    /// Adds a fact that is not about one manifest.
+    ///
+    /// Errors: only out of memory.
+    pub fn say(&mut self, alloc: Global, text: &str) -> Result<(), AllocError> {
+        self.add(
+            alloc,
+            &Note {
+                path: "",
+                line: 0,
+                column: 0,
+                key: "",
+                text,
+            },
+        )
+    }
+
+    /// Returns the texts.
+    pub fn texts(&self) -> &[Text]
+        ensures texts { result.now ≡ self.now }
+        ensures notes { AreNotes self.now }
+    {
+        self.inside.as_slice()
+    }
+
+    /// Returns a line `note: TEXT` for each note.
+    ///
+    /// Errors: only out of memory.
+    pub fn lines(&self, alloc: Global) -> Result<String, AllocError>
+        ensures { IfOk result (λ text. string_bytes text ≡ lines_of self.now) }
+    {
+        lines_of(alloc, self.texts())
+    }
+}
+
+/// Adds the line of a note.
+fn push_line(out: &mut String, text: &str) -> Result<(), AllocError>
+    ensures { OnOk result (string_bytes out.new
+        ≡ string_bytes out.old ++ codes "note: " ++ text.now ++ codes "\n") }
+{
+    out.push_str("note: ")?;
+    out.push_str(text)?;
+    out.push_str("\n")?;
+    Ok(())
+}
+
+/// Returns a line for each text.
+fn lines_of(alloc: Global, texts: &[Text]) -> Result<String, AllocError>
+    ensures { IfOk result (λ text. string_bytes text ≡ lines_of texts.now) }
+{
+    let mut out = String::new(alloc);
+    for text in texts {
+        push_line(&mut out, text.as_str())?;
+    }
+    Ok(out)
+}

@@ -1,0 +1,82 @@
+//! A note on a workspace above that lists a package which is built alone.
+
+ghost use Rattle.pb_tool_notes_pages.specs.Looks.{LooksAgain};
+
+use pb_place_types::{PathText, Place, PlaceFault};
+use pb_tool_notes_pages::{Notes, Page, matches_part, page_at, tell_key, texts_of};
+use std::alloc::{AllocError, Global};
+
+/// The greatest number of folders above that are examined.
+const MOST_FOLDERS: usize = 16;
+
+/// Returns whether `members` of a root manifest matches a folder. Here a `*` matches slashes too.
+fn lists(alloc: Global, page: &Page, folder: &PathText) -> Result<bool, AllocError> {
+    let root = page.path.folder(alloc)?;
+    for pattern in texts_of(alloc, page, "members")?.as_slice() {
+        if let Ok(path) = root.join(alloc, *pattern) {
+            if matches_part(alloc, path.as_str(), folder.as_str())? {
+                return Ok(true);
+            }
+        }
+    }
+    Ok(false)
+}
+
+/// Adds that a manifest above lists a package, if it does.
+fn tell_if_listed(
+    alloc: Global,
+    notes: &mut Notes,
+    page: &Page,
+    own: &PathText,
+) -> Result<(), AllocError> {
+    if lists(alloc, page, own)? {
+        let text = format!(in alloc;
+            "it lists {}: call from its folder, or give --manifest-path {}",
+            own.as_str(),
+            page.path.as_str()
+        )?;
+        tell_key(alloc, notes, page, "workspace", "members", text.as_str())?;
+    }
+    Ok(())
+}
+
+/// Returns the manifest in a folder, if there is one.
+fn manifest_in<P: Place>(
+    alloc: Global,
+    place: &mut P,
+    folder: &PathText,
+) -> Result<Option<Page>, PlaceFault>
+    ensures { LooksAgain (P.at place.old) (P.at place.new) }
+{
+    match folder.join(alloc, "Cargo.toml") {
+        Ok(path) => page_at(alloc, place, &path),
+        Err(_) => Ok(None),
+    }
+}
+
+/// Adds that a workspace above lists a package whose manifest has no `[workspace]`.
+pub fn tell_above<P: Place>(
+    alloc: Global,
+    place: &mut P,
+    notes: &mut Notes,
+    root: &Page,
+) -> Result<(), PlaceFault>
+    ensures { LooksAgain (P.at place.old) (P.at place.new) }
+{
+    if root.table_at("workspace").is_some() {
+        return Ok(());
+    }
+    let own = root.path.folder(alloc)?;
+    let mut folder = own.folder(alloc)?;
+    for step in 0..MOST_FOLDERS {
+        if let Some(page) = manifest_in(alloc, place, &folder)? {
+            tell_if_listed(alloc, notes, &page, &own)?;
+        }
+        let above = folder.folder(alloc)?;
+        if above.as_str() == folder.as_str() {
+            break;
+        }
+        folder = above;
+    }
+    Ok(())
+}

@@ -1,0 +1,98 @@
+//! Notes on a missing manifest: who asks for it.
+
+ghost use Rattle.pb_tool_notes_pages.specs.Looks.{LooksAgain};
+
+use pb_place_types::{PathText, Place, PlaceFault};
+use pb_tool_notes_pages::{Ask, Notes, Pages, Role, folders_in, is_file, near, tell_key};
+use std::alloc::{AllocError, Global};
+
+/// Adds who asks for a manifest.
+fn tell_ask(
+    alloc: Global,
+    notes: &mut Notes,
+    pages: &Pages,
+    ask: &Ask,
+    near: &str,
+) -> Result<(), AllocError> {
+    let Some(page) = pages.at(ask.by.as_str()) else {
+        return notes.say(
+            alloc,
+            "it is what --manifest-path names, or the current folder",
+        );
+    };
+    match ask.role {
+        Role::Root => Ok(()),
+        Role::Member => {
+            let text = format!(in alloc; "it names the folder of {}{near}", ask.path.as_str())?;
+            tell_key(alloc, notes, page, "workspace", "members", text.as_str())
+        }
+        Role::Entry => {
+            let text = format!(in alloc; "it leads to {}{near}", ask.path.as_str())?;
+            tell_key(
+                alloc,
+                notes,
+                page,
+                ask.table.as_str(),
+                ask.key.as_str(),
+                text.as_str(),
+            )
+        }
+    }
+}
+
+/// Returns ` (near: NAME)` for a folder beside a missing one.
+fn near_folder<P: Place>(
+    alloc: Global,
+    place: &mut P,
+    manifest: &PathText,
+) -> Result<String, PlaceFault>
+    ensures { LooksAgain (P.at place.old) (P.at place.new) }
+{
+    let folder = manifest.folder(alloc)?;
+    let above = folder.folder(alloc)?;
+    let found = folders_in(alloc, place, &above, &folder)?;
+    let mut names = Vec::new(alloc);
+    for one in found.as_slice() {
+        names.push(one.last_part())?;
+    }
+    Ok(near(alloc, folder.last_part(), names.as_slice())?)
+}
+
+/// Adds that a path is a folder with a manifest in it, if it is one.
+fn tell_folder<P: Place>(
+    alloc: Global,
+    place: &mut P,
+    notes: &mut Notes,
+    path: &PathText,
+) -> Result<(), PlaceFault>
+    ensures { LooksAgain (P.at place.old) (P.at place.new) }
+{
+    let Ok(below) = path.join(alloc, "Cargo.toml") else {
+        return Ok(());
+    };
+    if is_file(alloc, place, &below)? {
+        let text = format!(in alloc; "it is a folder: {} is there", below.as_str())?;
+        notes.say(alloc, text.as_str())?;
+    }
+    Ok(())
+}
+
+/// Adds who asks for a missing manifest.
+pub fn tell_missing<P: Place>(
+    alloc: Global,
+    place: &mut P,
+    notes: &mut Notes,
+    pages: &Pages,
+    path: &PathText,
+) -> Result<(), PlaceFault>
+    ensures { LooksAgain (P.at place.old) (P.at place.new) }
+{
+    tell_folder(alloc, place, notes, path)?;
+    let near = near_folder(alloc, place, path)?;
+    for ask in pages.asks.as_slice() {
+        if ask.path.as_str() == path.as_str() {
+            tell_ask(alloc, notes, pages, ask, near.as_str())?;
+        }
+    }
+    Ok(())
+}

@@ -1,0 +1,207 @@
+//! Notes on two manifests that conflict.
+
+use pb_data::Text;
+use pb_manifest_types::{ManifestFault, Requirement, Version};
+use pb_tool_notes_pages::{Ask, Notes, Page, Pages, Role, tell_key, text_at};
+use std::alloc::{AllocError, Global};
+use toml::{Table, Value};
+
+/// Returns the version of a package, its own or the one that it inherits from the root.
+fn version_of<'a>(pages: &'a Pages, page: &'a Page) -> &'a str {
+    let own = page.package_text("version");
+    if !own.is_empty() {
+        return own;
+    }
+    let shared = pages
+        .root()
+        .and_then(|root| root.table_at("workspace"))
+        .and_then(|table| table.get("package"))
+        .and_then(Value::as_table);
+    match shared {
+        Some(table) => match text_at(table, "version") {
+            "" => "0.0.0",
+            version => version,
+        },
+        None => "0.0.0",
+    }
+}
+
+/// Returns a version or a requirement that was read, or that memory ran out.
+fn read<T: Drop>(found: Result<T, ManifestFault>) -> Result<Option<T>, AllocError> {
+    match found {
+        Ok(found) => Ok(Some(found)),
+        Err(ManifestFault::OutOfMemory) => Err(AllocError),
+        Err(_) => Ok(None),
+    }
+}
+
+/// Returns whether a version does not match a requirement. What cannot be read counts as a match.
+fn is_mismatch(alloc: Global, requirement: &str, version: &str) -> Result<bool, AllocError> {
+    let requirement = read(Requirement::read(alloc, Text::from_str(alloc, requirement)?))?;
+    let version = read(Version::read(alloc, Text::from_str(alloc, version)?))?;
+    match (requirement, version) {
+        (Some(requirement), Some(version)) => Ok(!requirement.matches(&version)),
+        _ => Ok(false),
+    }
+}
+
+/// Adds a note on an entry.
+fn tell_entry(
+    alloc: Global,
+    notes: &mut Notes,
+    pages: &Pages,
+    ask: &Ask,
+    text: &str,
+) -> Result<(), AllocError> {
+    match pages.at(ask.by.as_str()) {
+        Some(page) => tell_key(
+            alloc,
+            notes,
+            page,
+            ask.table.as_str(),
+            ask.key.as_str(),
+            text,
+        ),
+        None => Ok(()),
+    }
+}
+
+/// Adds each entry that names a package of another version.
+pub fn tell_versions(alloc: Global, notes: &mut Notes, pages: &Pages) -> Result<(), AllocError> {
+    for ask in pages.asks.as_slice() {
+        if let Some(page) = pages.at(ask.path.as_str()) {
+            let version = version_of(pages, page);
+            let wanted = ask.version.as_str();
+            if !wanted.is_empty() && is_mismatch(alloc, wanted, version)? {
+                let text = format!(in alloc;
+                    "it asks for {} {wanted}, and {} has {version}",
+                    ask.name.as_str(),
+                    page.path.as_str()
+                )?;
+                tell_entry(alloc, notes, pages, ask, text.as_str())?;
+            }
+        }
+    }
+    Ok(())
+}
+
+/// Adds each entry that names a package of another name.
+pub fn tell_names(alloc: Global, notes: &mut Notes, pages: &Pages) -> Result<(), AllocError> {
+    for ask in pages.asks.as_slice() {
+        if let Some(page) = pages.at(ask.path.as_str()) {
+            let name = page.package_text("name");
+            if ask.role == Role::Entry && name != ask.name.as_str() {
+                let text = format!(in alloc;
+                    "it leads to {}, whose name is {name} (package = \"{name}\" says so)",
+                    page.path.as_str()
+                )?;
+                tell_entry(alloc, notes, pages, ask, text.as_str())?;
+            }
+        }
+    }
+    Ok(())
+}
+
+/// Adds each manifest among some that has the same text at a key of `[package]` as another.
+fn tell_twins(
+    alloc: Global,
+    notes: &mut Notes,
+    page: &Page,
+    others: &[Page],
+    key: &str,
+) -> Result<(), AllocError> {
+    let own = page.package_text(key);
+    if own.is_empty() {
+        return Ok(());
+    }
+    for other in others {
+        if other.package_text(key) == own {
+            let text = format!(in alloc; "{own} is in {} too", other.path.as_str())?;
+            tell_key(alloc, notes, page, "package", key, text.as_str())?;
+        }
+    }
+    Ok(())
+}
+
+/// Adds each pair of manifests that have the same text at a key of `[package]`.
+pub fn tell_same(
+    alloc: Global,
+    notes: &mut Notes,
+    pages: &Pages,
+    key: &str,
+) -> Result<(), AllocError> {
+    let mut others = pages.pages.as_slice();
+    for _page in pages.pages.as_slice() {
+        if let Some((first, rest)) = others.split_first() {
+            tell_twins(alloc, notes, first, rest, key)?;
+            others = rest;
+        }
+    }
+    Ok(())
+}
+
+/// The greatest number of binaries that are compared.
+const MOST_BINARIES: usize = 256;
+
+/// Returns the index, from 1, of the first of some binaries with a name, or 0 if there is none.
+fn first_named(binaries: &[Value], name: &str) -> usize {
+    let mut number = 0usize;
+    for one in binaries {
+        number = number.saturating_add(1);
+        if let Some(table) = one.as_table() {
+            if text_at(table, "name") == name {
+                return number;
+            }
+        }
+    }
+    0
+}
+
+/// Adds each binary of a list that has the name of an earlier one.
+fn tell_same_names(
+    alloc: Global,
+    notes: &mut Notes,
+    page: &Page,
+    binaries: &[Value],
+) -> Result<(), AllocError> {
+    let mut number = 0usize;
+    for one in binaries.iter().take(MOST_BINARIES) {
+        number = number.saturating_add(1);
+        if notes.is_full() {
+            return Ok(());
+        }
+        let name = match one.as_table() {
+            Some(table) => text_at(table, "name"),
+            None => continue,
+        };
+        let first = first_named(binaries, name);
+        if first < number {
+            let way = format!(in alloc; "bin[{number}]")?;
+            let text = format!(in alloc; "{name} is the name of bin[{first}] too")?;
+            tell_key(alloc, notes, page, way.as_str(), "name", text.as_str())?;
+        }
+    }
+    Ok(())
+}
+
+/// Returns the `[[bin]]` of a manifest.
+fn binaries_of(table: &Table) -> &[Value] {
+    match table.get("bin").and_then(Value::as_array) {
+        Some(values) => values.as_slice(),
+        None => &[],
+    }
+}
+
+/// Adds each `[[bin]]` that has the name of an earlier one.
+pub fn tell_same_binaries(
+    alloc: Global,
+    notes: &mut Notes,
+    pages: &Pages,
+) -> Result<(), AllocError> {
+    for page in pages.pages.as_slice() {
+        if let Some(table) = &page.table {
+            tell_same_names(alloc, notes, page, binaries_of(table))?;
+        }
+    }
+    Ok(())
+}
