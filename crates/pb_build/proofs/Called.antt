@@ -1,7 +1,7 @@
 -- Calls before the units, in turn.
 use Rattle.std.proofs.Common.{◌≡◌, ◌∙◌, ◌++◌, ◌∷◌, inr, false, true, List, [], codes, refl, sym, ap, subst}
 use Rattle.pb_build_result.specs.declared.fault.BuildFault.{BuildFault}
-use Rattle.pb_build_result.specs.declared.fault.BuildFault.TheVariants.{Plan, Toolchain, Child, Device, Sink, OutOfMemory}
+use Rattle.pb_build_result.specs.declared.fault.BuildFault.TheVariants.{Plan, Toolchain, Device, OutOfMemory}
 use Rattle.pb_build.specs.Causes.{AskEnds, PlanStopsAt, ReadyStopsAt, StopsBefore, plan_called, ready_called, variables_asked, SpawnEnds}
 use Rattle.pb_build.specs.Environment.{environment_of}
 use Rattle.pb_build.specs.Planning.{IsProject}
@@ -50,19 +50,9 @@ abbrev Ends : LoadFault → List Call → Counts → Counts → Type 0
 Ends e names old new = (is_outside e ≡ false → new ≡ past_calls names old) × (is_failure e ≡ false → MakesSome names old new) × (is_failure e ≡ true → FailsOn e names old new)
 
 load_stops : (e : LoadFault) (names : List Call) (old new : Counts) → Ends e names old new → PlanStopsAt (unread e) names old new
-load_stops (load.NoManifest path) names old new ends = ends.0 refl
-load_stops (load.Manifest path fault) names old new ends = ends.0 refl
-load_stops load.SameName names old new ends = ends.0 refl
-load_stops load.NameMismatch names old new ends = ends.0 refl
-load_stops load.VersionMismatch names old new ends = ends.0 refl
-load_stops load.LinksTwice names old new ends = ends.0 refl
-load_stops load.LinksWithoutScript names old new ends = ends.0 refl
-load_stops load.NoInherited names old new ends = ends.0 refl
-load_stops load.TooMany names old new ends = ends.0 refl
-load_stops load.SameBinary names old new ends = ends.0 refl
 load_stops (load.Place path fault) names old new ends = ends.2 refl
-load_stops load.NoSuchPackage names old new ends = ends.0 refl
 load_stops load.OutOfMemory names old new ends = ends.1 refl
+load_stops _ names old new ends = ends.0 refl
 
 pub unread_stops : (e : LoadFault) (told : BuildFault) (names : List Call) (old new : Counts) → told ≡ unread e → Ends e names old new → PlanStopsAt told names old new
 unread_stops e told names old new is ends = subst (λ f. PlanStopsAt f names old new) (sym is) (load_stops e names old new ends)
@@ -70,29 +60,19 @@ unread_stops e told names old new is ends = subst (λ f. PlanStopsAt f names old
 -- one that was read, and of which no plan is made
 pub refused_stops : (options : Options) (ws : Workspace) (e : BuildFault) (names : List Call) (old new : Counts) → IsRefusedOf options ws e → new ≡ past_calls names old → PlanStopsAt e names old new
 refused_stops options ws (Plan why) names old new may made = made
-refused_stops options ws Toolchain names old new may made = absurd may
-refused_stops options ws (Child unit fault) names old new may made = absurd may
-refused_stops options ws (Device name fault) names old new may made = absurd may
-refused_stops options ws Sink names old new may made = absurd may
 refused_stops options ws OutOfMemory names old new may made = memory_last names old new made
+refused_stops options ws _ names old new may made = absurd may
 
 -- the variables, and then the workspace
 pub plan_first : (e : BuildFault) (a b : List Call) (old new : Counts) → StopsAt e a old new → PlanStopsAt e (a ++ b) old new
-plan_first (Plan why) a b old new is = absurd is
-plan_first Toolchain a b old new is = absurd is
-plan_first (Child unit fault) a b old new is = absurd is
 plan_first (Device unit fault) a b old new is = stops_first (Device unit fault) a b old new is
-plan_first Sink a b old new is = absurd is
 plan_first OutOfMemory a b old new is = stops_first OutOfMemory a b old new is
+plan_first _ a b old new is = absurd is
 
 -- the query
 pub ask_stops : (e : BuildFault) (old new : Counts) → SpawnEnds e old new → AskEnds e old new
-ask_stops (Plan why) old new is = is
 ask_stops Toolchain old new is = absurd is
-ask_stops (Child unit fault) old new is = is
-ask_stops (Device unit fault) old new is = is
-ask_stops Sink old new is = is
-ask_stops OutOfMemory old new is = is
+ask_stops _ old new is = is
 
 pub ruleset ask_laws = (ask_stops)
 

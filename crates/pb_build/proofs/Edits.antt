@@ -54,9 +54,7 @@ edit_alike target (Remove path) v w stay =
 edit_alike target (Set name value) v w stay =
     stay_by target (set name value v) (set name value w) (stay_at target v w stay) (ap (λ (m : Map). insert m name value) (same_variables target v w stay))
 edit_alike target (Unset name) v w stay = stay_by target (unset name v) (unset name w) (stay_at target v w stay) (ap (λ (m : Map). remove m name) (same_variables target v w stay))
-edit_alike target (Build o pick) v w stay = stay
-edit_alike target (Die key death) v w stay = stay
-edit_alike target (Fuse number) v w stay = stay
+edit_alike target _ v w stay = stay
 
 -- the sources are those of the edits
 sources_edited : (child : Answers) (target : List ℕ) (steps : List SessionStep) (v : World) (before after : Point) → SourcesStay target v before.moment.world → OneTarget target steps v → Course child steps before after

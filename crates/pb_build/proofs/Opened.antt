@@ -65,12 +65,8 @@ named_among fault (call ∷ calls) old new real (inr is) =
     record { call = rest.call; among = contains_tail call calls rest.call rest.among; own = rest.own; given = rest.given }
 
 is_real : (fault : PlaceFault) → (fault ≡ place.OutOfMemory) ⊎ (fault ≢ place.OutOfMemory)
-is_real place.Read = inr (λ e. cc)
-is_real place.List = inr (λ e. cc)
-is_real place.Write = inr (λ e. cc)
-is_real place.Remove = inr (λ e. cc)
-is_real place.Variable = inr (λ e. cc)
 is_real place.OutOfMemory = inl refl
+is_real _ = inr (λ e. cc)
 
 module _ (child : Answers) (options : Options) (w : World) (folder : List ℕ) (same : (project : Project) → IsProject options (environment_of options w.variables).target w project → records_folder project ≡ folder) where
   pub names_opened : (fault : BuildFault) (old new : Counts) → FailsBefore true child options fault w old new → StopsBefore options w fault old new → NamesOpened folder w fault old.starts new.starts

@@ -5,7 +5,7 @@ use Rattle.pb_feature.specs.declared.fault.FeatureFault.{FeatureFault}
 use Rattle.pb_feature_types.specs.declared.features.Features.{Features}
 use Rattle.pb_place_types.specs.World.{World}
 use Rattle.pb_build_result.specs.declared.fault.BuildFault.{BuildFault}
-use Rattle.pb_build_result.specs.declared.fault.BuildFault.TheVariants.{Plan, Toolchain, Child, Device, Sink, OutOfMemory}
+use Rattle.pb_build_result.specs.declared.fault.BuildFault.TheVariants.{Plan, OutOfMemory}
 use Rattle.pb_build_result.specs.declared.fault.Refusal.{Refusal}
 use Rattle.pb_build_result.specs.declared.fault.Refusal.TheVariants as refusal
 use Rattle.pb_unit.specs.Plan as plan
@@ -24,19 +24,9 @@ use Rattle.pb_build.specs.Private as private
 
 -- a workspace that cannot be read
 pub unread_told : (options : Options) (target : List ℕ) (w : World) (fault : LoadFault) → (is_outside fault ≡ false → workspace_of options.manifest target w ≡ Err fault) → IsToldRefusal options target w (unread fault)
-unread_told options target w (load.NoManifest path) told = by_load (load.NoManifest path) (told refl)
-unread_told options target w (load.Manifest path fault) told = by_load (load.Manifest path fault) (told refl)
-unread_told options target w load.SameName told = by_load load.SameName (told refl)
-unread_told options target w load.NameMismatch told = by_load load.NameMismatch (told refl)
-unread_told options target w load.VersionMismatch told = by_load load.VersionMismatch (told refl)
-unread_told options target w load.LinksTwice told = by_load load.LinksTwice (told refl)
-unread_told options target w load.LinksWithoutScript told = by_load load.LinksWithoutScript (told refl)
-unread_told options target w load.NoInherited told = by_load load.NoInherited (told refl)
-unread_told options target w load.TooMany told = by_load load.TooMany (told refl)
-unread_told options target w load.SameBinary told = by_load load.SameBinary (told refl)
 unread_told options target w (load.Place path fault) told = tt
-unread_told options target w load.NoSuchPackage told = by_load load.NoSuchPackage (told refl)
 unread_told options target w load.OutOfMemory told = tt
+unread_told options target w refused told = by_load refused (told refl)
 
 -- a workspace that was read and has no project
 pub unselected : (options : Options) (ws : Workspace) (e : BuildFault) → (e ≡ OutOfMemory) ⊎ ((fault : LoadFault) × (e ≡ Plan (refusal.Load fault)) × (selected ws options ≡ Err fault)) → IsRefusedOf options ws e
@@ -65,17 +55,10 @@ no_project options target w ws _ read (private.by_plan fault selection features 
 
 pub refused_there : (options : Options) (target : List ℕ) (w : World) (ws : Workspace) (e : BuildFault) → workspace_of options.manifest target w ≡ Ok ws → IsRefusedOf options ws e → IsToldRefusal options target w e
 refused_there options target w ws (Plan why) read told = no_project options target w ws why read told
-refused_there options target w ws Toolchain read told = absurd told
-refused_there options target w ws (Child unit fault) read told = absurd told
-refused_there options target w ws (Device name fault) read told = absurd told
-refused_there options target w ws Sink read told = absurd told
 refused_there options target w ws OutOfMemory read told = tt
+refused_there options target w ws _ read told = absurd told
 
 -- a fault that is no refusal
 pub unrefused_told : (options : Options) (target : List ℕ) (w : World) (e : BuildFault) → IsUnrefused e → IsToldRefusal options target w e
 unrefused_told options target w (Plan why) none = absurd none
-unrefused_told options target w Toolchain none = tt
-unrefused_told options target w (Child unit fault) none = tt
-unrefused_told options target w (Device name fault) none = tt
-unrefused_told options target w Sink none = tt
-unrefused_told options target w OutOfMemory none = tt
+unrefused_told options target w _ none = tt

@@ -60,10 +60,8 @@ module _ (p : Project) (g : Features) (names : (o : ℕ) (s : Side) → features
 
   own_same : (setup : Setup) (u : Planned) (done : List (Option (List Directive))) (k : Package) (w : What) → own_pairs setup p u done k w ≡ own_pairs setup other u done k w
   unfolding passed_at
-  own_same setup u done k Lib = refl
-  own_same setup u done k (Bin name) = refl
-  own_same setup u done k Script = refl
   own_same setup u done k Run = ap (λ (fs : List (List ℕ)). (links_pairs k.links ++ map feature_pair fs) ++ building_pairs setup p u ++ passed_pairs p u done) (names u.unit.owner u.unit.side)
+  own_same setup u done k _ = refl
 
   by_same : (setup : Setup) (u : Planned) (done : List (Option (List Directive))) (k : Package) (w : What) → u.unit.what ≡ w → command_by w setup p u done k ≡ command_by w setup other u done k
   by_same setup u done k w is = by w

@@ -1,7 +1,7 @@
 -- A build of a given plan, whatever its moment and options are: it need not be a plan of this world.
 use Rattle.std.specs.Prelude.{◌≡◌, ◌⊎◌, ℕ, Bool, max, List, Some, None, IsTrue, Result, Ok, Err}
 use Rattle.pb_build_result.specs.declared.fault.BuildFault.{BuildFault}
-use Rattle.pb_build_result.specs.declared.fault.BuildFault.TheVariants.{Plan, Toolchain, Child, Device, Sink, OutOfMemory}
+use Rattle.pb_build_result.specs.declared.fault.BuildFault.TheVariants.{Toolchain}
 use Rattle.pb_build_result.specs.declared.summary.Summary.{Summary}
 use Rattle.pb_run_flight.specs.Steps.{TurnsOfJobs}
 use Rattle.pb_run_flight.specs.declared.turn.First.{First}
@@ -36,12 +36,8 @@ pub record IsReadyFor (child : Answers) (options : Options) (environment : Envir
 
 -- the fault that the compiler does not report its version comes only if that is so
 abbrev pub IsSilentFault : Answers → Environment → Project → World → BuildFault → Type 0
-IsSilentFault child environment project w (Plan why) = Unit {0}
 IsSilentFault child environment project w Toolchain = toolchain_of child environment project (from_nothing project.workspace.target w) ≡ None
-IsSilentFault child environment project w (Child unit fault) = Unit {0}
-IsSilentFault child environment project w (Device name fault) = Unit {0}
-IsSilentFault child environment project w Sink = Unit {0}
-IsSilentFault child environment project w OutOfMemory = Unit {0}
+IsSilentFault child environment project w _ = Unit {0}
 
 -- a plan's units were prepared, over the plan's own environment and project:
 -- the compiler answered the query, the project's records were opened, and nothing was changed or written

@@ -33,12 +33,10 @@ MayPlan OutOfMemory old new = new ≡ old
 
 -- the faults that may end the query
 abbrev pub MayAsk : BuildFault → Starts → Starts → Type 0
-MayAsk (Plan why) old new = ⊥
 MayAsk Toolchain old new = new ≡ up_starts old
 MayAsk (Child unit fault) old new = (unit ≡ codes "-vV") × (new ≡ up_starts old)
-MayAsk (Device unit fault) old new = ⊥
-MayAsk Sink old new = ⊥
 MayAsk OutOfMemory old new = (new ≡ old) ⊎ (new ≡ up_starts old)
+MayAsk _ old new = ⊥
 
 -- the faults that may end the query, or what comes after it, in which the folder of the records is looked at
 abbrev pub MayReady : BuildFault → Starts → Starts → Type 0
@@ -52,12 +50,8 @@ MayReady OutOfMemory old new = (new ≡ old) ⊎ (new ≡ up_starts old)
 
 -- a fault of a call on this path or variable names it
 abbrev pub Names : BuildFault → Counts → Type 0
-Names (Plan why) new = Unit {0}
-Names Toolchain new = Unit {0}
-Names (Child unit fault) new = Unit {0}
 Names (Device name fault) new = named_in new ≡ name
-Names Sink new = Unit {0}
-Names OutOfMemory new = Unit {0}
+Names _ new = Unit {0}
 
 abbrev pub NamesCall : {T : Type 0} → Result T BuildFault → Counts → Type 0
 NamesCall result new = MatchResult result (λ _. Unit {0}) (λ e. Names e new)
@@ -65,10 +59,8 @@ NamesCall result new = MatchResult result (λ _. Unit {0}) (λ e. Names e new)
 -- How a child is started for the query.
 
 abbrev pub child_fault : List ℕ → StartFault → BuildFault
-child_fault unit start.CannotStart = Child unit start.CannotStart
-child_fault unit start.Died = Child unit start.Died
-child_fault unit start.Capture = Child unit start.Capture
 child_fault unit start.OutOfMemory = OutOfMemory
+child_fault unit fault = Child unit fault
 
 -- how a step moves the counters:
 -- - if it succeeds, no call failed, and it started the children that `Begins` says
@@ -81,12 +73,9 @@ OneStart x old new = new ≡ up_starts old
 
 -- the faults that may end a step that starts a child of this name
 abbrev pub MayStart : List ℕ → BuildFault → Starts → Starts → Type 0
-MayStart name (Plan refusal) old new = ⊥
-MayStart name Toolchain old new = ⊥
 MayStart name (Child unit fault) old new = (unit ≡ name) × (new ≡ up_starts old)
-MayStart name (Device unit fault) old new = ⊥
-MayStart name Sink old new = ⊥
 MayStart name OutOfMemory old new = (new ≡ old) ⊎ (new ≡ up_starts old)
+MayStart name _ old new = ⊥
 
 -- a child was started and has ended, by one call
 abbrev pub RunsOnce : {T : Type 0} → T → Counts → Counts → Type 0

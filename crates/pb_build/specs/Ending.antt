@@ -133,10 +133,7 @@ abbrev pub Closes : Result Summary BuildFault → Result Summary BuildFault → 
 Closes (Ok summary) result old new = Finishes (finish_line summary.success) (Ok summary) result old new
 Closes (Err (Plan why)) result old new = (result ≡ Err (Plan why)) × (new ≡ old)
 Closes (Err Sink) result old new = (result ≡ Err Sink) × (new ≡ old)
-Closes (Err Toolchain) result old new = Finishes (finish_line false) (Err Toolchain) result old new
-Closes (Err (Child key fault)) result old new = Finishes (finish_line false) (Err (Child key fault)) result old new
-Closes (Err (Device key fault)) result old new = Finishes (finish_line false) (Err (Device key fault)) result old new
-Closes (Err OutOfMemory) result old new = Finishes (finish_line false) (Err OutOfMemory) result old new
+Closes (Err fault) result old new = Finishes (finish_line false) (Err fault) result old new
 
 -- The whole.
 

@@ -8,7 +8,7 @@ use Rattle.pb_place_types.specs.World.{World, Map, Answers}
 use Rattle.pb_run.specs.UnitSteps.{TrustedRecords}
 use Rattle.pb_build_session.specs.declared.pick.PickBy.{PickBy}
 use Rattle.pb_build_session.specs.declared.step.SessionStep.{SessionStep}
-use Rattle.pb_build_session.specs.declared.step.SessionStep.TheVariants.{Write, Remove, Set, Unset, Build, Die, Fuse}
+use Rattle.pb_build_session.specs.declared.step.SessionStep.TheVariants.{Write, Remove, Build}
 use Rattle.pb_store_soundness.specs.Records.{record_at, reading}
 use Rattle.pb_store_soundness.specs.Sound.{Sound}
 use Rattle.pb_build.specs.Headline.{records_of, IsHonestBuild, UnitsOf, GivesCleanResult}
@@ -24,11 +24,8 @@ ShareNoPath folder other = (q : List ℕ) → is_at_or_below folder q ≡ true �
 abbrev pub Spares : Answers → List ℕ → SessionStep → World → Type 0
 Spares child folder (Write path text) w = is_at_or_below folder path ≡ false
 Spares child folder (Remove path) w = (is_at_or_below path folder ≡ true) ⊎ ShareNoPath folder path
-Spares child folder (Set name value) w = ⊤
-Spares child folder (Unset name) w = ⊤
-Spares child folder (Die key death) w = ⊤
-Spares child folder (Fuse number) w = ⊤
 Spares child folder (Build options pick) w = UnitsOf child options w → ((records_of options w.variables ≡ folder) × IsHonestBuild child options w) ⊎ ShareNoPath folder (records_of options w.variables)
+Spares child folder _ w = ⊤
 
 -- the steps were taken in turn, and each spares the records of a folder
 abbrev pub SparingCourse : Answers → List ℕ → List SessionStep → Point → Point → Type 0

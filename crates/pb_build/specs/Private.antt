@@ -1,7 +1,7 @@
 -- What private functions of the build promise to one another. Nothing here is needed to read what a build produces.
 use Rattle.std.specs.Prelude.{◌≡◌, Ok, Err}
 use Rattle.pb_build_result.specs.declared.fault.BuildFault.{BuildFault}
-use Rattle.pb_build_result.specs.declared.fault.BuildFault.TheVariants.{Plan, Toolchain, Child, Device, Sink, OutOfMemory}
+use Rattle.pb_build_result.specs.declared.fault.BuildFault.TheVariants.{Plan, Device, OutOfMemory}
 use Rattle.pb_build_result.specs.declared.fault.DeviceFault.TheVariants as device
 use Rattle.pb_build_result.specs.declared.fault.Refusal.{Refusal}
 use Rattle.pb_build_result.specs.declared.fault.Refusal.TheVariants as refusal
@@ -24,27 +24,13 @@ use Rattle.pb_build.specs.Planning.{IsFeatured}
 -- a fault that is no refusal
 abbrev pub IsUnrefused : BuildFault → Type 0
 IsUnrefused (Plan why) = ⊥
-IsUnrefused Toolchain = Unit {0}
-IsUnrefused (Child unit fault) = Unit {0}
-IsUnrefused (Device name fault) = Unit {0}
-IsUnrefused Sink = Unit {0}
-IsUnrefused OutOfMemory = Unit {0}
+IsUnrefused _ = Unit {0}
 
 -- the fault of a build whose workspace cannot be read
 abbrev pub unread : LoadFault → BuildFault
-unread (load.NoManifest path) = Plan (refusal.Load (load.NoManifest path))
-unread (load.Manifest path fault) = Plan (refusal.Load (load.Manifest path fault))
-unread load.SameName = Plan (refusal.Load load.SameName)
-unread load.NameMismatch = Plan (refusal.Load load.NameMismatch)
-unread load.VersionMismatch = Plan (refusal.Load load.VersionMismatch)
-unread load.LinksTwice = Plan (refusal.Load load.LinksTwice)
-unread load.LinksWithoutScript = Plan (refusal.Load load.LinksWithoutScript)
-unread load.NoInherited = Plan (refusal.Load load.NoInherited)
-unread load.TooMany = Plan (refusal.Load load.TooMany)
-unread load.SameBinary = Plan (refusal.Load load.SameBinary)
 unread (load.Place path fault) = Device path (device.Place fault)
-unread load.NoSuchPackage = Plan (refusal.Load load.NoSuchPackage)
 unread load.OutOfMemory = OutOfMemory
+unread refused = Plan (refusal.Load refused)
 
 -- why a workspace that was read has no project
 pub data HasNoProject (options : Options) (ws : Workspace) : Refusal → Type 0 where
@@ -55,11 +41,8 @@ pub data HasNoProject (options : Options) (ws : Workspace) : Refusal → Type 0 
 
 abbrev pub IsRefusedOf : Options → Workspace → BuildFault → Type 0
 IsRefusedOf options ws (Plan why) = HasNoProject options ws why
-IsRefusedOf options ws Toolchain = ⊥
-IsRefusedOf options ws (Child unit fault) = ⊥
-IsRefusedOf options ws (Device name fault) = ⊥
-IsRefusedOf options ws Sink = ⊥
 IsRefusedOf options ws OutOfMemory = Unit {0}
+IsRefusedOf options ws _ = ⊥
 
 -- the fault of a store that cannot be opened
 abbrev pub unopened : OpenFault → BuildFault

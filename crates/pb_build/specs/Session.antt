@@ -89,13 +89,8 @@ Course child (step ∷ steps) before after = (mid : Point) × Carries child step
 -- memory ran out at a step: if it is a build, it is carried
 -- out, but its answer is not noted; any other step does nothing
 abbrev pub Loses : Answers → SessionStep → Point → Point → Type 0
-Loses child (Write path text) before left = left ≡ before
-Loses child (Remove path) before left = left ≡ before
-Loses child (Set name value) before left = left ≡ before
-Loses child (Unset name) before left = left ≡ before
-Loses child (Die key death) before left = left ≡ before
-Loses child (Fuse number) before left = left ≡ before
 Loses child (Build options pick) before left = (ended : Point) × CarriesBuild child options pick before ended × (left ≡ record ended { answers = before.answers })
+Loses child _ before left = left ≡ before
 
 -- memory ran out at one of the steps; those before it were taken in turn
 abbrev pub Breaks : Answers → List SessionStep → Point → Point → Type 0
@@ -108,9 +103,7 @@ edit (Write path text) w = written path text w
 edit (Remove path) w = removed path w
 edit (Set name value) w = set name value w
 edit (Unset name) w = unset name w
-edit (Build options pick) w = w
-edit (Die key death) w = w
-edit (Fuse number) w = w
+edit _ w = w
 
 -- the present workspace: what the edits among some steps have made of the world
 abbrev pub edited : List SessionStep → World → World
@@ -119,13 +112,8 @@ edited (step ∷ steps) w = edited steps (edit step w)
 
 -- a build uses this target folder; other steps use none
 abbrev pub UsesTarget : List ℕ → SessionStep → World → Type 0
-UsesTarget target (Write path text) w = ⊤
-UsesTarget target (Remove path) w = ⊤
-UsesTarget target (Set name value) w = ⊤
-UsesTarget target (Unset name) w = ⊤
-UsesTarget target (Die key death) w = ⊤
-UsesTarget target (Fuse number) w = ⊤
 UsesTarget target (Build options pick) w = (environment_of options w.variables).target ≡ target
+UsesTarget target _ w = ⊤
 
 -- all builds among some steps have one target folder
 abbrev pub OneTarget : List ℕ → List SessionStep → World → Type 0

@@ -71,10 +71,8 @@ ends_by None lines ss rest =
     )
 
 ends_are : (states : List (State BadUnit)) → Ends states
-ends_are [] = (refl, refl)
-ends_are (Untouched ∷ ss) = (refl, refl)
-ends_are (Begun ∷ ss) = (refl, refl)
 ends_are (Answered answer ∷ ss) = ends_by answer.fault answer.lines ss (ends_are ss)
+ends_are _ = (refl, refl)
 
 pub ends_are_these : EndsAreThese
 ends_are_these states = ends_are states

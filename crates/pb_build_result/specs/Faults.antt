@@ -1,16 +1,13 @@
 -- Which faults come from outside the rules; a definition of a build's answer says nothing about them.
 use Rattle.std.specs.Prelude.{◌≡◌, Bool, true, false, Result, MatchResult, Ok, Err}
 use Rattle.pb_build_result.specs.declared.fault.BuildFault.{BuildFault}
-use Rattle.pb_build_result.specs.declared.fault.BuildFault.TheVariants.{Plan, Toolchain, Child, Device, Sink, OutOfMemory}
+use Rattle.pb_build_result.specs.declared.fault.BuildFault.TheVariants.{Plan, Toolchain}
 
 -- the outside failed, or memory ran out
 abbrev pub is_outside : BuildFault → Bool
 is_outside (Plan r) = false
 is_outside Toolchain = false
-is_outside (Child unit fault) = true
-is_outside (Device unit fault) = true
-is_outside Sink = true
-is_outside OutOfMemory = true
+is_outside _ = true
 
 -- the result is the answer, unless the outside failed or memory ran out
 abbrev pub UnlessFailed : {A : Type 0} → Result A BuildFault → Result A BuildFault → Type 0

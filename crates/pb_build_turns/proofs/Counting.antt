@@ -262,13 +262,10 @@ came_answering project next key launched OutOfMemory old new may es = inl refl
 -- it names the unit
 pub names_answering : (project : Project) (next : Option ℕ) (unit : ℕ) (u : Planned) (launched : Option SpawnedChild) (e : BuildFault) (old new : Starts) → unit_at project unit ≡ Some u → MayAnswerUnit next u.key launched e old new → (es : List (Event BadUnit))
     → NamesUnit project e (Some unit) es es
-names_answering project next unit u launched (Plan why) old new there may es = tt
-names_answering project next unit u launched Toolchain old new there may es = tt
 names_answering project next unit u launched (Child key fault) old new there may es = (ap key_in there ∙ ap (λ (k : List ℕ). k ∷ []) (sym may.0), refl)
 names_answering project next unit u launched (Device key (Place fault)) old new there may es = (ap key_in there ∙ ap (λ (k : List ℕ). k ∷ []) (sym may.0), refl)
 names_answering project next unit u launched (Device key NumbersSpent) old new there may es = (ap key_in there ∙ ap (λ (k : List ℕ). k ∷ []) (sym may.0), refl)
-names_answering project next unit u launched Sink old new there may es = tt
-names_answering project next unit u launched OutOfMemory old new there may es = tt
+names_answering project next unit u launched _ old new there may es = tt
 
 module _ (project : Project) (first now new : BuildState) (started : List ℕ) (running : List RunningUnit) (es : List (Event BadUnit)) (given : ℕ) (goes : CountersSoFar project first now started running es given)
     (is_given : given ≡ count_due (states_in project es)) (index : ℕ) (a : RunningUnit) (at : slice_get running index ≡ Some a) (begun : slice_get (states_in project es) a.unit ≡ Some Begun) (heard : new.heard ≡ now.heard) where
@@ -313,13 +310,11 @@ module _ (project : Project) (first now new : BuildState) (started : List ℕ) (
     }
 
     by_fault : (next : Option ℕ) (e : BuildFault) → MayAnswerUnit next u.key (child_of a.begun) e now.counts.starts new.counts.starts → StopsBy is_modelled e project first new es
-    by_fault next (Plan why) may = absurd may
-    by_fault next Toolchain may = absurd may
     by_fault next (Child key fault) may = stops_there key may.0
     by_fault next (Device key (Place fault)) may = stops_there key may.0
     by_fault next (Device key NumbersSpent) may = stops_there key may.0
-    by_fault next Sink may = absurd may
     by_fault next OutOfMemory may = ((given, lines_same given goes.lines), faults_same)
+    by_fault next _ may = absurd may
 
     pub stops_answered : (next : Option ℕ) (e : BuildFault) → MayAnswerUnit next u.key (child_of a.begun) e now.counts.starts new.counts.starts → HasCause e now.counts new.counts → Stops is_modelled e project first new es
     stops_answered next e may cause = record {

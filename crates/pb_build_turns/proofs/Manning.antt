@@ -5,7 +5,7 @@ use Rattle.std.proofs.lemmas.List.{map-append}
 use Rattle.std.specs.List.{AllByRecursion, remove}
 use Rattle.std.specs.Prelude.{IfSome}
 use Rattle.pb_build_result.specs.declared.fault.BuildFault.{BuildFault}
-use Rattle.pb_build_result.specs.declared.fault.BuildFault.TheVariants.{Plan, Toolchain, Child, Device, Sink, OutOfMemory}
+use Rattle.pb_build_result.specs.declared.fault.BuildFault.TheVariants.{Child, Device, OutOfMemory}
 use Rattle.pb_build_result.specs.declared.fault.DeviceFault.TheVariants.{Place, NumbersSpent}
 use Rattle.pb_run_flight.specs.Events as events
 use Rattle.pb_run_flight.proofs.Lists.{contains_none, contains_head, contains_tail, contains_cases}
@@ -43,23 +43,19 @@ own_before number = by (number == 0xffff_ffff_ffff_ffff)
 
 -- a fault of a beginning leaves what flies, and one of an answer lands its child
 pub begin_fault_flies : (next : Option ℕ) (key : List ℕ) (e : BuildFault) (old new : Starts) → MayBeginUnit next key e old new → new.flying ≡ old.flying
-begin_fault_flies next key (Plan why) old new may = absurd may
-begin_fault_flies next key Toolchain old new may = absurd may
 begin_fault_flies next key (Child unit fault) old new may = ap (λ (s : Starts). s.flying) may.2
 begin_fault_flies next key (Device unit (Place fault)) old new may = ap (λ (s : Starts). s.flying) may.2
 begin_fault_flies next key (Device unit NumbersSpent) old new may = ap (λ (s : Starts). s.flying) may.2
-begin_fault_flies next key Sink old new may = absurd may
 begin_fault_flies next key OutOfMemory old new (inl same) = ap (λ (s : Starts). s.flying) same
 begin_fault_flies next key OutOfMemory old new (inr more) = ap (λ (s : Starts). s.flying) more
+begin_fault_flies next key _ old new may = absurd may
 
 pub answer_fault_lands : (next : Option ℕ) (key : List ℕ) (launched : Option SpawnedChild) (e : BuildFault) (old new : Starts) → MayAnswerUnit next key launched e old new → LandsBy launched old new
-answer_fault_lands next key launched (Plan why) old new may = absurd may
-answer_fault_lands next key launched Toolchain old new may = absurd may
 answer_fault_lands next key launched (Child unit fault) old new may = may.3
 answer_fault_lands next key launched (Device unit (Place fault)) old new may = may.2
 answer_fault_lands next key launched (Device unit NumbersSpent) old new may = subst (λ l. LandsBy l old new) (sym may.2) may.3
-answer_fault_lands next key launched Sink old new may = absurd may
 answer_fault_lands next key launched OutOfMemory old new may = may
+answer_fault_lands next key launched _ old new may = absurd may
 
 -- a ticket that no child in flight has is none of theirs
 free_ticket : (ticket : ℕ) (flying : List ChildInFlight) → is_flying ticket flying ≡ false → AllByRecursion (λ t. t ≢ ticket) (map ticket_of_child flying)

@@ -7,7 +7,7 @@ use Rattle.pb_graph.proofs.Membership.{all_at}
 use Rattle.pb_place_types.specs.Paths.{is_path}
 use Rattle.pb_unit.specs.declared.plan.Planned.{Planned}
 use Rattle.pb_unit.specs.declared.unit.What.{What}
-use Rattle.pb_unit.specs.declared.unit.What.TheVariants.{Lib, Bin, Script, Run}
+use Rattle.pb_unit.specs.declared.unit.What.TheVariants.{Run}
 use Rattle.pb_workspace_types.specs.declared.package.Package.{Package}
 use Rattle.pb_command_types.specs.declared.project.Project.{Project}
 use Rattle.pb_command_types.specs.declared.project.Setup.{Setup}
@@ -26,10 +26,8 @@ module _ (project : Project) (has : HasPaths project) where
   all_read (place ∷ places) = All-append (λ folder. is_path folder ≡ true) (read_at project place) (flat_map (read_at project) places) (one_read place (unit_at project place) refl) (all_read places)
 
   of_what : (what : What) (setup : Setup) (unit : Planned) (done : List (Option (List Directive))) (p : Package) → is_path unit.out ≡ true → is_path p.folder ≡ true → IsAbsolute (command_by what setup project unit done p)
-  of_what Lib setup unit done p out folder = record { folder = has.root; target = has.target; out = out; reads = all_read unit.reaches }
-  of_what (Bin name) setup unit done p out folder = record { folder = has.root; target = has.target; out = out; reads = all_read unit.reaches }
-  of_what Script setup unit done p out folder = record { folder = has.root; target = has.target; out = out; reads = all_read unit.reaches }
   of_what Run setup unit done p out folder = record { folder = folder; target = has.target; out = out; reads = all_read unit.reaches }
+  of_what _ setup unit done p out folder = record { folder = has.root; target = has.target; out = out; reads = all_read unit.reaches }
 
   of_package : (owner : Option Package) (setup : Setup) (unit : Planned) (done : List (Option (List Directive))) → slice_get project.workspace.packages unit.unit.owner ≡ owner → is_path unit.out ≡ true → IsAbsolute (command_for setup project unit done owner)
   of_package None setup unit done is out = record { folder = has.root; target = has.target; out = tt; reads = All-from_recursion (λ folder. is_path folder ≡ true) [] tt }

@@ -5,7 +5,7 @@ use Rattle.pb_directive.specs.declared.directive.Directive.{Directive}
 use Rattle.pb_place_types.specs.declared.command.Command.{Command}
 use Rattle.pb_unit.specs.declared.plan.Planned.{Planned}
 use Rattle.pb_unit.specs.declared.unit.What.{What}
-use Rattle.pb_unit.specs.declared.unit.What.TheVariants.{Lib, Bin, Script, Run}
+use Rattle.pb_unit.specs.declared.unit.What.TheVariants.{Run}
 use Rattle.pb_workspace_types.specs.declared.package.Package.{Package}
 use Rattle.pb_command_types.specs.declared.project.Project.{Project}
 use Rattle.pb_command_types.specs.declared.project.Setup.{Setup}
@@ -81,10 +81,8 @@ run_of setup project unit done p = record {
 }
 
 abbrev pub command_by : What → Setup → Project → Planned → List (Option (List Directive)) → Package → Command
-command_by Lib setup project unit done p = compile_of setup project unit done p
-command_by (Bin name) setup project unit done p = compile_of setup project unit done p
-command_by Script setup project unit done p = compile_of setup project unit done p
 command_by Run setup project unit done p = run_of setup project unit done p
+command_by _ setup project unit done p = compile_of setup project unit done p
 
 -- a filler for the command of a unit whose package does not exist; a plan has no such unit
 abbrev pub nothing_of : Setup → Project → Command

@@ -83,10 +83,8 @@ entry_extern project unit n entry =
 
 -- for a binary: its own library
 abbrev pub own_extern : Project → Planned → What → List (List ℕ × List ℕ)
-own_extern project unit Lib = []
 own_extern project unit (Bin name) = extern (library_name_at project unit.unit.owner) (library_file project unit unit.unit.owner)
-own_extern project unit Script = []
-own_extern project unit Run = []
+own_extern project unit _ = []
 
 -- all libraries of a unit
 abbrev pub externs : Project → Planned → Package → List (List ℕ × List ℕ)

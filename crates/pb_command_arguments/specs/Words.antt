@@ -22,7 +22,7 @@ use Rattle.pb_profile.specs.declared.settings.Settings.{Settings}
 use Rattle.pb_feature_types.specs.Features.{features_at}
 use Rattle.pb_unit.specs.declared.plan.Planned.{Planned}
 use Rattle.pb_unit.specs.declared.unit.What.{What}
-use Rattle.pb_unit.specs.declared.unit.What.TheVariants.{Lib, Bin, Script, Run}
+use Rattle.pb_unit.specs.declared.unit.What.TheVariants.{Bin}
 use Rattle.pb_workspace_types.specs.declared.package.Package.{Package}
 use Rattle.pb_command_types.specs.declared.project.Project.{Project}
 use Rattle.pb_command_types.specs.Targets.{crate_name_of, crate_types, source_by}
@@ -108,10 +108,8 @@ lto_text_words lto.Off = setting (codes "lto=") (codes "off")
 
 -- the same for a binary; nothing for other units
 abbrev pub lto_words : What → Lto → List (List ℕ)
-lto_words Lib l = []
 lto_words (Bin name) l = lto_text_words l
-lto_words Script l = []
-lto_words Run l = []
+lto_words _ l = []
 
 unfoldable pub level_words : OptLevel → List (List ℕ)
 level_words level = setting (codes "opt-level=") (opt_level_text level)

@@ -128,10 +128,7 @@ triple_of toolchain = first_host (lines_of toolchain)
 
 abbrev pub is_debugged : DebugInfo → Bool
 is_debugged debug_info.Nothing = false
-is_debugged debug_info.Limited = true
-is_debugged debug_info.Full = true
-is_debugged debug_info.LineTablesOnly = true
-is_debugged debug_info.LineDirectivesOnly = true
+is_debugged _ = true
 
 abbrev pub truth_text : Bool → List ℕ
 truth_text true = codes "true"

@@ -11,7 +11,7 @@ use Rattle.pb_workspace_types.specs.declared.package.Package.{Package}
 use Rattle.pb_place_types.specs.Paths.{is_path}
 use Rattle.pb_unit.specs.declared.plan.Planned.{Planned}
 use Rattle.pb_unit.specs.declared.unit.What.{What}
-use Rattle.pb_unit.specs.declared.unit.What.TheVariants.{Lib, Bin, Script, Run}
+use Rattle.pb_unit.specs.declared.unit.What.TheVariants.{Run}
 use Rattle.pb_command_types.specs.Targets.{package_of, crate_name_of, crate_types, source_by, is_run, said_at, own_said}
 use Rattle.pb_command_types.specs.declared.project.Project.{Project}
 use Rattle.pb_command_types.specs.declared.project.Setup.{Setup}
@@ -96,10 +96,8 @@ module _ (project : Project) (unit : Planned) (done : List (Option (List Directi
   }
 
 by_what : (what : What) (setup : Setup) (project : Project) (unit : Planned) (done : List (Option (List Directive))) (p : Package) → is_run what ≡ false → (command_by what setup project unit done p).words ≡ words_of setup project unit done p
-by_what Lib setup project unit done p compiles = refl
-by_what (Bin name) setup project unit done p compiles = refl
-by_what Script setup project unit done p compiles = refl
 by_what Run setup project unit done p compiles = absurd (cc)
+by_what _ setup project unit done p compiles = refl
 
 pub compiles_say : CompilesSay
 compiles_say setup project unit done p settled there compiles absolute = (

@@ -125,10 +125,8 @@ lto_text_gives lto.Thin = setting_gives (codes "lto=") (codes "thin")
 lto_text_gives lto.Off = setting_gives (codes "lto=") (codes "off")
 
 lto_gives : (what : What) (l : Lto) → Gives (lto_words what l) (codes "-C") (told_row (codes "lto") (if is_binary what then lto_value l else None))
-lto_gives Lib l = gives_none (codes "-C")
 lto_gives (Bin name) l = lto_text_gives l
-lto_gives Script l = gives_none (codes "-C")
-lto_gives Run l = gives_none (codes "-C")
+lto_gives _ l = gives_none (codes "-C")
 
 -- two parts of what `-C` is given
 more : (a b x y : List (List ℕ)) → Gives a (codes "-C") x → Gives b (codes "-C") y → Gives (a ++ b) (codes "-C") (x ++ y)
@@ -266,16 +264,12 @@ flags_give word flag said each =
 
 -- the flags of a binary's linker
 abbrev pub flags_of : What → List Directive → List (List ℕ)
-flags_of Lib said = []
 flags_of (Bin name) said = flat_map flag_for_all said ++ flat_map flag_for_binaries said ++ flat_map (flag_for name) said
-flags_of Script said = []
-flags_of Run said = []
+flags_of _ said = []
 
 pub flags_are : (what : What) (said : List Directive) → flags_of what said ≡ linker_flags what said
-flags_are Lib said = refl
 flags_are (Bin name) said = λ i. flags_asked said i ++ binaries_asked said i ++ one_binary_asked name said i
-flags_are Script said = refl
-flags_are Run said = refl
+flags_are _ said = refl
 
 arguments_give : (name : List ℕ) (said : List Directive) → Gives (argument_words name said) (codes "-C") (map link_arg (flags_of (Bin name) said))
 arguments_give name said =

@@ -20,7 +20,7 @@ use Rattle.pb_profile.specs.Words.{opt_level_text}
 use Rattle.pb_profile.specs.declared.fault.ProfileFault.{ProfileFault}
 use Rattle.pb_unit.specs.declared.plan.Planned.{Planned}
 use Rattle.pb_unit.specs.declared.unit.What.{What}
-use Rattle.pb_unit.specs.declared.unit.What.TheVariants.{Lib, Bin, Script, Run}
+use Rattle.pb_unit.specs.declared.unit.What.TheVariants.{Run}
 use Rattle.pb_command_types.specs.Targets.{package_of, unit_at, is_run, said_at}
 use Rattle.pb_command_types.specs.declared.project.Project.{Project}
 use Rattle.pb_command_types.specs.declared.project.Setup.{Setup}
@@ -122,10 +122,8 @@ module _ (setup : Setup) (project : Project) (unit : Planned) (done : Lines) (p 
       (codes "OUT_DIR", unit.out) ∷ platform_pairs (triple_of setup.toolchain) ++ ((codes "OPT_LEVEL", opt_level_text unit.settings.opt_level) ∷ (codes "DEBUG", debug) ∷ (codes "PROFILE", profile) ∷ []) ++ compiler_pairs setup
 
   own : (what : What) → is_run what ≡ true → own_pairs setup project unit done p what ≡ run_pairs setup project unit done p
-  own Lib is = absurd (cc)
-  own (Bin name) is = absurd (cc)
-  own Script is = absurd (cc)
   own Run is = refl
+  own _ is = absurd (cc)
 
   assoc : (a b c : List Pair) → (a ++ b) ++ c ≡ a ++ (b ++ c)
   assoc [] b c = refl

@@ -5,7 +5,7 @@ use Rattle.pb_directive.specs.declared.directive.Directive.{Directive}
 use Rattle.pb_workspace_types.specs.declared.package.Package.{Package}
 use Rattle.pb_unit.specs.declared.plan.Planned.{Planned}
 use Rattle.pb_unit.specs.declared.unit.What.{What}
-use Rattle.pb_unit.specs.declared.unit.What.TheVariants.{Lib, Bin, Script, Run}
+use Rattle.pb_unit.specs.declared.unit.What.TheVariants.{Run}
 use Rattle.pb_command_types.specs.Targets.{unit_at, is_run, script_source, script_file}
 use Rattle.pb_command_types.specs.declared.project.Project.{Project}
 use Rattle.pb_command_types.specs.declared.project.Setup.{Setup}
@@ -37,16 +37,12 @@ module _ (setup : Setup) (project : Project) (unit : Planned) (done : Lines) (p 
   script = (started setup.runner (script_file project unit), record { folder_is = refl; out = refl; target = refl; reads = reads_are project unit.reaches; toolchain = refl })
 
   by_what : (what : What) → is_run what ≡ false → StartsCompiler setup project unit (command_by what setup project unit done p)
-  by_what Lib compiles = compiler
-  by_what (Bin name) compiles = compiler
-  by_what Script compiles = compiler
   by_what Run compiles = absurd (cc)
+  by_what _ compiles = compiler
 
   by_run : (what : What) → is_run what ≡ true → StartsScript setup project unit p (script_file project unit) (command_by what setup project unit done p)
-  by_run Lib runs = absurd (cc)
-  by_run (Bin name) runs = absurd (cc)
-  by_run Script runs = absurd (cc)
   by_run Run runs = script
+  by_run _ runs = absurd (cc)
 
 pub compiles_start : CompilesStart
 compiles_start setup project unit done p there compiles =

@@ -26,15 +26,11 @@ use Rattle.pb_command_laws.proofs.Wanting.{library_need, run_need, run_needed, s
 
 library_is : (what : What) → is_library what ≡ true → what ≡ Lib
 library_is Lib is = refl
-library_is (Bin name) is = absurd (cc)
-library_is Script is = absurd (cc)
-library_is Run is = absurd (cc)
+library_is _ is = absurd (cc)
 
 run_is : (what : What) → is_run what ≡ true → what ≡ Run
-run_is Lib is = absurd (cc)
-run_is (Bin name) is = absurd (cc)
-run_is Script is = absurd (cc)
 run_is Run is = refl
+run_is _ is = absurd (cc)
 
 kind_is : (what : What) → hears what ≡ true → (what ≡ Lib) ⊎ ((name : List ℕ) × (what ≡ Bin name))
 kind_is Lib is = inl refl

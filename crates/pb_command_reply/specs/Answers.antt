@@ -16,7 +16,7 @@ use Rattle.pb_place_types.specs.declared.command.Ended.{Ended}
 use Rattle.pb_place_types.specs.declared.path.PathFault.{PathFault}
 use Rattle.pb_unit.specs.declared.plan.Planned.{Planned}
 use Rattle.pb_unit.specs.declared.unit.What.{What}
-use Rattle.pb_unit.specs.declared.unit.What.TheVariants.{Lib, Bin, Script, Run}
+use Rattle.pb_unit.specs.declared.unit.What.TheVariants.{Run}
 use Rattle.pb_command_types.specs.declared.checked_reply.CheckedReply.{CheckedReply}
 use Rattle.pb_record.specs.declared.record.InputName.{InputName}
 use Rattle.pb_record.specs.declared.record.InputName.TheVariants.{Path, Variable}
@@ -143,10 +143,8 @@ run_answered command folder ended =
 -- Replies.
 
 abbrev pub answered_by : What → Command → List ℕ → Ended → Option (List ℕ) → Result CheckedReply UnitFault
-answered_by Lib command folder ended dep_info = compile_answered command dep_info
-answered_by (Bin name) command folder ended dep_info = compile_answered command dep_info
-answered_by Script command folder ended dep_info = compile_answered command dep_info
 answered_by Run command folder ended dep_info = run_answered command folder ended
+answered_by _ command folder ended dep_info = compile_answered command dep_info
 
 abbrev pub unless_fault : Option UnitFault → Result CheckedReply UnitFault → Result CheckedReply UnitFault
 unless_fault None answered = answered

@@ -105,10 +105,8 @@ abbrev pub made_file_of : Project → Planned → Option (List ℕ)
 made_file_of project unit = file_by unit.unit.what unit.out (crate_name_of project unit)
 
 abbrev pub dep_info_by : What → List ℕ → List ℕ → Option (List ℕ)
-dep_info_by Lib folder name = file_in folder (name ++ codes ".d")
-dep_info_by (Bin binary) folder name = file_in folder (name ++ codes ".d")
-dep_info_by Script folder name = file_in folder (name ++ codes ".d")
 dep_info_by Run folder name = None
+dep_info_by _ folder name = file_in folder (name ++ codes ".d")
 
 -- the file in which a compile reports what it has read: `C.d`; a run has none
 abbrev pub dep_info_of : Project → Planned → Option (List ℕ)
@@ -118,21 +116,15 @@ dep_info_of project unit = dep_info_by unit.unit.what unit.out (crate_name_of pr
 
 abbrev pub is_library : What → Bool
 is_library Lib = true
-is_library (Bin name) = false
-is_library Script = false
-is_library Run = false
+is_library _ = false
 
 abbrev pub is_script : What → Bool
-is_script Lib = false
-is_script (Bin name) = false
 is_script Script = true
-is_script Run = false
+is_script _ = false
 
 abbrev pub is_run : What → Bool
-is_run Lib = false
-is_run (Bin name) = false
-is_run Script = false
 is_run Run = true
+is_run _ = false
 
 -- there is a unit, it passes this test, and it is of the package at this index
 abbrev pub is_one_of : (What → Bool) → ℕ → Option Planned → Bool

@@ -303,9 +303,7 @@ module _ (ps : List Package) (bs : List ℕ) (p : ℕ) (fs : List Feature) (k : 
 
   own_item : (s : Side) (item : FeatureItem) → None ≡ entry_named item → (n : ℕ) (e : Entry) → item_rules ps bs s p fs k item n e ≡ []
   own_item s (Own g) none n e = refl
-  own_item s (Dependency dependency) none n e = cc
-  own_item s (Of dependency g) none n e = cc
-  own_item s (OfEnabled dependency g) none n e = cc
+  own_item s _ none n e = cc
 
   others : (item : FeatureItem) (name : List ℕ) → entry_named item ≡ Some name → (n : ℕ) (e : Entry) → bytes_eq name e.key ≡ false → both_item_rules ps bs p fs k item n e ≡ []
   others item name named n e other = ap (λ xs. xs ++ item_rules ps bs Host p fs k item n e) (other_item Target item name named n e other) ∙ other_item Host item name named n e other

@@ -67,9 +67,7 @@ both_item_rules ps bs p fs k item n e = item_rules ps bs Target p fs k item n e 
 -- the rules of an item that names a feature of its own package
 abbrev pub own_rules : List ℕ → Side → ℕ → List Feature → ℕ → FeatureItem → List Rule
 own_rules bs s p fs k (Own g) = alone (has bs p s k) (has bs p s (slot fs g)) ∷ []
-own_rules bs s p fs k (Dependency name) = []
-own_rules bs s p fs k (Of name g) = []
-own_rules bs s p fs k (OfEnabled name g) = []
+own_rules bs s p fs k _ = []
 
 abbrev pub both_own_rules : List ℕ → ℕ → List Feature → ℕ → FeatureItem → List Rule
 both_own_rules bs p fs k item = own_rules bs Target p fs k item ++ own_rules bs Host p fs k item

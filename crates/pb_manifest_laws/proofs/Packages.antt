@@ -101,10 +101,8 @@ build_only (Some (boolean false)) x h = let same : build.Never ≡ x = cc in sub
 build_only (Some _) x h = cc
 
 build_back : (found : Option Data) (x : Build) → IsBuild found x → build_in found ≡ Ok x
-build_back found build.Discovered is = ap build_in is
-build_back found build.Standard is = ap build_in is
-build_back found build.Never is = ap build_in is
 build_back found (build.At path) is = ap build_in is.0 ∙ ap (λ r. r >>= (λ p. Ok (build.At p))) ((path_written key.Build).back path is.1)
+build_back found _ is = ap build_in is
 
 -- the name
 pub name_only : (found : Option Data) (x : List ℕ) → (optional (text_of key.Name) found >>= name_in) ≡ Ok x → (found ≡ Some (string x)) × (is_name x ≡ true)

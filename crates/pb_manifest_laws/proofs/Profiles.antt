@@ -116,10 +116,8 @@ lto_only _ x h = cc
 
 lto_back : (x : Lto) → AllByRecursion (λ d. lto_in d ≡ Some x) (ltos x)
 unfolding lto_in
-lto_back lto.ThinLocal = (refl, tt)
 lto_back lto.Fat = (refl, (refl, tt))
-lto_back lto.Thin = (refl, tt)
-lto_back lto.Off = (refl, tt)
+lto_back _ = (refl, tt)
 
 lto_forms : HasForms lto_in ltos
 lto_forms = record { only = lto_only; back = lto_back }

@@ -48,10 +48,8 @@ no_resolver = (0, omega arith, refl)
 
 -- `[package]`
 build_written : (found : Option Data) (b : Build) → IsBuild found b → IsBuild (build_value b) b
-build_written found build.Discovered is = refl
-build_written found build.Standard is = refl
-build_written found build.Never is = refl
 build_written found (build.At path) is = (refl, is.1)
+build_written found _ is = refl
 
 package_written : (ms : Members) (p : Package) → IsPackageTable ms p → IsPackageTable (members_with (package_rows p)) p
 package_written ms p says = record {

@@ -6,7 +6,7 @@ use Rattle.pb_message.specs.Diagnostics.{diagnostics_of}
 use Rattle.pb_message.specs.Message.{line_of, finish_line}
 use Rattle.pb_message.specs.declared.subject.Subject.{Subject}
 use Rattle.pb_message.specs.declared.message.Message.{Message}
-use Rattle.pb_message.specs.declared.message.Message.TheVariants.{CompilerMessage, CompilerArtifact, BuildScriptNote, BuildScriptExecuted}
+use Rattle.pb_message.specs.declared.message.Message.TheVariants.{CompilerMessage}
 
 -- a line has one line feed, which is its last byte
 abbrev pub is_line : List ℕ → Bool
@@ -21,9 +21,7 @@ IsOfOneLine text = has_byte 10 text ≡ false
 -- if the message is a diagnostic, the one kind that is copied byte for byte, it has no line feed
 abbrev pub TellsOneLine : Message → Type 0
 TellsOneLine (CompilerMessage text) = IsOfOneLine text
-TellsOneLine (CompilerArtifact artifact) = Unit {0}
-TellsOneLine (BuildScriptNote level text) = Unit {0}
-TellsOneLine (BuildScriptExecuted executed) = Unit {0}
+TellsOneLine _ = Unit {0}
 
 -- the line of each such message is a line, for any package and target
 abbrev pub MessagesAreLines : Type 0

@@ -64,10 +64,8 @@ subject_of project u = subject_in (slice_get project.workspace.packages u.unit.o
 -- Messages.
 
 abbrev pub is_binary : What → Bool
-is_binary Lib = false
 is_binary (Bin name) = true
-is_binary Script = false
-is_binary Run = false
+is_binary _ = false
 
 abbrev pub artifact : Project → Planned → List ℕ → Message
 artifact project u file = CompilerArtifact record { settings = u.settings; features = features_at project.features u.unit.owner u.unit.side; file = file; is_executable = is_binary u.unit.what }

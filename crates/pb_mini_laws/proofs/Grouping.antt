@@ -107,10 +107,8 @@ module _ (P : List ℕ → Type 0) where
   in_lto_text lto.Off = in_setting (codes "lto=") (codes "off")
 
   in_lto : (what : What) (l : Lto) → B (lto_words what l)
-  in_lto Lib l = brings_none P
   in_lto (Bin name) l = in_lto_text l
-  in_lto Script l = brings_none P
-  in_lto Run l = brings_none P
+  in_lto _ l = brings_none P
 
   in_settings : (what : What) (s : Settings) → B (settings_words what s)
   in_settings what s =

@@ -207,10 +207,8 @@ module _ (project : Project) (u : Planned) (is_of : IsOfProject project u) where
   entries_hold n (entry ∷ entries) named = both_hold (entry_extern project u n entry) (placed (entry_extern project u) (n + 1) entries) (entry_holds n entry named.0) (entries_hold (n + 1) entries named.1)
 
   own_holds : (what : What) → HoldValues Q (own_extern project u what)
-  own_holds Lib = tt
   own_holds (Bin name) = extern_holds (library_name_at project u.unit.owner) (library_file project u u.unit.owner) (library_at_plain u.unit.owner) (library_below u.unit.owner)
-  own_holds Script = tt
-  own_holds Run = tt
+  own_holds _ = tt
 
   set_holds : (m : Map) (pairs : List (List ℕ × List ℕ)) → HoldValues Q (finite.entries m) → HoldValues Q pairs → HoldValues Q (finite.entries (all_set m pairs))
   set_holds m [] all more = all

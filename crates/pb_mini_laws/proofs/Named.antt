@@ -15,7 +15,7 @@ use Rattle.pb_mini.specs.Verbs.{line_meant, expanded, used, library_path, variab
 use Rattle.pb_mini.specs.declared.command_line.CommandLine.{CommandLine}
 use Rattle.pb_mini.specs.declared.scope.Scope.{Scope}
 use Rattle.pb_mini.specs.declared.verbs.Verb.{Verb}
-use Rattle.pb_mini.specs.declared.verbs.Verb.TheVariants.{Use, Include, Env, Warn, Fail, Copied, Unknown}
+use Rattle.pb_mini.specs.declared.verbs.Verb.TheVariants.{Use, Include}
 
 abbrev pub ArePaths : List (List ℕ) → Type 0
 ArePaths paths = AllByRecursion (λ path. is_path path ≡ true) paths
@@ -67,11 +67,7 @@ module _ (scope : Scope) (w : World) where
   by_paths : (verb : Verb) (number : ℕ) (line rest : List ℕ) → ArePaths (effect_by verb scope w number line rest).names.paths
   by_paths Use number line rest = used_paths number line rest (look.file_at w (library_path scope rest))
   by_paths Include number line rest = include_paths number rest
-  by_paths Env number line rest = tt
-  by_paths Warn number line rest = tt
-  by_paths Fail number line rest = tt
-  by_paths Copied number line rest = tt
-  by_paths Unknown number line rest = tt
+  by_paths _ number line rest = tt
 
   meant_paths : (number : ℕ) (line : List ℕ) → ArePaths (effect_meant scope w number line).names.paths
   meant_paths number line = by (is_passed_over line)

@@ -48,13 +48,8 @@ module _ (P : List ℕ → Type 0) where
 
   -- a value of one role
   externs_with : (role : Role) (value : List ℕ) (later : Arguments) → (role ≡ Extern → P value) → AllByRecursion P later.externs → AllByRecursion P (with_value role value later).externs
-  externs_with CrateName value later holds all = all
-  externs_with CrateType value later holds all = all
-  externs_with OutDir value later holds all = all
-  externs_with Source value later holds all = all
   externs_with Extern value later holds all = (holds refl, all)
-  externs_with Condition value later holds all = all
-  externs_with Unused value later holds all = all
+  externs_with _ value later holds all = all
 
   -- an option and its value
   pub brings_option : (name value : List ℕ) → takes_value name ≡ true → (role_of name ≡ Extern → P value) → Brings (name ∷ value ∷ [])

@@ -170,11 +170,8 @@ PathsAt p = FilesHavePaths p.moment.world
 step_at : (step : SessionStep) (before after : Point) → HasWords step → Carries small_compiler step before after → PathsAt before → PathsAt after
 step_at (Write path text) before after at same files = subst PathsAt (sym same) (written_at path text before.moment.world at files)
 step_at (Remove path) before after words same files = subst PathsAt (sym same) (removed_at path before.moment.world files)
-step_at (Set name value) before after words same files = subst PathsAt (sym same) files
-step_at (Unset name) before after words same files = subst PathsAt (sym same) files
-step_at (Die key death) before after words same files = subst PathsAt (sym same) files
-step_at (Fuse number) before after words same files = subst PathsAt (sym same) files
 step_at (Build options pick) before after words built files = subst FilesHavePaths (sym (ap (λ (m : BuildState). m.world) built.behind)) built.paths
+step_at _ before after words same files = subst PathsAt (sym same) files
 
 abbrev target_in : Options → World → List ℕ
 target_in options w = (environment_of options w.variables).target

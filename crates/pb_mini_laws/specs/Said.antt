@@ -6,7 +6,7 @@ use Rattle.pb_mini.specs.Compile.{text_of}
 use Rattle.pb_mini.specs.Lines.{lines_of, word_in, rest_of}
 use Rattle.pb_mini.specs.Script.{Step, Writes, Ends, deed_of, step_of}
 use Rattle.pb_mini.specs.declared.script.Deed.{Deed}
-use Rattle.pb_mini.specs.declared.script.Deed.TheVariants.{Print, Show, Read, Put, Exit, Skip}
+use Rattle.pb_mini.specs.declared.script.Deed.TheVariants.{Show, Read}
 
 -- a text that is not empty and does not end with a blank
 abbrev pub ends_visibly : List ℕ → Bool
@@ -21,12 +21,9 @@ pub record CanBeSaid (text : List ℕ) : Type 0 where
 
 -- the names and paths that a line declares, as they are written
 abbrev pub declared_by : Deed → List ℕ → List (List ℕ)
-declared_by Print rest = []
 declared_by Show rest = rest ∷ []
 declared_by Read rest = rest ∷ []
-declared_by Put rest = []
-declared_by Exit rest = []
-declared_by Skip rest = []
+declared_by _ rest = []
 
 abbrev pub declared_in : Option (List ℕ) → List (List ℕ)
 declared_in None = []

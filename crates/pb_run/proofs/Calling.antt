@@ -40,12 +40,8 @@ memory_last names old new is = subst (λ c. MakesSome names old c) (sym is) (som
 
 -- the one call
 one_stops : (call : Call) (unit : List ℕ) (fault : PlaceFault) (old new : Counts) → (fault ≢ place.OutOfMemory → fault ≡ own_fault call) → new ≡ past_place_fault call fault old → StopsAt (device_fault unit fault) (call ∷ []) old new
-one_stops call unit place.Read old new kind is = inl (kind (λ e. cc), is)
-one_stops call unit place.List old new kind is = inl (kind (λ e. cc), is)
-one_stops call unit place.Write old new kind is = inl (kind (λ e. cc), is)
-one_stops call unit place.Remove old new kind is = inl (kind (λ e. cc), is)
-one_stops call unit place.Variable old new kind is = inl (kind (λ e. cc), is)
 one_stops call unit place.OutOfMemory old new kind is = inr is
+one_stops call unit _ old new kind is = inl (kind (λ e. cc), is)
 
 pub call_stops : (call : Call) (unit : List ℕ) (fault : PlaceFault) (told : BuildFault) (old new : Counts) → told ≡ device_fault unit fault → (fault ≢ place.OutOfMemory → fault ≡ own_fault call) → new ≡ past_place_fault call fault old → StopsAt told (call ∷ []) old new
 call_stops call unit fault told old new is kind counts = subst (λ e. StopsAt e (call ∷ []) old new) (sym is) (one_stops call unit fault old new kind counts)

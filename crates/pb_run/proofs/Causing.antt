@@ -105,12 +105,8 @@ spawn_told next start.OutOfMemory spawned old new may counts = (inr (ap (λ (c :
 
 -- its cause
 place_cause : (call : Call) (f : PlaceFault) (old new : Counts) → new ≡ past_place_fault call f old → StepCause (Store (stored f)) old new
-place_cause call place.Read old new counts = (ap (λ (c : Counts). c.failures) counts, ap (λ (c : Counts). c.late) counts, ap (λ (c : Counts). c.last) counts)
-place_cause call place.List old new counts = (ap (λ (c : Counts). c.failures) counts, ap (λ (c : Counts). c.late) counts, ap (λ (c : Counts). c.last) counts)
-place_cause call place.Write old new counts = (ap (λ (c : Counts). c.failures) counts, ap (λ (c : Counts). c.late) counts, ap (λ (c : Counts). c.last) counts)
-place_cause call place.Remove old new counts = (ap (λ (c : Counts). c.failures) counts, ap (λ (c : Counts). c.late) counts, ap (λ (c : Counts). c.last) counts)
-place_cause call place.Variable old new counts = (ap (λ (c : Counts). c.failures) counts, ap (λ (c : Counts). c.late) counts, ap (λ (c : Counts). c.last) counts)
 place_cause call place.OutOfMemory old new counts = ap (λ (c : Counts). c.failures) counts
+place_cause call _ old new counts = (ap (λ (c : Counts). c.failures) counts, ap (λ (c : Counts). c.late) counts, ap (λ (c : Counts). c.last) counts)
 
 place_starts : (call : Call) (f : PlaceFault) (old new : Counts) → new ≡ past_place_fault call f old → new.starts ≡ old.starts
 place_starts call place.Read old new counts = ap (λ (c : Counts). c.starts) counts
@@ -122,12 +118,8 @@ place_starts call place.OutOfMemory old new counts = ap (λ (c : Counts). c.star
 
 -- one that removes files
 may_remove : (f : PlaceFault) (old new : Starts) → (f ≢ place.OutOfMemory → f ≡ place.Remove) → new ≡ old → MayRemove (Store (stored f)) old new
-may_remove place.Read old new kind same = (kind (λ e. cc), same)
-may_remove place.List old new kind same = (kind (λ e. cc), same)
-may_remove place.Write old new kind same = (kind (λ e. cc), same)
-may_remove place.Remove old new kind same = (kind (λ e. cc), same)
-may_remove place.Variable old new kind same = (kind (λ e. cc), same)
 may_remove place.OutOfMemory old new kind same = same
+may_remove _ old new kind same = (kind (λ e. cc), same)
 
 pub remove_told : (path : _) (f : PlaceFault) (old new : Counts) → (f ≢ place.OutOfMemory → f ≡ own_fault (call.Remove path)) → new ≡ past_place_fault (call.Remove path) f old
     → MayRemove (Store (stored f)) old.starts new.starts × StepCause (Store (stored f)) old new

@@ -86,10 +86,8 @@ module _ (setup : Setup) (project : Project) (u : Planned) (done other : List (O
     runs_same = ap (λ (pairs : List (List ℕ × List ℕ)). record (run_of setup project u done p) { pairs = pairs }) pairs_same
 
     by_same : (w : What) → command_by w setup project u done p ≡ command_by w setup project u other p
-    by_same Lib = compile_same
-    by_same (Bin name) = compile_same
-    by_same Script = compile_same
     by_same Run = runs_same
+    by_same _ = compile_same
 
   for_same : (o : Option Package) → command_for setup project u done o ≡ command_for setup project u other o
   for_same None = refl

@@ -34,41 +34,33 @@ pub ruleset naming_laws = (bare_named, named_is)
 
 -- the faults of the calls that look for a difference, remove the record and the files, and spawn the child of the unit of this key; a run number is missing only where none is left
 abbrev pub MayBeginUnit : Option ℕ → List ℕ → BuildFault → Starts → Starts → Type 0
-MayBeginUnit next key (Plan refusal) old new = ⊥
-MayBeginUnit next key Toolchain old new = ⊥
 MayBeginUnit next key (Child unit fault) old new = (unit ≡ key) × (fault ≡ start.CannotStart) × (new ≡ up_starts old)
 MayBeginUnit next key (Device unit (Place fault)) old new = (unit ≡ key) × (fault ≢ place.Write) × (new ≡ old)
 MayBeginUnit next key (Device unit NumbersSpent) old new = (unit ≡ key) × (next ≡ None) × (new ≡ old)
-MayBeginUnit next key Sink old new = ⊥
 MayBeginUnit next key OutOfMemory old new = (new ≡ old) ⊎ (new ≡ up_starts old)
+MayBeginUnit next key _ old new = ⊥
 
 -- of those that ask for the child's end, or read the record again, read the dep-info, and keep or renew the record
 abbrev pub MayAnswerUnit : Option ℕ → List ℕ → Option SpawnedChild → BuildFault → Starts → Starts → Type 0
-MayAnswerUnit next key launched (Plan refusal) old new = ⊥
-MayAnswerUnit next key launched Toolchain old new = ⊥
 MayAnswerUnit next key launched (Child unit fault) old new = (unit ≡ key) × IsSome launched × ((fault ≡ start.Died) ⊎ (fault ≡ start.Capture)) × LandsBy launched old new
 MayAnswerUnit next key launched (Device unit (Place fault)) old new = (unit ≡ key) × (fault ≢ place.Remove) × LandsBy launched old new
 MayAnswerUnit next key launched (Device unit NumbersSpent) old new = (unit ≡ key) × (next ≡ None) × (launched ≡ None) × (new ≡ old)
-MayAnswerUnit next key launched Sink old new = ⊥
 MayAnswerUnit next key launched OutOfMemory old new = LandsBy launched old new
+MayAnswerUnit next key launched _ old new = ⊥
 
 pub begin_told : (next : Option ℕ) (key : List ℕ) (e : BuildFault) (old new : Starts) → IsOfUnit key e → MayBegin next (fault_in e) old new → MayBeginUnit next key e old new
-begin_told next key (Plan refusal) old new its may = absurd its
-begin_told next key Toolchain old new its may = absurd its
 begin_told next key (Child unit fault) old new its may = (its, may.0, may.1)
 begin_told next key (Device unit (Place fault)) old new its may = (its, may.0, may.1)
 begin_told next key (Device unit NumbersSpent) old new its may = (its, may.0, may.1)
-begin_told next key Sink old new its may = absurd its
 begin_told next key OutOfMemory old new its may = may
+begin_told next key _ old new its may = absurd its
 
 pub answer_told : (next : Option ℕ) (key : List ℕ) (launched : Option SpawnedChild) (e : BuildFault) (old new : Starts) → IsOfUnit key e → MayAnswer next launched (fault_in e) old new → MayAnswerUnit next key launched e old new
-answer_told next key launched (Plan refusal) old new its may = absurd its
-answer_told next key launched Toolchain old new its may = absurd its
 answer_told next key launched (Child unit fault) old new its may = (its, may.0, may.1, may.2)
 answer_told next key launched (Device unit (Place fault)) old new its may = (its, may.0, may.1)
 answer_told next key launched (Device unit NumbersSpent) old new its may = (its, may.0, may.1, may.2)
-answer_told next key launched Sink old new its may = absurd its
 answer_told next key launched OutOfMemory old new its may = may
+answer_told next key launched _ old new its may = absurd its
 
 pub cause_told : (e : BuildFault) (old new : Counts) → StepCause (fault_in e) old new → HasCause e old new
 cause_told (Plan refusal) old new cause = cause
@@ -82,11 +74,8 @@ cause_told OutOfMemory old new cause = cause
 pub stops_told : (key : List ℕ) (e : BuildFault) (calls : List Call) (old new : Counts) → IsOfUnit key e → StepStopsAt (fault_in e) calls old new → StopsAt e calls old new
 stops_told key (Plan refusal) calls old new its stops = absurd its
 stops_told key Toolchain calls old new its stops = absurd its
-stops_told key (Child unit fault) calls old new its stops = stops
-stops_told key (Device unit (Place fault)) calls old new its stops = stops
-stops_told key (Device unit NumbersSpent) calls old new its stops = stops
 stops_told key Sink calls old new its stops = absurd its
-stops_told key OutOfMemory calls old new its stops = stops
+stops_told key _ calls old new its stops = stops
 
 pub start_told : (e : BuildFault) → is_of_start e ≡ starts (fault_in e)
 start_told (Plan refusal) = refl

@@ -59,12 +59,8 @@ memory_last names old new is = subst (λ c. MakesSome names old c) (sym is) (som
 
 -- the one call of the place
 pub call_stops : (call : Call) (fault : PlaceFault) (old new : Counts) → (fault ≢ place.OutOfMemory → fault ≡ own_fault call) → new ≡ past_place_fault call fault old → StepStopsAt (Store (stored fault)) (call ∷ []) old new
-call_stops call place.Read old new kind is = inl (kind (λ e. cc), is)
-call_stops call place.List old new kind is = inl (kind (λ e. cc), is)
-call_stops call place.Write old new kind is = inl (kind (λ e. cc), is)
-call_stops call place.Remove old new kind is = inl (kind (λ e. cc), is)
-call_stops call place.Variable old new kind is = inl (kind (λ e. cc), is)
 call_stops call place.OutOfMemory old new kind is = inr is
+call_stops call _ old new kind is = inl (kind (λ e. cc), is)
 
 -- a call of the store
 pub store_stops : (e : StoreFault) (names : List Call) (old new : Counts) → looking.StopsAt e names old new → StepStopsAt (Store e) names old new

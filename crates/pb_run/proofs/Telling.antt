@@ -2,7 +2,7 @@
 use Rattle.std.proofs.Common.{◌≡◌, ◌∙◌, ◌⊎◌, ℕ, Bool, List, Option, Some, None, Result, Ok, Err, is_some, refl, sym, subst, inl, inr}
 use Rattle.std.proofs.lemmas.Bool.{false≢true}
 use Rattle.pb_build_result.specs.declared.fault.BuildFault.{BuildFault}
-use Rattle.pb_build_result.specs.declared.fault.BuildFault.TheVariants.{Plan, Toolchain, Child, Device, Sink, OutOfMemory}
+use Rattle.pb_build_result.specs.declared.fault.BuildFault.TheVariants.{Child, Device, OutOfMemory}
 use Rattle.pb_build_result.specs.declared.fault.DeviceFault.TheVariants.{Place, NumbersSpent}
 use Rattle.pb_place_types.specs.At.{At}
 use Rattle.pb_place_types.specs.Counts.{Starts}
@@ -28,13 +28,11 @@ abbrev pub told_fault : StepFault → Result Outcome StepFault
 told_fault e = Err e
 
 memory_of : (key : List ℕ) (fault : BuildFault) → IsOfUnit key fault → fault_in fault ≡ step.Store store.OutOfMemory → fault ≡ OutOfMemory
-memory_of key (Plan refusal) its is = absurd its
-memory_of key Toolchain its is = absurd its
 memory_of key (Child unit fault) its is = cc
 memory_of key (Device unit (Place fault)) its is = cc
 memory_of key (Device unit NumbersSpent) its is = cc
-memory_of key Sink its is = absurd its
 memory_of key OutOfMemory its is = refl
+memory_of key _ its is = absurd its
 
 same_fault : (result : Result Outcome StepFault) (e f : StepFault) → result ≡ Err e → result ≡ Err f → f ≡ e
 same_fault result e f first second = cc

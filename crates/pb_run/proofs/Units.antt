@@ -8,7 +8,7 @@ use Rattle.pb_place_types.proofs.Folders.{get-files_in}
 use Rattle.pb_place_types.proofs.PathLemmas.{below_is_below}
 use Rattle.pb_unit.specs.declared.plan.Planned.{Planned}
 use Rattle.pb_unit.specs.declared.unit.What.{What}
-use Rattle.pb_unit.specs.declared.unit.What.TheVariants.{Lib, Bin, Script, Run}
+use Rattle.pb_unit.specs.declared.unit.What.TheVariants.{Run}
 use Rattle.pb_command_types.specs.declared.project.Project.{Project}
 use Rattle.pb_command_types.specs.Targets.{dep_info_by}
 use Rattle.pb_command.specs.Judge.{file_at}
@@ -28,7 +28,5 @@ named_inside folder name q true relative is = below_is_below folder name q relat
 named_inside folder name q false relative is = cc
 
 pub dep_info_inside : (project : Project) (u : Planned) (w : What) (name q : List ℕ) → dep_info_by w u.out name ≡ Some q → is_below u.out q ≡ true
-dep_info_inside project u Lib name q is = named_inside u.out (name ++ codes ".d") q (is_relative (name ++ codes ".d")) refl is
-dep_info_inside project u (Bin binary) name q is = named_inside u.out (name ++ codes ".d") q (is_relative (name ++ codes ".d")) refl is
-dep_info_inside project u Script name q is = named_inside u.out (name ++ codes ".d") q (is_relative (name ++ codes ".d")) refl is
 dep_info_inside project u Run name q is = cc
+dep_info_inside project u _ name q is = named_inside u.out (name ++ codes ".d") q (is_relative (name ++ codes ".d")) refl is

@@ -2,7 +2,7 @@
 -- name.
 use Rattle.std.specs.Prelude.{◌≡◌, ℕ, List, Result, Ok, Err, ◌≢◌, ◌⊎◌, ◌++◌, ◌∷◌, [], Bool, true, false, Option, Some, None, IfErr, MatchResult, IsSome}
 use Rattle.pb_build_result.specs.declared.fault.BuildFault.{BuildFault}
-use Rattle.pb_build_result.specs.declared.fault.BuildFault.TheVariants.{Plan, Toolchain, Child, Device, Sink}
+use Rattle.pb_build_result.specs.declared.fault.BuildFault.TheVariants.{Child, Device}
 use Rattle.pb_build_result.specs.declared.fault.BuildFault.TheVariants as build
 use Rattle.pb_build_result.specs.declared.fault.DeviceFault.TheVariants as device
 use Rattle.pb_place_types.specs.At.{At}
@@ -27,10 +27,8 @@ use Rattle.pb_store.specs.declared.fault.StoreFault.TheVariants as store
 
 -- a child's fault as a step's fault; out of memory is the store's
 abbrev pub started : StartFault → StepFault
-started start.CannotStart = step.Start start.CannotStart
-started start.Died = step.Start start.Died
-started start.Capture = step.Start start.Capture
 started start.OutOfMemory = step.Store store.OutOfMemory
+started fault = step.Start fault
 
 -- a step's fault as the build's fault, with the unit's key; out of memory has no key
 abbrev pub named : List ℕ → StepFault → BuildFault
@@ -39,15 +37,12 @@ named unit (step.Store store.NumbersSpent) = Device unit device.NumbersSpent
 named unit (step.Store store.OutOfMemory) = build.OutOfMemory
 named unit (step.Start fault) = Child unit fault
 
--- the build's fault without its key; no step ends with one of the last three
+-- the build's fault without its key; no step ends with a refusal, `Toolchain` or `Sink`
 abbrev pub fault_in : BuildFault → StepFault
 fault_in (Device unit (device.Place fault)) = step.Store (store.Place fault)
 fault_in (Device unit device.NumbersSpent) = step.Store store.NumbersSpent
-fault_in build.OutOfMemory = step.Store store.OutOfMemory
 fault_in (Child unit fault) = step.Start fault
-fault_in (Plan refusal) = step.Store store.OutOfMemory
-fault_in Toolchain = step.Store store.OutOfMemory
-fault_in Sink = step.Store store.OutOfMemory
+fault_in _ = step.Store store.OutOfMemory
 
 abbrev pub bare : {T : Type 0} → Result T BuildFault → Result T StepFault
 bare (Ok x) = Ok x
@@ -58,18 +53,12 @@ abbrev pub IsOfUnit : List ℕ → BuildFault → Type 0
 IsOfUnit key (Device unit fault) = unit ≡ key
 IsOfUnit key build.OutOfMemory = Unit {0}
 IsOfUnit key (Child unit fault) = unit ≡ key
-IsOfUnit key (Plan refusal) = ⊥
-IsOfUnit key Toolchain = ⊥
-IsOfUnit key Sink = ⊥
+IsOfUnit key _ = ⊥
 
 -- a fault of a call on files or variables as a build's fault, with this name; out of memory has no name
 abbrev pub device_fault : List ℕ → PlaceFault → BuildFault
-device_fault unit place.Read = Device unit (device.Place place.Read)
-device_fault unit place.List = Device unit (device.Place place.List)
-device_fault unit place.Write = Device unit (device.Place place.Write)
-device_fault unit place.Remove = Device unit (device.Place place.Remove)
-device_fault unit place.Variable = Device unit (device.Place place.Variable)
 device_fault unit place.OutOfMemory = build.OutOfMemory
+device_fault unit fault = Device unit (device.Place fault)
 
 -- no child was started
 abbrev pub NoStart : {T : Type 0} → T → Starts → Starts → Type 0

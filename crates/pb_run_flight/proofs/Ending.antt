@@ -10,10 +10,8 @@ use Rattle.pb_run_flight.proofs.Lists.{injective, clash}
 
 module _ {F : Type 0} where
   pub due_none : (ss : List (State F)) → due_after 0 ss ≡ due ss
-  due_none [] = refl
-  due_none (Untouched ∷ ss) = refl
-  due_none (Begun ∷ ss) = refl
   due_none (Answered a ∷ ss) = ap (λ d. a.lines ++ (if is_none a.fault then d else [])) (due_none ss)
+  due_none _ = refl
 
   -- nothing is due after a bad one
   pub bad_end : (n : ℕ) (ss : List (State F)) → n ≤ count_due ss → ends_badly n ss ≡ true → (due_after n ss ≡ []) × (count_due ss ≡ n) × (is_finished ss ≡ true)

@@ -65,25 +65,19 @@ ready_of needs states = ready_from states 0 needs states
 
 -- the lines of the units that have answered, from the start of plan order, up to and including the first bad one
 abbrev pub due : {F : Type 0} → List (State F) → List ℕ
-due [] = []
-due (Untouched ∷ ss) = []
-due (Begun ∷ ss) = []
 due (Answered answer ∷ ss) = answer.lines ++ (if is_none answer.fault then due ss else [])
+due _ = []
 
 -- the number of these units
 abbrev pub count_due : {F : Type 0} → List (State F) → ℕ
-count_due [] = 0
-count_due (Untouched ∷ ss) = 0
-count_due (Begun ∷ ss) = 0
 count_due (Answered answer ∷ ss) = suc (if is_none answer.fault then count_due ss else 0)
+count_due _ = 0
 
 -- the lines of these units after the first n
 abbrev pub due_after : {F : Type 0} → ℕ → List (State F) → List ℕ
-due_after n [] = []
-due_after n (Untouched ∷ ss) = []
-due_after n (Begun ∷ ss) = []
 due_after zero (Answered answer ∷ ss) = answer.lines ++ (if is_none answer.fault then due_after zero ss else [])
 due_after (suc n) (Answered answer ∷ ss) = if is_none answer.fault then due_after n ss else []
+due_after n _ = []
 
 -- the lines of the first n of these units
 abbrev pub due_first : {F : Type 0} → ℕ → List (State F) → List ℕ
@@ -95,10 +89,8 @@ due_first (suc n) (Answered answer ∷ ss) = answer.lines ++ (if is_none answer.
 
 -- the first bad one of these units
 abbrev pub first_bad_from : {F : Type 0} → ℕ → List (State F) → Option ℕ
-first_bad_from i [] = None
-first_bad_from i (Untouched ∷ ss) = None
-first_bad_from i (Begun ∷ ss) = None
 first_bad_from i (Answered answer ∷ ss) = if is_none answer.fault then first_bad_from (suc i) ss else Some i
+first_bad_from i _ = None
 
 abbrev pub first_bad : {F : Type 0} → List (State F) → Option ℕ
 first_bad states = first_bad_from 0 states

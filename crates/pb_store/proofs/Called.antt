@@ -18,12 +18,8 @@ use Rattle.pb_store.specs.declared.fault.StoreFault.TheVariants.{Place, NumbersS
 
 -- the one call failed
 once : (call : Call) (fault : PlaceFault) (old new : Counts) → (fault ≢ place.OutOfMemory → fault ≡ own_fault call) → new ≡ past_place_fault call fault old → EndsOnce call (stored fault) old new
-once call place.Read old new kind is = (kind (λ e. cc), is)
-once call place.List old new kind is = (kind (λ e. cc), is)
-once call place.Write old new kind is = (kind (λ e. cc), is)
-once call place.Remove old new kind is = (kind (λ e. cc), is)
-once call place.Variable old new kind is = (kind (λ e. cc), is)
 once call place.OutOfMemory old new kind is = inr is
+once call _ old new kind is = (kind (λ e. cc), is)
 
 pub ends_once : (call : Call) (fault : PlaceFault) (e : StoreFault) (old new : Counts) → e ≡ stored fault → (fault ≢ place.OutOfMemory → fault ≡ own_fault call) → new ≡ past_place_fault call fault old → EndsOnce call e old new
 ends_once call fault e old new told kind is = subst (λ f. EndsOnce call f old new) (sym told) (once call fault old new kind is)
@@ -56,11 +52,8 @@ read_unwritten e failing told may is = let read : place.Write ≡ place.Read = s
 -- opening
 reads : (path : List ℕ) (fault : PlaceFault) → ends_as_record path ≡ true → (fault ≢ place.OutOfMemory → fault ≡ place.Read) → ReadsOneOf (path ∷ []) (opened path fault)
 reads path place.Read named is = (refl, contains_head path [], named)
-reads path place.List named is = (is (λ e. cc), contains_head path [], named)
-reads path place.Write named is = (is (λ e. cc), contains_head path [], named)
-reads path place.Remove named is = (is (λ e. cc), contains_head path [], named)
-reads path place.Variable named is = (is (λ e. cc), contains_head path [], named)
 reads path place.OutOfMemory named is = tt
+reads path _ named is = (is (λ e. cc), contains_head path [], named)
 
 pub reads_at : (path : List ℕ) (fault : PlaceFault) (e : OpenFault) → ends_as_record path ≡ true → e ≡ opened path fault → (fault ≢ place.OutOfMemory → fault ≡ place.Read) → ReadsOneOf (path ∷ []) e
 reads_at path fault e named told is = subst (ReadsOneOf (path ∷ [])) (sym told) (reads path fault named is)
@@ -80,12 +73,9 @@ reads_one paths path (open_fault.Place at fault) there (read, has, named) = elim
 reads_one paths path open_fault.OutOfMemory there told = tt
 
 lists : (is_modelled : Bool) (folder : List ℕ) (w : World) (fault : PlaceFault) → (fault ≢ place.OutOfMemory → fault ≡ place.List) → OpensBy is_modelled folder w (opened folder fault)
-lists is_modelled folder w place.Read is = inl (is (λ e. cc), refl)
 lists is_modelled folder w place.List is = inl (refl, refl)
-lists is_modelled folder w place.Write is = inl (is (λ e. cc), refl)
-lists is_modelled folder w place.Remove is = inl (is (λ e. cc), refl)
-lists is_modelled folder w place.Variable is = inl (is (λ e. cc), refl)
 lists is_modelled folder w place.OutOfMemory is = tt
+lists is_modelled folder w _ is = inl (is (λ e. cc), refl)
 
 pub opens_by_listing : (is_modelled : Bool) (folder : List ℕ) (w : World) (fault : PlaceFault) (e : OpenFault) → e ≡ opened folder fault → (fault ≢ place.OutOfMemory → fault ≡ place.List) → OpensBy is_modelled folder w e
 opens_by_listing is_modelled folder w fault e told is = subst (OpensBy is_modelled folder w) (sym told) (lists is_modelled folder w fault is)

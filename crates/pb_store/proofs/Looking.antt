@@ -32,12 +32,8 @@ looks_both (Err e) a b old mid new first second = stops_then e a b old mid new f
 
 -- the one call
 one_stops : (call : Call) (fault : PlaceFault) (old new : Counts) → (fault ≢ place.OutOfMemory → fault ≡ own_fault call) → new ≡ past_place_fault call fault old → StopsAt (stored fault) (call ∷ []) old new
-one_stops call place.Read old new kind is = inl (kind (λ e. cc), is)
-one_stops call place.List old new kind is = inl (kind (λ e. cc), is)
-one_stops call place.Write old new kind is = inl (kind (λ e. cc), is)
-one_stops call place.Remove old new kind is = inl (kind (λ e. cc), is)
-one_stops call place.Variable old new kind is = inl (kind (λ e. cc), is)
 one_stops call place.OutOfMemory old new kind is = inr is
+one_stops call _ old new kind is = inl (kind (λ e. cc), is)
 
 pub stops_once : (call : Call) (fault : PlaceFault) (e : StoreFault) (old new : Counts) → e ≡ stored fault → (fault ≢ place.OutOfMemory → fault ≡ own_fault call) → new ≡ past_place_fault call fault old → StopsAt e (call ∷ []) old new
 stops_once call fault e old new told kind is = subst (λ f. StopsAt f (call ∷ []) old new) (sym told) (one_stops call fault old new kind is)

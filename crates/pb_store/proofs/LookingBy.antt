@@ -29,12 +29,8 @@ opening_stops_then open_fault.OutOfMemory a b old mid new first is = some_right 
 
 -- the one call
 one_opened : (call : Call) (path : List ℕ) (fault : PlaceFault) (old new : Counts) → (fault ≢ place.OutOfMemory → fault ≡ own_fault call) → new ≡ past_place_fault call fault old → OpeningStopsAt (opened path fault) (call ∷ []) old new
-one_opened call path place.Read old new kind is = inl (kind (λ e. cc), is)
-one_opened call path place.List old new kind is = inl (kind (λ e. cc), is)
-one_opened call path place.Write old new kind is = inl (kind (λ e. cc), is)
-one_opened call path place.Remove old new kind is = inl (kind (λ e. cc), is)
-one_opened call path place.Variable old new kind is = inl (kind (λ e. cc), is)
 one_opened call path place.OutOfMemory old new kind is = inr is
+one_opened call path _ old new kind is = inl (kind (λ e. cc), is)
 
 pub opening_stops_once : (call : Call) (path : List ℕ) (fault : PlaceFault) (e : OpenFault) (old new : Counts) → e ≡ opened path fault → (fault ≢ place.OutOfMemory → fault ≡ own_fault call) → new ≡ past_place_fault call fault old → OpeningStopsAt e (call ∷ []) old new
 opening_stops_once call path fault e old new told kind is = subst (λ f. OpeningStopsAt f (call ∷ []) old new) (sym told) (one_opened call path fault old new kind is)

@@ -19,21 +19,13 @@ use Rattle.pb_store.specs.declared.fault.StoreFault.TheVariants.{Place, NumbersS
 
 -- a fault of the place as a fault of the store; out of memory stays out of memory
 abbrev pub stored : PlaceFault → StoreFault
-stored place.Read = Place place.Read
-stored place.List = Place place.List
-stored place.Write = Place place.Write
-stored place.Remove = Place place.Remove
-stored place.Variable = Place place.Variable
 stored place.OutOfMemory = OutOfMemory
+stored fault = Place fault
 
 -- a fault of a call of the place on this path as a fault of opening; out of memory stays out of memory
 abbrev pub opened : List ℕ → PlaceFault → OpenFault
-opened path place.Read = open_fault.Place path place.Read
-opened path place.List = open_fault.Place path place.List
-opened path place.Write = open_fault.Place path place.Write
-opened path place.Remove = open_fault.Place path place.Remove
-opened path place.Variable = open_fault.Place path place.Variable
 opened path place.OutOfMemory = open_fault.OutOfMemory
+opened path fault = open_fault.Place path fault
 
 -- a call failed with this fault, and no call came after it
 abbrev pub FailedLast : Failure → Counts → Counts → Type 0

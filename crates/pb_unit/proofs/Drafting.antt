@@ -247,10 +247,8 @@ module _ (ws : Workspace) (features : Features) (selection : Selection) where
         (all_at (λ (x : Binary). letters.is_name x.name ≡ true) h.owner.binaries (all_at (IsPackage (length ws.packages)) ws.packages settled.packages b.owner h.owner h.package_at).binary_names k h.made at)
 
     fixed_well : (w : What) → is_fixed w ≡ true → IsNamedWell w
-    fixed_well Lib kind = tt
     fixed_well (Bin name) kind = absurd (false≢true kind)
-    fixed_well Script kind = tt
-    fixed_well Run kind = tt
+    fixed_well _ kind = tt
 
     well_at : (i : ℕ) (u : Unit) → Stands i u → IsNamedWell u.what
     well_at i u (among at) = fixed_well u.what (fixed_is ws.packages i u at).kind

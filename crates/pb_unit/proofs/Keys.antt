@@ -56,10 +56,8 @@ rest_of s w = side_name s ++ 46 ∷ what_name w
 
 -- a binary's name has the letters of names
 abbrev pub IsNamedWell : What → Type 0
-IsNamedWell Lib = ⊤
 IsNamedWell (Bin name) = letters.is_name name ≡ true
-IsNamedWell Script = ⊤
-IsNamedWell Run = ⊤
+IsNamedWell _ = ⊤
 
 letters_of : (name : List ℕ) → letters.is_name name ≡ true → list_all letters.is_name_byte name ≡ true
 unfolding letters.is_name

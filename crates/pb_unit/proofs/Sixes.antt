@@ -13,10 +13,8 @@ use Rattle.pb_unit.specs.Drawing.{slot, number, six, fixed}
 
 -- no binary
 abbrev pub is_fixed : What → Bool
-is_fixed Lib = true
 is_fixed (Bin name) = false
-is_fixed Script = true
-is_fixed Run = true
+is_fixed _ = true
 
 -- Two lists, one behind the other.
 

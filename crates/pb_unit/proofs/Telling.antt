@@ -15,7 +15,7 @@ use Rattle.pb_graph.proofs.Elements.{all_at, all_from_at, at_from_contains, cont
 use Rattle.pb_unit.specs.declared.plan.Planned.{Planned}
 use Rattle.pb_unit.specs.declared.unit.Unit.{Unit}
 use Rattle.pb_unit.specs.declared.unit.What.{What}
-use Rattle.pb_unit.specs.declared.unit.What.TheVariants.{Lib, Bin, Script, Run}
+use Rattle.pb_unit.specs.declared.unit.What.TheVariants.{Bin}
 use Rattle.pb_unit.specs.Units.{name_at, side_name, what_name, key_of, has_library, Reaches, direct, onward, IsRoot, library, binary, IsPlanned}
 use Rattle.pb_unit.specs.Plan.{profile_folder}
 use Rattle.pb_unit.specs.Laws.{has_point, last_word, TellsWhat, KeysTellWhat}
@@ -39,10 +39,8 @@ behind_point [] last none = ap (λ b. cond b (last_word last) last) none
 behind_point (b ∷ front) last none = ap (λ t. cond t (last_word (front ++ 46 ∷ last)) (cond (b == 46) (front ++ 46 ∷ last) (b ∷ front ++ 46 ∷ last))) (pointed front last) ∙ behind_point front last none
 
 well_fixed : (w : What) → is_fixed w ≡ true → IsNamedWell w
-well_fixed Lib fixed = tt
 well_fixed (Bin name) fixed = cc
-well_fixed Script fixed = tt
-well_fixed Run fixed = tt
+well_fixed _ fixed = tt
 
 module _ (ws : Workspace) (features : Features) (settled : IsSettled ws) where
   there_well : (u : Unit) → IsThere ws u → IsNamedWell u.what × (u.owner < length ws.packages)

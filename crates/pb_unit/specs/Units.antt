@@ -48,10 +48,8 @@ key_of ws u = name_at ws u.owner ++ 46 ∷ (side_name u.side ++ 46 ∷ what_name
 
 -- the role for a unit's settings: that of the host for scripts and for the host's side
 abbrev pub role_at : Side → What → Side
-role_at s Lib = s
-role_at s (Bin name) = s
 role_at s Script = Host
-role_at s Run = s
+role_at s _ = s
 
 abbrev pub role_of : Unit → Side
 role_of u = role_at u.side u.what

@@ -129,9 +129,7 @@ one_path sources folder name = by (is_file sources folder name)
 
 pub script_so : (sources : World) (folder : List ℕ) (b : Build) → script_of folder sources b ≡ script sources folder b
 script_so sources folder build.Discovered = one_path sources folder (codes "build.rs")
-script_so sources folder build.Standard = refl
-script_so sources folder build.Never = refl
-script_so sources folder (build.At path) = refl
+script_so sources folder _ = refl
 
 -- the library
 pub library_so : (sources : World) (folder name : List ℕ) (l : Option WrittenLibrary) → library_of folder sources name l ≡ library sources folder name l

@@ -19,10 +19,8 @@ or_nothing true = refl
 or_nothing false = refl
 
 one_named : (name : List ℕ) (i : FeatureItem) → is_mentioned (named_by i) name ≡ enables name i
-one_named name (item.Own feature) = refl
 one_named name (item.Dependency dependency) = or_nothing (bytes_eq name dependency)
-one_named name (item.Of dependency feature) = refl
-one_named name (item.OfEnabled dependency feature) = refl
+one_named name _ = refl
 
 items_named : (name : List ℕ) (items : List FeatureItem) → is_mentioned (flat_map named_by items) name ≡ list_any (enables name) items
 items_named name [] = refl

@@ -22,20 +22,16 @@ from_outside path place.OutOfMemory = refl
 
 -- of a call that reads a file, and of one that lists a folder
 pub of_read : (path : List ℕ) (fault : PlaceFault) → (fault ≢ place.OutOfMemory → fault ≡ place.Read) → is_read (fault_at path fault) ≡ true
-of_read path place.Read only = refl
-of_read path place.List only = refl
 of_read path place.Write only = let e = only (λ x. cc) in cc
 of_read path place.Remove only = let e = only (λ x. cc) in cc
 of_read path place.Variable only = let e = only (λ x. cc) in cc
-of_read path place.OutOfMemory only = refl
+of_read path _ only = refl
 
 pub of_list : (path : List ℕ) (fault : PlaceFault) → (fault ≢ place.OutOfMemory → fault ≡ place.List) → is_read (fault_at path fault) ≡ true
-of_list path place.Read only = refl
-of_list path place.List only = refl
 of_list path place.Write only = let e = only (λ x. cc) in cc
 of_list path place.Remove only = let e = only (λ x. cc) in cc
 of_list path place.Variable only = let e = only (λ x. cc) in cc
-of_list path place.OutOfMemory only = refl
+of_list path _ only = refl
 
 module _ (call : Call) (old new : Counts) where
   -- how the counters moved
@@ -51,12 +47,8 @@ module _ (call : Call) (old new : Counts) where
 -- what was looked at
 module _ (call : Call) (old new : Counts) where
   one_call : (fault : PlaceFault) → (fault ≢ place.OutOfMemory → fault ≡ own_fault call) → new ≡ past_place_fault call fault old → Ends (fault_at (name_given call) fault) (call ∷ []) old new
-  one_call place.Read kind at = ((λ i. absurd (false≢true (sym i))), (λ n. absurd (false≢true (sym n))), (λ y. inl (kind (λ e. cc), at)))
-  one_call place.List kind at = ((λ i. absurd (false≢true (sym i))), (λ n. absurd (false≢true (sym n))), (λ y. inl (kind (λ e. cc), at)))
-  one_call place.Write kind at = ((λ i. absurd (false≢true (sym i))), (λ n. absurd (false≢true (sym n))), (λ y. inl (kind (λ e. cc), at)))
-  one_call place.Remove kind at = ((λ i. absurd (false≢true (sym i))), (λ n. absurd (false≢true (sym n))), (λ y. inl (kind (λ e. cc), at)))
-  one_call place.Variable kind at = ((λ i. absurd (false≢true (sym i))), (λ n. absurd (false≢true (sym n))), (λ y. inl (kind (λ e. cc), at)))
   one_call place.OutOfMemory kind at = ((λ i. absurd (false≢true (sym i))), (λ n. inr at), (λ y. absurd (false≢true y)))
+  one_call _ kind at = ((λ i. absurd (false≢true (sym i))), (λ n. absurd (false≢true (sym n))), (λ y. inl (kind (λ e. cc), at)))
 
   pub call_looks : (target : List ℕ) (fault : PlaceFault) → is_at_or_below target (name_given call) ≡ false → (fault ≢ place.OutOfMemory → fault ≡ own_fault call) → new ≡ past_place_fault call fault old → Ends (fault_at (name_given call) fault) (looked target call) old new
   call_looks target fault out kind at = subst (λ b. Ends (fault_at (name_given call) fault) (if b then [] else call ∷ []) old new) (sym out) (one_call fault kind at)

@@ -7,25 +7,14 @@ use Rattle.pb_place_types.specs.Counts.{Counts}
 use Rattle.pb_place_types.specs.declared.place.PlaceFault.{PlaceFault}
 use Rattle.pb_place_types.proofs.CallsInTurn.{append_none, fails_left, fails_right, made_both, some_all, some_left, some_none, some_right}
 use Rattle.pb_workspace_types.specs.declared.fault.LoadFault.{LoadFault}
-use Rattle.pb_workspace_types.specs.declared.fault.LoadFault.TheVariants.{NoManifest, Manifest, SameName, NameMismatch, VersionMismatch, LinksTwice, LinksWithoutScript, NoInherited, TooMany, SameBinary, Place, NoSuchPackage, OutOfMemory}
+use Rattle.pb_workspace_types.specs.declared.fault.LoadFault.TheVariants.{Place}
 use Rattle.pb_workspace_package.specs.Causes.{is_failure, is_outside}
 use Rattle.pb_workspace_package.specs.Looks.{after, FailsOn, Looks}
 
 -- a call that failed among some is one among others, where its fault says so
 fails_on : (e : LoadFault) (some others : List Call) (old mid new : Counts) → ((fault : PlaceFault) → FailsAt fault some mid new → FailsAt fault others old new) → FailsOn e some mid new → FailsOn e others old new
 fails_on (Place path fault) some others old mid new so is = so fault is
-fails_on (NoManifest path) some others old mid new so is = is
-fails_on (Manifest path fault) some others old mid new so is = is
-fails_on SameName some others old mid new so is = is
-fails_on NameMismatch some others old mid new so is = is
-fails_on VersionMismatch some others old mid new so is = is
-fails_on LinksTwice some others old mid new so is = is
-fails_on LinksWithoutScript some others old mid new so is = is
-fails_on NoInherited some others old mid new so is = is
-fails_on TooMany some others old mid new so is = is
-fails_on SameBinary some others old mid new so is = is
-fails_on NoSuchPackage some others old mid new so is = is
-fails_on OutOfMemory some others old mid new so is = is
+fails_on _ some others old mid new so is = is
 
 fails_on_left : (e : LoadFault) (a b : List Call) (old new : Counts) → FailsOn e a old new → FailsOn e (a ++ b) old new
 fails_on_left e a b old new is = fails_on e a (a ++ b) old old new (λ fault at. fails_left fault a b old new at) is

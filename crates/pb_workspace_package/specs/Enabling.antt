@@ -11,10 +11,8 @@ use Rattle.pb_workspace_package.specs.Sorted.{with_entry}
 
 -- the name N of an item `dep:N`
 abbrev pub named_by : FeatureItem → List (List ℕ)
-named_by (item.Own feature) = []
 named_by (item.Dependency dependency) = dependency ∷ []
-named_by (item.Of dependency feature) = []
-named_by (item.OfEnabled dependency feature) = []
+named_by _ = []
 
 abbrev pub named_in : Feature → List (List ℕ)
 named_in f = flat_map named_by f.items

@@ -10,10 +10,8 @@ use Rattle.pb_workspace_package.specs.Sorted.{with_entry}
 
 -- a feature's item is `dep:N` with this name
 abbrev pub enables : List ℕ → FeatureItem → Bool
-enables name (item.Own feature) = false
 enables name (item.Dependency dependency) = bytes_eq name dependency
-enables name (item.Of dependency feature) = false
-enables name (item.OfEnabled dependency feature) = false
+enables name _ = false
 
 -- some feature lists `dep:N`
 abbrev pub is_enabled_by_name : List ℕ → List Feature → Bool
