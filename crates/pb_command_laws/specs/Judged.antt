@@ -4,6 +4,7 @@ use Rattle.std.specs.Prelude.{◌≡◌, ◌≢◌, ◌≤◌, ◌↔◌, ℕ, B
 use Rattle.std.specs.List.{find, flat_map, list_any}
 use Rattle.std.specs.Option.{option_to_list}
 use Rattle.std.specs.Result.{result_ok}
+use Rattle.pb_data.specs.Limits.{max_stream_bytes}
 use Rattle.pb_command_reply.specs.Answers.{answered_of, inherited}
 use Rattle.pb_data.specs.OrderedSet.{once}
 use Rattle.pb_directive.specs.DepInfo.{dep_info_of}
@@ -26,7 +27,7 @@ use Rattle.pb_command_laws.specs.Compiles.{asked}
 
 -- bytes are at most 4 MiB; no stream of a child and no dep-info may be longer
 abbrev pub IsShort : List ℕ → Type 0
-IsShort bytes = length bytes ≤ 4194304
+IsShort bytes = length bytes ≤ max_stream_bytes
 
 -- the child ended well: each stream is short, and the status is 0
 abbrev pub EndedWell : Ended → Type 0

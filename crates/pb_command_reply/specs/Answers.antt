@@ -2,6 +2,7 @@
 use Rattle.std.specs.Prelude.{ℕ, Bool, true, false, not, ◌||◌, ◌&&◌, nat_lt, if◌then◌else◌, List, [], ◌∷◌, ◌++◌, map, filter, length, Option, Some, None, pos, Result, Ok, Err}
 use Rattle.std.specs.List.{flat_map, find, list_any}
 use Rattle.std.specs.Ordering.{int_eq}
+use Rattle.pb_data.specs.Limits.{max_stream_bytes}
 use Rattle.pb_data.specs.UnlessOom.{◌>>=◌, lifted}
 use Rattle.pb_data.specs.OrderedSet.{is_mentioned, once}
 use Rattle.pb_directive.specs.DepInfo.{dep_info_of}
@@ -28,11 +29,8 @@ use Rattle.pb_command_types.specs.Targets.{folder_of}
 -- How the child ended.
 
 -- the greatest length of a child's stream, or of dep-info, in bytes
-abbrev pub greatest_length : ℕ
-greatest_length = 4194304
-
 abbrev pub is_too_long : List ℕ → Bool
-is_too_long bytes = nat_lt greatest_length (length bytes)
+is_too_long bytes = nat_lt max_stream_bytes (length bytes)
 
 -- the fault of how a child ended: a stream that is too long, else a status other than 0
 abbrev pub ended_fault : Ended → Option UnitFault

@@ -5,21 +5,18 @@ ghost use Rattle.std.specs.List.{flat_map, list_any};
 ghost use Rattle.pb_data.specs.UnlessOom.{UnlessOom, lifted};
 ghost use Rattle.pb_directive.specs.Directives.{directives_of};
 ghost use Rattle.pb_command_types.specs.Targets.{folder_of};
-ghost use Rattle.pb_command_reply.specs.Answers.{is_too_long, greatest_length, ended_fault, info_in, read_info, inputs_of, info_inputs, compile_answered, changed_path, changed_variable, is_error, unless_error, said_in, marked_inputs, rerun_inputs, said_inputs, run_answered, answered_by, answered_of, named_in};
+ghost use Rattle.pb_command_reply.specs.Answers.{is_too_long, ended_fault, info_in, read_info, inputs_of, info_inputs, compile_answered, changed_path, changed_variable, is_error, unless_error, said_in, marked_inputs, rerun_inputs, said_inputs, run_answered, answered_by, answered_of, named_in};
 ghost use Rattle.pb_command_types.specs.declared.fault.UnitFault.TheVariants as unit_fault;
 
 use crate::input_names::{inherited, inputs_of, once, paths_from};
 use crate::meaning::{ByPlace, ByText, Meaning};
 use pb_command_types::{CheckedReply, Project, UnitFault, folder_of};
-use pb_data::{Bytes, Items, Text, TryCopy};
+use pb_data::{Bytes, Items, MAX_STREAM_BYTES, Text, TryCopy};
 use pb_directive::{DepInfo, Directive, LineFault, read_dep_info, read_directives};
 use pb_place_types::{Command, Ended, PathText, Place};
 use pb_record::InputName;
 use pb_unit::{Planned, What};
 use std::alloc::{AllocError, Global};
-
-/// The greatest length of a child's stream, or of dep-info, in bytes (our own choice).
-const MAX_STREAM_BYTES: usize = 4_194_304;
 
 /// Returns whether bytes are too long for a stream or dep-info.
 fn is_too_long(bytes: &Bytes) -> bool

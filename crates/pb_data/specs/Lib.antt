@@ -1,3 +1,4 @@
 pub mod UnlessOom
 pub mod OrderedSet
 pub mod Table
+pub mod Limits

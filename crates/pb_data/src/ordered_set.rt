@@ -87,5 +87,6 @@ pub fn once_is_distinct()
 
 /// A law: each of the texts occurs, and no other.
 pub fn once_keeps_texts()
-    ensures { (texts : List (List ℕ)) (text : List ℕ) → is_mentioned (once texts) text ≡ is_mentioned texts text }
+    ensures { (texts : List (List ℕ)) (text : List ℕ)
+        → is_mentioned (once texts) text ≡ is_mentioned texts text }
 {}

@@ -98,15 +98,18 @@ impl<V: Drop> Table<V> {
 
 /// A law: a table of entries has each text once, in order of first mention.
 pub fn table_names<V>()
-    ensures { (entries : List (List ℕ × V)) → names_of (table_of entries) ≡ once (names_of entries) }
+    ensures { (entries : List (List ℕ × V)) → names_of (table_of entries)
+        ≡ once (names_of entries) }
 {}
 
 /// A law: a table of entries contains for each text its last value in the entries.
 pub fn table_values<V>()
-    ensures { (entries : List (List ℕ × V)) (name : List ℕ) → value_at name (table_of entries) ≡ last_value name entries }
+    ensures { (entries : List (List ℕ × V)) (name : List ℕ)
+        → value_at name (table_of entries) ≡ last_value name entries }
 {}
 
 /// A law: a table of entries with more entries added is the table of them all.
 pub fn table_joins<V>()
-    ensures { (entries more : List (List ℕ × V)) → with_entries (table_of entries) more ≡ table_of (entries ++ more) }
+    ensures { (entries more : List (List ℕ × V))
+        → with_entries (table_of entries) more ≡ table_of (entries ++ more) }
 {}

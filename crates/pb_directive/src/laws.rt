@@ -17,39 +17,47 @@ ghost use Rattle.pb_directive.specs.declared.dep_info.DepInfo.{DepInfo};
 /// then what the second means. The first fault counts: if the first text
 /// has none, that of the second, further down by the lines of the first.
 pub fn directives_concatenate()
-    ensures { (text more : List ℕ) → directives_of (followed_by text more) ≡ then_said (line_count text) (directives_of text) (directives_of more) }
+    ensures { (text more : List ℕ) → directives_of (followed_by text more)
+        ≡ then_said (line_count text) (directives_of text) (directives_of more) }
 {}
 
 /// The same is true of all names of dep-info, before each name is kept once.
 pub fn names_concatenate()
-    ensures { (text more : List ℕ) → all_names_of (followed_by text more) ≡ then_named (line_count text) (all_names_of text) (all_names_of more) }
+    ensures { (text more : List ℕ) → all_names_of (followed_by text more)
+        ≡ then_named (line_count text) (all_names_of text) (all_names_of more) }
 {}
 
 /// A line that begins with neither prefix means what an empty line means.
 pub fn other_lines_say_nothing()
     ensures { (number : ℕ) (before after : List (List ℕ)) (line : List ℕ)
-        → after_prefix (codes "cargo::") (trimmed line) ≡ None → after_prefix (codes "cargo:") (trimmed line) ≡ None
-        → directives_from number (before ++ line ∷ after) ≡ directives_from number (before ++ [] ∷ after) }
+        → after_prefix (codes "cargo::") (trimmed line) ≡ None
+        → after_prefix (codes "cargo:") (trimmed line) ≡ None
+        → directives_from number (before ++ line ∷ after)
+        ≡ directives_from number (before ++ [] ∷ after) }
 {}
 
 /// Dep-info names no path twice.
 pub fn words_stand_once()
-    ensures { (bytes : List ℕ) (info : DepInfo) → dep_info_of bytes ≡ Ok info → EachOnce info.words }
+    ensures { (bytes : List ℕ) (info : DepInfo) → dep_info_of bytes ≡ Ok info
+        → EachOnce info.words }
 {}
 
 /// Dep-info names no variable twice.
 pub fn variables_stand_once()
-    ensures { (bytes : List ℕ) (info : DepInfo) → dep_info_of bytes ≡ Ok info → EachOnce info.variables }
+    ensures { (bytes : List ℕ) (info : DepInfo) → dep_info_of bytes ≡ Ok info
+        → EachOnce info.variables }
 {}
 
 /// The last value that metadata gives a variable counts.
 pub fn last_metadata_counts()
-    ensures { (links name : List ℕ) (directives : List Directive) → value_at name (dep_pairs links directives) ≡ last_value name (passed links directives) }
+    ensures { (links name : List ℕ) (directives : List Directive)
+        → value_at name (dep_pairs links directives) ≡ last_value name (passed links directives) }
 {}
 
 /// Each variable that metadata names occurs once, in order of first mention.
 pub fn passed_names_stand_once()
-    ensures { (links : List ℕ) (directives : List Directive) → names_of (dep_pairs links directives) ≡ once (names_of (passed links directives)) }
+    ensures { (links : List ℕ) (directives : List Directive)
+        → names_of (dep_pairs links directives) ≡ once (names_of (passed links directives)) }
 {}
 
 /// A line of a build script's output means what its key means with its value, key by key (The

@@ -58,7 +58,8 @@ fn line_end(bytes: &[u8]) -> Option<usize>
 /// Returns the first line, and what follows its line feed, if there is one.
 #[tactic(auto, using(crate::proofs::TextLemmas::line_laws))]
 fn first_line(bytes: &[u8]) -> (&[u8], Option<&[u8]>)
-    ensures { lines_of bytes.now ≡ result.0.now ∷ option_map_or (λ rest. lines_of rest.now) result.1 [] }
+    ensures { lines_of bytes.now
+        ≡ result.0.now ∷ option_map_or (λ rest. lines_of rest.now) result.1 [] }
 {
     match line_end(bytes) {
         None => (bytes, None),

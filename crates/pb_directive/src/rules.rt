@@ -45,14 +45,16 @@ pub fn after_outputs(text: &str) -> Option<&str>
 
 /// Returns a part without the `\` at its end, if there is one.
 fn before_backslash(part: &str) -> Option<&str>
-    ensures { MatchOption result ((front : List ℕ) → part.now ≢ front ++ 92 ∷ []) (λ front. part.now ≡ front.now ++ 92 ∷ []) }
+    ensures { MatchOption result ((front : List ℕ) → part.now ≢ front ++ 92 ∷ [])
+        (λ front. part.now ≡ front.now ++ 92 ∷ []) }
 {
     part.strip_suffix('\\')
 }
 
 /// Returns the first part of a text, and what follows the space that ends it, if there is one.
 fn first_part(alloc: Global, text: &str) -> Result<(String, Option<&str>), AllocError>
-    ensures parts { IfOk result (λ p. parts_of text.now ≡ string_bytes p.0 ∷ option_map_or (λ rest. parts_of rest.now) p.1 []) }
+    ensures parts { IfOk result (λ p.
+        parts_of text.now ≡ string_bytes p.0 ∷ option_map_or (λ rest. parts_of rest.now) p.1 []) }
     ensures shorter { IfOk result (λ p. IfSome p.1 (λ rest. length rest.now < length text.now)) }
 {
     let mut piece = String::new(alloc);

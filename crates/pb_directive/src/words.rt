@@ -55,7 +55,8 @@ pub fn split_at_space(text: &str) -> Option<(&str, &str)>
 /// Returns the first word and what follows it, if there is one.
 #[tactic(auto, using(crate::proofs::WordLemmas::word_laws))]
 fn first_word(text: &str) -> Option<(&str, &str)>
-    ensures { MatchOption result (words_of text.now ≡ []) (λ p. words_of text.now ≡ p.0.now ∷ words_of p.1.now) }
+    ensures { MatchOption result (words_of text.now ≡ [])
+        (λ p. words_of text.now ≡ p.0.now ∷ words_of p.1.now) }
 {
     let mut rest = text;
     while let Some((part, after)) = split_at_space(rest) {

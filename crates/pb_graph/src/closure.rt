@@ -33,7 +33,8 @@ pub trait Rules {
         requires thing { IsTrue (is_on known.now thing) }
         requires fit { is_fit self.now }
         ensures within { OnOk result (All (λ z. z < count self.now) given.new.items) }
-        ensures given { OnOk result (IsGiven (joins self.now) (is_on known.now) thing given.new.items) };
+        ensures given { OnOk result
+            (IsGiven (joins self.now) (is_on known.now) thing given.new.items) };
 }
 
 /// Marks a thing and puts it on the list, unless it is marked already.
@@ -44,7 +45,8 @@ fn mark_one(
 ) -> Result<(), AllocError>
     requires { thing < length marks.old.items }
     ensures long { length marks.new.items ≡ length marks.old.items }
-    ensures marked { OnOk result ((marks.new.items, todo.new.items) ≡ with_mark (marks.old.items, todo.old.items) thing) }
+    ensures marked { OnOk result ((marks.new.items, todo.new.items)
+        ≡ with_mark (marks.old.items, todo.old.items) thing) }
 {
     if marks[thing] {
         return Ok(());
@@ -62,7 +64,8 @@ fn mark(
 ) -> Result<(), AllocError>
     requires { All (λ x. x < length marks.old.items) things.now }
     ensures long { length marks.new.items ≡ length marks.old.items }
-    ensures marked { OnOk result ((marks.new.items, todo.new.items) ≡ with_marks (marks.old.items, todo.old.items) things.now) }
+    ensures marked { OnOk result ((marks.new.items, todo.new.items)
+        ≡ with_marks (marks.old.items, todo.old.items) things.now) }
 {
     for thing in things {
         mark_one(marks, todo, *thing)?;
@@ -78,7 +81,8 @@ fn mark(
 pub fn least<R: Rules>(alloc: Global, rules: &R, seeds: &[usize]) -> Result<Vec<bool>, AllocError>
     requires seeds { All (λ x. x < R.count rules.now) seeds.now }
     requires fit { R.is_fit rules.now }
-    ensures { IfOk result (λ marks. IsLeast (Least (Contains seeds.now) (R.joins rules.now)) (is_on marks.items)) }
+    ensures { IfOk result
+        (λ marks. IsLeast (Least (Contains seeds.now) (R.joins rules.now)) (is_on marks.items)) }
 {
     let mut marks = vec![in alloc; false; rules.count_things()]?;
     let mut todo = VecDeque::new(alloc);

@@ -64,7 +64,8 @@ pub(crate) fn put_linked(
 fn add_link(index: &mut Index, thing: usize, with: usize, gives: usize) -> Result<(), AllocError>
     requires { thing < length index.old.heads.items }
     ensures long { length index.new.heads.items ≡ length index.old.heads.items }
-    ensures added { OnOk result ((index.new.heads.items, index.new.links.items) ≡ with_link (index.old.heads.items, index.old.links.items) thing with gives) }
+    ensures added { OnOk result ((index.new.heads.items, index.new.links.items)
+        ≡ with_link (index.old.heads.items, index.old.links.items) thing with gives) }
 {
     let next = index.heads[thing];
     index.links.push(Link { with, gives, next })?;
@@ -76,7 +77,8 @@ fn add_link(index: &mut Index, thing: usize, with: usize, gives: usize) -> Resul
 fn add_rule(index: &mut Index, rule: Rule) -> Result<(), AllocError>
     requires { IsInRange (length index.old.heads.items) rule }
     ensures long { length index.new.heads.items ≡ length index.old.heads.items }
-    ensures added { OnOk result ((index.new.heads.items, index.new.links.items) ≡ with_rule (index.old.heads.items, index.old.links.items) rule) }
+    ensures added { OnOk result ((index.new.heads.items, index.new.links.items)
+        ≡ with_rule (index.old.heads.items, index.old.links.items) rule) }
 {
     add_link(index, rule.first, rule.second, rule.gives)?;
     if rule.first == rule.second {
@@ -109,7 +111,8 @@ fn count_links(rules: &[Rule]) -> Result<usize, AllocError>
 /// Returns the index of rules.
 pub(crate) fn index_of(alloc: Global, count: usize, rules: &[Rule]) -> Result<Index, AllocError>
     requires { All (IsInRange count) rules.now }
-    ensures { IfOk result (λ made. IsIndex count (either_way rules.now) made.heads.items made.links.items) }
+    ensures { IfOk result
+        (λ made. IsIndex count (either_way rules.now) made.heads.items made.links.items) }
 {
     let mut index = Index {
         heads: vec![in alloc; 0; count]?,

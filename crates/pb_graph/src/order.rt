@@ -18,7 +18,8 @@ use std::alloc::{AllocError, Global};
 fn places_of(alloc: Global, nodes: &[Node], ranks: &[Rank]) -> Result<Vec<usize>, AllocError>
     requires within { All (λ r. r.node < length nodes.now) ranks.now }
     requires apart { AllPairs (λ a b. a.node ≢ b.node) ranks.now }
-    ensures { IfOk result (λ places. PlacesTell nodes.now ranks.now (length ranks.now) places.items) }
+    ensures { IfOk result
+        (λ places. PlacesTell nodes.now ranks.now (length ranks.now) places.items) }
 {
     let mut places = zeros(alloc, nodes.len())?;
     for (place, rank) in ranks.iter().enumerate() {
@@ -152,7 +153,8 @@ fn within(
     requires list { All (λ v. v < length nodes.now) list.now }
     ensures listed { IfOk result (AreByKey nodes.now list.now) }
     ensures few { IfOk result (λ found. length found ≤ most) }
-    ensures crowd { IfErr result (λ e. (e ≡ OutOfMemory) ⊎ ((e ≡ TooMany) × IsCrowded nodes.now list.now most)) }
+    ensures crowd { IfErr result
+        (λ e. (e ≡ OutOfMemory) ⊎ ((e ≡ TooMany) × IsCrowded nodes.now list.now most)) }
 {
     let found = by_key(alloc, nodes, list)?;
     if found.len() > most {
@@ -174,9 +176,11 @@ fn ordered(
     requires within { All (λ e. e.node < length nodes.now) extents.now }
     requires long { length marks.old.items ≡ length nodes.now }
     requires clear { AreClear marks.old.items }
-    ensures ordered { IfOk result (λ plan. IsOrdered nodes.now (map node_of extents.now) plan.items) }
+    ensures ordered { IfOk result
+        (λ plan. IsOrdered nodes.now (map node_of extents.now) plan.items) }
     ensures few { IfOk result (λ plan. length plan.items ≤ most) }
-    ensures crowd { IfErr result (λ e. (e ≡ OutOfMemory) ⊎ ((e ≡ TooMany) × IsCrowded nodes.now (map node_of extents.now) most)) }
+    ensures crowd { IfErr result (λ e. (e ≡ OutOfMemory)
+        ⊎ ((e ≡ TooMany) × IsCrowded nodes.now (map node_of extents.now) most)) }
 {
     let reached = extent_nodes(alloc, extents)?;
     let list = match within(alloc, nodes, &reached, most) {

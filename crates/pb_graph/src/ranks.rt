@@ -20,7 +20,8 @@ pub struct Rank {
 /// Sorts items and removes repeats.
 pub fn sort_once<T: Ord + Drop>(items: &mut Vec<T>)
     ensures rises { IsStrictlySortedBy T.cmp items.new.items }
-    ensures keeps { (x : T) → Contains items.old.items x → Any (λ y. T.eq x y ≡ true) items.new.items }
+    ensures keeps { (x : T) → Contains items.old.items x
+        → Any (λ y. T.eq x y ≡ true) items.new.items }
     ensures adds_none { (x : T) → Contains items.new.items x → Contains items.old.items x }
     ensures few { length items.new.items ≤ length items.old.items }
 {

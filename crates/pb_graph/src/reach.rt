@@ -29,7 +29,8 @@ pub fn mark_all(
     list: &[usize],
 ) -> Result<(), AllocError>
     requires { All (λ v. v < length marks.old.items) list.now }
-    ensures { OnOk result (Marked list.now (length list.now) marks.old.items waiting.old.items marks.new.items waiting.new.items) }
+    ensures { OnOk result (Marked list.now (length list.now)
+        marks.old.items waiting.old.items marks.new.items waiting.new.items) }
 {
     for v in list {
         if !marks[*v] {

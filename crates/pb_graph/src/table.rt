@@ -62,7 +62,8 @@ pub fn derived(
 ) -> Result<Vec<bool>, AllocError>
     requires seeds { All (λ x. x < count) seeds.now }
     requires rules { All (IsInRange count) rules.now }
-    ensures { IfOk result (λ marks. IsLeast (Least (Contains seeds.now) (joined_by rules.now)) (is_on marks.items)) }
+    ensures { IfOk result
+        (λ marks. IsLeast (Least (Contains seeds.now) (joined_by rules.now)) (is_on marks.items)) }
 {
     let index = index_of(alloc, count, rules)?;
     let indexed = Indexed {

@@ -5,9 +5,10 @@ use Rattle.std.proofs.lemmas.Bool.Decides.{nat_tests}
 use Rattle.std.specs.List.{AllByRecursion}
 use Rattle.std.specs.Str.{bytes_eq}
 use Rattle.toml.specs.Data.{Data, Members, as_str, as_bool, as_table, as_integer, is_sorted}
+use Rattle.pb_data.specs.Limits.{max_manifest_bytes}
 use Rattle.pb_manifest.specs.Binaries.{binaries_at}
 use Rattle.pb_manifest.specs.Dependencies.{dependencies_at, dependency_of, shared_dependencies_at, shared_dependency_of}
-use Rattle.pb_manifest.specs.Document.{supported, not_old, package_at, library_in, library_at, workspace_in, workspace_at, targets_of, tables_of, document_of, document_in, manifest_of, greatest_length}
+use Rattle.pb_manifest.specs.Document.{supported, not_old, package_at, library_in, library_at, workspace_in, workspace_at, targets_of, tables_of, document_of, document_in, manifest_of}
 use Rattle.pb_manifest.specs.Features.{features_at, feature_of}
 use Rattle.pb_manifest_types.specs.Keys.{spelled}
 use Rattle.pb_manifest_types.specs.Letters.{is_name, is_name_byte}
@@ -257,5 +258,5 @@ document_is ms h =
 -- each manifest that was read is one
 pub manifest_is : (bytes : List ℕ) → Yields IsManifest (manifest_of bytes)
 manifest_is bytes =
-    yields_either IsManifest (nat_lt greatest_length (length bytes)) (Err TooLarge) _ (λ over. yields_err IsManifest TooLarge) (λ fits.
+    yields_either IsManifest (nat_lt max_manifest_bytes (length bytes)) (Err TooLarge) _ (λ over. yields_err IsManifest TooLarge) (λ fits.
     yields_then IsManifest (document_in bytes) document_of (λ ms was. document_is ms (bytes_sorted bytes ms was)))

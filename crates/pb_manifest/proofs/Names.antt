@@ -1,9 +1,10 @@
 -- The name of a package that was read passes the test of a package's letters.
 use Rattle.std.proofs.Common.{◌≡◌, ℕ, List, Bool, true, false, refl, subst, if◌then◌else◌, nat_lt, length, Option, Some, None, Ok, Err, IfSome}
 use Rattle.toml.specs.Data.{Members}
+use Rattle.pb_data.specs.Limits.{max_manifest_bytes}
 use Rattle.pb_data.specs.UnlessOom.{◌>>=◌}
 use Rattle.pb_manifest.specs.Binaries.{binaries_at}
-use Rattle.pb_manifest.specs.Document.{supported, not_old, package_in, package_at, library_at, targets_of, tables_of, document_of, document_in, manifest_of, greatest_length}
+use Rattle.pb_manifest.specs.Document.{supported, not_old, package_in, package_at, library_at, targets_of, tables_of, document_of, document_in, manifest_of}
 use Rattle.pb_manifest_types.specs.Letters.{is_name}
 use Rattle.pb_manifest.specs.Package.{name_in, name_at, first_keys, middle_keys, last_keys, package_of}
 use Rattle.pb_manifest_types.specs.Values.{Text, Read}
@@ -106,4 +107,4 @@ some_passes (Some q) p h e = let same : q ≡ p = cc in subst (λ (r : Package).
 
 -- the package of a manifest that was read has a name of the letters of package names
 pub package_name_passes : (bytes : List ℕ) (m : Manifest) (p : Package) → manifest_of bytes ≡ Ok m → m.package ≡ Some p → is_name p.name ≡ true
-package_name_passes bytes m p h e = some_passes m.package p (sized_passes (nat_lt greatest_length (length bytes)) bytes m h) e
+package_name_passes bytes m p h e = some_passes m.package p (sized_passes (nat_lt max_manifest_bytes (length bytes)) bytes m h) e

@@ -3,6 +3,7 @@ use Rattle.std.specs.Prelude.{ℕ, List, Bool, false, ◌||◌, if◌then◌else
 use Rattle.std.specs.Str.{bytes_eq, is_utf8}
 use Rattle.toml.specs.Data.{Data, Members, as_str}
 use Rattle.toml.specs.Parse.{parse_document}
+use Rattle.pb_data.specs.Limits.{max_manifest_bytes}
 use Rattle.pb_data.specs.UnlessOom.{◌>>=◌, some_or}
 use Rattle.pb_manifest.specs.Binaries.{binaries_at}
 use Rattle.pb_manifest.specs.Dependencies.{dependencies_at}
@@ -117,10 +118,6 @@ document_of ms =
 unfoldable pub document_in : List ℕ → Read Members
 document_in bytes = if is_utf8 bytes then some_or NotToml (parse_document bytes) else Err NotToml
 
--- the greatest length of a manifest, in bytes
-abbrev pub greatest_length : ℕ
-greatest_length = 1048576
-
 -- the manifest in some bytes, or why they are refused
 abbrev pub manifest_of : List ℕ → Read Manifest
-manifest_of bytes = if nat_lt greatest_length (length bytes) then Err TooLarge else (document_in bytes >>= document_of)
+manifest_of bytes = if nat_lt max_manifest_bytes (length bytes) then Err TooLarge else (document_in bytes >>= document_of)

@@ -1,11 +1,12 @@
 -- Laws of the reader, each about a definition, in the terms of the rules.
 use Rattle.std.specs.Prelude.{◌≡◌, ◌≢◌, ◌<◌, ℕ, true, List, [], ◌∷◌, ◌++◌, if◌then◌else◌, length, codes, Some, None, Ok, Err}
 use Rattle.toml.specs.Data.{Data, Items, no_items, item, Members, no_members, member, same_key, members_are_sorted}
+use Rattle.pb_data.specs.Limits.{max_manifest_bytes}
 use Rattle.pb_manifest_types.specs.Keys.{spelled}
 use Rattle.pb_manifest_types.specs.Values.{Text, Read}
 use Rattle.pb_manifest.specs.Values.{value_at, table_at, keys_of, each}
 use Rattle.pb_manifest.specs.Binaries.{binary_of}
-use Rattle.pb_manifest.specs.Document.{document_in, manifest_of, greatest_length}
+use Rattle.pb_manifest.specs.Document.{document_in, manifest_of}
 use Rattle.pb_manifest.specs.Features.{item_in}
 use Rattle.pb_manifest_types.specs.Letters.{is_name}
 use Rattle.pb_manifest.specs.Package.{package_of}
@@ -48,7 +49,7 @@ OrdersKeys = (ms : Members) → members_are_sorted ms ≡ true → Ascend (keys_
 
 -- a manifest over the size limit is refused, whatever it contains
 abbrev pub RefusesLarge : Type 0
-RefusesLarge = (bytes : List ℕ) → greatest_length < length bytes → manifest_of bytes ≡ Err TooLarge
+RefusesLarge = (bytes : List ℕ) → max_manifest_bytes < length bytes → manifest_of bytes ≡ Err TooLarge
 
 -- each manifest that was read keeps the promises
 abbrev pub KeepsPromises : Type 0

@@ -13,16 +13,13 @@ use crate::profile::profiles_at;
 use crate::target::{binaries_at, library_of};
 use crate::values::{has, keys_at, table_at, value_at};
 use crate::workspace::workspace_of;
-use pb_data::{Items, Text, with_next};
+use pb_data::{Items, MAX_MANIFEST_BYTES, Text, with_next};
 use pb_manifest_types::{
     Binary, Dependency, Feature, Key, Library, Manifest, ManifestFault, Package, Profile,
     WorkspaceTable,
 };
 use std::alloc::Global;
 use toml::Table;
-
-/// The greatest length of a manifest, in bytes. Our own choice.
-pub const MAX_MANIFEST_BYTES: usize = 1_048_576;
 
 /// The package and its targets.
 #[derive(Drop)]

@@ -38,7 +38,8 @@ pub fn tables_look_at_their_own_keys()
     ensures library { LooksAt of_library library_of }
     ensures binary { LooksAt of_binary binary_keys }
     ensures dependency { (name : Text) → LooksAt of_dependency (dependency_keys name) }
-    ensures shared_dependency { (name : Text) → LooksAt of_dependency (shared_dependency_keys name) }
+    ensures shared_dependency { (name : Text)
+        → LooksAt of_dependency (shared_dependency_keys name) }
     ensures profile { (name : Text) → LooksAt of_profile (profile_of_table name) }
     ensures settings { LooksAt of_settings profile_keys }
     ensures workspace { LooksAt of_workspace workspace_of }
@@ -110,7 +111,8 @@ pub fn lowest_faults_are_told()
     ensures library { TellsLowest faults_of_library library_of }
     ensures binary { TellsLowest faults_of_binary binary_keys }
     ensures dependency { (name : Text) → TellsLowest faults_of_dependency (dependency_keys name) }
-    ensures shared_dependency { (name : Text) → TellsLowest faults_of_shared_dependency (shared_dependency_keys name) }
+    ensures shared_dependency { (name : Text)
+        → TellsLowest faults_of_shared_dependency (shared_dependency_keys name) }
     ensures inherited { TellsLowest faults_of_inherited workspace_package_of }
     ensures workspace { TellsLowest faults_of_workspace workspace_of }
     ensures dependencies { (k : Key) → TellsLowestEntry (dependency_of k) }

@@ -18,7 +18,7 @@ mod values;
 mod version;
 mod workspace;
 
-pub use document::{MAX_MANIFEST_BYTES, read_manifest};
+pub use document::read_manifest;
 pub use pb_manifest_types::{
     Binary, Build, CrateType, DebugInfo, Dependency, Edition, Feature, FeatureItem, Inheritable,
     Inherited, Key, Library, Lto, Manifest, ManifestFault, OptLevel, Package, Panic, PathSource,

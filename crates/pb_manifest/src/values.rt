@@ -231,7 +231,8 @@ pub(crate) fn paths_at(
 
 /// Returns the table at a key, if there is one.
 pub(crate) fn table_at<'a>(table: &'a Table, key: Key) -> Result<Option<&'a Table>, ManifestFault>
-    ensures ok { IfOk result (λ t. table_at key (table_view table.now) ≡ Ok (option_map (λ m. table_view m.now) t)) }
+    ensures ok { IfOk result (λ t. table_at key (table_view table.now)
+        ≡ Ok (option_map (λ m. table_view m.now) t)) }
     ensures err { IfErr result (λ e. table_at key (table_view table.now) ≡ Err e) }
 {
     match value_at(table, key) {

@@ -6,10 +6,11 @@ use Rattle.std.specs.Option.{option_and_then, option_map_or}
 use Rattle.std.specs.Str.{is_utf8}
 use Rattle.toml.specs.Data.{Data, string, integer, float, boolean, datetime, array, table, Members, get_member, as_table}
 use Rattle.toml.specs.Parse.{parse_document}
+use Rattle.pb_data.specs.Limits.{max_manifest_bytes}
 use Rattle.pb_data.specs.UnlessOom.{◌>>=◌, some_or}
 use Rattle.pb_manifest.specs.Binaries.{binary_keys, binary_of, binaries_in, binaries_at}
 use Rattle.pb_manifest.specs.Dependencies.{dependency_of, dependencies_at}
-use Rattle.pb_manifest.specs.Document.{supported, text_in, is_one, says_one, asks_old_resolver, not_old, package_in, package_at, library_in, library_at, workspace_in, workspace_at, targets_of, tables_of, document_of, document_in, greatest_length, manifest_of}
+use Rattle.pb_manifest.specs.Document.{supported, text_in, is_one, says_one, asks_old_resolver, not_old, package_in, package_at, library_in, library_at, workspace_in, workspace_at, targets_of, tables_of, document_of, document_in, manifest_of}
 use Rattle.pb_manifest.specs.Features.{feature_of, features_at}
 use Rattle.pb_manifest_types.specs.Keys.{spelled}
 use Rattle.pb_manifest.specs.Library.{library_of}
@@ -255,22 +256,22 @@ less_not m n h = grind (arith, nat_tests)
 
 manifest_only : (bytes : List ℕ) (m : Manifest) → manifest_of bytes ≡ Ok m → AreManifest bytes m
 unfolding document_in
-manifest_only bytes m h = by (nat_lt greatest_length (length bytes)) refl h
+manifest_only bytes m h = by (nat_lt max_manifest_bytes (length bytes)) refl h
   where
-    of_text : (b : Bool) → is_utf8 bytes ≡ b → length bytes ≤ greatest_length → ((if b then some_or NotToml (parse_document bytes) else Err NotToml) >>= document_of) ≡ Ok m → AreManifest bytes m
+    of_text : (b : Bool) → is_utf8 bytes ≡ b → length bytes ≤ max_manifest_bytes → ((if b then some_or NotToml (parse_document bytes) else Err NotToml) >>= document_of) ≡ Ok m → AreManifest bytes m
     of_text true text few h =
         let c = came (some_or NotToml (parse_document bytes)) document_of m h in
         record { few = few; text = text; document = c.value; parsed = some_document (parse_document bytes) c.value c.was; says = document_only c.value m c.more }
     of_text false text few h = cc
 
-    by : (b : Bool) → nat_lt greatest_length (length bytes) ≡ b → (if b then Err TooLarge else (document_in bytes >>= document_of)) ≡ Ok m → AreManifest bytes m
+    by : (b : Bool) → nat_lt max_manifest_bytes (length bytes) ≡ b → (if b then Err TooLarge else (document_in bytes >>= document_of)) ≡ Ok m → AreManifest bytes m
     by true large h = cc
-    by false large h = of_text (is_utf8 bytes) refl (not_less greatest_length (length bytes) large) h
+    by false large h = of_text (is_utf8 bytes) refl (not_less max_manifest_bytes (length bytes) large) h
 
 manifest_back : (bytes : List ℕ) (m : Manifest) → AreManifest bytes m → manifest_of bytes ≡ Ok m
 unfolding document_in
 manifest_back bytes m are =
-    (λ i. if less_not greatest_length (length bytes) are.few i then Err TooLarge else (document_in bytes >>= document_of))
+    (λ i. if less_not max_manifest_bytes (length bytes) are.few i then Err TooLarge else (document_in bytes >>= document_of))
     ∙ (λ i. (if are.text i then some_or NotToml (are.parsed i) else Err NotToml) >>= document_of) ∙ document_back are.document m are.says
 
 pub manifests_read : ReadsManifests

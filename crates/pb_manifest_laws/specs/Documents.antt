@@ -5,6 +5,7 @@ use Rattle.std.specs.Option.{option_and_then, option_map_or}
 use Rattle.std.specs.Str.{is_utf8}
 use Rattle.toml.specs.Data.{Members, as_table, get_member}
 use Rattle.toml.specs.Parse.{parse_document}
+use Rattle.pb_data.specs.Limits.{max_manifest_bytes}
 use Rattle.pb_manifest.specs.Values.{keys_of}
 use Rattle.pb_manifest_types.specs.declared.manifest.Manifest.{Manifest}
 use Rattle.pb_manifest_laws.specs.Dependencies.{IsDependencyEntry}
@@ -29,7 +30,7 @@ pub record IsDocument (ms : Members) (m : Manifest) : Type 0 where
 
 -- the bytes of a manifest: at most 1 MiB of UTF-8, which `toml` reads as the document of this manifest
 pub record AreManifest (bytes : List ℕ) (m : Manifest) : Type 0 where
-  pub few : length bytes ≤ 1048576
+  pub few : length bytes ≤ max_manifest_bytes
   pub text : is_utf8 bytes ≡ true
   pub document : Members
   pub parsed : parse_document bytes ≡ Some document

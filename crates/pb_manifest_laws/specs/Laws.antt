@@ -3,6 +3,7 @@ use Rattle.std.specs.Prelude.{◌≡◌, ◌↔◌, ◌≤◌, ℕ, Bool, true, 
 use Rattle.std.specs.Str.{is_utf8}
 use Rattle.toml.specs.Data.{Members}
 use Rattle.toml.specs.Text.{IsDocumentText}
+use Rattle.pb_data.specs.Limits.{max_manifest_bytes}
 use Rattle.pb_manifest_types.specs.Values.{Read}
 use Rattle.pb_manifest.specs.Binaries.{binary_keys}
 use Rattle.pb_manifest.specs.Dependencies.{dependency_of, shared_dependency_of}
@@ -71,4 +72,4 @@ ReadsWhatIsWritten = (ms : Members) (m : Manifest) → document_of ms ≡ Ok m �
 
 -- a text that prints the written form as `toml` does is read as the same manifest, if it is within the size limit
 abbrev pub ReadsWhatIsPrinted : Type 0
-ReadsWhatIsPrinted = (bytes : List ℕ) (m : Manifest) → manifest_of bytes ≡ Ok m → (pretty : Bool) (text : List ℕ) → IsDocumentText pretty (written m) text → is_utf8 text ≡ true → length text ≤ 1048576 → manifest_of text ≡ Ok m
+ReadsWhatIsPrinted = (bytes : List ℕ) (m : Manifest) → manifest_of bytes ≡ Ok m → (pretty : Bool) (text : List ℕ) → IsDocumentText pretty (written m) text → is_utf8 text ≡ true → length text ≤ max_manifest_bytes → manifest_of text ≡ Ok m

@@ -37,7 +37,8 @@ impl CrateType {
 
 /// Returns the spellings of crate types.
 fn texts_of(alloc: Global, crate_types: &[CrateType]) -> Result<Vec<&'static str>, AllocError>
-    ensures { IfOk result (λ texts. map (λ t. t.now) texts.items ≡ map crate_type_text crate_types.now) }
+    ensures { IfOk result (λ texts. map (λ t. t.now) texts.items
+        ≡ map crate_type_text crate_types.now) }
 {
     let mut texts = Vec::new(alloc);
     for crate_type in crate_types {
@@ -54,7 +55,8 @@ pub fn crate_type_texts(
     alloc: Global,
     crate_types: &[CrateType],
 ) -> Result<Vec<&'static str>, AllocError>
-    ensures { IfOk result (λ texts. map (λ t. t.now) texts.items ≡ crate_type_texts crate_types.now) }
+    ensures { IfOk result (λ texts. map (λ t. t.now) texts.items
+        ≡ crate_type_texts crate_types.now) }
 {
     if crate_types.is_empty() {
         let mut texts = Vec::new(alloc);

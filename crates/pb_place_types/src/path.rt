@@ -184,7 +184,8 @@ impl PathText {
     ///
     /// This is our own choice, as for `parse`.
     pub fn join(&self, alloc: Global, text: &str) -> Result<PathText, PathFault>
-        ensures { UnlessOom path_fault.OutOfMemory (λ path. path) result (joined self.now text.now) }
+        ensures { UnlessOom path_fault.OutOfMemory (λ path. path) result
+            (joined self.now text.now) }
     {
         if is_absolute(text) {
             let path = PathText::parse(alloc, text)?;

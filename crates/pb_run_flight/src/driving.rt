@@ -70,7 +70,8 @@ fn tell<P, O, F: Drop, E, C: Executor<P, O, F, E>>(
     ensures holds { C.holds crew.new place.new out.new }
     ensures able { OnOk result (C.able crew.new place.new out.new) }
     ensures needs { C.needs crew.new ≡ C.needs crew.old }
-    ensures table { (flight.new.needs ≡ flight.old.needs) × (flight.new.states ≡ flight.old.states) }
+    ensures table { (flight.new.needs ≡ flight.old.needs)
+        × (flight.new.states ≡ flight.old.states) }
     ensures given { OnOk result (flight.new.given ≡ count_due flight.new.states) }
     ensures flying { C.flying crew.new ≡ C.flying crew.old }
     ensures story { (first : C) (first_place : P) (first_out : O) (es : List (Event F)) (unit : ℕ)

@@ -50,7 +50,8 @@ pub trait Executor<P, O, F, E> {
         ensures able { OnOk result (able self.new place.new out.new) }
         ensures needs { needs self.new ≡ needs self.old }
         ensures flying { OnOk result (flying self.new ≡ flying self.old ++ unit ∷ []) }
-        ensures story { (first : Self) (first_place : P) (first_out : O) (es : List (Event F)) (given : ℕ)
+        ensures story { (first : Self) (first_place : P) (first_out : O) (es : List (Event F))
+            (given : ℕ)
             → story first first_place first_out self.old place.old out.old es given
             → flying self.old ≡ flying_after es → IsLawful (needs self.old) es
             → given ≡ count_due (states_after (needs self.old) es)
@@ -80,7 +81,8 @@ pub trait Executor<P, O, F, E> {
         ensures able { OnOk result (able self.new place.new out.new) }
         ensures needs { needs self.new ≡ needs self.old }
         ensures flying { flying self.new ≡ remove (flying self.old) index }
-        ensures story { (first : Self) (first_place : P) (first_out : O) (es : List (Event F)) (given : ℕ)
+        ensures story { (first : Self) (first_place : P) (first_out : O) (es : List (Event F))
+            (given : ℕ)
             (unit : ℕ)
             → story first first_place first_out self.old place.old out.old es given
             → flying self.old ≡ flying_after es → IsLawful (needs self.old) es
@@ -103,7 +105,8 @@ pub trait Executor<P, O, F, E> {
         ensures able { OnOk result (able self.new place.new out.new) }
         ensures needs { needs self.new ≡ needs self.old }
         ensures flying { flying self.new ≡ flying self.old }
-        ensures story { (first : Self) (first_place : P) (first_out : O) (es : List (Event F)) (given unit : ℕ)
+        ensures story { (first : Self) (first_place : P) (first_out : O) (es : List (Event F))
+            (given unit : ℕ)
             (answer : Answer F)
             → story first first_place first_out self.old place.old out.old (Gave unit answer ∷ es)
             given → IsLawful (needs self.old) (Gave unit answer ∷ es)

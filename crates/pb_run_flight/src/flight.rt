@@ -392,7 +392,8 @@ impl<F: Drop> Flight<F> {
     /// Errors: out of memory; then nothing has been handed out, and
     /// the next call returns these lines too.
     pub fn emit(&mut self, alloc: Global) -> Result<Vec<u8>, AllocError>
-        ensures lines { IfOk result (λ lines. lines.items ≡ due_after self.old.given self.old.states) }
+        ensures lines { IfOk result
+            (λ lines. lines.items ≡ due_after self.old.given self.old.states) }
         ensures given { OnOk result (self.new ≡ emitted self.old) }
         ensures same { OnErr result (self.new ≡ self.old) }
     {

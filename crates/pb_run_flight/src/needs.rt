@@ -11,7 +11,8 @@ use std::alloc::{AllocError, Global};
 /// Lists a unit at one that it needs.
 fn list_at(lists: &mut Vec<Items<usize>>, need: usize, unit: usize) -> Result<(), AllocError>
     ensures long { length lists.new.items ≡ length lists.old.items }
-    ensures listed { OnOk result (need < length lists.old.items → Contains (units_at lists.new.items need) unit) }
+    ensures listed { OnOk result (need < length lists.old.items
+        → Contains (units_at lists.new.items need) unit) }
     ensures kept { (u v : ℕ) → Contains (units_at lists.old.items v) u
         → Contains (units_at lists.new.items v) u }
 {

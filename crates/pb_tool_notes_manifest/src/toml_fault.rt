@@ -1,6 +1,7 @@
 //! Notes on a manifest that is not TOML, or too large.
 
-use pb_tool_notes_pages::{MAX_MANIFEST_BYTES, Note, Notes, Page, tell_page};
+use pb_data::MAX_MANIFEST_BYTES;
+use pb_tool_notes_pages::{Note, Notes, Page, tell_page};
 use std::alloc::{AllocError, Global};
 
 /// Returns the line and the column, both from 1, after some bytes. A column counts characters.

@@ -18,7 +18,7 @@ pub use globs::{is_glob, matches_part, texts_of};
 pub use looks::{files_in, folders_in, is_file};
 pub use near_miss::near;
 pub use note::{MOST_NOTES, Note, Notes};
-pub use page::{MAX_MANIFEST_BYTES, Page, text_at};
+pub use page::{Page, text_at};
 pub use pages::{Pages, page_at, pages_of};
 pub use rules::{Kind, expected, fits, is_taken, rows_of, rule_of};
 pub use spots::{Spot, spots_of};

@@ -2,8 +2,7 @@
 
 ghost use Rattle.pb_tool_notes_pages.specs.Looks.{LooksAgain};
 
-use crate::page::MAX_MANIFEST_BYTES;
-use pb_data::{Bytes, Items};
+use pb_data::{Bytes, Items, MAX_MANIFEST_BYTES};
 use pb_place_types::{PathText, Place, PlaceFault};
 use std::alloc::Global;
 

@@ -1,12 +1,9 @@
 //! A manifest that was read again.
 
-use pb_data::Bytes;
+use pb_data::{Bytes, MAX_MANIFEST_BYTES};
 use pb_place_types::PathText;
 use std::alloc::{AllocError, Global};
 use toml::{Table, Value};
-
-/// The greatest number of bytes of a manifest that is read.
-pub const MAX_MANIFEST_BYTES: usize = 1_048_576;
 
 /// A manifest that was read again.
 #[derive(Drop)]

@@ -7,12 +7,12 @@ use crate::asks::{Ask, Role, asks_of, is_asked, root_ask};
 use crate::globs::member_folders;
 use crate::looks::read;
 use crate::page::Page;
-use pb_data::TryCopy;
+use pb_data::{MAX_PACKAGES, TryCopy};
 use pb_place_types::{PathText, Place, PlaceFault};
 use std::alloc::{AllocError, Global};
 
 /// The greatest number of manifests that are read again.
-const MOST_PAGES: usize = 257;
+const MOST_PAGES: usize = MAX_PACKAGES + 1;
 
 /// The greatest number of asks that are followed.
 const MOST_ASKS: usize = 1024;

@@ -4,6 +4,7 @@ use Rattle.std.specs.List.Sorted.{IsStrictlyIncreasing}
 use Rattle.std.specs.Ordering.{nat_cmp}
 use Rattle.std.specs.declared.cmp.Ordering.TheVariants.{Less}
 use Rattle.std.specs.Cmp.Lexicographic.{slice_cmp}
+use Rattle.pb_data.specs.Limits.{max_units}
 use Rattle.pb_data.specs.UnlessOom.{◌>>=◌}
 use Rattle.pb_place_types.specs.Paths.{below, is_relative, is_at_or_below}
 use Rattle.pb_workspace_types.specs.Settled.{IsAscending}
@@ -113,7 +114,7 @@ pub record IsPlan (ws : Workspace) (features : Features) (selection : Selection)
   pub reaches : All (λ p. ArePlaces plan.planned (Reaches ws features p.unit) p.reaches) plan.planned
   pub straight : IsStraight ws features selection
   pub some : 0 < length plan.planned
-  pub few : length plan.planned ≤ 4096
+  pub few : length plan.planned ≤ max_units
   pub without_library : AreWithoutLibrary ws features plan.without_library
 
 -- Refusals.
@@ -123,7 +124,7 @@ pub record IsCrowd (ws : Workspace) (features : Features) (selection : Selection
   pub units : List Unit
   pub planned : All (IsPlanned ws features selection) units
   pub order : AllPairs (λ u v. IsBelow (key_of ws u) (key_of ws v)) units
-  pub many : 4096 < length units
+  pub many : max_units < length units
 
 -- the profile has settings
 pub record IsUsable (ws : Workspace) (profile : List ℕ) : Type 0 where

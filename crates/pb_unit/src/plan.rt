@@ -19,7 +19,7 @@ use crate::drawing::{Drawing, drawn};
 use crate::fault::PlanFault;
 use crate::names::{names_behind, without_library};
 use crate::unit::Unit;
-use pb_data::{Items, Text, TryCopy};
+use pb_data::{Items, MAX_UNITS, Text, TryCopy};
 use pb_feature_types::Features;
 use pb_graph::order::order;
 use pb_graph::{OrderFault, Step};
@@ -27,9 +27,6 @@ use pb_place_types::{PathText, RelativePath};
 use pb_profile::{Ancestor, ProfileFault, Settings, folder_of, line_of, settings_along};
 use pb_workspace_types::{SelectedWorkspace, Workspace};
 use std::alloc::{AllocError, Global};
-
-/// How many units a plan may have.
-const MAX_UNITS: usize = 4096;
 
 /// A unit of a plan.
 #[derive(Drop)]

@@ -2,10 +2,11 @@
 use Rattle.std.proofs.Common.{◌≡◌, ◌∙◌, ◌<◌, ◌≤◌, ℕ, zero, suc, Bool, true, false, cond, List, [], ◌∷◌, length, take, nat_lt, Option, Some, None, Err, ap, refl, arith}
 use Rattle.std.proofs.lemmas.Bool.Decides.{nat_tests}
 use Rattle.std.specs.Option.{option_map}
+use Rattle.pb_data.specs.Limits.{max_manifest_bytes}
 use Rattle.pb_data.specs.UnlessOom.{◌>>=◌, lifted}
 use Rattle.pb_manifest_types.specs.declared.fault.ManifestFault.TheVariants.{TooLarge}
 use Rattle.pb_workspace_types.specs.declared.fault.LoadFault.TheVariants.{Manifest}
-use Rattle.pb_manifest.specs.Document.{document_in, document_of, greatest_length, manifest_of}
+use Rattle.pb_manifest.specs.Document.{document_in, document_of, manifest_of}
 use Rattle.pb_workspace.specs.Rounds.{read_found}
 
 less : (m n : ℕ) → nat_lt m n ≡ true → m < n
@@ -39,10 +40,10 @@ module _ {A : Type 0} (n : ℕ) (large : A) (read : List ℕ → A) where
           let same = whole n bytes (not_less n (length bytes) fits) in
           ap (λ text. cond (nat_lt n (length text)) large (read text)) same ∙ ap (λ b. cond b large (read bytes)) fits
 
-manifest_cut : (bytes : List ℕ) → manifest_of (take (suc greatest_length) bytes) ≡ manifest_of bytes
-manifest_cut bytes = read_cut greatest_length (Err TooLarge) (λ text. document_in text >>= document_of) bytes
+manifest_cut : (bytes : List ℕ) → manifest_of (take (suc max_manifest_bytes) bytes) ≡ manifest_of bytes
+manifest_cut bytes = read_cut max_manifest_bytes (Err TooLarge) (λ text. document_in text >>= document_of) bytes
 
-pub found_cut : (path : List ℕ) (found : Option (List ℕ)) → read_found path (option_map (take (suc greatest_length)) found) ≡ read_found path found
+pub found_cut : (path : List ℕ) (found : Option (List ℕ)) → read_found path (option_map (take (suc max_manifest_bytes)) found) ≡ read_found path found
 found_cut path None = refl
 found_cut path (Some bytes) = ap (lifted (Manifest path)) (manifest_cut bytes)
 

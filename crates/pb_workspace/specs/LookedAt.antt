@@ -4,6 +4,7 @@
 use Rattle.std.specs.Prelude.{ℕ, zero, suc, nat_le, if◌then◌else◌, codes, List, [], ◌∷◌, ◌++◌, length, Option, Some, None, Result}
 use Rattle.std.specs.List.{flat_map}
 use Rattle.std.specs.Str.{bytes_eq}
+use Rattle.pb_data.specs.Limits.{max_packages}
 use Rattle.pb_place_types.specs.declared.call.Call.{Call}
 use Rattle.pb_place_types.specs.declared.call.Call.TheVariants as call
 use Rattle.pb_place_types.specs.Paths.{below, folder_of}
@@ -40,7 +41,7 @@ folder_looked target sources f folder = if bytes_eq folder f.root then [] else f
 
 -- no folder is looked at twice, and no more than 256 are
 abbrev pub one_looked : (List ℕ → List Call) → LoadState → List ℕ → List Call
-one_looked look r folder = if has folder r.found then [] else (if nat_le 256 (length r.found) then [] else look folder)
+one_looked look r folder = if has folder r.found then [] else (if nat_le max_packages (length r.found) then [] else look folder)
 
 abbrev pub all_looked : (List ℕ → Result UnresolvedPackage LoadFault) → (List ℕ → List Call) → LoadState → List (List ℕ) → List Call
 all_looked read look r [] = []

@@ -4,6 +4,7 @@
 -- `sources` is the world without the files at or below the target folder,
 -- and `f` what the root manifest contains about its workspace.
 use Rattle.std.specs.Prelude.{◌≡◌, ℕ, ◌+◌, ◌≤◌, List, length, Option, Some, Ok, Result, Contains}
+use Rattle.pb_data.specs.Limits.{max_packages}
 use Rattle.pb_place_types.specs.Paths.{folder_of}
 use Rattle.pb_place_types.specs.World.{World}
 use Rattle.pb_manifest_types.specs.declared.package.Package.{Package as WrittenPackage}
@@ -45,4 +46,4 @@ frame_at manifest parts = frame_of (folder_of manifest) manifest parts.workspace
 
 -- 257 rounds are enough, since at most 256 packages are read: more rounds read nothing more and find no other fault
 abbrev pub FuelIsEnough : Type 0
-FuelIsEnough = (read : List ℕ → Result UnresolvedPackage LoadFault) (r : LoadState) (more : ℕ) → length r.found ≤ 256 → rounds (257 + more) read r ≡ rounds 257 read r
+FuelIsEnough = (read : List ℕ → Result UnresolvedPackage LoadFault) (r : LoadState) (more : ℕ) → length r.found ≤ max_packages → rounds (257 + more) read r ≡ rounds 257 read r

@@ -3,6 +3,7 @@
 -- These definitions serve the promise that a workspace that was read is settled.
 use Rattle.std.specs.Prelude.{◌≡◌, ℕ, ◌≤◌, true, All, IfSome, List, map, length, Option}
 use Rattle.std.specs.List.{AllByRecursion}
+use Rattle.pb_data.specs.Limits.{max_packages}
 use Rattle.pb_manifest_types.specs.Letters.{is_name}
 use Rattle.pb_manifest_types.specs.declared.dependency.WorkspaceDependency.{WorkspaceDependency}
 use Rattle.pb_manifest_types.specs.declared.manifest.WorkspaceTable.{WorkspaceTable}
@@ -28,4 +29,4 @@ abbrev pub IsPut : List ℕ × UnresolvedPackage → Type 0
 IsPut e = (e.1.folder ≡ e.0) × IsDraft e.1
 
 abbrev pub IsReading : LoadState → Type 0
-IsReading r = (length r.found ≤ 256) × AllByRecursion IsPut r.found
+IsReading r = (length r.found ≤ max_packages) × AllByRecursion IsPut r.found

@@ -4,6 +4,7 @@
 use Rattle.std.specs.Prelude.{ℕ, zero, suc, Bool, nat_le, if◌then◌else◌, codes, List, [], ◌∷◌, length, map, Option, Some, None, Result, Ok, Err}
 use Rattle.std.specs.FinMap as finite
 use Rattle.std.specs.Str.{bytes_eq}
+use Rattle.pb_data.specs.Limits.{max_packages}
 use Rattle.pb_data.specs.UnlessOom.{◌>>=◌, lifted}
 use Rattle.pb_place_types.specs.Paths.{below}
 use Rattle.pb_place_types.specs.World.{World}
@@ -77,7 +78,7 @@ with_draft r folder d = record { found = with_entry r.found folder d; ahead = wi
 abbrev pub one_read : (List ℕ → Result UnresolvedPackage LoadFault) → LoadState → List ℕ → Result LoadState LoadFault
 one_read read r folder =
     if has folder r.found then Ok r
-    else (if nat_le 256 (length r.found) then Err TooMany else read folder >>= (λ d. Ok (with_draft r folder d)))
+    else (if nat_le max_packages (length r.found) then Err TooMany else read folder >>= (λ d. Ok (with_draft r folder d)))
 
 -- the reading after these folders in turn, up to the first fault
 abbrev pub all_read : (List ℕ → Result UnresolvedPackage LoadFault) → LoadState → List (List ℕ) → Result LoadState LoadFault

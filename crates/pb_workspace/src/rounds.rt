@@ -17,8 +17,8 @@ ghost use Rattle.pb_workspace.specs.Readings.{AreRead, HasSharedInOrder, IsReadi
 
 use crate::by_folder::{ByFolder, put_folders};
 use crate::workspace_root::{WorkspaceRoot, is_member, nothing};
-use pb_data::{Bytes, Items, TryCopy};
-use pb_manifest::{MAX_MANIFEST_BYTES, read_manifest};
+use pb_data::{Bytes, Items, MAX_MANIFEST_BYTES, MAX_PACKAGES, TryCopy};
+use pb_manifest::read_manifest;
 use pb_manifest_types::{Key, Manifest, ManifestFault, Package, Profile, WorkspaceTable};
 use pb_place_types::{PathText, Place};
 use pb_workspace_package::source::{own_path, source};
@@ -26,12 +26,9 @@ use pb_workspace_package::{Given, PackageLocation, Tables, UnresolvedPackage, Wa
 use pb_workspace_types::LoadFault;
 use std::alloc::{AllocError, Global};
 
-/// The greatest number of packages.
-pub const MAX_PACKAGES: usize = 256;
-
 /// The number of rounds that is enough for that number of packages: a round that reads nothing
 /// leaves nothing ahead.
-pub const MAX_ROUNDS: usize = 257;
+pub const MAX_ROUNDS: usize = MAX_PACKAGES + 1;
 
 /// Packages that were read, and the folders of the next round.
 #[derive(Drop)]

@@ -7,6 +7,7 @@ use Rattle.std.specs.Cmp.Lexicographic.{slice_cmp}
 use Rattle.std.specs.List.{IsDistinct}
 use Rattle.std.specs.List.Sorted.{IsStrictlySortedBy}
 use Rattle.std.specs.Str.{bytes_eq}
+use Rattle.pb_data.specs.Limits.{max_packages}
 use Rattle.pb_manifest_types.specs.Letters.{is_name, is_crate_name, is_feature_name}
 use Rattle.pb_manifest_types.specs.declared.feature.Feature.{Feature}
 use Rattle.pb_workspace_types.specs.declared.package.Package.{Package}
@@ -42,7 +43,7 @@ IfNamed Unknown Holds = Unit {0}
 -- A workspace that was read: it has at most 256 packages, in byte order of their folders and with distinct names.
 -- The root package and the default members are among these packages.
 pub record IsSettled (ws : Workspace) : Type 0 where
-  pub few : length ws.packages ≤ 256
+  pub few : length ws.packages ≤ max_packages
   pub folders : IsAscending (map (λ (p : Package). p.folder) ws.packages)
   pub names : IsDistinct bytes_eq (map (λ (p : Package). p.name) ws.packages)
   pub packages : All (IsPackage (length ws.packages)) ws.packages

@@ -37,7 +37,8 @@ fn value_of(
     variables: &[(Text, Text)],
     name: &str,
 ) -> Result<Option<Text>, AllocError>
-    ensures { IfOk result (λ found. found ≡ finite.find (slice_cmp nat_cmp) name.now variables.now) }
+    ensures { IfOk result (λ found. found ≡ finite.find
+        (slice_cmp nat_cmp) name.now variables.now) }
 {
     for variable in variables {
         if name == variable.0.as_str() {
