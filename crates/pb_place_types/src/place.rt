@@ -112,17 +112,17 @@ fn cut(bytes: Bytes, most: usize) -> Bytes
 
 /// The files, the variables and the child processes of the outside world.
 ///
-/// Clauses about answers and about file contents apply to places that tell their maps. All other
-/// clauses apply to every place. Unless memory runs out, the maps and the child determine each
+/// Clauses about answers and about file contents apply to modelled places. All other clauses apply
+/// to every place. Unless memory runs out, the maps and the child determine each
 /// answer.
 ///
 /// Which calls there are is our own choice.
 pub trait Place {
-    /// Whether the place tells its maps: whether `at` has the files and variables as they are. A
-    /// real machine does not, so clauses with this premise do not apply to it.
+    /// Whether the place is modelled: whether `at` has the files and variables as they are. A real
+    /// machine is not, so clauses with this premise do not apply to it.
     ghost is_modelled: { Bool };
 
-    /// All that clauses can see of the place at one moment. If it does not tell its maps, they are
+    /// All that clauses can see of the place at one moment. If it is not modelled, its maps are
     /// constant.
     ghost at: { Self → At };
 

@@ -277,7 +277,7 @@ impl Store {
     ///
     /// If something that the child read has moved since it was spawned (`Place::watch`), no record
     /// is written, because the child may not have read the present values. That never happens at a
-    /// place that tells its maps.
+    /// modelled place.
     pub fn keep<P: Place>(
         &mut self,
         alloc: Global,
