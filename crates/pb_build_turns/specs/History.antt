@@ -140,7 +140,7 @@ abbrev pub Spends : (ℕ → Bool → Type 0) → BuildFault → Option ℕ → 
 Spends Lacks (Device key NumbersSpent) first es = NumbersGiven Lacks es first None
 Spends Lacks fault first es = Unit {0}
 
--- over a place that does not tell its maps, we do not know whether the record of a unit lacked a number
+-- over a place that is not modelled, we do not know whether the record of a unit lacked a number
 abbrev pub IsUntold : ℕ → Bool → Type 0
 IsUntold unit lacks = ⊥
 

@@ -5,7 +5,7 @@ use pb_place::Memory;
 use pb_place_types::{Child, Command, Ended, Moved, PathText, Place, PlaceFault, StartFault};
 use std::alloc::Global;
 
-/// A place in memory that does not tell its maps: what contracts say of files and answers is not said of it. A test can
+/// A place in memory that is not modelled: clauses about files and answers do not apply to it. A test can
 /// edit the files between two calls of a store, and proves nothing about them.
 #[derive(Drop)]
 pub struct Untold<C> {

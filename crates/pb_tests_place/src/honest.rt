@@ -1,4 +1,4 @@
-//! What the clauses of a place alone say of calls in turn, for any place that tells its maps.
+//! What the clauses of a place alone say of calls in turn, for any modelled place.
 
 ghost use Rattle.std.specs.Prelude.{◌≡◌, ◌/◌, true, false, not, length, take, None, Some, if◌then◌else◌, IsTrue, IfOk, IfErr, OnOk};
 ghost use Rattle.std.specs.List.{list_any};
