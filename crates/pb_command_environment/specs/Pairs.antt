@@ -3,6 +3,7 @@ use Rattle.std.specs.Prelude.{ℕ, Bool, true, false, if◌then◌else◌, codes
 use Rattle.std.specs.Fmt.{decimal}
 use Rattle.std.specs.List.{flat_map, list_any, join_by}
 use Rattle.std.specs.Str.{bytes_eq}
+use Rattle.pb_data.specs.Truth.{truth_text}
 use Rattle.semver.specs.Parse.{version_parts}
 use Rattle.pb_directive.specs.Lines.{lines_of, text_of, after_prefix}
 use Rattle.pb_directive.specs.Metadata.{in_capitals, dep_pairs}
@@ -129,10 +130,6 @@ triple_of toolchain = first_host (lines_of toolchain)
 abbrev pub is_debugged : DebugInfo → Bool
 is_debugged debug_info.Nothing = false
 is_debugged _ = true
-
-abbrev pub truth_text : Bool → List ℕ
-truth_text true = codes "true"
-truth_text false = codes "false"
 
 abbrev pub is_released : List Seen → Bool
 is_released line = list_any (λ (s : Seen). bytes_eq s.name (codes "release")) line

@@ -6,11 +6,11 @@ ghost use Rattle.pb_directive.specs.Metadata.{dep_pairs};
 ghost use Rattle.pb_feature_types.specs.Features.{features_at};
 ghost use Rattle.pb_command_types.specs.Targets.{unit_at};
 ghost use Rattle.pb_command_types.specs.NamedTexts.{all_set};
-ghost use Rattle.pb_command_environment.specs.Pairs.{links_pairs, feature_name, feature_pair, described_pairs, triple_of, is_debugged, truth_text, profile_word, platform_pairs, settings_pairs, encoded, compiler_pairs, out_pairs, building_pairs, linked_pairs, links_in, passed_by, passed_at, passed_pairs, run_pairs};
+ghost use Rattle.pb_command_environment.specs.Pairs.{links_pairs, feature_name, feature_pair, described_pairs, triple_of, is_debugged, profile_word, platform_pairs, settings_pairs, encoded, compiler_pairs, out_pairs, building_pairs, linked_pairs, links_in, passed_by, passed_at, passed_pairs, run_pairs};
 
 use crate::platform::{profile_word, triple_of};
 use pb_command_types::{Project, Setup, is_run, package_of, unit_at};
-use pb_data::{Items, Text};
+use pb_data::{Items, Text, truth_text};
 use pb_directive::{Directives, dep_pairs, underscored};
 use pb_manifest_types::DebugInfo;
 use pb_place_types::TextMap;
@@ -68,13 +68,6 @@ fn is_debugged(debug: DebugInfo) -> bool
     ensures { result ≡ is_debugged debug }
 {
     debug != DebugInfo::Nothing
-}
-
-/// Returns a truth value as a word.
-fn truth_text(truth: bool) -> &'static str
-    ensures { result.now ≡ truth_text truth }
-{
-    if truth { "true" } else { "false" }
 }
 
 /// Sets the platform that is compiled for, the host, and the number of jobs.

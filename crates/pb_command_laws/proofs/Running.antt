@@ -5,6 +5,7 @@ use Rattle.std.specs.Option.{option_and_then, option_map_or, option_or}
 use Rattle.std.specs.Result.{result_unwrap_or}
 use Rattle.std.specs.Str.{bytes_eq}
 use Rattle.std.proofs.lemmas.Slice.Eq.{bytes_eq-Decides}
+use Rattle.pb_data.specs.Truth.{truth_text}
 use Rattle.pb_data.proofs.MentionLemmas.{once-IsDistinct}
 use Rattle.pb_data.proofs.TableLemmas.{names-table_of, value-table_of}
 use Rattle.pb_data.specs.OrderedSet.{is_mentioned}
@@ -24,7 +25,7 @@ use Rattle.pb_unit.specs.declared.unit.What.TheVariants.{Run}
 use Rattle.pb_command_types.specs.Targets.{package_of, unit_at, is_run, said_at}
 use Rattle.pb_command_types.specs.declared.project.Project.{Project}
 use Rattle.pb_command_types.specs.declared.project.Setup.{Setup}
-use Rattle.pb_command_environment.specs.Pairs.{links_pairs, feature_name, feature_pair, triple_of, is_debugged, truth_text, released_text, platform_pairs, compiler_pairs, linked_pairs, links_in, passed_by, passed_at, passed_pairs, run_pairs, own_pairs}
+use Rattle.pb_command_environment.specs.Pairs.{links_pairs, feature_name, feature_pair, triple_of, is_debugged, released_text, platform_pairs, compiler_pairs, linked_pairs, links_in, passed_by, passed_at, passed_pairs, run_pairs, own_pairs}
 use Rattle.pb_command_laws.specs.Compiles.{row}
 use Rattle.pb_command_laws.specs.Variables.{package_table, debug_text, links_of_run, handed_on, run_table, RunsHave}
 use Rattle.pb_command_laws.proofs.Having.{value_is}

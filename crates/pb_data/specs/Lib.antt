@@ -2,3 +2,4 @@ pub mod UnlessOom
 pub mod OrderedSet
 pub mod Table
 pub mod Limits
+pub mod Truth

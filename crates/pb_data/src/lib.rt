@@ -12,6 +12,7 @@ mod next;
 mod ordered_set;
 pub mod table;
 mod text;
+mod truth;
 
 pub use bytes::Bytes;
 pub use copying::TryCopy;
@@ -21,3 +22,4 @@ pub use next::with_next;
 pub use ordered_set::OrderedSet;
 pub use table::Table;
 pub use text::Text;
+pub use truth::truth_text;

@@ -1,10 +1,6 @@
 -- Values in JSON, with no spaces outside strings.
-use Rattle.std.specs.Prelude.{ℕ, Bool, true, false, codes, List, [], ◌∷◌, ◌++◌, map}
+use Rattle.std.specs.Prelude.{ℕ, codes, List, [], ◌∷◌, ◌++◌, map}
 use Rattle.pb_json.specs.Json.{json_string}
-
-abbrev pub truth_text : Bool → List ℕ
-truth_text true = codes "true"
-truth_text false = codes "false"
 
 -- the texts, each after a comma
 abbrev pub after_commas : List (List ℕ) → List ℕ

@@ -8,7 +8,8 @@ use Rattle.pb_manifest_types.specs.declared.profile.DebugInfo.{DebugInfo}
 use Rattle.pb_manifest_types.specs.declared.profile.DebugInfo.TheVariants.{Nothing, Limited, Full, LineTablesOnly, LineDirectivesOnly}
 use Rattle.pb_profile.specs.Words.{opt_level_text}
 use Rattle.pb_profile.specs.declared.settings.Settings.{Settings}
-use Rattle.pb_message.specs.Json.{truth_text, json_texts, json_pairs}
+use Rattle.pb_data.specs.Truth.{truth_text}
+use Rattle.pb_message.specs.Json.{json_texts, json_pairs}
 use Rattle.pb_message.specs.declared.subject.Subject.{Subject}
 use Rattle.pb_message.specs.declared.subject.Target.{Target}
 use Rattle.pb_message.specs.declared.message.Artifact.{Artifact}

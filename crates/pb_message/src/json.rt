@@ -3,18 +3,11 @@
 ghost use Rattle.std.specs.Prelude.{◌≡◌, ◌++◌, IfOk, OnOk, map, string_bytes};
 ghost use Rattle.std.specs.List.{concat};
 ghost use Rattle.pb_json.specs.Json.{json_string};
-ghost use Rattle.pb_message.specs.Json.{truth_text, after_commas, json_texts, json_pair, json_pairs};
+ghost use Rattle.pb_message.specs.Json.{after_commas, json_texts, json_pair, json_pairs};
 
 use pb_data::Text;
 use pb_json::json_string;
 use std::alloc::{AllocError, Global};
-
-/// Returns `true` or `false`.
-pub(crate) fn truth_text(truth: bool) -> &'static str
-    ensures { result.now ≡ truth_text truth }
-{
-    if truth { "true" } else { "false" }
-}
 
 /// Adds texts one after another.
 pub(crate) fn push_all(out: &mut String, parts: &[&str]) -> Result<(), AllocError>

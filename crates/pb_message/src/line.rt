@@ -4,10 +4,10 @@ ghost use Rattle.std.specs.Prelude.{◌≡◌, ◌++◌, ◌∷◌, Bool, IfOk, 
 ghost use Rattle.std.specs.List.{ends_with};
 ghost use Rattle.pb_message.specs.Message.{package_id, required_list, required_text, target_object, target_text, id_text, subject_object, subject_text, debug_info_json, profile_text, executable_text, diagnostic_line, artifact_object, artifact_line, level_text, note_object, note_line, executed_object, executed_line, line_from, lines_from, line_of, lines_of, finish_line};
 
-use crate::json::{joined, json_pairs, json_texts, push_all, truth_text};
+use crate::json::{joined, json_pairs, json_texts, push_all};
 use crate::message::{Artifact, Executed, Level, Message};
 use crate::subject::{Subject, Target};
-use pb_data::Text;
+use pb_data::{Text, truth_text};
 use pb_json::json_string;
 use pb_manifest_types::DebugInfo;
 use pb_place_types::PathText;

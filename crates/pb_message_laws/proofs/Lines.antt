@@ -16,7 +16,8 @@ use Rattle.pb_manifest_types.specs.declared.profile.OptLevel.{OptLevel}
 use Rattle.pb_manifest_types.specs.declared.profile.OptLevel.TheVariants as opt
 use Rattle.pb_profile.specs.Words.{opt_level_text}
 use Rattle.pb_profile.specs.declared.settings.Settings.{Settings}
-use Rattle.pb_message.specs.Json.{truth_text, after_commas, listed, json_texts, json_pair, json_pairs}
+use Rattle.pb_data.specs.Truth.{truth_text}
+use Rattle.pb_message.specs.Json.{after_commas, listed, json_texts, json_pair, json_pairs}
 use Rattle.pb_message.specs.Message.{package_id, required_list, required_text, target_object, target_text, id_text, subject_object, subject_text, debug_info_json, profile_text, executable_text, diagnostic_line, artifact_object, artifact_line, level_text, note_object, note_line, executed_object, executed_line}
 use Rattle.pb_message.specs.declared.subject.Subject.{Subject}
 use Rattle.pb_message.specs.declared.subject.Target.{Target}

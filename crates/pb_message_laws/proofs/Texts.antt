@@ -9,7 +9,8 @@ use Rattle.pb_manifest_types.specs.declared.profile.DebugInfo.{DebugInfo}
 use Rattle.pb_manifest_types.specs.declared.profile.DebugInfo.TheVariants.{Nothing, Limited, Full, LineTablesOnly, LineDirectivesOnly}
 use Rattle.pb_manifest_types.specs.declared.profile.OptLevel.{OptLevel}
 use Rattle.pb_manifest_types.specs.declared.profile.OptLevel.TheVariants as opt
-use Rattle.pb_message.specs.Json.{truth_text, after_commas, listed, json_texts, json_pair, json_pairs}
+use Rattle.pb_data.specs.Truth.{truth_text}
+use Rattle.pb_message.specs.Json.{after_commas, listed, json_texts, json_pair, json_pairs}
 use Rattle.pb_message.specs.Message.{package_id, required_list, required_text, target_object, target_text, id_text, subject_object, subject_text, debug_info_json, profile_text, executable_text, artifact_object, level_text, line_of, note_object, executed_object}
 use Rattle.pb_message.specs.declared.message.Artifact.{Artifact}
 use Rattle.pb_message.specs.declared.message.Executed.{Executed}

@@ -1,0 +1,6 @@
+-- Truth values as words.
+use Rattle.std.specs.Prelude.{ℕ, Bool, true, false, codes, List}
+
+abbrev pub truth_text : Bool → List ℕ
+truth_text true = codes "true"
+truth_text false = codes "false"
