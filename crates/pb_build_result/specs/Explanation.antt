@@ -2,6 +2,7 @@
 use Rattle.std.specs.Prelude.{ℕ, ◌==◌, ◌-◌, if◌then◌else◌, codes, length, slice_get, drop, List, [], ◌∷◌, ◌++◌, Option, Some, None}
 use Rattle.std.specs.Fmt.{decimal}
 use Rattle.std.specs.List.{concat}
+use Rattle.pb_data.specs.Ascii.{line_feed}
 use Rattle.pb_build_result.specs.declared.summary.Summary.{Summary}
 use Rattle.pb_record.specs.declared.record.InputName.TheVariants.{Path, Variable}
 use Rattle.pb_command_types.specs.declared.fault.UnitFault.{UnitFault}
@@ -52,7 +53,7 @@ explanation s = started_lines s.started s.differences ++ counts_line (length s.s
 
 abbrev pub feed_after : Option ℕ → List ℕ
 feed_after None = []
-feed_after (Some b) = if b == 10 then [] else 10 ∷ []
+feed_after (Some b) = if b == line_feed then [] else line_feed ∷ []
 
 -- the bytes, and a line feed if they do not end with one
 abbrev pub ended : List ℕ → List ℕ

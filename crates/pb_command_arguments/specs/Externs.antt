@@ -2,6 +2,7 @@
 -- (The Cargo Book, Specifying Dependencies, Renaming dependencies in Cargo.toml).
 use Rattle.std.specs.Prelude.{ℕ, ◌&&◌, Bool, false, if◌then◌else◌, codes, List, [], ◌∷◌, ◌++◌, Option, Some, None, slice_get}
 use Rattle.std.specs.List.{flat_map}
+use Rattle.pb_data.specs.Ascii.{equals}
 use Rattle.pb_graph.specs.Placed.{placed}
 use Rattle.pb_feature_types.specs.Features.{is_enabled}
 use Rattle.pb_manifest_types.specs.Letters.{underscored}
@@ -69,7 +70,7 @@ extern_key name path = name ++ 0 ∷ path
 
 -- `NAME=PATH`
 unfoldable pub extern_text : List ℕ → List ℕ → List ℕ
-extern_text name path = name ++ 61 ∷ path
+extern_text name path = name ++ equals ∷ path
 
 -- a library by its name and its file; none if the unit needs no such library
 abbrev pub extern : List ℕ → Option (List ℕ) → List (List ℕ × List ℕ)

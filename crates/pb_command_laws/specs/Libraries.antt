@@ -5,6 +5,7 @@ use Rattle.std.specs.Cmp.Lexicographic.{slice_cmp}
 use Rattle.std.specs.List.Sorted.{IsStrictlySortedBy}
 use Rattle.std.specs.Ordering.{nat_cmp, ordering_then}
 use Rattle.std.specs.declared.cmp.Ordering.{Ordering}
+use Rattle.pb_data.specs.Ascii.{equals}
 use Rattle.pb_feature_types.specs.Features.{is_enabled}
 use Rattle.pb_manifest_types.specs.Letters.{underscored}
 use Rattle.pb_workspace_types.specs.declared.package.Entry.{Entry}
@@ -45,4 +46,4 @@ pub record AreLibraries (Is : List ℕ → List ℕ → Type 0) (libraries : Lis
 
 -- `NAME=VALUE`
 abbrev pub assigned : List ℕ × List ℕ → List ℕ
-assigned pair = pair.0 ++ 61 ∷ pair.1
+assigned pair = pair.0 ++ equals ∷ pair.1

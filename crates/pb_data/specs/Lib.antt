@@ -1,3 +1,4 @@
+pub mod Ascii
 pub mod UnlessOom
 pub mod OrderedSet
 pub mod Table

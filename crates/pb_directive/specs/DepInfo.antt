@@ -2,6 +2,7 @@
 use Rattle.std.specs.Prelude.{◌≡◌, ◌≢◌, ℕ, ◌+◌, ◌==◌, ◌&&◌, not, Bool, true, List, [], ◌∷◌, ◌++◌, if◌then◌else◌, codes, filter, is_some, Option, Some, None, Result, Ok, Err, MatchResult}
 use Rattle.std.specs.List.{onto_first, before_first}
 use Rattle.std.specs.Str.Lines.{strip_carriage_return}
+use Rattle.pb_data.specs.Ascii.{space, colon, equals, backslash}
 use Rattle.pb_data.specs.UnlessOom.{◌>>=◌, lifted}
 use Rattle.pb_data.specs.OrderedSet.{mentioned_all, once}
 use Rattle.pb_directive.specs.Directives.{is_empty}
@@ -29,20 +30,20 @@ joined a b = record { words = a.words ++ b.words; variables = a.variables ++ b.v
 -- a colon before these bytes ends the outputs of a rule: a space follows it, or nothing
 abbrev pub ends_outputs : List ℕ → Bool
 ends_outputs [] = true
-ends_outputs (b ∷ bytes) = b == 32
+ends_outputs (b ∷ bytes) = b == space
 
 -- what follows the outputs of a rule, if the outputs end
 abbrev pub after_outputs : List ℕ → Option (List ℕ)
 after_outputs [] = None
-after_outputs (b ∷ bytes) = if (b == 58) && ends_outputs bytes then Some bytes else after_outputs bytes
+after_outputs (b ∷ bytes) = if (b == colon) && ends_outputs bytes then Some bytes else after_outputs bytes
 
 -- the parts between spaces; `\ ` is a space inside a part, and any other `\` is itself
 abbrev pub parts_of : List ℕ → List (List ℕ)
 parts_of [] = [] ∷ []
-parts_of (b ∷ []) = if b == 32 then [] ∷ [] ∷ [] else (b ∷ []) ∷ []
+parts_of (b ∷ []) = if b == space then [] ∷ [] ∷ [] else (b ∷ []) ∷ []
 parts_of (b ∷ c ∷ bytes) =
-    if b == 32 then [] ∷ parts_of (c ∷ bytes)
-    else (if (b == 92) && (c == 32) then onto_first 32 (parts_of bytes)
+    if b == space then [] ∷ parts_of (c ∷ bytes)
+    else (if (b == backslash) && (c == space) then onto_first space (parts_of bytes)
     else onto_first b (parts_of (c ∷ bytes)))
 
 -- the words of a rule: the parts that are not empty
@@ -59,7 +60,7 @@ rule_info (Some rest) = if has_byte 0 rest then Err problem.BadValue else Ok (on
 -- the variable of `NAME` or `NAME=VALUE`; its name is not empty and has no byte 0
 abbrev pub variable_info : List ℕ → Result DepInfo Problem
 variable_info text =
-    let name = before_first (λ b. b == 61) text in
+    let name = before_first (λ b. b == equals) text in
     if is_empty name then Err problem.BadValue
     else (if has_byte 0 name then Err problem.BadValue
     else Ok (one_variable name))

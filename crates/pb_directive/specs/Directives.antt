@@ -2,6 +2,7 @@
 use Rattle.std.specs.Prelude.{◌≡◌, ◌≢◌, ℕ, ◌+◌, ◌==◌, not, Bool, List, [], ◌∷◌, ◌++◌, if◌then◌else◌, codes, length, filter, Option, Some, None, Result, Ok, Err, MatchResult}
 use Rattle.std.specs.List.{slice_split}
 use Rattle.std.specs.Str.{bytes_eq}
+use Rattle.pb_data.specs.Ascii.{space, equals}
 use Rattle.pb_data.specs.UnlessOom.{◌>>=◌, lifted}
 use Rattle.pb_directive.specs.Faults.{fault_at}
 use Rattle.pb_directive.specs.Lines.{lines_of, trimmed, text_of, has_byte, after_prefix, split_first}
@@ -36,7 +37,7 @@ halves_of None = Err problem.BadValue
 halves_of (Some halves) = Ok halves
 
 abbrev pub halves : List ℕ → Result (List ℕ × List ℕ) Problem
-halves value = plain value >>= (λ text. halves_of (split_first 61 text))
+halves value = plain value >>= (λ text. halves_of (split_first equals text))
 
 -- `NAME=VALUE`, with a name that is not empty
 abbrev pub named_value : List ℕ → Result (List ℕ × List ℕ) Problem
@@ -46,7 +47,7 @@ named_value value = halves value >>= (λ p. if is_empty p.0 then Err problem.Bad
 
 -- the words of a text: the parts between spaces that are not empty
 abbrev pub words_of : List ℕ → List (List ℕ)
-words_of text = filter (λ word. not (is_empty word)) (slice_split (λ b. b == 32) text)
+words_of text = filter (λ word. not (is_empty word)) (slice_split (λ b. b == space) text)
 
 -- the words with one more in front, unless it is empty
 abbrev pub some_word : List ℕ → List (List ℕ) → List (List ℕ)
@@ -165,11 +166,11 @@ old_setting (Some p) = or_metadata (key_of p.0) p.0 p.1
 
 abbrev pub old_line : Option (List ℕ) → Result (List Directive) Problem
 old_line None = Ok []
-old_line (Some setting) = old_setting (split_first 61 setting)
+old_line (Some setting) = old_setting (split_first equals setting)
 
 abbrev pub new_line : Option (List ℕ) → List ℕ → Result (List Directive) Problem
 new_line None text = old_line (after_prefix (codes "cargo:") text)
-new_line (Some setting) text = new_setting (split_first 61 setting)
+new_line (Some setting) text = new_setting (split_first equals setting)
 
 abbrev pub text_directives : Option (List ℕ) → Result (List Directive) Problem
 text_directives None = Ok []

@@ -3,6 +3,7 @@
 use Rattle.std.specs.Prelude.{◌≡◌, ◌≢◌, ◌↔◌, ℕ, true, false, codes, List, [], ◌∷◌, ◌++◌, Some, Result, Ok, Err}
 use Rattle.std.specs.Str.{is_utf8}
 use Rattle.std.specs.Str.Lines.{strip_carriage_return}
+use Rattle.pb_data.specs.Ascii.{hash}
 use Rattle.pb_directive.specs.DepInfo.{after_outputs, line_info, nothing, rule_words}
 use Rattle.pb_directive.specs.LineWords.{IsFilled, IsPlain, IsUncut}
 use Rattle.pb_directive.specs.declared.dep_info.DepInfo.{DepInfo}
@@ -20,11 +21,11 @@ IsValue (b ∷ value) = b ≡ 61
 pub data IsInfo (text : List ℕ) : Result DepInfo Problem → Type 0 where
   raw : (is : is_utf8 text ≡ false) → IsInfo text (Err problem.NotText)
   empty : (is : text ≡ []) → IsInfo text (Ok nothing)
-  comment : (utf8 : is_utf8 text ≡ true) (rest : List ℕ) (is : text ≡ 35 ∷ rest) (other : (more : List ℕ) → text ≢ codes "# env-dep:" ++ more) → IsInfo text (Ok nothing)
+  comment : (utf8 : is_utf8 text ≡ true) (rest : List ℕ) (is : text ≡ hash ∷ rest) (other : (more : List ℕ) → text ≢ codes "# env-dep:" ++ more) → IsInfo text (Ok nothing)
   variable : (utf8 : is_utf8 text ≡ true) (name value : List ℕ) (is : text ≡ codes "# env-dep:" ++ name ++ value) (whole : IsUncut name) (ends : IsValue value) (filled : IsFilled name) → IsInfo text (Ok record { words = []; variables = name ∷ [] })
   variable_refused : (utf8 : is_utf8 text ≡ true) (name value : List ℕ) (is : text ≡ codes "# env-dep:" ++ name ++ value) (whole : IsUncut name) (ends : IsValue value) (unfilled : IsFilled name → ⊥) → IsInfo text (Err problem.BadValue)
-  rule : (utf8 : is_utf8 text ≡ true) (some : text ≢ []) (no_comment : (rest : List ℕ) → text ≢ 35 ∷ rest) (rest : List ℕ) (behind : after_outputs text ≡ Some rest) (plain : IsPlain rest) → IsInfo text (Ok record { words = rule_words rest; variables = [] })
-  rule_refused : (utf8 : is_utf8 text ≡ true) (some : text ≢ []) (no_comment : (rest : List ℕ) → text ≢ 35 ∷ rest) (none : (rest : List ℕ) → after_outputs text ≡ Some rest → IsPlain rest → ⊥) → IsInfo text (Err problem.BadValue)
+  rule : (utf8 : is_utf8 text ≡ true) (some : text ≢ []) (no_comment : (rest : List ℕ) → text ≢ hash ∷ rest) (rest : List ℕ) (behind : after_outputs text ≡ Some rest) (plain : IsPlain rest) → IsInfo text (Ok record { words = rule_words rest; variables = [] })
+  rule_refused : (utf8 : is_utf8 text ≡ true) (some : text ≢ []) (no_comment : (rest : List ℕ) → text ≢ hash ∷ rest) (none : (rest : List ℕ) → after_outputs text ≡ Some rest → IsPlain rest → ⊥) → IsInfo text (Err problem.BadValue)
 
 -- the reader reads this from a line if and only if the line names it
 abbrev pub InfosSay : Type 0

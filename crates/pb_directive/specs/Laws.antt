@@ -1,5 +1,6 @@
 -- Words for the laws of texts that follow one another.
 use Rattle.std.specs.Prelude.{ℕ, ◌+◌, List, ◌∷◌, ◌++◌, length, Result, Ok}
+use Rattle.pb_data.specs.Ascii.{line_feed}
 use Rattle.pb_data.specs.UnlessOom.{◌>>=◌, lifted}
 use Rattle.pb_directive.specs.DepInfo.{joined}
 use Rattle.pb_directive.specs.Lines.{lines_of}
@@ -18,7 +19,7 @@ later_by lines fault.OutOfMemory = fault.OutOfMemory
 
 -- a text, then a line feed, then another text
 abbrev pub followed_by : List ℕ → List ℕ → List ℕ
-followed_by text more = text ++ 10 ∷ more
+followed_by text more = text ++ line_feed ∷ more
 
 -- the directives of the first text and then of the second, or the first fault, that of the second text further down
 abbrev pub then_said : ℕ → Result (List Directive) LineFault → Result (List Directive) LineFault → Result (List Directive) LineFault

@@ -2,6 +2,7 @@
 -- follow the code (The Cargo Book, "Build Scripts", "Outputs of the Build Script").
 use Rattle.std.specs.Prelude.{◌≡◌, ◌≢◌, ◌↔◌, ℕ, true, false, not, ◌&&◌, if◌then◌else◌, codes, List, [], ◌∷◌, ◌++◌, Result, Ok, Err}
 use Rattle.std.specs.Str.{bytes_eq, is_utf8}
+use Rattle.pb_data.specs.Ascii.{colon, equals}
 use Rattle.pb_directive.specs.Directives.{line_directives, words_of}
 use Rattle.pb_directive.specs.Lines.{has_byte, trimmed}
 use Rattle.pb_directive.specs.declared.directive.Directive.{Directive}
@@ -37,19 +38,19 @@ pub data IsSaid : List ℕ → List ℕ → List Directive → Type 0 where
   link_arg_tests : (flag : List ℕ) (is : IsPlain flag) → IsSaid (codes "rustc-link-arg-tests") flag (says.LinkArgTests flag ∷ [])
   link_arg_examples : (flag : List ℕ) (is : IsPlain flag) → IsSaid (codes "rustc-link-arg-examples") flag (says.LinkArgExamples flag ∷ [])
   link_arg_benches : (flag : List ℕ) (is : IsPlain flag) → IsSaid (codes "rustc-link-arg-benches") flag (says.LinkArgBenches flag ∷ [])
-  link_arg_bin : (binary flag : List ℕ) (whole : IsUncut binary) (is : IsPlain (binary ++ 61 ∷ flag)) → IsSaid (codes "rustc-link-arg-bin") (binary ++ 61 ∷ flag) (says.LinkArgBin binary flag ∷ [])
+  link_arg_bin : (binary flag : List ℕ) (whole : IsUncut binary) (is : IsPlain (binary ++ equals ∷ flag)) → IsSaid (codes "rustc-link-arg-bin") (binary ++ equals ∷ flag) (says.LinkArgBin binary flag ∷ [])
   link_lib : (name : List ℕ) (is : IsFilled name) → IsSaid (codes "rustc-link-lib") name (says.LinkLib name ∷ [])
   link_search : (folder : List ℕ) (is : IsFilled folder) → IsSaid (codes "rustc-link-search") folder (says.LinkSearch folder ∷ [])
   cfg : (condition : List ℕ) (is : IsFilled condition) → IsSaid (codes "rustc-cfg") condition (says.Cfg condition ∷ [])
   check_cfg : (condition : List ℕ) (is : IsFilled condition) → IsSaid (codes "rustc-check-cfg") condition (says.CheckCfg condition ∷ [])
   flags : (text : List ℕ) (is : IsPlain text) (said : List Directive) (are : AreFlags (words_of text) said) → IsSaid (codes "rustc-flags") text said
-  env : (name value : List ℕ) (some : name ≢ []) (whole : IsUncut name) (is : IsPlain (name ++ 61 ∷ value)) → IsSaid (codes "rustc-env") (name ++ 61 ∷ value) (says.Env name value ∷ [])
+  env : (name value : List ℕ) (some : name ≢ []) (whole : IsUncut name) (is : IsPlain (name ++ equals ∷ value)) → IsSaid (codes "rustc-env") (name ++ equals ∷ value) (says.Env name value ∷ [])
   warning : (text : List ℕ) → IsSaid (codes "warning") text (says.Warning text ∷ [])
 
 -- the same after `cargo::`, which also has the keys `metadata` and `error`
 pub data IsSaidNew (key value : List ℕ) (said : List Directive) : Type 0 where
   known : (is : IsSaid key value said) → IsSaidNew key value said
-  metadata : (is_key : key ≡ codes "metadata") (name text : List ℕ) (some : name ≢ []) (whole : IsUncut name) (is : IsPlain value) (parts : value ≡ name ++ 61 ∷ text) (same : said ≡ says.Metadata name text ∷ []) → IsSaidNew key value said
+  metadata : (is_key : key ≡ codes "metadata") (name text : List ℕ) (some : name ≢ []) (whole : IsUncut name) (is : IsPlain value) (parts : value ≡ name ++ equals ∷ text) (same : said ≡ says.Metadata name text ∷ []) → IsSaidNew key value said
   error : (is_key : key ≡ codes "error") (same : said ≡ says.Error value ∷ []) → IsSaidNew key value said
 
 -- a key has no meaning, whatever its value is
@@ -63,7 +64,7 @@ pub data IsSaidOld (key value : List ℕ) (said : List Directive) : Type 0 where
 
 -- a key after `cargo:` does not begin with `:`
 abbrev pub IsOld : List ℕ → Type 0
-IsOld key = (rest : List ℕ) → key ≢ 58 ∷ rest
+IsOld key = (rest : List ℕ) → key ≢ colon ∷ rest
 
 -- what is wrong with a value that its key does not accept
 abbrev pub problem_at : List ℕ → List ℕ → Problem
@@ -72,7 +73,7 @@ problem_at key value = if bytes_eq key (codes "rustc-flags") && not (has_byte 0 
 -- a line, without the blanks at its ends, is UTF-8 and is a prefix, a key, the first `=` after the prefix, and a value
 pub record IsSetting (line prefix key value : List ℕ) : Type 0 where
   pub text : is_utf8 (trimmed line) ≡ true
-  pub whole : trimmed line ≡ prefix ++ key ++ 61 ∷ value
+  pub whole : trimmed line ≡ prefix ++ key ++ equals ∷ value
   pub first : IsUncut key
 
 -- what a line means: `cargo::KEY=VALUE` or `cargo:KEY=VALUE`

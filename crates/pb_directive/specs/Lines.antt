@@ -2,14 +2,15 @@
 use Rattle.std.specs.Prelude.{ℕ, ◌==◌, ◌||◌, nat_lt, Bool, List, [], ◌∷◌, if◌then◌else◌, length, reverse, Option, Some, None}
 use Rattle.std.specs.List.{slice_split, list_any, position_or_len, before_first, after_first}
 use Rattle.std.specs.Str.{is_utf8}
+use Rattle.pb_data.specs.Ascii.{tab, line_feed, carriage_return, space}
 
 -- the lines of a text, which is split at line feeds; what follows the last line feed is a line too
 abbrev pub lines_of : List ℕ → List (List ℕ)
-lines_of bytes = slice_split (λ b. b == 10) bytes
+lines_of bytes = slice_split (λ b. b == line_feed) bytes
 
 -- a space, a tab or a carriage return
 abbrev pub is_blank : ℕ → Bool
-is_blank b = (b == 32) || ((b == 9) || (b == 13))
+is_blank b = (b == space) || ((b == tab) || (b == carriage_return))
 
 -- the bytes without the blanks at the front
 abbrev pub trimmed_front : List ℕ → List ℕ

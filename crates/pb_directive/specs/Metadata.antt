@@ -2,13 +2,14 @@
 use Rattle.std.specs.Prelude.{ℕ, ◌==◌, List, ◌++◌, if◌then◌else◌, codes, map, Option, Some, None}
 use Rattle.std.specs.List.{filter_map}
 use Rattle.std.specs.StrCase.Upper.{str_to_uppercase}
+use Rattle.pb_data.specs.Ascii.{dash, underscore}
 use Rattle.pb_data.specs.Table.{table_of}
 use Rattle.pb_directive.specs.declared.directive.Directive.{Directive}
 use Rattle.pb_directive.specs.declared.directive.Directive.TheVariants.{Metadata}
 
 -- the text with `_` for each `-`
 abbrev pub underscored : List ℕ → List ℕ
-underscored text = map (λ b. if b == 45 then 95 else b) text
+underscored text = map (λ b. if b == dash then underscore else b) text
 
 -- the text in upper case, with `_` for each `-`
 abbrev pub in_capitals : List ℕ → List ℕ

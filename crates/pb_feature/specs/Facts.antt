@@ -1,5 +1,6 @@
 -- Which packages, features and entries are on: the least set of facts closed under the rules of The Cargo Book, Features (resolver 2).
 use Rattle.std.specs.Prelude.{◌≡◌, ℕ, true, false, codes, List, ◌∷◌, ◌++◌, Contains}
+use Rattle.pb_data.specs.Ascii.{slash}
 use Rattle.pb_manifest_types.specs.declared.feature.FeatureItem.TheVariants.{Own, Dependency, Of, OfEnabled}
 use Rattle.pb_workspace_types.specs.declared.package.Side.{Side}
 use Rattle.pb_workspace_types.specs.declared.package.Side.TheVariants.{Target}
@@ -18,7 +19,7 @@ pub data Fact : Type 0 where
 
 -- the text `PACKAGE/FEATURE`
 abbrev pub of_package : List ℕ → List ℕ → List ℕ
-of_package name feature = name ++ 47 ∷ feature
+of_package name feature = name ++ slash ∷ feature
 
 -- what is chosen for a package among its features: all of them; a feature
 -- requested by its name; one requested of this package; `default`

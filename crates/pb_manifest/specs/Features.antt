@@ -2,6 +2,7 @@
 use Rattle.std.specs.Prelude.{List, ◌&&◌, ◌==◌, if◌then◌else◌, Option, Some, None, Ok, Err, codes, length}
 use Rattle.std.specs.Str.{bytes_eq}
 use Rattle.toml.specs.Data.{Data, Members}
+use Rattle.pb_data.specs.Ascii.{slash, colon, question_mark}
 use Rattle.pb_data.specs.UnlessOom.{◌>>=◌}
 use Rattle.pb_manifest_types.specs.Features.{parted}
 use Rattle.pb_manifest_types.specs.Letters.{is_name, is_feature_name}
@@ -39,12 +40,12 @@ parted_item name None feature = item_of name feature
 parted_item name (Some parts) feature = item_of_enabled parts.0 parts.1 feature
 
 abbrev pub item_from : Text → Option (Text × Text) → Read FeatureItem
-item_from text None = whole_item text (parted 58 text)
-item_from text (Some parts) = parted_item parts.0 (parted 63 parts.0) parts.1
+item_from text None = whole_item text (parted colon text)
+item_from text (Some parts) = parted_item parts.0 (parted question_mark parts.0) parts.1
 
 -- an item: split at `/`, and then at `?` or at `:`
 abbrev pub item_in : Text → Read FeatureItem
-item_in text = item_from text (parted 47 text)
+item_in text = item_from text (parted slash text)
 
 abbrev pub feature_item_of : Data → Read FeatureItem
 feature_item_of d = text_of key.Features d >>= item_in

@@ -1,6 +1,7 @@
 -- The letters of names (The Cargo Book, Manifest Format and Features).
 use Rattle.std.specs.Prelude.{ℕ, List, [], ◌∷◌, Bool, false, not, ◌&&◌, ◌||◌, ◌==◌, nat_le, length, map, if◌then◌else◌}
 use Rattle.std.specs.List.{list_all, list_any}
+use Rattle.pb_data.specs.Ascii.{plus, dash, dot, underscore}
 
 -- an ASCII letter or digit
 abbrev pub is_alphanumeric : ℕ → Bool
@@ -8,7 +9,7 @@ is_alphanumeric b = (nat_le 97 b && nat_le b 122) || (nat_le 65 b && nat_le b 90
 
 -- a byte of a package's name: a letter, a digit, `-` or `_`
 unfoldable pub is_name_byte : ℕ → Bool
-is_name_byte b = is_alphanumeric b || b == 45 || b == 95
+is_name_byte b = is_alphanumeric b || b == dash || b == underscore
 
 -- a name with the letters of package names, not empty
 unfoldable pub is_name : List ℕ → Bool
@@ -16,7 +17,7 @@ is_name text = not (length text == 0) && list_all is_name_byte text
 
 -- a byte of a crate's name: a letter, a digit or `_`
 unfoldable pub is_crate_name_byte : ℕ → Bool
-is_crate_name_byte b = is_alphanumeric b || b == 95
+is_crate_name_byte b = is_alphanumeric b || b == underscore
 
 -- the name of a crate: such bytes, not empty
 unfoldable pub is_crate_name : List ℕ → Bool
@@ -24,7 +25,7 @@ is_crate_name text = not (length text == 0) && list_all is_crate_name_byte text
 
 -- a byte of a feature's name after the first: a letter, a digit, `_`, `-`, `+` or `.`
 unfoldable pub is_feature_byte : ℕ → Bool
-is_feature_byte b = is_alphanumeric b || b == 95 || b == 45 || b == 43 || b == 46
+is_feature_byte b = is_alphanumeric b || b == underscore || b == dash || b == plus || b == dot
 
 -- the name of a feature: a letter, a digit or `_`, followed by such bytes
 unfoldable pub is_feature_name : List ℕ → Bool
@@ -37,7 +38,7 @@ has_zero text = list_any (λ b. b == 0) text
 
 -- a byte, with `_` for `-`
 abbrev pub underscored_byte : ℕ → ℕ
-underscored_byte b = if b == 45 then 95 else b
+underscored_byte b = if b == dash then underscore else b
 
 -- a package's name as the name of its library: `_` for each `-`
 unfoldable pub underscored : List ℕ → List ℕ

@@ -3,6 +3,7 @@
 use Rattle.std.specs.Prelude.{ℕ, Bool, true, false, if◌then◌else◌, List, [], ◌∷◌, ◌++◌, Option, Some, None}
 use Rattle.serde_json.specs.Data as json
 use Rattle.serde_json.specs.Read.{read}
+use Rattle.pb_data.specs.Ascii.{line_feed}
 use Rattle.pb_directive.specs.Lines.{lines_of, trimmed, text_of}
 
 abbrev pub is_object : json.Data → Bool
@@ -39,7 +40,7 @@ diagnostics_of stderr = diagnostics_in (lines_of stderr)
 abbrev pub plain_by : List ℕ → Option (List ℕ) → List ℕ → List ℕ
 plain_by [] found line = []
 plain_by (b ∷ bytes) (Some text) line = []
-plain_by (b ∷ bytes) None line = line ++ 10 ∷ []
+plain_by (b ∷ bytes) None line = line ++ line_feed ∷ []
 
 abbrev pub plain_in : List ℕ → List ℕ
 plain_in line = plain_by (trimmed line) (diagnostic_in line) line

@@ -1,16 +1,17 @@
 -- Values in JSON, with no spaces outside strings.
 use Rattle.std.specs.Prelude.{ℕ, codes, List, [], ◌∷◌, ◌++◌, map}
+use Rattle.pb_data.specs.Ascii.{comma, open_bracket}
 use Rattle.pb_json.specs.Json.{json_string}
 
 -- the texts, each after a comma
 abbrev pub after_commas : List (List ℕ) → List ℕ
 after_commas [] = []
-after_commas (x ∷ xs) = 44 ∷ x ++ after_commas xs
+after_commas (x ∷ xs) = comma ∷ x ++ after_commas xs
 
 -- values in brackets, separated by commas
 abbrev pub listed : List (List ℕ) → List ℕ
 listed [] = codes "[]"
-listed (x ∷ xs) = 91 ∷ x ++ after_commas xs ++ codes "]"
+listed (x ∷ xs) = open_bracket ∷ x ++ after_commas xs ++ codes "]"
 
 -- a list of strings
 abbrev pub json_texts : List (List ℕ) → List ℕ
@@ -18,7 +19,7 @@ json_texts texts = listed (map json_string texts)
 
 -- `["NAME","VALUE"]`
 abbrev pub json_pair : List ℕ × List ℕ → List ℕ
-json_pair pair = 91 ∷ json_string pair.0 ++ 44 ∷ json_string pair.1 ++ codes "]"
+json_pair pair = open_bracket ∷ json_string pair.0 ++ comma ∷ json_string pair.1 ++ codes "]"
 
 abbrev pub json_pairs : List (List ℕ × List ℕ) → List ℕ
 json_pairs pairs = listed (map json_pair pairs)

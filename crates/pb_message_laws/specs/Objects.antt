@@ -17,6 +17,7 @@ use Rattle.pb_profile.specs.declared.settings.Settings.{Settings}
 use Rattle.serde_json.specs.Data.{unsigned, Data, null, boolean, number, string, array, object, Members, no_members, member}
 use Rattle.serde_json.specs.View.{items_of}
 use Rattle.serde_json.specs.Written.{compact_text}
+use Rattle.pb_data.specs.Ascii.{line_feed}
 
 -- an object with these members, in this order
 abbrev pub members : List (List ℕ × Data) → Members
@@ -79,10 +80,10 @@ finished success = of_members ((codes "reason", string (codes "build-finished"))
 
 -- a message line is the text of its object without spaces, and a line feed
 abbrev pub MessagesAreObjects : Type 0
-MessagesAreObjects = (s : Subject) (fresh : Bool) (m : Message) → IfSome (object_of s fresh m) (λ told. line_of s fresh m ≡ compact_text told ++ 10 ∷ [])
+MessagesAreObjects = (s : Subject) (fresh : Bool) (m : Message) → IfSome (object_of s fresh m) (λ told. line_of s fresh m ≡ compact_text told ++ line_feed ∷ [])
 
 abbrev pub EndsAreObjects : Type 0
-EndsAreObjects = (success : Bool) → finish_line success ≡ compact_text (finished success) ++ 10 ∷ []
+EndsAreObjects = (success : Bool) → finish_line success ≡ compact_text (finished success) ++ line_feed ∷ []
 
 -- a diagnostic's line is that of its object, with the compiler's own text copied byte for byte as the message
 abbrev pub DiagnosticsAreCopied : Type 0

@@ -1,6 +1,7 @@
 -- Message lines are lines.
 use Rattle.std.specs.Prelude.{◌≡◌, ℕ, ◌==◌, Bool, true, false, not, ◌&&◌, List, [], ◌∷◌}
 use Rattle.std.specs.List.{AllByRecursion}
+use Rattle.pb_data.specs.Ascii.{line_feed}
 use Rattle.pb_directive.specs.Lines.{has_byte}
 use Rattle.pb_message.specs.Diagnostics.{diagnostics_of}
 use Rattle.pb_message.specs.Message.{line_of, finish_line}
@@ -11,8 +12,8 @@ use Rattle.pb_message.specs.declared.message.Message.TheVariants.{CompilerMessag
 -- a line has one line feed, which is its last byte
 abbrev pub is_line : List ℕ → Bool
 is_line [] = false
-is_line (b ∷ []) = b == 10
-is_line (b ∷ c ∷ bytes) = not (b == 10) && is_line (c ∷ bytes)
+is_line (b ∷ []) = b == line_feed
+is_line (b ∷ c ∷ bytes) = not (b == line_feed) && is_line (c ∷ bytes)
 
 -- the text has no line feed
 abbrev pub IsOfOneLine : List ℕ → Type 0

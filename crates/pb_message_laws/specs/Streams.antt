@@ -5,6 +5,7 @@ use Rattle.pb_directive.specs.Lines.{lines_of, trimmed}
 use Rattle.pb_message.specs.Diagnostics.{diagnostics_of, plain_lines_of}
 use Rattle.serde_json.specs.Data.{Members, object}
 use Rattle.serde_json.specs.Read.{read}
+use Rattle.pb_data.specs.Ascii.{line_feed}
 
 -- a text is a JSON object
 abbrev pub IsObject : List ℕ → Type 0
@@ -18,7 +19,7 @@ pub data AreSaid : List (List ℕ) → List (List ℕ) → List ℕ → Type 0 w
   nothing : AreSaid [] [] []
   diagnostic : (line : List ℕ) (lines texts : List (List ℕ)) (plain : List ℕ) (is : IsObject (trimmed line)) (more : AreSaid lines texts plain) → AreSaid (line ∷ lines) (trimmed line ∷ texts) plain
   blank : (line : List ℕ) (lines texts : List (List ℕ)) (plain : List ℕ) (is : trimmed line ≡ []) (more : AreSaid lines texts plain) → AreSaid (line ∷ lines) texts plain
-  other : (line : List ℕ) (lines texts : List (List ℕ)) (plain : List ℕ) (some : trimmed line ≢ []) (no : IsObject (trimmed line) → ⊥) (more : AreSaid lines texts plain) → AreSaid (line ∷ lines) texts (line ++ 10 ∷ plain)
+  other : (line : List ℕ) (lines texts : List (List ℕ)) (plain : List ℕ) (some : trimmed line ≢ []) (no : IsObject (trimmed line) → ⊥) (more : AreSaid lines texts plain) → AreSaid (line ∷ lines) texts (line ++ line_feed ∷ plain)
 
 -- the diagnostics and the plain lines that are found in a standard error are as this relation defines
 abbrev pub CompilersSay : Type 0

@@ -1,25 +1,26 @@
 -- The dep-info file, which lists what a compile read.
 use Rattle.std.specs.Prelude.{ℕ, ◌==◌, if◌then◌else◌, codes, List, [], ◌∷◌, ◌++◌, Option, Some, None}
+use Rattle.pb_data.specs.Ascii.{line_feed, space, colon, equals, backslash}
 use Rattle.pb_mini.specs.declared.dep_info.Names.{Names}
 
 -- a path, with `\ ` for each space
 abbrev pub spelled : List ℕ → List ℕ
 spelled [] = []
-spelled (b ∷ bs) = if b == 32 then 92 ∷ 32 ∷ spelled bs else b ∷ spelled bs
+spelled (b ∷ bs) = if b == space then backslash ∷ space ∷ spelled bs else b ∷ spelled bs
 
 -- the paths, each after a space
 abbrev pub paths_text : List (List ℕ) → List ℕ
 paths_text [] = []
-paths_text (path ∷ paths) = 32 ∷ spelled path ++ paths_text paths
+paths_text (path ∷ paths) = space ∷ spelled path ++ paths_text paths
 
 -- a value after an equals sign, or nothing for a variable that is not set
 abbrev pub value_text : Option (List ℕ) → List ℕ
 value_text None = []
-value_text (Some value) = 61 ∷ value
+value_text (Some value) = equals ∷ value
 
 -- `# env-dep:NAME` or `# env-dep:NAME=VALUE`, and a line feed
 abbrev pub variable_text : List ℕ × Option (List ℕ) → List ℕ
-variable_text variable = codes "# env-dep:" ++ variable.0 ++ value_text variable.1 ++ 10 ∷ []
+variable_text variable = codes "# env-dep:" ++ variable.0 ++ value_text variable.1 ++ line_feed ∷ []
 
 abbrev pub variables_text : List (List ℕ × Option (List ℕ)) → List ℕ
 variables_text [] = []
@@ -27,8 +28,8 @@ variables_text (variable ∷ variables) = variable_text variable ++ variables_te
 
 -- `OUTPUT: PATHS` and a line feed
 abbrev pub rule_text : List ℕ → List (List ℕ) → List ℕ
-rule_text output paths = spelled output ++ 58 ∷ paths_text paths ++ 10 ∷ []
+rule_text output paths = spelled output ++ colon ∷ paths_text paths ++ line_feed ∷ []
 
 -- the rule, then the variables
 abbrev pub dep_info_text : List ℕ → Names → List ℕ
-dep_info_text output names = spelled output ++ 58 ∷ paths_text names.paths ++ 10 ∷ variables_text names.variables
+dep_info_text output names = spelled output ++ colon ∷ paths_text names.paths ++ line_feed ∷ variables_text names.variables

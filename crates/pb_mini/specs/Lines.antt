@@ -1,30 +1,31 @@
 -- The lines of a text, and the words at the front of a line.
 use Rattle.std.specs.Prelude.{ℕ, ◌==◌, ◌-◌, if◌then◌else◌, List, [], ◌∷◌, ◌++◌, length, take, slice_index}
 use Rattle.std.specs.List.{onto_first, before_first, after_first}
+use Rattle.pb_data.specs.Ascii.{line_feed, space, equals}
 
 -- The lines of a text, which is split at line feeds only. Text after the last line feed is a line unless it is empty.
 abbrev pub lines_of : List ℕ → List (List ℕ)
 lines_of [] = []
-lines_of (b ∷ bytes) = if b == 10 then [] ∷ lines_of bytes else onto_first b (lines_of bytes)
+lines_of (b ∷ bytes) = if b == line_feed then [] ∷ lines_of bytes else onto_first b (lines_of bytes)
 
 -- the text before the first space, or all of it if there is none
 abbrev pub word_in : List ℕ → List ℕ
-word_in line = before_first (λ b. b == 32) line
+word_in line = before_first (λ b. b == space) line
 
 -- the text after the first space, empty if there is none
 abbrev pub rest_of : List ℕ → List ℕ
-rest_of line = after_first (λ b. b == 32) line
+rest_of line = after_first (λ b. b == space) line
 
 -- the texts before and after the first `=`
 abbrev pub name_in : List ℕ → List ℕ
-name_in text = before_first (λ b. b == 61) text
+name_in text = before_first (λ b. b == equals) text
 
 abbrev pub value_in : List ℕ → List ℕ
-value_in text = after_first (λ b. b == 61) text
+value_in text = after_first (λ b. b == equals) text
 
 -- a line with its line feed
 abbrev pub ended : List ℕ → List ℕ
-ended line = line ++ 10 ∷ []
+ended line = line ++ line_feed ∷ []
 
 -- each line after a mark, with a line feed
 abbrev pub marked : List ℕ → List (List ℕ) → List ℕ

@@ -2,6 +2,7 @@
 use Rattle.std.specs.Prelude.{◌≡◌, ℕ, pos, ◌==◌, ◌*◌, ◌+◌, ◌-◌, nat_lt, Bool, not, ◌&&◌, if◌then◌else◌, codes, List, [], ◌∷◌, ◌++◌, Option, Some, None, unwrap_or}
 use Rattle.std.specs.List.{list_any, before_first}
 use Rattle.std.specs.Str.{bytes_eq}
+use Rattle.pb_data.specs.Ascii.{line_feed, slash}
 use Rattle.pb_place_types.specs.Paths.{is_absolute, is_relative}
 use Rattle.pb_place_types.specs.World.{World}
 use Rattle.pb_place_types.specs.declared.child.Reply.{Reply}
@@ -45,7 +46,7 @@ shown name value = prints (shown_text name (unwrap_or value []))
 
 -- the first line of a text
 abbrev pub first_line : List ℕ → List ℕ
-first_line text = before_first (λ b. b == 10) text
+first_line text = before_first (λ b. b == line_feed) text
 
 -- `read PATH`: the path is declared, and READ is set to the first line of the file, if there is one and it is a text
 abbrev pub first_line_set : Option (List ℕ) → List ℕ
@@ -60,7 +61,7 @@ was_read path text = prints (read_text path text)
 
 -- a relative path begins at CARGO_MANIFEST_DIR, which is empty if it is not set
 abbrev pub below_text : Option (List ℕ) → List ℕ → List ℕ
-below_text folder path = unwrap_or folder [] ++ 47 ∷ path
+below_text folder path = unwrap_or folder [] ++ slash ∷ path
 
 abbrev pub full_path : List (List ℕ × List ℕ) → World → List ℕ → List ℕ
 full_path pairs w path = if is_absolute path then path else below_text (value_of pairs w (codes "CARGO_MANIFEST_DIR")) path
@@ -70,7 +71,7 @@ text_read pairs w path = text_at w (path_of (full_path pairs w path))
 
 -- `put NAME TEXT`: a file with that name, which is one part of a relative path
 abbrev pub is_file_name : List ℕ → Bool
-is_file_name name = not (list_any (λ b. b == 47) name) && is_relative name
+is_file_name name = not (list_any (λ b. b == slash) name) && is_relative name
 
 abbrev pub was_put : List ℕ → List ℕ → Step
 was_put name text = if is_file_name name then Writes (record no_output { files = (name, ended text) ∷ [] }) else Ends 2

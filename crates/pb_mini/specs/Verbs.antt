@@ -4,6 +4,7 @@ use Rattle.std.specs.List.{before_first, slice_split}
 use Rattle.std.specs.Option.{option_map, option_and_then}
 use Rattle.std.specs.Str.{bytes_eq}
 use Rattle.std.specs.List.{join_with_byte}
+use Rattle.pb_data.specs.Ascii.{space, hash, dollar, slash}
 use Rattle.pb_data.specs.OrderedSet.{is_mentioned}
 use Rattle.pb_data.specs.Table.{value_at}
 use Rattle.pb_place_types.specs.World.{World}
@@ -29,7 +30,7 @@ without_conditions given (word ∷ condition ∷ words) =
 
 -- the line that remains of a line under these conditions
 abbrev pub line_meant : List (List ℕ) → List ℕ → List ℕ
-line_meant given line = join_with_byte 32 (without_conditions given (slice_split (λ b. b == 32) line))
+line_meant given line = join_with_byte space (without_conditions given (slice_split (λ b. b == space) line))
 
 -- the line that remains of a line: of `when` with this condition and rest, or of any other line
 abbrev pub meant_at : List (List ℕ) → List ℕ → Option (List ℕ × List ℕ) → List ℕ
@@ -55,12 +56,12 @@ use_effect scope w number line name = used number line name (file_at w (library_
 -- the text from the first slash on
 abbrev pub from_slash : List ℕ → List ℕ
 from_slash [] = []
-from_slash (b ∷ bytes) = if b == 47 then b ∷ bytes else from_slash bytes
+from_slash (b ∷ bytes) = if b == slash then b ∷ bytes else from_slash bytes
 
 -- the variable in the first part of a path, as in `$NAME/x`
 abbrev pub variable_in : List ℕ → Option (List ℕ)
 variable_in [] = None
-variable_in (b ∷ path) = if b == 36 then Some (before_first (λ c. c == 47) path) else None
+variable_in (b ∷ path) = if b == dollar then Some (before_first (λ c. c == slash) path) else None
 
 -- a variable with its value
 abbrev pub variable_at : List (List ℕ × List ℕ) → World → List ℕ → List ℕ × Option (List ℕ)
@@ -122,7 +123,7 @@ verb_of word =
 -- a line does nothing if it is empty or begins with `#`
 abbrev pub is_passed_over : List ℕ → Bool
 is_passed_over [] = true
-is_passed_over (b ∷ bytes) = b == 35
+is_passed_over (b ∷ bytes) = b == hash
 
 -- the effect of a line with this number, by its verb, which is its first word, and by its rest
 abbrev pub effect_by : Verb → Scope → World → ℕ → List ℕ → List ℕ → Effects

@@ -1,6 +1,7 @@
 -- Names that are written in dep-info, and read back from it.
 use Rattle.std.specs.Prelude.{◌≡◌, ℕ, ◌==◌, not, ◌||◌, Bool, true, false, List, [], ◌∷◌, Option, Ok}
 use Rattle.std.specs.List.{AllByRecursion}
+use Rattle.pb_data.specs.Ascii.{carriage_return, backslash}
 use Rattle.pb_data.specs.OrderedSet.{is_mentioned}
 use Rattle.pb_data.specs.Table.{names_of}
 use Rattle.pb_directive.specs.DepInfo.{dep_info_of}
@@ -13,7 +14,7 @@ use Rattle.pb_mini.specs.declared.dep_info.Names.{Names}
 -- a name that is not empty, and ends neither with `\`, which would escape the space after it, nor with a carriage return, which no line keeps
 abbrev pub ends_plainly : List ℕ → Bool
 ends_plainly [] = false
-ends_plainly (b ∷ []) = not ((b == 92) || (b == 13))
+ends_plainly (b ∷ []) = not ((b == backslash) || (b == carriage_return))
 ends_plainly (b ∷ c ∷ bytes) = ends_plainly (c ∷ bytes)
 
 -- a name can be written in dep-info: it ends plainly, and is one line

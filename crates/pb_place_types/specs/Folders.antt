@@ -3,6 +3,7 @@
 use Rattle.std.specs.Prelude.{◌≡◌, ◌≢◌, ◌==◌, ℕ, true, false, List, [], ◌∷◌, ◌++◌, Option, Some, None, if◌then◌else◌}
 use Rattle.std.specs.FinMap as map
 use Rattle.std.specs.List.{list_any}
+use Rattle.pb_data.specs.Ascii.{slash}
 use Rattle.pb_place_types.specs.Paths.{is_path, is_name, below, is_below, is_at_or_below}
 use Rattle.pb_place_types.specs.World.{World, Map, is_shown, seen_by, removed, from_nothing, put_files, ChangesOnly}
 use Rattle.pb_place_types.specs.declared.command.Command.{Command}
@@ -35,7 +36,7 @@ pub record LieApart (f g : List ℕ) : Type 0 where
 -- two folders with different names in one folder lie apart
 abbrev pub NamedFoldersLieApart : Type 0
 NamedFoldersLieApart = (folder name other : List ℕ) → is_path folder ≡ true → is_name name ≡ true → is_name other ≡ true
-    → list_any (λ b. b == 47) name ≡ false → list_any (λ b. b == 47) other ≡ false → name ≢ other → LieApart (below folder name) (below folder other)
+    → list_any (λ b. b == slash) name ≡ false → list_any (λ b. b == slash) other ≡ false → name ≢ other → LieApart (below folder name) (below folder other)
 
 -- each of these folders has the same files in both worlds
 abbrev pub FoldersAgree : List (List ℕ) → World → World → Type 0

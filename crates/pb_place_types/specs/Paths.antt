@@ -2,12 +2,13 @@
 use Rattle.std.specs.Prelude.{ℕ, ◌==◌, Bool, false, not, ◌&&◌, ◌||◌, if◌then◌else◌, codes, List, [], ◌∷◌, ◌++◌, ◌+◌, ◌-◌, length, take, drop, Option, Some, None, Result, Ok, Err}
 use Rattle.std.specs.List.{fold, list_any, list_all, slice_split}
 use Rattle.std.specs.Str.{bytes_eq}
+use Rattle.pb_data.specs.Ascii.{slash}
 use Rattle.pb_place_types.specs.declared.path.PathFault.{PathFault}
 use Rattle.pb_place_types.specs.declared.path.PathFault.TheVariants.{NotAbsolute, BadByte}
 
 -- the parts of a text between its slashes
 abbrev pub parts_of : List ℕ → List (List ℕ)
-parts_of text = slice_split (λ b. b == 47) text
+parts_of text = slice_split (λ b. b == slash) text
 
 -- a part stays in the same folder if it is empty or `.`
 abbrev pub stays : List ℕ → Bool
@@ -28,16 +29,16 @@ names_of text = fold walked [] (parts_of text)
 -- the names, each after a slash
 abbrev pub slashed : List (List ℕ) → List ℕ
 slashed [] = []
-slashed (name ∷ names) = 47 ∷ name ++ slashed names
+slashed (name ∷ names) = slash ∷ name ++ slashed names
 
 -- the path with these names; the root is a single slash
 abbrev pub path_of : List (List ℕ) → List ℕ
-path_of [] = 47 ∷ []
+path_of [] = slash ∷ []
 path_of (name ∷ names) = slashed (name ∷ names)
 
 abbrev pub is_absolute : List ℕ → Bool
 is_absolute [] = false
-is_absolute (b ∷ rest) = b == 47
+is_absolute (b ∷ rest) = b == slash
 
 abbrev pub has_byte_0 : List ℕ → Bool
 has_byte_0 text = list_any (λ b. b == 0) text
@@ -48,7 +49,7 @@ parsed text = if is_absolute text then (if has_byte_0 text then Err BadByte else
 
 -- the path that a text spells inside a folder; an absolute text spells its own path
 abbrev pub joined : List ℕ → List ℕ → Result (List ℕ) PathFault
-joined folder text = parsed (if is_absolute text then text else folder ++ 47 ∷ text)
+joined folder text = parsed (if is_absolute text then text else folder ++ slash ∷ text)
 
 -- the folder that contains a path: one part up
 abbrev pub folder_of : List ℕ → List ℕ
@@ -74,8 +75,8 @@ is_relative text = list_all is_name (parts_of text)
 -- a text is a path if it is a slash, followed by nothing or by names with a slash between them
 abbrev pub is_path : List ℕ → Bool
 is_path [] = false
-is_path (b ∷ []) = b == 47
-is_path (b ∷ c ∷ rest) = (b == 47) && is_relative (c ∷ rest)
+is_path (b ∷ []) = b == slash
+is_path (b ∷ c ∷ rest) = (b == slash) && is_relative (c ∷ rest)
 
 -- the text before the slash in each path below a folder: the folder, or nothing for the root
 abbrev pub stem : List ℕ → List ℕ
@@ -83,13 +84,13 @@ stem folder = if bytes_eq folder (codes "/") then [] else folder
 
 -- the path of a relative path in a folder
 abbrev pub below : List ℕ → List ℕ → List ℕ
-below folder relative = stem folder ++ 47 ∷ relative
+below folder relative = stem folder ++ slash ∷ relative
 
 -- whether a path is the stem, a slash and something more
 unfoldable pub leads_below : List ℕ → List ℕ → Bool
 leads_below [] [] = false
 leads_below [] (b ∷ []) = false
-leads_below [] (b ∷ c ∷ rest) = b == 47
+leads_below [] (b ∷ c ∷ rest) = b == slash
 leads_below (a ∷ stem) [] = false
 leads_below (a ∷ stem) (b ∷ path) = (a == b) && leads_below stem path
 

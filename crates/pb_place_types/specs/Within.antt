@@ -1,6 +1,7 @@
 -- The laws of paths at or below a folder, or strictly below it.
 use Rattle.std.specs.Prelude.{◌≡◌, ◌≢◌, ◌↔◌, ◌⊎◌, ℕ, ◌==◌, ◌∷◌, List, [], Some, true, false, codes}
 use Rattle.std.specs.List.{list_any}
+use Rattle.pb_data.specs.Ascii.{slash}
 use Rattle.pb_place_types.specs.Paths.{is_path, is_name, is_relative, below, is_below, is_at_or_below, inside, folder_of, last_part}
 
 -- a path is below a folder if and only if it is the folder's stem, a slash and something more
@@ -42,7 +43,7 @@ RootIsAbove = (path : List ℕ) → is_path path ≡ true → is_at_or_below (co
 -- two different names without a slash, put below one folder, lead to two paths,
 -- neither of which is at or below the other
 abbrev pub NamesLieApart : Type 0
-NamesLieApart = (folder name other : List ℕ) → name ≢ [] → list_any (λ b. b == 47) other ≡ false → name ≢ other → is_at_or_below (below folder name) (below folder other) ≡ false
+NamesLieApart = (folder name other : List ℕ) → name ≢ [] → list_any (λ b. b == slash) other ≡ false → name ≢ other → is_at_or_below (below folder name) (below folder other) ≡ false
 
 -- the path inside a folder, joined to the folder again, is the path
 abbrev pub JoinsAgain : Type 0
@@ -61,7 +62,7 @@ abbrev pub EndsWithLastPart : Type 0
 EndsWithLastPart = (path : List ℕ) → is_path path ≡ true → path ≢ codes "/" → below (folder_of path) (last_part path) ≡ path
 
 abbrev pub LastPartIsName : Type 0
-LastPartIsName = (path : List ℕ) → is_path path ≡ true → path ≢ codes "/" → (is_name (last_part path) ≡ true) × (list_any (λ b. b == 47) (last_part path) ≡ false)
+LastPartIsName = (path : List ℕ) → is_path path ≡ true → path ≢ codes "/" → (is_name (last_part path) ≡ true) × (list_any (λ b. b == slash) (last_part path) ≡ false)
 
 -- each path except the root is strictly below its folder
 abbrev pub LiesInFolder : Type 0

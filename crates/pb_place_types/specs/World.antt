@@ -6,6 +6,7 @@ use Rattle.std.specs.Ordering.{nat_cmp, eq_by_cmp}
 use Rattle.std.specs.Str.{bytes_eq}
 use Rattle.std.specs.Cmp.Lexicographic.{slice_cmp}
 use Rattle.std.specs.FinMap as map
+use Rattle.pb_data.specs.Ascii.{slash}
 use Rattle.pb_place_types.specs.Paths.{stem, below, inside, is_below, is_at_or_below, is_path, last_of, parts_of}
 use Rattle.pb_place_types.specs.declared.command.Command.{Command}
 use Rattle.pb_place_types.specs.declared.command.Ended.{Ended}
@@ -54,7 +55,7 @@ listed folder w = map.keys (map.retain_keys w.files (is_below folder))
 
 -- a path is directly in a folder if it is below it and its path there is one name
 abbrev pub is_directly_in : List ℕ → List ℕ → Bool
-is_directly_in folder path = is_below folder path && not (list_any (λ b. b == 47) (drop (length (stem folder) + 1) path))
+is_directly_in folder path = is_below folder path && not (list_any (λ b. b == slash) (drop (length (stem folder) + 1) path))
 
 -- the files directly in a folder, in byte order
 abbrev pub listed_directly : List ℕ → World → List (List ℕ)

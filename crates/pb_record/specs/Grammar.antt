@@ -2,6 +2,7 @@
 use Rattle.std.specs.Prelude.{ℕ, ◌+◌, zero, suc, codes, List, [], ◌∷◌, ◌++◌, length, map, Option, Some, None}
 use Rattle.std.specs.Int.Digits.{digits_of}
 use Rattle.std.specs.List.{flat_map}
+use Rattle.pb_data.specs.Ascii.{line_feed}
 use Rattle.pb_record.specs.declared.recorded_command.RecordedCommand.{RecordedCommand}
 use Rattle.pb_record.specs.declared.record.Input.{Input}
 use Rattle.pb_record.specs.declared.record.Input.TheVariants.{File, Tree, Value}
@@ -16,7 +17,7 @@ a ⨾ b = a ++ b
 
 -- a line of a text
 abbrev pub line : List ℕ → List ℕ
-line text = text ++ 10 ∷ []
+line text = text ++ line_feed ∷ []
 
 -- the decimal digits of a number, without a leading 0; the number 0 is one 0
 abbrev pub decimals : ℕ → List ℕ

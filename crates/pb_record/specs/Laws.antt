@@ -1,5 +1,6 @@
 -- Laws of records.
 use Rattle.std.specs.Prelude.{◌≡◌, ◌≢◌, ◌<◌, ◌^◌, ℕ, false, List, ◌∷◌, ◌++◌, length, take, codes, Option}
+use Rattle.pb_data.specs.Ascii.{line_feed}
 use Rattle.pb_place_types.specs.Paths.{has_byte_0}
 use Rattle.pb_record.specs.Grammar.{line, number, record_bytes}
 use Rattle.pb_record.specs.Parts.{IsPlace, IsRecord, Says, Reads, IsReading}
@@ -35,14 +36,14 @@ abbrev pub NoZeroLeads : Type 0
 NoZeroLeads = (n d : ℕ) (rest more : List ℕ) → number n ++ rest ≡ 48 ∷ d ∷ more → (n ≡ 0) × (d ≡ 10)
 
 abbrev pub NumbersHaveDigits : Type 0
-NumbersHaveDigits = (n : ℕ) (rest more : List ℕ) → number n ++ rest ≢ 10 ∷ more
+NumbersHaveDigits = (n : ℕ) (rest more : List ℕ) → number n ++ rest ≢ line_feed ∷ more
 
 -- The same for the run number of a record.
 abbrev pub NoZeroLeadsRecord : Type 0
 NoZeroLeadsRecord = (r : Record) (d : ℕ) (more : List ℕ) → Says (line (codes "record 2") ++ 48 ∷ d ∷ more) r → d ≡ 10
 
 abbrev pub RecordNumbersHaveDigits : Type 0
-RecordNumbersHaveDigits = (r : Record) (more : List ℕ) → Says (line (codes "record 2") ++ 10 ∷ more) r → ⊥
+RecordNumbersHaveDigits = (r : Record) (more : List ℕ) → Says (line (codes "record 2") ++ line_feed ∷ more) r → ⊥
 
 abbrev pub RecordNumbersFit : Type 0
 RecordNumbersFit = (r : Record) (n : ℕ) (more : List ℕ) → Says (line (codes "record 2") ++ (number n ++ more)) r → n < 2 ^ 64

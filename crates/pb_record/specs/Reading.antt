@@ -2,6 +2,7 @@
 use Rattle.std.specs.Prelude.{◌≡◌, ◌≢◌, ◌<◌, ◌==◌, ℕ, Bool, false, not, ◌&&◌, List, [], ◌∷◌, ◌++◌, length}
 use Rattle.std.proofs.Common.{get_or}
 use Rattle.std.specs.List.{AllByRecursion}
+use Rattle.pb_data.specs.Ascii.{plus, digit_zero}
 
 -- the text begins with the bytes of this part, followed by the rest
 pub record Stands {A : Type 0} (Is : A → Type 0) (spelled : A → List ℕ) (text : List ℕ) (x : A) (rest : List ℕ) : Type 0 where
@@ -34,5 +35,5 @@ HasNoFeed text = (k : ℕ) → k < length text → get_or text k 0 ≢ 10
 -- digits that begin a number: without a sign, and with a 0 only if it is the only digit
 abbrev pub begins_well : List ℕ → Bool
 begins_well [] = false
-begins_well (d ∷ []) = not (d == 43)
-begins_well (d ∷ e ∷ digits) = not (d == 43) && not (d == 48)
+begins_well (d ∷ []) = not (d == plus)
+begins_well (d ∷ e ∷ digits) = not (d == plus) && not (d == digit_zero)

@@ -3,6 +3,7 @@ use Rattle.std.specs.Prelude.{ℕ, Bool, not, ◌==◌, ◌&&◌, ◌-◌, if◌
 use Rattle.std.specs.FinMap as finite
 use Rattle.std.specs.List.{list_any}
 use Rattle.std.specs.Str.{bytes_eq}
+use Rattle.pb_data.specs.Ascii.{slash}
 use Rattle.pb_place_types.specs.Paths.{below, is_name}
 use Rattle.pb_place_types.specs.World.{World, Map}
 pub use Rattle.pb_record.proofs.ReadingLemmas.{reading}
@@ -16,7 +17,7 @@ ends_as_record name = bytes_eq (drop (length name - 7) name) (codes ".record")
 
 -- a key: the name of a file or folder, of one part, that does not end as the name of a record
 unfoldable pub is_key : List ℕ → Bool
-is_key key = is_name key && (not (list_any (λ b. b == 47) key) && not (ends_as_record key))
+is_key key = is_name key && (not (list_any (λ b. b == slash) key) && not (ends_as_record key))
 
 -- the output folder of the unit of a key (below, the path of its record)
 abbrev pub out_of : List ℕ → List ℕ → List ℕ

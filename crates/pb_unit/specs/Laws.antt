@@ -1,6 +1,7 @@
 -- What the keys of a plan tell about its units.
 use Rattle.std.specs.Prelude.{◌≡◌, ℕ, ◌==◌, Bool, true, false, if◌then◌else◌, List, [], ◌∷◌, All}
 use Rattle.std.specs.List.{list_any}
+use Rattle.pb_data.specs.Ascii.{dot, slash}
 use Rattle.pb_place_types.specs.Paths.{is_name}
 use Rattle.pb_workspace_types.specs.Settled.{IsSettled}
 use Rattle.pb_workspace_types.specs.declared.options.Selection.{Selection}
@@ -12,18 +13,18 @@ use Rattle.pb_unit.specs.Plan.{IsPlan}
 use Rattle.pb_unit.specs.Units.{what_name}
 
 abbrev pub has_point : List ℕ → Bool
-has_point text = list_any (λ b. b == 46) text
+has_point text = list_any (λ b. b == dot) text
 
 -- the last word of a text: what follows its last point, or the whole text if it has none
 unfoldable pub last_word : List ℕ → List ℕ
 last_word [] = []
-last_word (b ∷ text) = if has_point text then last_word text else (if b == 46 then text else b ∷ text)
+last_word (b ∷ text) = if has_point text then last_word text else (if b == dot then text else b ∷ text)
 
 -- The key of a unit is the name of one folder, and its last word says what
 -- the unit is. The last word of its output folder's path says so too.
 pub record TellsWhat (p : Planned) : Type 0 where
   pub name : is_name p.key ≡ true
-  pub flat : list_any (λ b. b == 47) p.key ≡ false
+  pub flat : list_any (λ b. b == slash) p.key ≡ false
   pub key : last_word p.key ≡ what_name p.unit.what
   pub out : last_word p.out ≡ what_name p.unit.what
 

@@ -1,6 +1,7 @@
 -- Units: their keys, what each needs, and which ones a build
 -- has (The Cargo Book, Build Scripts, Features, cargo build).
 use Rattle.std.specs.Prelude.{◌≡◌, ◌⊎◌, ℕ, Bool, true, false, not, ◌&&◌, ◌||◌, ◌==◌, if◌then◌else◌, is_some, codes, List, [], ◌∷◌, ◌++◌, All, Contains, length, Option, Some, None, slice_get}
+use Rattle.pb_data.specs.Ascii.{dot}
 use Rattle.pb_data.specs.OrderedSet.{is_mentioned}
 use Rattle.pb_graph.specs.Placed.{placed}
 use Rattle.pb_workspace_types.specs.declared.package.Side.{Side}
@@ -44,7 +45,7 @@ what_name Run = codes "run"
 
 -- a unit's key: `PACKAGE.SIDE.WHAT`
 abbrev pub key_of : Workspace → Unit → List ℕ
-key_of ws u = name_at ws u.owner ++ 46 ∷ (side_name u.side ++ 46 ∷ what_name u.what)
+key_of ws u = name_at ws u.owner ++ dot ∷ (side_name u.side ++ dot ∷ what_name u.what)
 
 -- the role for a unit's settings: that of the host for scripts and for the host's side
 abbrev pub role_at : Side → What → Side

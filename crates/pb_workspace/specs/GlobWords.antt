@@ -2,6 +2,7 @@
 -- (The Cargo Book, Workspaces; which signs of a glob are supported is our own choice.)
 use Rattle.std.specs.Prelude.{◌≡◌, ◌↔◌, ℕ, Bool, true, false, not, ◌||◌, ◌==◌, List, [], ◌∷◌, ◌++◌}
 use Rattle.std.specs.List.{list_all}
+use Rattle.pb_data.specs.Ascii.{star, question_mark}
 use Rattle.pb_workspace.specs.Globs.{goes_on, matches}
 
 -- the text does not begin inside a character
@@ -11,14 +12,14 @@ begins_whole (b ∷ rest) = not (goes_on b)
 
 -- the signs `*` and `?`
 abbrev pub is_sign : ℕ → Bool
-is_sign b = b == 42 || b == 63
+is_sign b = b == star || b == question_mark
 
 -- A pattern matches a name byte by byte: `*` matches any text, `?` one character, every other byte itself.
 -- The empty pattern matches only the empty text.
 pub data Matches : List ℕ → List ℕ → Type 0 where
   empty : Matches [] []
-  any : (pattern text rest : List ℕ) (behind : Matches pattern rest) → Matches (42 ∷ pattern) (text ++ rest)
-  one : (pattern : List ℕ) (first : ℕ) (more rest : List ℕ) (further : list_all goes_on more ≡ true) (whole : begins_whole rest ≡ true) (behind : Matches pattern rest) → Matches (63 ∷ pattern) (first ∷ more ++ rest)
+  any : (pattern text rest : List ℕ) (behind : Matches pattern rest) → Matches (star ∷ pattern) (text ++ rest)
+  one : (pattern : List ℕ) (first : ℕ) (more rest : List ℕ) (further : list_all goes_on more ≡ true) (whole : begins_whole rest ≡ true) (behind : Matches pattern rest) → Matches (question_mark ∷ pattern) (first ∷ more ++ rest)
   itself : (pattern : List ℕ) (b : ℕ) (rest : List ℕ) (plain : is_sign b ≡ false) (behind : Matches pattern rest) → Matches (b ∷ pattern) (b ∷ rest)
 
 -- a computed match is true if and only if this relation is

@@ -3,6 +3,7 @@
 -- (The Cargo Book, Workspaces; which signs of a glob are supported is our own choice.)
 use Rattle.std.specs.Prelude.{ℕ, Bool, true, false, ◌&&◌, ◌||◌, ◌==◌, nat_le, if◌then◌else◌, List, [], ◌∷◌}
 use Rattle.std.specs.List.{list_any}
+use Rattle.pb_data.specs.Ascii.{star, question_mark}
 
 -- a byte of a character after the first one
 abbrev pub goes_on : ℕ → Bool
@@ -30,7 +31,7 @@ byte_then c test (b ∷ rest) = (b == c) && test rest
 
 -- `*` matches any number of characters, `?` one, and every other byte itself
 abbrev pub first_then : ℕ → (List ℕ → Bool) → List ℕ → Bool
-first_then c test name = if c == 42 then some_end test name else (if c == 63 then one_then test name else byte_then c test name)
+first_then c test name = if c == star then some_end test name else (if c == question_mark then one_then test name else byte_then c test name)
 
 abbrev pub is_end : List ℕ → Bool
 is_end [] = true
@@ -43,4 +44,4 @@ matches (c ∷ pattern) name = first_then c (λ rest. matches pattern rest) name
 
 -- a text is a glob if it contains `*` or `?`
 abbrev pub is_glob : List ℕ → Bool
-is_glob text = list_any (λ b. b == 42 || b == 63) text
+is_glob text = list_any (λ b. b == star || b == question_mark) text

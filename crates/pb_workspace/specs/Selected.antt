@@ -2,6 +2,7 @@
 use Rattle.std.specs.Prelude.{ℕ, Bool, not, ◌&&◌, ◌==◌, ◌+◌, if◌then◌else◌, List, [], ◌∷◌, length, filter, Option, Some, None, Result, Ok, Err}
 use Rattle.std.specs.List.{flat_map, list_any, list_all, slice_split}
 use Rattle.std.specs.Str.{bytes_eq}
+use Rattle.pb_data.specs.Ascii.{space, comma}
 use Rattle.pb_data.specs.UnlessOom.{◌>>=◌}
 use Rattle.pb_data.specs.OrderedSet.{is_mentioned}
 use Rattle.pb_workspace_package.specs.Between.{is_word}
@@ -62,11 +63,11 @@ selected_packages ws all names =
 
 -- the words between the spaces of a part
 abbrev pub spaced_words : List ℕ → List (List ℕ)
-spaced_words part = filter is_word (slice_split (λ b. b == 32) part)
+spaced_words part = filter is_word (slice_split (λ b. b == space) part)
 
 -- the features that a text requests: the words between its commas and spaces, without empty ones
 abbrev pub feature_words : List ℕ → List (List ℕ)
-feature_words text = flat_map spaced_words (slice_split (λ b. b == 44) text)
+feature_words text = flat_map spaced_words (slice_split (λ b. b == comma) text)
 
 abbrev pub selection_of : Options → List ℕ → Selection
 selection_of o places = record {

@@ -2,6 +2,7 @@
 use Rattle.std.specs.Prelude.{◌≡◌, ◌++◌, ◌∷◌, ◌-◌, ◌==◌, ℕ, if◌then◌else◌, codes, drop, List, length, replicate}
 use Rattle.std.specs.List.{common_prefix_len, flat_map, join_by}
 use Rattle.std.specs.Str.{bytes_eq}
+use Rattle.pb_data.specs.Ascii.{slash}
 use Rattle.pb_place_types.specs.Paths.{path_of}
 use Rattle.pb_workspace_package.specs.Between.{names_in, text_between}
 
@@ -12,4 +13,4 @@ TextsLeadBetween = (folder path : List ℕ) → let same = common_prefix_len byt
 
 -- A path is its names, each after a slash, or a single slash if it has none.
 abbrev pub PathsAreSpelled : Type 0
-PathsAreSpelled = (names : List (List ℕ)) → path_of names ≡ (if length names == 0 then codes "/" else flat_map (λ name. 47 ∷ name) names)
+PathsAreSpelled = (names : List (List ℕ)) → path_of names ≡ (if length names == 0 then codes "/" else flat_map (λ name. slash ∷ name) names)

@@ -2,6 +2,7 @@
 use Rattle.std.specs.Prelude.{ℕ, Bool, not, ◌==◌, if◌then◌else◌, codes, List, [], ◌∷◌, ◌++◌, length, replicate, filter}
 use Rattle.std.specs.List.{slice_split}
 use Rattle.std.specs.Str.{bytes_eq}
+use Rattle.pb_data.specs.Ascii.{slash}
 use Rattle.pb_place_types.specs.Paths.{slashed}
 
 -- a part that is not empty
@@ -10,7 +11,7 @@ is_word part = not (length part == 0)
 
 -- the names of a normalised path: its parts that are not empty
 abbrev pub names_in : List ℕ → List (List ℕ)
-names_in path = filter is_word (slice_split (λ b. b == 47) path)
+names_in path = filter is_word (slice_split (λ b. b == slash) path)
 
 -- one `..` for each of these names
 abbrev pub upward : List (List ℕ) → List (List ℕ)

@@ -3,6 +3,7 @@
 use Rattle.std.specs.Prelude.{ℕ, Bool, true, false, ◌&&◌, if◌then◌else◌, codes, List, [], ◌∷◌, ◌++◌, Option, Some, None}
 use Rattle.std.specs.List.{filter_map}
 use Rattle.std.specs.Str.{bytes_eq}
+use Rattle.pb_data.specs.Ascii.{dot}
 use Rattle.pb_place_types.specs.Paths.{below, inside}
 use Rattle.pb_place_types.specs.World.{World, listed}
 use Rattle.pb_manifest_types.specs.Features.{parted}
@@ -20,7 +21,7 @@ stem_in (Some parts) = if is_name parts.0 && bytes_eq parts.1 (codes "rs") then 
 -- NAME of `NAME.rs` in `src/bin`
 abbrev pub flat_name : List (List ℕ) → Option (List ℕ)
 flat_name [] = None
-flat_name (file ∷ []) = stem_in (parted 46 file)
+flat_name (file ∷ []) = stem_in (parted dot file)
 flat_name (first ∷ second ∷ more) = None
 
 -- NAME of `NAME/main.rs` in `src/bin`

@@ -1,6 +1,7 @@
 -- What a package's folder has, in the places in which The Cargo Book looks for it (Manifest Format,
 -- Cargo Targets, Build Scripts). `sources` is the world without what is at or below the target folder.
 use Rattle.std.specs.Prelude.{ℕ, Bool, if◌then◌else◌, codes, List, [], ◌∷◌, ◌++◌, Option, Some, None}
+use Rattle.pb_data.specs.Ascii.{slash}
 use Rattle.pb_place_types.specs.Paths.{below, is_absolute, names_of, path_of}
 use Rattle.pb_place_types.specs.World.{World, has_file}
 use Rattle.pb_manifest_types.specs.Library.{library_name}
@@ -28,7 +29,7 @@ found_readme folder sources =
 
 -- the path that a written text names: an absolute one as it is, any other from the package's folder
 abbrev pub resolved : List ℕ → List ℕ → List ℕ
-resolved folder text = path_of (names_of (if is_absolute text then text else folder ++ 47 ∷ text))
+resolved folder text = path_of (names_of (if is_absolute text then text else folder ++ slash ∷ text))
 
 -- the build script: what `build` says, or `build.rs` if nothing is written and it is a file
 abbrev pub script_of : List ℕ → World → Build → Option (List ℕ)
