@@ -55,10 +55,13 @@ open_unrefused open_fault.OutOfMemory = tt
 -- The query.
 
 pub ask_ready : (e : BuildFault) (old new : Starts) → MayAsk e old new → MayReady e old new
+ask_ready (Plan why) old new may = absurd may
 ask_ready Toolchain old new may = may
 ask_ready (Child key fault) old new may = may
+ask_ready (Device key (device.Place fault)) old new may = absurd may
+ask_ready (Device key device.NumbersSpent) old new may = absurd may
+ask_ready Sink old new may = absurd may
 ask_ready OutOfMemory old new may = may
-ask_ready _ old new may = absurd may
 
 pub open_ready : (e : BuildFault) (old mid new : Starts) → mid ≡ up_starts old → IsUnrefused e → MayPlan e mid new → MayReady e old new
 open_ready (Plan why) old mid new one unrefused may = absurd unrefused

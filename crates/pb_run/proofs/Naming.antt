@@ -74,8 +74,11 @@ cause_told OutOfMemory old new cause = cause
 pub stops_told : (key : List ℕ) (e : BuildFault) (calls : List Call) (old new : Counts) → IsOfUnit key e → StepStopsAt (fault_in e) calls old new → StopsAt e calls old new
 stops_told key (Plan refusal) calls old new its stops = absurd its
 stops_told key Toolchain calls old new its stops = absurd its
+stops_told key (Child unit fault) calls old new its stops = stops
+stops_told key (Device unit (Place fault)) calls old new its stops = stops
+stops_told key (Device unit NumbersSpent) calls old new its stops = stops
 stops_told key Sink calls old new its stops = absurd its
-stops_told key _ calls old new its stops = stops
+stops_told key OutOfMemory calls old new its stops = stops
 
 pub start_told : (e : BuildFault) → is_of_start e ≡ starts (fault_in e)
 start_told (Plan refusal) = refl
