@@ -2,6 +2,7 @@
 
 ghost use Rattle.pb_tool_notes_pages.specs.Looks.{LooksAgain};
 
+use pb_data::Items;
 use pb_place_types::{PathText, Place, PlaceFault};
 use pb_tool_notes_pages::{Ask, Notes, Pages, Role, folders_in, is_file, near, tell_key};
 use std::alloc::{AllocError, Global};
@@ -40,6 +41,27 @@ fn tell_ask(
     }
 }
 
+/// Returns ` (near: NAME)` for one of these folders.
+fn near_among(alloc: Global, name: &str, folders: &[PathText]) -> Result<String, AllocError> {
+    let mut names = Vec::new(alloc);
+    for one in folders {
+        names.push(one.last_part())?;
+    }
+    near(alloc, name, names.as_slice())
+}
+
+/// Returns the folders beside a folder.
+fn folders_beside<P: Place>(
+    alloc: Global,
+    place: &mut P,
+    folder: &PathText,
+) -> Result<Items<PathText>, PlaceFault>
+    ensures { LooksAgain (P.at place.old) (P.at place.new) }
+{
+    let above = folder.folder(alloc)?;
+    folders_in(alloc, place, &above, folder)
+}
+
 /// Returns ` (near: NAME)` for a folder beside a missing one.
 fn near_folder<P: Place>(
     alloc: Global,
@@ -49,13 +71,11 @@ fn near_folder<P: Place>(
     ensures { LooksAgain (P.at place.old) (P.at place.new) }
 {
     let folder = manifest.folder(alloc)?;
-    let above = folder.folder(alloc)?;
-    let found = folders_in(alloc, place, &above, &folder)?;
-    let mut names = Vec::new(alloc);
-    for one in found.as_slice() {
-        names.push(one.last_part())?;
+    let found = folders_beside(alloc, place, &folder)?;
+    match near_among(alloc, folder.last_part(), found.as_slice()) {
+        Ok(near) => Ok(near),
+        Err(_) => Err(PlaceFault::OutOfMemory),
     }
-    Ok(near(alloc, folder.last_part(), names.as_slice())?)
 }
 
 /// Adds that a path is a folder with a manifest in it, if it is one.

@@ -115,6 +115,97 @@ fn push_file(names: &mut Vec<Text>, alloc: Global, path: &PathText) -> Result<()
     Ok(())
 }
 
+/// Adds the name of a package if its `src/main.rs` exists.
+fn push_main<P: Place>(
+    alloc: Global,
+    place: &mut P,
+    names: &mut Vec<Text>,
+    page: &Page,
+    folder: &PathText,
+) -> Result<(), PlaceFault>
+    ensures { LooksAgain (P.at place.old) (P.at place.new) }
+{
+    let Ok(source) = folder.join(alloc, "src/main.rs") else {
+        return Ok(());
+    };
+    let exists = is_file(alloc, place, &source);
+    drop(source);
+    if exists? {
+        names.push(Text::from_str(alloc, page.package_text("name"))?)?;
+    }
+    Ok(())
+}
+
+/// Adds the names of binaries whose sources are these files.
+fn push_files(alloc: Global, names: &mut Vec<Text>, files: &[PathText]) -> Result<(), AllocError> {
+    for path in files {
+        push_file(names, alloc, path)?;
+    }
+    Ok(())
+}
+
+/// Adds the names of binaries whose sources are in these folders.
+fn push_folders(
+    alloc: Global,
+    names: &mut Vec<Text>,
+    folders: &[PathText],
+) -> Result<(), AllocError> {
+    for path in folders {
+        names.push(Text::from_str(alloc, path.last_part())?)?;
+    }
+    Ok(())
+}
+
+/// Adds the names of the binaries whose sources are files directly in a folder.
+fn push_files_in<P: Place>(
+    alloc: Global,
+    place: &mut P,
+    names: &mut Vec<Text>,
+    folder: &PathText,
+) -> Result<(), PlaceFault>
+    ensures { LooksAgain (P.at place.old) (P.at place.new) }
+{
+    let files = files_in(alloc, place, folder)?;
+    match push_files(alloc, names, files.as_slice()) {
+        Ok(()) => Ok(()),
+        Err(_) => Err(PlaceFault::OutOfMemory),
+    }
+}
+
+/// Adds the names of the binaries whose sources are in folders directly in a folder.
+fn push_folders_in<P: Place>(
+    alloc: Global,
+    place: &mut P,
+    names: &mut Vec<Text>,
+    folder: &PathText,
+    left_out: &PathText,
+) -> Result<(), PlaceFault>
+    ensures { LooksAgain (P.at place.old) (P.at place.new) }
+{
+    let folders = folders_in(alloc, place, folder, left_out)?;
+    match push_folders(alloc, names, folders.as_slice()) {
+        Ok(()) => Ok(()),
+        Err(_) => Err(PlaceFault::OutOfMemory),
+    }
+}
+
+/// Adds the names of the binaries whose sources are in `src/bin` of a package's folder.
+fn push_others<P: Place>(
+    alloc: Global,
+    place: &mut P,
+    names: &mut Vec<Text>,
+    page: &Page,
+    folder: &PathText,
+) -> Result<(), PlaceFault>
+    ensures { LooksAgain (P.at place.old) (P.at place.new) }
+{
+    let Ok(binaries) = folder.join(alloc, "src/bin") else {
+        return Ok(());
+    };
+    push_files_in(alloc, place, names, &binaries)?;
+    push_folders_in(alloc, place, names, &binaries, &page.path)
+}
+
 /// Adds the names of the binaries that are found in the folder of a package.
 fn push_found<P: Place>(
     alloc: Global,
@@ -125,21 +216,8 @@ fn push_found<P: Place>(
     ensures { LooksAgain (P.at place.old) (P.at place.new) }
 {
     let folder = page.path.folder(alloc)?;
-    if let (Ok(source), Ok(binaries)) = (
-        folder.join(alloc, "src/main.rs"),
-        folder.join(alloc, "src/bin"),
-    ) {
-        if is_file(alloc, place, &source)? {
-            names.push(Text::from_str(alloc, page.package_text("name"))?)?;
-        }
-        for path in files_in(alloc, place, &binaries)?.as_slice() {
-            push_file(names, alloc, path)?;
-        }
-        for path in folders_in(alloc, place, &binaries, &source)?.as_slice() {
-            names.push(Text::from_str(alloc, path.last_part())?)?;
-        }
-    }
-    Ok(())
+    push_main(alloc, place, names, page, &folder)?;
+    push_others(alloc, place, names, page, &folder)
 }
 
 /// Adds the names of the `[[bin]]` of a package.
