@@ -1,0 +1,16 @@
+-- Laws of what is removed.
+use Rattle.std.specs.Prelude.{◌≡◌, ◌⊎◌, ℕ, true, All, List}
+use Rattle.pb_place_types.specs.Paths.{is_below, last_part}
+use Rattle.pb_tool_clean.specs.Cleaning.{chosen_of}
+use Rattle.pb_tool_clean.specs.Names.{is_record, is_unit, words_in}
+use Rattle.pb_tool_clean.specs.declared.choice.Choice.{Choice}
+use Rattle.pb_tool_clean.specs.declared.looking.Listed.{Listed}
+
+-- a path below a target folder, whose last part is the name of a record or of a unit's folder
+pub record IsMade (target path : List ℕ) : Type 0 where
+  pub inside : is_below target path ≡ true
+  pub name : (is_record (words_in (last_part path)) ≡ true) ⊎ (is_unit (words_in (last_part path)) ≡ true)
+
+-- whatever a place lists, all that is chosen of it is such a path
+abbrev pub ChosenAreMade : Type 0
+ChosenAreMade = (choice : Choice) (listed : Listed) → All (IsMade choice.target) (chosen_of choice listed)

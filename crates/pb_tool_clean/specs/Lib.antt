@@ -1,0 +1,4 @@
+pub mod Names
+pub mod Calls
+pub mod Cleaning
+pub mod Laws

@@ -1,0 +1,52 @@
+//! Why nothing, or not all, was removed.
+
+ghost use Rattle.std.specs.Prelude.{◌≡◌};
+ghost use Rattle.pb_tool_clean.specs.Calls.{fault_of};
+ghost use Rattle.pb_tool_clean.specs.declared.fault.CleanFault.TheVariants as clean_fault;
+
+use pb_data::Text;
+use pb_place_types::{PathText, PlaceFault};
+use std::alloc::AllocError;
+
+/// What a removal looks for in a target folder: a record or a unit's folder, of any kind or of a
+/// kind that the options name.
+#[derive(Clone, Copy, PartialEq, Eq)]
+pub enum Wanted {
+    /// Any.
+    All,
+    /// Under the profile that is named.
+    OfProfile,
+    /// Of the packages that are named, under that profile if one is named.
+    OfPackages,
+}
+
+/// Why nothing, or not all, was removed.
+#[derive(Drop)]
+pub enum CleanFault {
+    /// Nothing that is wanted is in this folder.
+    Nothing(Wanted, PathText),
+    /// The folder of the profile has no name.
+    NoSuchProfile,
+    /// A call of the place failed: the path or the name that it was given, and its reason.
+    Call(Text, PlaceFault),
+    /// Memory ran out.
+    OutOfMemory,
+}
+
+impl From<AllocError> for CleanFault {
+    ghost from_gives = { λ _ e. e ≡ clean_fault.OutOfMemory };
+
+    fn from(_: AllocError) -> Self {
+        CleanFault::OutOfMemory
+    }
+}
+
+/// Returns the fault of a call that was given this name or path.
+pub(crate) fn fault_of(name: Text, fault: PlaceFault) -> CleanFault
+    ensures { result ≡ fault_of name fault }
+{
+    if fault == PlaceFault::OutOfMemory {
+        return CleanFault::OutOfMemory;
+    }
+    CleanFault::Call(name, fault)
+}

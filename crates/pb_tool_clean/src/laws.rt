@@ -1,0 +1,9 @@
+//! Laws of what is removed. Each function does nothing; its contract is the law.
+
+ghost use Rattle.pb_tool_clean.specs.Laws.{ChosenAreMade};
+
+/// Whatever a place lists, all that is chosen of it is below the target folder, and its last part
+/// is the name of a record or of a unit's folder.
+pub fn chosen_are_made()
+    ensures { ChosenAreMade }
+{}
