@@ -10,11 +10,12 @@ use Rattle.clap.specs.declared.error.Error.{Error}
 use Rattle.clap.proofs.OnLiterals.{clap_on_literals}
 use Rattle.pb_place_types.specs.Paths.{joined}
 use Rattle.pb_place_types.specs.declared.path.PathFault.{PathFault}
-use Rattle.pb_tool_arguments.specs.Asking.{AsksWrongly, BuildsWrongly, HasBadJobs, HasTwoProfiles, IsProfile, IsTaken, Unasks, bad_build, bad_file, bad_jobs, bad_manifest, file_of, is_help, jobs_told, manifest_of, path_told, profiles_told, two_profiles}
+use Rattle.pb_tool_arguments.specs.Asking.{AsksWrongly, BuildsWrongly, PlansWrongly, HasBadJobs, HasTwoProfiles, IsForm, IsProfile, IsTaken, Unasks, bad_build, bad_clean, bad_file, bad_jobs, bad_manifest, bad_options, bad_plan, file_of, is_help, jobs_told, manifest_of, path_told, profiles_told, two_profiles}
 use Rattle.pb_tool_arguments.specs.Description.{IsJson, program}
 use Rattle.pb_tool_arguments.specs.Private.{ToldWrong, TellsKind, RefusedBy}
 use Rattle.pb_tool_arguments.specs.declared.invocation.ArgumentsError.{ArgumentsError}
 use Rattle.pb_tool_arguments.specs.declared.invocation.ArgumentsError.TheVariants.{Help, Wrong, OutOfMemory}
+use Rattle.pb_tool_arguments.specs.declared.invocation.PlanForm.{PlanForm}
 
 -- no option of the program has a rule on another, so `clap` tells which kinds of fault its words have
 pub program_is_free : (formats : ValueParser) → is_simple_and_free (program formats) ≡ true
@@ -52,12 +53,29 @@ wrong_jobs folder value path profile rows OutOfMemory is good one told = tt
 pub told_by : {T : Type 0} (r : Result T ArgumentsError) (e : ArgumentsError) (why : Text → Type 0) → r ≡ Err e → ToldWrong why e → IfErr r (ToldWrong why)
 told_by r e why is told = subst (λ x. IfErr x (ToldWrong why)) (sym is) told
 
--- what is wrong with a build or a session
+-- what is wrong with a build, a plan, a removal or a session
 pub wrong_build : (folder : Text) (given : Option (Text × List Row)) (rows : List Row) (unasked : ArgumentsError) → given ≡ Some (codes "build", rows)
     → ToldWrong (BuildsWrongly folder rows) unasked → ToldWrong (AsksWrongly folder given) unasked
 wrong_build folder given rows (Help text) is told = absurd told
 wrong_build folder given rows (Wrong text) is told = bad_build rows is told
 wrong_build folder given rows OutOfMemory is told = tt
+
+pub wrong_options : (folder : Text) (rows : List Row) (form : PlanForm) (unasked : ArgumentsError) → IsForm rows form → ToldWrong (BuildsWrongly folder rows) unasked → ToldWrong (PlansWrongly folder rows) unasked
+wrong_options folder rows form (Help text) one told = absurd told
+wrong_options folder rows form (Wrong text) one told = bad_options form one told
+wrong_options folder rows form OutOfMemory one told = tt
+
+pub wrong_plan : (folder : Text) (given : Option (Text × List Row)) (rows : List Row) (unasked : ArgumentsError) → given ≡ Some (codes "plan", rows)
+    → ToldWrong (PlansWrongly folder rows) unasked → ToldWrong (AsksWrongly folder given) unasked
+wrong_plan folder given rows (Help text) is told = absurd told
+wrong_plan folder given rows (Wrong text) is told = bad_plan rows is told
+wrong_plan folder given rows OutOfMemory is told = tt
+
+pub wrong_clean : (folder : Text) (given : Option (Text × List Row)) (rows : List Row) (unasked : ArgumentsError) → given ≡ Some (codes "clean", rows)
+    → ToldWrong (BuildsWrongly folder rows) unasked → ToldWrong (AsksWrongly folder given) unasked
+wrong_clean folder given rows (Help text) is told = absurd told
+wrong_clean folder given rows (Wrong text) is told = bad_clean rows is told
+wrong_clean folder given rows OutOfMemory is told = tt
 
 pub wrong_session : (folder : Text) (given : Option (Text × List Row)) (rows : List Row) (unasked : ArgumentsError) → given ≡ Some (codes "session", rows)
     → ToldWrong (λ told. (fault : PathFault) × (joined folder (file_of rows) ≡ Err fault) × (told ≡ path_told)) unasked → ToldWrong (AsksWrongly folder given) unasked

@@ -1,5 +1,5 @@
 -- What the words of a command line request, or why they request nothing.
-use Rattle.std.specs.Prelude.{◌≡◌, ◌≢◌, ◌⊎◌, ◌<◌, ◌^◌, ℕ, Bool, true, false, codes, List, [], ◌∷◌, Option, Some, None, Ok, Err, unwrap_or, option_map, if◌then◌else◌}
+use Rattle.std.specs.Prelude.{◌≡◌, ◌≢◌, ◌⊎◌, ◌<◌, ◌^◌, ℕ, Bool, true, false, codes, List, [], ◌∷◌, Option, Some, None, Ok, Err, is_some, unwrap_or, option_map, ◌||◌, if◌then◌else◌}
 use Rattle.std.specs.Str.Parse.{IsNumeral, digits_value}
 use Rattle.clap.specs.Faults.{fault_of}
 use Rattle.clap.specs.Kinds.{IsAmong}
@@ -14,7 +14,9 @@ use Rattle.pb_place_types.specs.declared.path.PathFault.{PathFault}
 use Rattle.pb_workspace_types.specs.declared.options.Options.{Options}
 use Rattle.pb_tool_arguments.specs.Description.{IsJson, program}
 use Rattle.pb_tool_arguments.specs.declared.invocation.Invocation.{Invocation}
-use Rattle.pb_tool_arguments.specs.declared.invocation.Invocation.TheVariants.{Session, Build, Explain}
+use Rattle.pb_tool_arguments.specs.declared.invocation.Invocation.TheVariants.{Session, Build, Explain, Plan, Clean}
+use Rattle.pb_tool_arguments.specs.declared.invocation.PlanForm.{PlanForm}
+use Rattle.pb_tool_arguments.specs.declared.invocation.PlanForm.TheVariants.{Lines, Json, Dot}
 use Rattle.pb_tool_arguments.specs.declared.invocation.Shown.{Shown}
 use Rattle.pb_tool_arguments.specs.declared.here.Here.{Here}
 use Rattle.pb_tool_arguments.specs.declared.invocation.ArgumentsError.{ArgumentsError}
@@ -92,10 +94,26 @@ pub record IsShown (rows : List Row) (shown : Shown) : Type 0 where
   pub render : IsFlag (codes "render") rows shown.render
   pub verbose : IsFlag (codes "verbose") rows shown.verbose
 
+-- the form in which a plan is printed: as JSON or for Graphviz if that was given, else in lines
+abbrev pub IsForm : List Row → PlanForm → Type 0
+IsForm rows Lines = IsFlag (codes "json") rows false × IsFlag (codes "dot") rows false
+IsForm rows Json = IsFlag (codes "json") rows true × IsFlag (codes "dot") rows false
+IsForm rows Dot = IsFlag (codes "json") rows false × IsFlag (codes "dot") rows true
+
+-- both forms were given
+abbrev pub HasTwoForms : List Row → Type 0
+HasTwoForms rows = IsFlag (codes "json") rows true × IsFlag (codes "dot") rows true
+
+-- whether a profile was given, by `--release` or by `--profile`
+abbrev pub NamesProfile : List Row → Bool → Type 0
+NamesProfile rows named = (release : Bool) × IsFlag (codes "release") rows release × (named ≡ (release || is_some (first_of (codes "profile") rows)))
+
 -- a subcommand with these values requests this
 abbrev pub AsksBy : Text → Here → Option (Text × List Row) → Invocation → Type 0
 AsksBy tool here given (Build options shown) = (rows : List Row) × (given ≡ Some (codes "build", rows)) × IsOptions tool here rows options × IsShown rows shown
 AsksBy tool here given (Session path) = (rows : List Row) × (given ≡ Some (codes "session", rows)) × (joined here.folder (file_of rows) ≡ Ok path)
+AsksBy tool here given (Plan options form) = (rows : List Row) × (given ≡ Some (codes "plan", rows)) × IsOptions tool here rows options × IsForm rows form
+AsksBy tool here given (Clean options one_profile) = (rows : List Row) × (given ≡ Some (codes "clean", rows)) × IsOptions tool here rows options × NamesProfile rows one_profile
 AsksBy tool here given (Explain name) = (rows : List Row) × (given ≡ Some (codes "explain", rows)) × (name ≡ name_of rows)
 
 -- the first word
@@ -124,8 +142,11 @@ profiles_told = codes "error: the argument '--release' cannot be used with '--pr
 abbrev pub jobs_told : Text
 jobs_told = codes "error: the value of '--jobs <N>' is `default`, or digits alone, up to 18446744073709551615\n"
 
+abbrev pub forms_told : Text
+forms_told = codes "error: the argument '--json' cannot be used with '--dot'\n"
+
 abbrev pub command_told : Text
-command_told = codes "error: neither `build`, `session` nor `explain`\n"
+command_told = codes "error: neither `build`, `session`, `explain`, `plan` nor `clean`\n"
 
 -- why a build with these values requests nothing, and the text that is reported: the path of its
 -- manifest has byte 0; else two profiles are given; or only one is, and the jobs are no number
@@ -134,12 +155,20 @@ pub data BuildsWrongly (folder : Text) (rows : List Row) (text : Text) : Type 0 
   two_profiles : (path : Text) (good : joined folder (manifest_of rows) ≡ Ok path) (both : HasTwoProfiles rows) (told : text ≡ profiles_told) → BuildsWrongly folder rows text
   bad_jobs : (path profile : Text) (good : joined folder (manifest_of rows) ≡ Ok path) (one : IsProfile rows profile) (bad : HasBadJobs rows) (told : text ≡ jobs_told) → BuildsWrongly folder rows text
 
--- why a subcommand with these values requests nothing, and the text that is reported: it
--- is such a build; the path of a session's file has byte 0; or it is none of the three
+-- why a plan with these values requests nothing: two forms are given; or they are not, and its options are wrong
+pub data PlansWrongly (folder : Text) (rows : List Row) (text : Text) : Type 0 where
+  two_forms : (both : HasTwoForms rows) (told : text ≡ forms_told) → PlansWrongly folder rows text
+  bad_options : (form : PlanForm) (one : IsForm rows form) (wrong : BuildsWrongly folder rows text) → PlansWrongly folder rows text
+
+-- why a subcommand with these values requests nothing, and the text that is reported: it is such a build, plan or
+-- removal; the path of a session's file has byte 0; or it is none of the five
 pub data AsksWrongly (folder : Text) (given : Option (Text × List Row)) (text : Text) : Type 0 where
   bad_build : (rows : List Row) (build : given ≡ Some (codes "build", rows)) (wrong : BuildsWrongly folder rows text) → AsksWrongly folder given text
+  bad_plan : (rows : List Row) (plan : given ≡ Some (codes "plan", rows)) (wrong : PlansWrongly folder rows text) → AsksWrongly folder given text
+  bad_clean : (rows : List Row) (clean : given ≡ Some (codes "clean", rows)) (wrong : BuildsWrongly folder rows text) → AsksWrongly folder given text
   bad_file : (rows : List Row) (fault : PathFault) (session : given ≡ Some (codes "session", rows)) (bad : joined folder (file_of rows) ≡ Err fault) (told : text ≡ path_told) → AsksWrongly folder given text
-  no_command : (no_build : option_map (λ p. p.0) given ≢ Some (codes "build")) (no_session : option_map (λ p. p.0) given ≢ Some (codes "session")) (no_explain : option_map (λ p. p.0) given ≢ Some (codes "explain")) (told : text ≡ command_told) → AsksWrongly folder given text
+  no_command : (no_build : option_map (λ p. p.0) given ≢ Some (codes "build")) (no_plan : option_map (λ p. p.0) given ≢ Some (codes "plan")) (no_clean : option_map (λ p. p.0) given ≢ Some (codes "clean"))
+      (no_session : option_map (λ p. p.0) given ≢ Some (codes "session")) (no_explain : option_map (λ p. p.0) given ≢ Some (codes "explain")) (told : text ≡ command_told) → AsksWrongly folder given text
 
 -- what `clap` found is no fault: help or the version is requested, or there are no words
 abbrev pub is_help : ErrorKind → Bool

@@ -39,12 +39,13 @@ at_one_time = record (option (codes "jobs")) { short = Some 106 } ∷ []
 abbrev pub telling : List Rule
 telling = flag (codes "explain") ∷ flag (codes "render") ∷ record (flag (codes "verbose")) { short = Some 118 } ∷ record (flag (codes "quiet")) { short = Some 113 } ∷ []
 
--- the options for what a build reads and writes, for the form of its
--- messages, for the runner, and for the tool that children are told
-abbrev pub places : ValueParser → List Rule
-places formats =
-    option (codes "manifest-path") ∷ option (codes "target-dir")
-    ∷ record (option (codes "message-format")) { parser = Some formats } ∷ option (codes "runner") ∷ option (codes "tool") ∷ []
+-- the options for what a command reads, and for the folder of all that is made
+abbrev pub places : List Rule
+places = option (codes "manifest-path") ∷ option (codes "target-dir") ∷ []
+
+-- the options for the form of messages, for the runner, and for the tool that children are told
+abbrev pub children : ValueParser → List Rule
+children formats = record (option (codes "message-format")) { parser = Some formats } ∷ option (codes "runner") ∷ option (codes "tool") ∷ []
 
 -- options of cargo that need no work here: nothing is downloaded, and there is no lock file
 abbrev pub without_effect : List Rule
@@ -60,9 +61,31 @@ abbrev pub with_rules : List Rule → App → App
 with_rules [] app = app
 with_rules (rule ∷ rules) app = with_rules rules (with_rule app rule)
 
+-- a command with the options that choose what is built, and how
+abbrev pub choosing : App → App
+choosing app = with_rules features (with_rules selection app)
+
 -- `pb_tool build`
 abbrev pub build : ValueParser → App
-build formats = with_rules without_effect (with_rules (places formats) (with_rules telling (with_rules at_one_time (with_rules features (with_rules selection (new_app (codes "build")))))))
+build formats = with_rules without_effect (with_rules (children formats) (with_rules places (with_rules telling (with_rules at_one_time (choosing (new_app (codes "build")))))))
+
+-- the options for the form of a plan
+abbrev pub forms : List Rule
+forms = flag (codes "json") ∷ flag (codes "dot") ∷ []
+
+-- `pb_tool plan`
+abbrev pub plan : App
+plan = with_rules forms (with_rules places (choosing (new_app (codes "plan"))))
+
+-- the options for what is removed of a target folder: of which packages, under which profile
+abbrev pub removal : List Rule
+removal =
+    record (options (codes "package")) { short = Some 112 }
+    ∷ record (flag (codes "release")) { short = Some 114 } ∷ option (codes "profile") ∷ []
+
+-- `pb_tool clean`
+abbrev pub clean : App
+clean = with_rules places (with_rules removal (new_app (codes "clean")))
 
 -- `pb_tool session FILE`
 abbrev pub session : App
@@ -78,4 +101,5 @@ wanting app = record app { top = record app.top { has_version = true; arg_requir
 
 -- the program, which requires one of the three subcommands
 abbrev pub program : ValueParser → App
-program formats = with_subcommand (with_subcommand (with_subcommand (wanting (new_app (codes "pb_tool"))) (build formats).top) session.top) explain.top
+program formats =
+    with_subcommand (with_subcommand (with_subcommand (with_subcommand (with_subcommand (wanting (new_app (codes "pb_tool"))) (build formats).top) plan.top) clean.top) session.top) explain.top

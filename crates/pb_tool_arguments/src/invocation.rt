@@ -2,7 +2,7 @@
 
 ghost use Rattle.std.specs.Prelude.{◌≡◌, ◌≢◌};
 ghost use Rattle.clap.specs.Values.{kind_of};
-ghost use Rattle.pb_tool_arguments.specs.Asking.{is_help, path_told, profiles_told, jobs_told, command_told};
+ghost use Rattle.pb_tool_arguments.specs.Asking.{is_help, path_told, profiles_told, jobs_told, forms_told, command_told};
 ghost use Rattle.pb_tool_arguments.specs.Private.{ToldWrong, TellsKind};
 ghost use Rattle.pb_tool_arguments.specs.declared.invocation.ArgumentsError.TheVariants as unasked;
 ghost use Rattle.pb_place_types.specs.declared.path.PathFault.TheVariants as path_fault;
@@ -24,6 +24,22 @@ pub enum Invocation {
     Build { options: Options, shown: Shown },
     /// What the name of a result line means.
     Explain(Text),
+    /// The plan of a build of these options, in a form. Nothing is built.
+    Plan { options: Options, form: PlanForm },
+    /// The removal of what builds with these options made: of their packages, or of all packages if
+    /// they name none; under their profile if one is named, else under all profiles.
+    Clean { options: Options, one_profile: bool },
+}
+
+/// The form in which a plan is printed.
+#[derive(Clone, Copy, PartialEq, Eq)]
+pub enum PlanForm {
+    /// A line for each unit: its key, and the keys of what it needs.
+    Lines,
+    /// One JSON list.
+    Json,
+    /// A graph for Graphviz.
+    Dot,
 }
 
 /// What is shown of a build beside its message lines.
@@ -110,7 +126,20 @@ pub(crate) fn bad_path(alloc: Global, fault: PathFault) -> ArgumentsError
 pub(crate) fn no_command(alloc: Global) -> ArgumentsError
     ensures { ToldWrong (λ told. told ≡ command_told) result }
 {
-    wrong(alloc, "error: neither `build`, `session` nor `explain`\n")
+    wrong(
+        alloc,
+        "error: neither `build`, `session`, `explain`, `plan` nor `clean`\n",
+    )
+}
+
+/// Returns the error that two forms of a plan are requested.
+pub(crate) fn two_forms(alloc: Global) -> ArgumentsError
+    ensures { ToldWrong (λ told. told ≡ forms_told) result }
+{
+    wrong(
+        alloc,
+        "error: the argument '--json' cannot be used with '--dot'\n",
+    )
 }
 
 /// Returns the error that two profiles are requested.

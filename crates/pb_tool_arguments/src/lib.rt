@@ -6,9 +6,11 @@
 mod description;
 mod here;
 pub mod invocation;
+mod options;
 mod reading;
 mod unknown;
+mod values;
 
 pub use here::Here;
-pub use invocation::{ArgumentsError, Invocation, Shown};
+pub use invocation::{ArgumentsError, Invocation, PlanForm, Shown};
 pub use reading::read_command_line;

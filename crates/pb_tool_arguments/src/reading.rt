@@ -1,153 +1,30 @@
 //! From the words of a command line to what it requests.
 
-ghost use Rattle.std.specs.Prelude.{◌≡◌, ◌⊎◌, ℕ, Ok, Err, IfOk, IfErr, MatchOption, Bool, [], codes, map, option_map, unwrap_or};
+ghost use Rattle.std.specs.Prelude.{◌≡◌, Ok, IfOk, IfErr, Some, [], codes, map, unwrap_or};
 ghost use Rattle.clap.specs.Matches.{found_of};
 ghost use Rattle.clap.specs.Walk.{rows_of, first_of};
 ghost use Rattle.clap.specs.Simple.{subcommand_of, subcommand_rows_of};
 ghost use Rattle.clap.specs.declared.builder.value_parser.ValueParser.{ValueParser};
 ghost use Rattle.pb_directive.specs.Directives.{words_of};
 ghost use Rattle.pb_place_types.specs.Paths.{joined};
-ghost use Rattle.pb_place_types.specs.declared.path.PathFault.{PathFault};
 ghost use Rattle.pb_tool_arguments.specs.Description.{IsJson, program};
-ghost use Rattle.pb_tool_arguments.specs.Asking.{IsFlag, HasTwoProfiles, IsProfile, IsNumber, IsJobs, HasBadJobs, IsOptions, IsShown, IsTaken, BuildsWrongly, AsksBy, Asks, AsksWrongly, Unasks, manifest_of, values_of, tool_of, path_told, profiles_told, jobs_told};
+ghost use Rattle.pb_tool_arguments.specs.Asking.{IsFlag, IsProfile, IsJobs, IsOptions, IsShown, IsForm, HasTwoForms, NamesProfile, IsTaken, BuildsWrongly, PlansWrongly, AsksBy, Asks, AsksWrongly, Unasks, manifest_of, values_of, tool_of, forms_told};
 ghost use Rattle.pb_tool_arguments.specs.Private.{ToldWrong, RefusedBy};
 
 use crate::description::program;
 use crate::here::Here;
 use crate::invocation::{
-    ArgumentsError, Invocation, Shown, bad_jobs, bad_path, no_command, two_profiles, unasked_of,
+    ArgumentsError, Invocation, PlanForm, Shown, no_command, two_forms, unasked_of,
+};
+use crate::values::{
+    first, first_or, is_given, jobs_of, parted, path_of, profile_of, value_of, values_of,
 };
 use clap::ArgMatches;
 use pb_data::{Items, Text, with_next};
-use pb_directive::words::words_of;
 use pb_place_types::PathText;
 use pb_workspace_types::Options;
 use std::alloc::{AllocError, Global};
 use std::convert::AsStr;
-
-/// Returns whether an option without a value was given.
-fn is_given(matches: &ArgMatches<'_>, name: &str) -> bool
-    ensures { IsFlag name.now (rows_of (found_of matches.now)) result }
-{
-    matches.get_flag(name)
-}
-
-/// Returns the first value of an option, if it was given.
-fn first<'m>(matches: &ArgMatches<'m>, name: &str) -> Option<&'m str>
-    ensures { option_map (λ text. text.now) result ≡ first_of name.now (rows_of (found_of matches.now)) }
-{
-    matches.get_str(name)
-}
-
-/// Returns the first value of an option, or another text if it was not given.
-fn first_or<'m>(matches: &ArgMatches<'m>, name: &str, other: &'m str) -> &'m str
-    ensures { result.now ≡ unwrap_or (first_of name.now (rows_of (found_of matches.now))) other.now }
-{
-    match first(matches, name) {
-        Some(text) => text,
-        None => other,
-    }
-}
-
-/// Returns copies of texts, in order.
-fn copies(alloc: Global, texts: &[&str]) -> Result<Items<Text>, AllocError>
-    ensures { IfOk result (λ copies. copies ≡ map (λ text. text.now) texts.now) }
-{
-    let mut copies = Items::new(alloc);
-    for text in texts {
-        copies.push(Text::from_str(alloc, *text)?)?;
-    }
-    Ok(copies)
-}
-
-/// Returns the values of an option, in order.
-fn values_of(alloc: Global, matches: &ArgMatches<'_>, name: &str) -> Result<Items<Text>, AllocError>
-    ensures { IfOk result (λ values. values ≡ values_of name.now (rows_of (found_of matches.now))) }
-{
-    match matches.get_strs(name) {
-        Some(values) => copies(alloc, values),
-        None => Ok(Items::new(alloc)),
-    }
-}
-
-/// Returns the value of an option, if it was given.
-fn value_of(alloc: Global, matches: &ArgMatches<'_>, name: &str) -> Result<Option<Text>, AllocError>
-    ensures { IfOk result (λ value. value ≡ first_of name.now (rows_of (found_of matches.now))) }
-{
-    match first(matches, name) {
-        None => Ok(None),
-        Some(value) => Ok(Some(Text::from_str(alloc, value)?)),
-    }
-}
-
-/// Returns the profile: `release` for `--release`, else what `--profile` says, else `dev`.
-///
-/// Errors: `Wrong`, if both are given.
-fn profile_of(alloc: Global, matches: &ArgMatches<'_>) -> Result<Text, ArgumentsError>
-    ensures profile { IfOk result (IsProfile (rows_of (found_of matches.now))) }
-    ensures wrong { IfErr result (ToldWrong (λ told. HasTwoProfiles (rows_of (found_of matches.now)) × (told ≡ profiles_told))) }
-{
-    let release = is_given(matches, "release");
-    match first(matches, "profile") {
-        Some(profile) => {
-            if release {
-                return Err(two_profiles(alloc));
-            }
-            Ok(Text::from_str(alloc, profile)?)
-        }
-        None => Ok(Text::from_str(alloc, if release { "release" } else { "dev" })?),
-    }
-}
-
-/// Returns the number that digits alone write; `None` if the
-/// text has anything else, or the number is too great.
-fn number_in(text: &str) -> Option<u64>
-    ensures { MatchOption result ((n : ℕ) → ¬ IsNumber text.now n) (IsNumber text.now) }
-{
-    if text.starts_with('+') {
-        return None;
-    }
-    text.parse::<u64>().ok()
-}
-
-/// Returns the value of `--jobs`; the number of processors for `default`; 1 if it was not given.
-///
-/// Errors: `Wrong`, if the value is neither a number nor `default`.
-fn jobs_of(alloc: Global, processors: u64, matches: &ArgMatches<'_>) -> Result<u64, ArgumentsError>
-    ensures jobs { IfOk result (IsJobs processors (first_of (codes "jobs") (rows_of (found_of matches.now)))) }
-    ensures wrong { IfErr result (ToldWrong (λ told. HasBadJobs (rows_of (found_of matches.now)) × (told ≡ jobs_told))) }
-{
-    match first(matches, "jobs") {
-        None => Ok(1),
-        Some("default") => Ok(processors),
-        Some(text) => match number_in(text) {
-            Some(jobs) => Ok(jobs),
-            None => Err(bad_jobs(alloc)),
-        },
-    }
-}
-
-/// Returns the words of a text, separated by spaces.
-fn parted(alloc: Global, text: &str) -> Result<Items<Text>, AllocError>
-    ensures { IfOk result (λ words. words ≡ words_of text.now) }
-{
-    let mut words = Items::new(alloc);
-    for word in words_of(text) {
-        words.push(Text::from_str(alloc, word)?)?;
-    }
-    Ok(words)
-}
-
-/// Returns the path that a text of the command line means. A relative one starts at the folder.
-fn path_of(alloc: Global, folder: &PathText, text: &str) -> Result<PathText, ArgumentsError>
-    ensures path { IfOk result (λ path. joined folder.now text.now ≡ Ok path) }
-    ensures wrong { IfErr result (ToldWrong (λ told. (fault : PathFault) × (joined folder.now text.now ≡ Err fault) × (told ≡ path_told))) }
-{
-    match folder.join(alloc, text) {
-        Ok(path) => Ok(path),
-        Err(fault) => Err(bad_path(alloc, fault)),
-    }
-}
 
 /// The options of a build that may be wrong.
 #[derive(Drop)]
@@ -187,10 +64,16 @@ struct Flags {
 /// Returns the options of a build that may be wrong. A relative
 /// path of the manifest starts at the folder.
 fn judged_of(alloc: Global, here: &Here, matches: &ArgMatches<'_>) -> Result<Judged, ArgumentsError>
-    ensures manifest { IfOk result (λ judged. joined here.now.folder (manifest_of (rows_of (found_of matches.now))) ≡ Ok judged.manifest) }
-    ensures profile { IfOk result (λ judged. IsProfile (rows_of (found_of matches.now)) judged.profile) }
-    ensures jobs { IfOk result (λ judged. IsJobs here.now.processors (first_of (codes "jobs") (rows_of (found_of matches.now))) judged.jobs) }
-    ensures wrong { IfErr result (ToldWrong (BuildsWrongly here.now.folder (rows_of (found_of matches.now)))) }
+    ensures manifest { IfOk result (λ judged.
+        joined here.now.folder (manifest_of (rows_of (found_of matches.now)))
+        ≡ Ok judged.manifest) }
+    ensures profile { IfOk result (λ judged.
+        IsProfile (rows_of (found_of matches.now)) judged.profile) }
+    ensures jobs { IfOk result (λ judged.
+        IsJobs here.now.processors
+        (first_of (codes "jobs") (rows_of (found_of matches.now))) judged.jobs) }
+    ensures wrong { IfErr result
+        (ToldWrong (BuildsWrongly here.now.folder (rows_of (found_of matches.now)))) }
 {
     let manifest = path_of(
         alloc,
@@ -208,9 +91,12 @@ fn judged_of(alloc: Global, here: &Here, matches: &ArgMatches<'_>) -> Result<Jud
 
 /// Returns the options of a build that name something.
 fn named_of(alloc: Global, matches: &ArgMatches<'_>) -> Result<Named, AllocError>
-    ensures packages { IfOk result (λ named. named.packages ≡ values_of (codes "package") (rows_of (found_of matches.now))) }
-    ensures features { IfOk result (λ named. named.features ≡ values_of (codes "features") (rows_of (found_of matches.now))) }
-    ensures bin { IfOk result (λ named. named.bin ≡ values_of (codes "bin") (rows_of (found_of matches.now))) }
+    ensures packages { IfOk result (λ named. named.packages
+        ≡ values_of (codes "package") (rows_of (found_of matches.now))) }
+    ensures features { IfOk result (λ named. named.features
+        ≡ values_of (codes "features") (rows_of (found_of matches.now))) }
+    ensures bin { IfOk result (λ named. named.bin
+        ≡ values_of (codes "bin") (rows_of (found_of matches.now))) }
 {
     let packages = values_of(alloc, matches, "package")?;
     let features = values_of(alloc, matches, "features")?;
@@ -225,7 +111,8 @@ fn named_of(alloc: Global, matches: &ArgMatches<'_>) -> Result<Named, AllocError
 /// Returns what children are told about which program the
 /// builder is: what was given for that, else how it was called.
 fn told_tool(alloc: Global, tool: &str, matches: &ArgMatches<'_>) -> Result<Text, AllocError>
-    ensures { IfOk result (λ told. told ≡ unwrap_or (first_of (codes "tool") (rows_of (found_of matches.now))) tool.now) }
+    ensures { IfOk result (λ told. told
+        ≡ unwrap_or (first_of (codes "tool") (rows_of (found_of matches.now))) tool.now) }
 {
     match value_of(alloc, matches, "tool")? {
         Some(told) => Ok(told),
@@ -235,9 +122,12 @@ fn told_tool(alloc: Global, tool: &str, matches: &ArgMatches<'_>) -> Result<Text
 
 /// Returns where all that is made goes, and what a build starts.
 fn tools_of(alloc: Global, tool: &str, matches: &ArgMatches<'_>) -> Result<Tools, AllocError>
-    ensures target_dir { IfOk result (λ tools. tools.target_dir ≡ first_of (codes "target-dir") (rows_of (found_of matches.now))) }
-    ensures runner { IfOk result (λ tools. tools.runner ≡ words_of (unwrap_or (first_of (codes "runner") (rows_of (found_of matches.now))) [])) }
-    ensures tool { IfOk result (λ tools. tools.tool ≡ unwrap_or (first_of (codes "tool") (rows_of (found_of matches.now))) tool.now) }
+    ensures target_dir { IfOk result (λ tools. tools.target_dir
+        ≡ first_of (codes "target-dir") (rows_of (found_of matches.now))) }
+    ensures runner { IfOk result (λ tools. tools.runner
+        ≡ words_of (unwrap_or (first_of (codes "runner") (rows_of (found_of matches.now))) [])) }
+    ensures tool { IfOk result (λ tools. tools.tool
+        ≡ unwrap_or (first_of (codes "tool") (rows_of (found_of matches.now))) tool.now) }
 {
     let target_dir = value_of(alloc, matches, "target-dir")?;
     let runner = parted(alloc, first_or(matches, "runner", ""))?;
@@ -251,9 +141,12 @@ fn tools_of(alloc: Global, tool: &str, matches: &ArgMatches<'_>) -> Result<Tools
 
 /// Returns which options without a value were given.
 fn flags_of(matches: &ArgMatches<'_>) -> Flags
-    ensures workspace { IsFlag (codes "workspace") (rows_of (found_of matches.now)) result.workspace }
-    ensures all_features { IsFlag (codes "all-features") (rows_of (found_of matches.now)) result.all_features }
-    ensures no_default_features { IsFlag (codes "no-default-features") (rows_of (found_of matches.now)) result.no_default_features }
+    ensures workspace { IsFlag (codes "workspace")
+        (rows_of (found_of matches.now)) result.workspace }
+    ensures all_features { IsFlag (codes "all-features")
+        (rows_of (found_of matches.now)) result.all_features }
+    ensures no_default_features { IsFlag (codes "no-default-features")
+        (rows_of (found_of matches.now)) result.no_default_features }
     ensures lib { IsFlag (codes "lib") (rows_of (found_of matches.now)) result.lib }
     ensures bins { IsFlag (codes "bins") (rows_of (found_of matches.now)) result.bins }
 {
@@ -312,7 +205,8 @@ fn options_of(
     matches: &ArgMatches<'_>,
 ) -> Result<Options, ArgumentsError>
     ensures options { IfOk result (IsOptions tool.now here.now (rows_of (found_of matches.now))) }
-    ensures wrong { IfErr result (ToldWrong (BuildsWrongly here.now.folder (rows_of (found_of matches.now)))) }
+    ensures wrong { IfErr result
+        (ToldWrong (BuildsWrongly here.now.folder (rows_of (found_of matches.now)))) }
 {
     let judged = judged_of(alloc, here, matches)?;
     let named = named_of(alloc, matches);
@@ -333,6 +227,74 @@ fn shown_of(matches: &ArgMatches<'_>) -> Shown
     }
 }
 
+/// Returns the form in which a plan is printed.
+///
+/// Errors: `Wrong`, if two forms are given.
+fn form_of(alloc: Global, matches: &ArgMatches<'_>) -> Result<PlanForm, ArgumentsError>
+    ensures form { IfOk result (IsForm (rows_of (found_of matches.now))) }
+    ensures wrong { IfErr result
+        (ToldWrong (λ told. HasTwoForms (rows_of (found_of matches.now)) × (told ≡ forms_told))) }
+{
+    let json = is_given(matches, "json");
+    let dot = is_given(matches, "dot");
+    match (json, dot) {
+        (true, true) => Err(two_forms(alloc)),
+        (true, false) => Ok(PlanForm::Json),
+        (false, true) => Ok(PlanForm::Dot),
+        (false, false) => Ok(PlanForm::Lines),
+    }
+}
+
+/// Returns what `pb_tool plan` requests.
+fn plan_of(
+    alloc: Global,
+    tool: &str,
+    here: &Here,
+    matches: &ArgMatches<'_>,
+) -> Result<Invocation, ArgumentsError>
+    ensures asked { IfOk result
+        (AsksBy tool.now here.now (Some (codes "plan", rows_of (found_of matches.now)))) }
+    ensures wrong { IfErr result
+        (ToldWrong (PlansWrongly here.now.folder (rows_of (found_of matches.now)))) }
+{
+    let form = match form_of(alloc, matches) {
+        Ok(form) => form,
+        Err(unasked) => return Err(unasked),
+    };
+    match options_of(alloc, tool, here, matches) {
+        Ok(options) => Ok(Invocation::Plan { options, form }),
+        Err(unasked) => Err(unasked),
+    }
+}
+
+/// Returns whether a profile was given.
+fn names_profile(matches: &ArgMatches<'_>) -> bool
+    ensures { NamesProfile (rows_of (found_of matches.now)) result }
+{
+    is_given(matches, "release") || first(matches, "profile").is_some()
+}
+
+/// Returns what `pb_tool clean` requests.
+fn clean_of(
+    alloc: Global,
+    tool: &str,
+    here: &Here,
+    matches: &ArgMatches<'_>,
+) -> Result<Invocation, ArgumentsError>
+    ensures asked { IfOk result
+        (AsksBy tool.now here.now (Some (codes "clean", rows_of (found_of matches.now)))) }
+    ensures wrong { IfErr result
+        (ToldWrong (BuildsWrongly here.now.folder (rows_of (found_of matches.now)))) }
+{
+    match options_of(alloc, tool, here, matches) {
+        Ok(options) => Ok(Invocation::Clean {
+            options,
+            one_profile: names_profile(matches),
+        }),
+        Err(unasked) => Err(unasked),
+    }
+}
+
 /// Returns what the subcommand requests. A relative path of a
 /// session's file starts at the current folder.
 fn asked_by(
@@ -342,7 +304,8 @@ fn asked_by(
     matches: &ArgMatches<'_>,
 ) -> Result<Invocation, ArgumentsError>
     ensures asked { IfOk result (AsksBy tool.now here.now (subcommand_rows_of matches.now)) }
-    ensures wrong { IfErr result (ToldWrong (AsksWrongly here.now.folder (subcommand_rows_of matches.now))) }
+    ensures wrong { IfErr result
+        (ToldWrong (AsksWrongly here.now.folder (subcommand_rows_of matches.now))) }
 {
     if let Some(build) = matches.subcommand_matches("build") {
         return match options_of(alloc, tool, here, build) {
@@ -352,6 +315,12 @@ fn asked_by(
             }),
             Err(unasked) => Err(unasked),
         };
+    }
+    if let Some(plan) = matches.subcommand_matches("plan") {
+        return plan_of(alloc, tool, here, plan);
+    }
+    if let Some(clean) = matches.subcommand_matches("clean") {
+        return clean_of(alloc, tool, here, clean);
     }
     if let Some(explain) = matches.subcommand_matches("explain") {
         return match Text::from_str(alloc, first_or(explain, "NAME", "")) {
@@ -371,7 +340,8 @@ fn asked_by(
 /// Returns the words as the description of the command line
 /// reads them, or why it does not accept them.
 fn matches_of<'a, S: AsStr>(alloc: Global, words: &'a [S]) -> Result<ArgMatches<'a>, ArgumentsError>
-    ensures matches { IfOk result (λ matches. (formats : ValueParser) × IsJson formats × IsTaken formats (map S.text words.now)
+    ensures matches { IfOk result (λ matches. (formats : ValueParser) × IsJson formats
+        × IsTaken formats (map S.text words.now)
         × (subcommand_rows_of matches ≡ subcommand_of (program formats) (map S.text words.now))) }
     ensures refused { IfErr result (RefusedBy (map S.text words.now)) }
 {

@@ -16,8 +16,12 @@ returns c =
     let start_is = ap app_of_fields c.subcommand_required-command.ensures ∙ ap (λ (a : App). record a { top = record a.top { subcommand_required = true } }) help_is in
     let (build, adds_build, (formats, json, build_is)) = both c.build_command.result _ _ c.in_ok-command.ensures c.build_command.ensures in
     let first = adds_build (ap (λ (a : App). a.top.is_plain) build_is) ∙ ap₂ with_subcommand start_is (ap (λ (a : App). a.top) build_is) in
-    let (session, adds_session, session_is) = both c.session_command.result _ _ c.in_ok-command-2.ensures c.session_command.ensures in
-    let second = adds_session (ap (λ (a : App). a.top.is_plain) session_is) ∙ ap₂ with_subcommand first (ap (λ (a : App). a.top) session_is) in
-    IfOk-weaker c.with_subcommand-3.result _ _ (λ new adds.
+    let (plan, adds_plan, plan_is) = both c.plan_command.result _ _ c.in_ok-command-2.ensures c.plan_command.ensures in
+    let second = adds_plan (ap (λ (a : App). a.top.is_plain) plan_is) ∙ ap₂ with_subcommand first (ap (λ (a : App). a.top) plan_is) in
+    let (clean, adds_clean, clean_is) = both c.clean_command.result _ _ c.in_ok-command-3.ensures c.clean_command.ensures in
+    let third = adds_clean (ap (λ (a : App). a.top.is_plain) clean_is) ∙ ap₂ with_subcommand second (ap (λ (a : App). a.top) clean_is) in
+    let (session, adds_session, session_is) = both c.session_command.result _ _ c.in_ok-command-4.ensures c.session_command.ensures in
+    let fourth = adds_session (ap (λ (a : App). a.top.is_plain) session_is) ∙ ap₂ with_subcommand third (ap (λ (a : App). a.top) session_is) in
+    IfOk-weaker c.with_subcommand-5.result _ _ (λ new adds.
     let (explain, adds_explain, explain_is) = both c.explain_command.result _ _ adds c.explain_command.ensures in
-    (formats, json, adds_explain (ap (λ (a : App). a.top.is_plain) explain_is) ∙ ap₂ with_subcommand second (ap (λ (a : App). a.top) explain_is))) c.with_subcommand-3.ensures
+    (formats, json, adds_explain (ap (λ (a : App). a.top.is_plain) explain_is) ∙ ap₂ with_subcommand fourth (ap (λ (a : App). a.top) explain_is))) c.with_subcommand-5.ensures

@@ -3,7 +3,7 @@ use Rattle.std.proofs.lemmas.List.{drop_all, drop_more}
 use Rattle.clap.specs.Simple.{App, app_of, with_rule}
 use Rattle.clap.specs.Walk.{Rule, rule_of}
 use Rattle.pb_tool_arguments.specs.Description.{with_rules}
-use Rattle.pb_tool_arguments.specs.declared.description.Described.{Described}
+use Rattle.pb_tool_arguments.specs.declared.options.Described.{Described}
 use Rattle.pb_tool_arguments.proofs.description.with_options.Invariants.{rule_for}
 use Rattle.pb_tool_arguments.proofs.description.with_options.Goals as goal
 

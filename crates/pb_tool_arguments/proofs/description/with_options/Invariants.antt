@@ -3,7 +3,7 @@ use Rattle.clap.specs.Simple.{app_of, new_rule}
 use Rattle.clap.specs.Walk.{Rule}
 use Rattle.clap.specs.declared.builder.value_parser.ValueParser.TheVariants.{Names}
 use Rattle.pb_tool_arguments.specs.Description.{with_rules}
-use Rattle.pb_tool_arguments.specs.declared.description.Described.{Described}
+use Rattle.pb_tool_arguments.specs.declared.options.Described.{Described}
 use Rattle.pb_tool_arguments.proofs.description.with_options.Given as goal
 
 abbrev pub rule_for : Described → Rule

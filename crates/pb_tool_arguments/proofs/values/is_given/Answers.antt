@@ -1,7 +1,7 @@
 use Rattle.std.proofs.Common.{◌∙◌}
 use Rattle.clap.specs.Matches.{found_of}
 use Rattle.clap.proofs.WalkLemmas.{one_text-rows}
-use Rattle.pb_tool_arguments.proofs.reading.is_given.Goals as goal
+use Rattle.pb_tool_arguments.proofs.values.is_given.Goals as goal
 
 pub returns : goal.returns
 returns c =

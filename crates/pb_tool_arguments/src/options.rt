@@ -1,0 +1,273 @@
+//! The options of the commands, in the order of help.
+
+use clap::ArgAction;
+
+/// An option of a command, as the command line has it and help describes it.
+pub(crate) struct Described {
+    /// What follows two hyphens.
+    pub(crate) name: &'static str,
+    /// What follows one hyphen, if the option has a letter.
+    pub(crate) short: Option<char>,
+    /// What a use of it does, if that is more than to keep one value.
+    pub(crate) action: Option<ArgAction>,
+    /// What help calls its value; empty if it takes no value.
+    pub(crate) value: &'static [&'static str],
+    /// What its value may be, if not any text is allowed.
+    pub(crate) among: Option<&'static [&'static str]>,
+    /// What it is for.
+    pub(crate) help: &'static str,
+}
+
+/// The options for what of the workspace is built.
+pub(crate) static SELECTION: [Described; 5] = [
+    Described {
+        name: "package",
+        short: Some('p'),
+        action: Some(ArgAction::Append),
+        value: &["NAME"],
+        among: None,
+        help: "Build this member of the workspace",
+    },
+    Described {
+        name: "workspace",
+        short: None,
+        action: Some(ArgAction::SetTrue),
+        value: &[],
+        among: None,
+        help: "Build all members of the workspace",
+    },
+    Described {
+        name: "lib",
+        short: None,
+        action: Some(ArgAction::SetTrue),
+        value: &[],
+        among: None,
+        help: "Build the libraries of the selected packages",
+    },
+    Described {
+        name: "bins",
+        short: None,
+        action: Some(ArgAction::SetTrue),
+        value: &[],
+        among: None,
+        help: "Build all their binaries",
+    },
+    Described {
+        name: "bin",
+        short: None,
+        action: Some(ArgAction::Append),
+        value: &["NAME"],
+        among: None,
+        help: "Build their binaries of this name",
+    },
+];
+
+/// The options for which features are on, and how the workspace is compiled.
+pub(crate) static FEATURES: [Described; 5] = [
+    Described {
+        name: "features",
+        short: Some('F'),
+        action: Some(ArgAction::Append),
+        value: &["FEATURES"],
+        among: None,
+        help: "Features to turn on, with commas or spaces between them",
+    },
+    Described {
+        name: "all-features",
+        short: None,
+        action: Some(ArgAction::SetTrue),
+        value: &[],
+        among: None,
+        help: "Turn on all features of the selected packages",
+    },
+    Described {
+        name: "no-default-features",
+        short: None,
+        action: Some(ArgAction::SetTrue),
+        value: &[],
+        among: None,
+        help: "Leave out their feature `default`",
+    },
+    Described {
+        name: "release",
+        short: Some('r'),
+        action: Some(ArgAction::SetTrue),
+        value: &[],
+        among: None,
+        help: "Build under the profile `release`",
+    },
+    Described {
+        name: "profile",
+        short: None,
+        action: None,
+        value: &["NAME"],
+        among: None,
+        help: "Build under this profile",
+    },
+];
+
+/// The options for how many units are in flight at a time, and for what is shown beside the
+/// messages.
+pub(crate) static TELLING: [Described; 5] = [
+    Described {
+        name: "jobs",
+        short: Some('j'),
+        action: None,
+        value: &["N"],
+        among: None,
+        help: "How many units may be in flight at one time: a number (default 1), or `default`, as many as processors",
+    },
+    Described {
+        name: "explain",
+        short: None,
+        action: Some(ArgAction::SetTrue),
+        value: &[],
+        among: None,
+        help: "Say on standard error why each child was started",
+    },
+    Described {
+        name: "render",
+        short: None,
+        action: Some(ArgAction::SetTrue),
+        value: &[],
+        among: None,
+        help: "Show diagnostics and the warnings of build scripts on standard error, as text",
+    },
+    Described {
+        name: "verbose",
+        short: Some('v'),
+        action: Some(ArgAction::SetTrue),
+        value: &[],
+        among: None,
+        help: "Say on standard error which children are started: the program and its words",
+    },
+    Described {
+        name: "quiet",
+        short: Some('q'),
+        action: Some(ArgAction::SetTrue),
+        value: &[],
+        among: None,
+        help: "No effect: nothing is told but what went wrong, and what is asked for",
+    },
+];
+
+/// The options for what a command reads, and for the folder of all that is made.
+pub(crate) static PLACES: [Described; 2] = [
+    Described {
+        name: "manifest-path",
+        short: None,
+        action: None,
+        value: &["PATH"],
+        among: None,
+        help: "The path of the root `Cargo.toml`",
+    },
+    Described {
+        name: "target-dir",
+        short: None,
+        action: None,
+        value: &["FOLDER"],
+        among: None,
+        help: "The folder for all that is made",
+    },
+];
+
+/// The options for the form of messages and for children, and options of cargo that need no work
+/// here.
+pub(crate) static CHILDREN: [Described; 6] = [
+    Described {
+        name: "message-format",
+        short: None,
+        action: None,
+        value: &["FORMAT"],
+        among: Some(&["json"]),
+        help: "How messages are printed: JSON lines",
+    },
+    Described {
+        name: "runner",
+        short: None,
+        action: None,
+        value: &["WORDS"],
+        among: None,
+        help: "A program and its words, put before the path of a build script",
+    },
+    Described {
+        name: "tool",
+        short: None,
+        action: None,
+        value: &["TEXT"],
+        among: None,
+        help: "What children are told as `CARGO` (default: this program, as it was called)",
+    },
+    Described {
+        name: "locked",
+        short: None,
+        action: Some(ArgAction::SetTrue),
+        value: &[],
+        among: None,
+        help: "No effect: there is no lock file",
+    },
+    Described {
+        name: "offline",
+        short: None,
+        action: Some(ArgAction::SetTrue),
+        value: &[],
+        among: None,
+        help: "No effect: nothing is downloaded",
+    },
+    Described {
+        name: "frozen",
+        short: None,
+        action: Some(ArgAction::SetTrue),
+        value: &[],
+        among: None,
+        help: "No effect: both",
+    },
+];
+
+/// The options for the form of a plan.
+pub(crate) static FORMS: [Described; 2] = [
+    Described {
+        name: "json",
+        short: None,
+        action: Some(ArgAction::SetTrue),
+        value: &[],
+        among: None,
+        help: "Print one JSON list",
+    },
+    Described {
+        name: "dot",
+        short: None,
+        action: Some(ArgAction::SetTrue),
+        value: &[],
+        among: None,
+        help: "Print a graph for Graphviz",
+    },
+];
+
+/// The options for what is removed of a target folder.
+pub(crate) static REMOVAL: [Described; 3] = [
+    Described {
+        name: "package",
+        short: Some('p'),
+        action: Some(ArgAction::Append),
+        value: &["NAME"],
+        among: None,
+        help: "Remove what was made of this package",
+    },
+    Described {
+        name: "release",
+        short: Some('r'),
+        action: Some(ArgAction::SetTrue),
+        value: &[],
+        among: None,
+        help: "Remove what was made under the profile `release`",
+    },
+    Described {
+        name: "profile",
+        short: None,
+        action: None,
+        value: &["NAME"],
+        among: None,
+        help: "Remove what was made under this profile",
+    },
+];
