@@ -12,7 +12,7 @@ mod removing;
 mod target;
 
 pub use choice::Choice;
-pub use fault::CleanFault;
+pub use fault::{CleanFault, Wanted};
 pub use finding::find;
 pub use laws::chosen_are_made;
 pub use looking::Listed;
