@@ -1,0 +1,16 @@
+//! Keys of what a unit needs.
+
+ghost use Rattle.std.specs.Prelude.{◌≡◌};
+ghost use Rattle.pb_tool_plan.specs.Texts.{key_at};
+
+use pb_unit::Planned;
+
+/// Returns the key of the unit at an index; empty if there is no such unit.
+pub(crate) fn key_at(units: &[Planned], place: usize) -> &str
+    ensures { result.now ≡ key_at units.now place }
+{
+    match units.get(place) {
+        Some(planned) => planned.key.as_str(),
+        None => "",
+    }
+}
