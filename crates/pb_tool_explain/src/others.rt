@@ -92,9 +92,11 @@ error: bad a.target.run Status(3) started=a.target.script,a.target.run
         text: r#"The program cannot be started, or the unit's output folder cannot be made.
 
 ```
+note: cannot start rustc in /w: no folder of PATH has it
 error: fault -vV CannotStart
 ```
 
+- The note names the program or the folder, and says [what the system says](MESSAGES.md#notes-of-a-fault).
 - Look at `RUSTC`; for the run of a script (`.run`) at `--runner`.
 - Look whether the target folder can be made and written.
 - Look for a word or a variable that the system does not take: over 128 KiB, or with byte 0.
@@ -105,6 +107,7 @@ error: fault -vV CannotStart
         text: r#"The output of the child process could not be taken in.
 
 ```
+note: cannot read what the child of a.target.lib wrote: Input/output error
 error: fault a.target.lib Capture
 ```
 
@@ -117,9 +120,11 @@ error: fault a.target.lib Capture
 
 ```
 note: a file could not be read
+note: cannot read /w/Cargo.toml: Permission denied
 error: fault /w/Cargo.toml Device
 ```
 
+- The second note names the path at which the call failed, and says [what the system says](MESSAGES.md#notes-of-a-fault).
 - Look at rights, and whether the disk is full.
 - In a folder that is read whole, look for links to folders above, folders over 128 deep and names that are not UTF-8.
 - Look whether the variable is UTF-8, and whether a name is over 255 bytes.
@@ -130,10 +135,11 @@ error: fault /w/Cargo.toml Device
         text: r#"The child process ended without a status.
 
 ```
+note: the child of a.target.lib was ended by signal 9
 error: fault a.target.lib Died
 ```
 
-- Look for signals and limits of the system, as of memory.
+- The note names the signal. With 9, look for limits of the system, as of memory.
 "#,
     },
     Entry {
@@ -175,6 +181,8 @@ error: fault sink Sink
         text: r#"The compiler does not say its host. Its answer to `-vV` has another status than 0, is too long, is not UTF-8, or has no line `host: TRIPLE`.
 
 ```
+note: /w/compiler -vV ended with status 1
+note: it wrote: no toolchain is installed
 error: fault -vV Toolchain
 ```
 

@@ -3,7 +3,7 @@
 use crate::entry::Entry;
 
 /// What the names of refusals mean.
-pub static REFUSED: [Entry; 30] = [
+pub static REFUSED: [Entry; 31] = [
     Entry {
         name: "BadFeature",
         text: r#"A name or an item in `[features]` cannot be read. An item has one of the forms `F`, `dep:N`, `N/F`, `N?/F`.
@@ -191,27 +191,52 @@ error: refused NoSuchFeature
     },
     Entry {
         name: "NoSuchPackage",
-        text: r#"A package is requested that is no member of the workspace.
+        text: r#"A package is requested that is no member of the workspace; or `pb_tool clean` found nothing of the packages that `-p` names.
 
 ```
 note: -p utl: there is no such member (near: util)
 error: refused NoSuchPackage
 ```
 
+```
+note: nothing that a build made of the packages is in /w/target
+error: refused NoSuchPackage
+```
+
 - Look at `-p`, which names members alone.
 - Without `-p` and `--workspace`, look at `default-members`.
+- For `clean`, the note names the folder in which no unit of these packages is.
 "#,
     },
     Entry {
         name: "NoSuchProfile",
-        text: r#"There is no such profile.
+        text: r#"There is no such profile; or `pb_tool clean` found nothing under the profile that `--profile` or `--release` names.
 
 ```
 note: --profile relase: there is no such profile (near: release)
 error: refused NoSuchProfile
 ```
 
+```
+note: nothing that a build made under the profile is in /w/target/release
+error: refused NoSuchProfile
+```
+
 - Look at `--profile`, and at `inherits` in the root manifest.
+- For `clean`, the note names the folder of the profile. If all in it was removed before, there is nothing to do.
+"#,
+    },
+    Entry {
+        name: "NoTargetFolder",
+        text: r#"`pb_tool clean` found nothing to remove: no folder directly in the target folder has a unit's record or folder.
+
+```
+note: nothing that a build made is in /w/target
+error: refused NoTargetFolder
+```
+
+- Look at `--target-dir`, `--manifest-path` and the variable `CARGO_TARGET_DIR`.
+- If all was removed before, there is nothing to do.
 "#,
     },
     Entry {
