@@ -1,5 +1,6 @@
 #!/usr/bin/env bash
-# Scenes in which a real machine is no map of paths: links, folders of two names, rights, locks, programs of one name.
+# Scenes in which a real machine is no map of paths: links, folders of two names, rights, locks, programs of one name,
+# and what is reported of faults and of long records.
 # Each scene says what came and what has to come. With `cargo` and `rustc` (CARGO=no leaves them out) the scenes of
 # links are built by cargo too, with an edit between two builds, and both have to make the same program.
 #
@@ -198,7 +199,43 @@ echo 'put f more' > build.rs
 status=0
 as "${mine[@]}" > lines 2> said || status=$?
 say 'a read-only folder in an output folder' 'status 0, 3 started' "status $status, $(started said)"
+# A file of another user in an output folder: which it is that cannot be removed.
+if [ "$(id -u)" = 0 ]; then
+    mkdir -p target/debug/a.target.run/locked
+    : > target/debug/a.target.run/locked/file
+    echo 'put f again' > build.rs
+    as "${mine[@]}" > lines 2> said || true
+    say 'a file that cannot be removed' "note: cannot remove $PWD/target/debug/a.target.run/locked/file: Permission denied" "$(grep '^note: cannot' said || true)"
+fi
 export RUSTC="$COMPILER"
+
+# What is reported of faults.
+mkdir "$folder/faults"
+cd "$folder/faults"
+package . a
+: > src/lib.rs
+# fault COMPILER
+fault() { RUSTC="$1" "$PROGRAM" build > lines 2> said || true; tr '\n' '|' < said; }
+# compiler NAME LINES
+compiler() { printf '#!/bin/sh\n%s\n' "$2" > "$1"; chmod +x "$1"; }
+say 'no such compiler' "note: cannot start $PWD/none in $PWD: No such file or directory|error: fault -vV CannotStart|" "$(fault "$PWD/none")"
+say 'no such compiler in PATH' "note: cannot start no_such_program in $PWD: no folder of PATH has it|error: fault -vV CannotStart|" "$(fault no_such_program)"
+compiler silent 'exit 0'
+say 'a compiler that prints nothing' "note: $PWD/silent -vV ended with status 0|error: fault -vV Toolchain|" "$(fault "$PWD/silent")"
+compiler angry 'echo "no toolchain" >&2; exit 1'
+say 'a compiler that complains' "note: $PWD/angry -vV ended with status 1|note: it wrote: no toolchain|error: fault -vV Toolchain|" "$(fault "$PWD/angry")"
+compiler killed "[ \"\$1\" = -vV ] && exec $COMPILER -vV; kill -9 \$\$"
+say 'a compiler that is killed' 'note: the child of a.target.lib was ended by signal 9|error: fault a.target.lib Died|' "$(fault "$PWD/killed")"
+
+# The long record of a script that names no input.
+mkdir "$folder/long"
+cd "$folder/long"
+script_in .
+head -c 17000000 /dev/zero > film
+build > lines 2> said || cat said
+say 'a long record' "$PWD/film (17000000 bytes)" "$(sed -n 's/^note: the record of a.target.run has [0-9]* bytes: .* The largest: \([^,]*\), .*/\1/p' said)"
+build > lines 2> said || cat said
+say 'a long record that is kept' '0 notes' "$(grep -c '^note: the record' said || true) notes"
 
 # The lock of a folder that is gone: the second build waits, the folder is removed, and a third begins.
 mkdir "$folder/lock"

@@ -1,3 +1,4 @@
 pub mod Flying
 pub mod Listing
+pub mod Reports
 pub mod Starting

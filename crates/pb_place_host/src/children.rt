@@ -1,15 +1,16 @@
 //! Children of the machine, as a place keeps them.
 
-ghost use Rattle.std.specs.Prelude.{◌≡◌, ◌≢◌, ◌+◌, ◌<◌, ◌++◌, ◌∷◌, [], length, max, IfOk, IfErr};
+ghost use Rattle.std.specs.Prelude.{◌≡◌, ◌+◌, ◌<◌, ◌++◌, ◌∷◌, [], length, max, IfOk};
 ghost use Rattle.std.specs.Vec.{vec_len, vec_capacity};
 ghost use Rattle.pb_place.specs.InFlight.{children_in};
 ghost use Rattle.pb_place_host.specs.Flying.{silent_child};
 
+use crate::failed::Failed;
 use crate::moving::Moment;
 use crate::starting::spawn;
 use pb_data::{Bytes, Items, TryCopy, with_next};
 use pb_place::in_flight::Flying;
-use pb_place_types::{ChildInFlight, Command, Ended, FileMap, PathText, StartFault};
+use pb_place_types::{ChildInFlight, Command, Ended, FileMap, PathText};
 use std::alloc::{AllocError, Global};
 use std::process::{Child, Processes};
 use std::rt::{Env, Files};
@@ -36,9 +37,7 @@ pub(crate) fn begun<R: Files + Env + Processes + AllocGlobal>(
     runtime: &R,
     alloc: Global,
     command: &Command,
-) -> Result<Running<Child<R::Started>>, StartFault>
-    ensures fault { IfErr result (λ e. e ≢ StartFault.OutOfMemory → e ≡ StartFault.CannotStart) }
-{
+) -> Result<Running<Child<R::Started>>, Failed> {
     let out = command.out.copy(alloc)?;
     let (out, (process, since)) = with_next(out, spawn(runtime, alloc, command))?;
     let spawned = match out {
@@ -48,13 +47,25 @@ pub(crate) fn begun<R: Files + Env + Processes + AllocGlobal>(
     Ok(Running { process, spawned })
 }
 
-/// Returns what a place keeps of a child in flight.
-pub(crate) fn kept_of<K: Drop>(flying: Flying<K>) -> K
-    ensures { result ≡ flying.kept }
-{
+/// Returns the command of a child in flight.
+fn command_of(child: ChildInFlight) -> Command {
+    let ChildInFlight {
+        ticket: _,
+        command,
+        ended,
+        files,
+        before,
+    } = child;
+    drop(ended);
+    drop(files);
+    drop(before);
+    command
+}
+
+/// Returns the command of a child in flight, and what a place keeps of it.
+pub(crate) fn parts_of<K: Drop>(flying: Flying<K>) -> (Command, K) {
     let Flying { child, kept } = flying;
-    drop(child);
-    kept
+    (command_of(child), kept)
 }
 
 /// Returns what the place tells about a child in flight: its ticket and its command.

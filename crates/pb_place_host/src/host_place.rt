@@ -8,18 +8,19 @@ ghost use Rattle.pb_place.specs.InFlight.{children_in};
 ghost use Rattle.pb_place.specs.Tallies.{flown};
 ghost use Rattle.pb_place_host.specs.Flying.{silent_child};
 
-use crate::children::{Running, Spawned, add_child, begun, child_in_flight, kept_of};
+use crate::children::{Running, Spawned, add_child, begun, child_in_flight, parts_of};
+use crate::known::{Known, answered, answered_variable, finished, started};
 use crate::listing::{files_below, files_directly, files_outside, folders_directly};
 use crate::meaning::path_from;
 use crate::moving::{Moment, first_moved};
 use crate::reading::{file_at, first_of, is_file, variable_of};
-use crate::starting::finish;
+use crate::reporting::Reporting;
 use crate::writing::{remove_tree, write_file};
 use pb_data::{Bytes, Items, Text, TryCopy, with_next};
 use pb_place::Tally;
 use pb_place::in_flight::{Flying, flies, free_ticket, take_out};
 use pb_place_types::{
-    Call, Command, Ended, Moved, PathFault, PathText, Place, PlaceFault, StartFault, ViewFault,
+    Call, Command, Ended, Moved, PathFault, PathText, Place, PlaceFault, StartFault,
 };
 use std::alloc::{AllocError, Global};
 use std::process::{Child, Processes};
@@ -60,6 +61,8 @@ pub struct HostPlace<'a, R: Processes> {
     /// The child that ended last.
     ended: Option<Spawned>,
     moved: Vec<Moved>,
+    /// What is known of the calls and the children that failed.
+    known: Known,
 }
 
 impl<'a, R: Files + Env + Processes + AllocGlobal> HostPlace<'a, R> {
@@ -75,6 +78,7 @@ impl<'a, R: Files + Env + Processes + AllocGlobal> HostPlace<'a, R> {
             most: 0,
             ended: None,
             moved: Vec::new(alloc),
+            known: Known::new(alloc),
         }
     }
 
@@ -106,7 +110,9 @@ impl<'a, R: Files + Env + Processes + AllocGlobal> HostPlace<'a, R> {
         // Space before the process: one that runs is always known.
         self.flying.reserve(1)?;
         let child = child_in_flight(alloc, command, ticket)?;
-        let (child, kept) = with_next(child, begun(self.runtime, alloc, command))?;
+        let answer = begun(self.runtime, alloc, command);
+        let answer = started(alloc, &mut self.known, command, answer);
+        let (child, kept) = with_next(child, answer)?;
         self.most = add_child(&mut self.flying, self.most, Flying { child, kept });
         Ok(ticket)
     }
@@ -124,9 +130,14 @@ impl<'a, R: Files + Env + Processes + AllocGlobal> HostPlace<'a, R> {
         let Some(flying) = take_out(&mut self.flying, ticket) else {
             unreachable!();
         };
-        let Running { process, spawned } = kept_of(flying);
+        let (command, Running { process, spawned }) = parts_of(flying);
         self.ended = spawned;
-        finish(alloc, process)
+        finished(
+            alloc,
+            &mut self.known,
+            &command,
+            process.wait_with_output(alloc),
+        )
     }
 
     /// Returns when the child of this output folder was spawned, if
@@ -171,15 +182,17 @@ impl<'a, R: Files + Env + Processes + AllocGlobal> HostPlace<'a, R> {
     }
 }
 
-/// Returns what a view answered. Its failure becomes the call's own fault; out of memory stays so.
-fn told<T>(answer: Result<T, ViewFault>, own: PlaceFault) -> Result<T, PlaceFault>
-    ensures own { IfErr result (λ e. e ≢ PlaceFault.OutOfMemory → e ≡ own) }
-    ensures memory { answer ≡ Err ViewFault.OutOfMemory → result ≡ Err PlaceFault.OutOfMemory }
-{
-    match answer {
-        Ok(found) => Ok(found),
-        Err(ViewFault::Failed) => Err(own),
-        Err(ViewFault::OutOfMemory) => Err(PlaceFault::OutOfMemory),
+impl<'a, R: Files + Env + Processes + AllocGlobal> Reporting for HostPlace<'a, R> {
+    fn failed_call(&self) -> &[Text] {
+        self.known.call()
+    }
+
+    fn failed_child(&self, key: &str) -> &[Text] {
+        self.known.child(key)
+    }
+
+    fn answered_query(&self) -> &[Text] {
+        self.known.query()
     }
 }
 
@@ -206,7 +219,8 @@ impl<'a, R: Files + Env + Processes + AllocGlobal> Place for HostPlace<'a, R> {
 
     fn read(&mut self, alloc: Global, path: &PathText) -> Result<Option<Bytes>, PlaceFault> {
         let call = self.tally.kept(Call::read(alloc, path))?;
-        let answer = told(file_at(self.runtime, path.as_str()), PlaceFault::Read);
+        let answer = file_at(self.runtime, path.as_str());
+        let answer = answered(alloc, &mut self.known, path, PlaceFault::Read, answer);
         self.tally.count(call, answer)
     }
 
@@ -217,22 +231,22 @@ impl<'a, R: Files + Env + Processes + AllocGlobal> Place for HostPlace<'a, R> {
         most: usize,
     ) -> Result<Option<Bytes>, PlaceFault> {
         let call = self.tally.kept(Call::read(alloc, path))?;
-        let answer = told(
-            first_of(self.runtime, path.as_str(), most),
-            PlaceFault::Read,
-        );
+        let answer = first_of(self.runtime, path.as_str(), most);
+        let answer = answered(alloc, &mut self.known, path, PlaceFault::Read, answer);
         self.tally.count(call, answer)
     }
 
     fn is_file(&mut self, alloc: Global, path: &PathText) -> Result<bool, PlaceFault> {
         let call = self.tally.kept(Call::is_file(alloc, path))?;
-        let answer = told(is_file(self.runtime, path.as_str()), PlaceFault::Read);
+        let answer = is_file(self.runtime, path.as_str());
+        let answer = answered(alloc, &mut self.known, path, PlaceFault::Read, answer);
         self.tally.count(call, answer)
     }
 
     fn list(&mut self, alloc: Global, folder: &PathText) -> Result<Items<PathText>, PlaceFault> {
         let call = self.tally.kept(Call::list(alloc, folder))?;
         let answer = files_below(self.runtime, alloc, folder);
+        let answer = answered(alloc, &mut self.known, folder, PlaceFault::List, answer);
         self.tally.count(call, answer)
     }
 
@@ -246,6 +260,7 @@ impl<'a, R: Files + Env + Processes + AllocGlobal> Place for HostPlace<'a, R> {
             .tally
             .kept(Call::list_outside(alloc, folder, left_out))?;
         let answer = files_outside(self.runtime, alloc, folder, left_out);
+        let answer = answered(alloc, &mut self.known, folder, PlaceFault::List, answer);
         self.tally.count(call, answer)
     }
 
@@ -256,6 +271,7 @@ impl<'a, R: Files + Env + Processes + AllocGlobal> Place for HostPlace<'a, R> {
     ) -> Result<Items<PathText>, PlaceFault> {
         let call = self.tally.kept(Call::list_directly(alloc, folder))?;
         let answer = files_directly(self.runtime, alloc, folder);
+        let answer = answered(alloc, &mut self.known, folder, PlaceFault::List, answer);
         self.tally.count(call, answer)
     }
 
@@ -269,24 +285,28 @@ impl<'a, R: Files + Env + Processes + AllocGlobal> Place for HostPlace<'a, R> {
             .tally
             .kept(Call::list_folders(alloc, folder, left_out))?;
         let answer = folders_directly(self.runtime, alloc, folder, left_out);
+        let answer = answered(alloc, &mut self.known, folder, PlaceFault::List, answer);
         self.tally.count(call, answer)
     }
 
     fn write(&mut self, alloc: Global, path: &PathText, bytes: &[u8]) -> Result<(), PlaceFault> {
         let call = self.tally.kept(Call::write(alloc, path))?;
         let answer = write_file(self.runtime, alloc, path, bytes);
+        let answer = answered(alloc, &mut self.known, path, PlaceFault::Write, answer);
         self.tally.count(call, answer)
     }
 
     fn remove_tree(&mut self, alloc: Global, path: &PathText) -> Result<(), PlaceFault> {
         let call = self.tally.kept(Call::remove(alloc, path))?;
         let answer = remove_tree(self.runtime, path.as_str());
+        let answer = answered(alloc, &mut self.known, path, PlaceFault::Remove, answer);
         self.tally.count(call, answer)
     }
 
     fn variable(&mut self, alloc: Global, name: &str) -> Result<Option<Text>, PlaceFault> {
         let call = self.tally.kept(Call::variable(alloc, name))?;
-        let answer = told(variable_of(self.runtime, name), PlaceFault::Variable);
+        let answer = variable_of(self.runtime, name);
+        let answer = answered_variable(alloc, &mut self.known, name, answer);
         self.tally.count(call, answer)
     }
 

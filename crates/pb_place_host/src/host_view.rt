@@ -1,6 +1,6 @@
 //! What a child sees of real files and variables.
 
-use crate::reading::{file_at, variable_of};
+use crate::reading::{fault_of, file_at, variable_of};
 use pb_data::{Bytes, Text};
 use pb_place_types::{PathText, View, ViewFault};
 use std::alloc::Global;
@@ -37,7 +37,10 @@ impl<'a, R: Files + Env + AllocGlobal> View for HostView<'a, R> {
     ghost fails = { λ _. Unit {0} };
 
     fn file(&self, _alloc: Global, path: &PathText) -> Result<Option<Bytes>, ViewFault> {
-        file_at(self.runtime, path.as_str())
+        match file_at(self.runtime, path.as_str()) {
+            Ok(found) => Ok(found),
+            Err(failed) => Err(fault_of(failed)),
+        }
     }
 
     fn variable(&self, _alloc: Global, name: &str) -> Result<Option<Text>, ViewFault> {

@@ -1,16 +1,16 @@
 //! Listing real folders.
 
-ghost use Rattle.std.specs.Prelude.{◌≡◌, ◌≢◌, ◌+◌, ◌++◌, ◌∷◌, [], true, Some, All, map, IfOk, IfErr, OnOk};
+ghost use Rattle.std.specs.Prelude.{◌≡◌, ◌+◌, ◌++◌, ◌∷◌, [], true, Some, All, map, IfOk, OnOk};
 ghost use Rattle.pb_place_types.specs.Paths.{is_below, is_at_or_below};
 ghost use Rattle.std.specs.Option.{option_copied};
 ghost use Rattle.pb_place_host.specs.Listing.{AreBelow, AreOutside, AreOrdered, KeepsBelow, KeepsOutside, StaysBelow, is_left_out};
 
 use crate::entry::standing_in;
+use crate::failed::Failed;
 use crate::reading::{Standing, says_absent};
 use crate::tag::is_tagged;
-use crate::writing::fault_of;
 use pb_data::{Items, Text, TryCopy};
-use pb_place_types::{PathText, PlaceFault, RelativePath};
+use pb_place_types::{PathText, RelativePath};
 use std::alloc::{AllocError, Global};
 use std::rt::Files;
 use std::{fs, io};
@@ -48,22 +48,20 @@ pub(crate) struct Found {
 
 /// Returns the path of an entry of a folder.
 ///
-/// Errors: `List`, if the entry's name is not a name of a path; `OutOfMemory`.
-fn path_of(alloc: Global, folder: &PathText, name: &str) -> Result<PathText, PlaceFault>
+/// Errors: an entry's name that is not a name of a path; out of memory.
+fn path_of(alloc: Global, folder: &PathText, name: &str) -> Result<PathText, Failed>
     ensures below { IfOk result (λ path. is_below folder.now path ≡ true) }
-    ensures fault { IfErr result (λ e. e ≢ PlaceFault.OutOfMemory → e ≡ PlaceFault.List) }
 {
     match RelativePath::of(Text::from_str(alloc, name)?) {
         Some(relative) => Ok(folder.below(alloc, &relative)?),
-        None => Err(PlaceFault::List),
+        None => Err(Failed::from(io::Error::from(io::ErrorKind::InvalidFilename))),
     }
 }
 
 /// Adds a file to those found.
-fn add_file(found: &mut Found, path: PathText) -> Result<(), PlaceFault>
+fn add_file(found: &mut Found, path: PathText) -> Result<(), Failed>
     ensures files { OnOk result (found.new.files.items ≡ found.old.files.items ++ path ∷ []) }
     ensures waiting { found.new.waiting ≡ found.old.waiting }
-    ensures fault { IfErr result (λ e. e ≡ PlaceFault.OutOfMemory) }
 {
     found.files.push(path)?;
     Ok(())
@@ -71,15 +69,14 @@ fn add_file(found: &mut Found, path: PathText) -> Result<(), PlaceFault>
 
 /// Adds a folder to those that wait.
 ///
-/// Errors: `List`, if it is too deep.
-fn add_folder(found: &mut Found, path: PathText, above: u8) -> Result<(), PlaceFault>
+/// Errors: a folder that is too deep; out of memory.
+fn add_folder(found: &mut Found, path: PathText, above: u8) -> Result<(), Failed>
     ensures waiting { OnOk result (found.new.waiting.items ≡ found.old.waiting.items
         ++ record { folder = path; depth = above + 1 } ∷ []) }
     ensures files { found.new.files ≡ found.old.files }
-    ensures fault { IfErr result (λ e. e ≢ PlaceFault.OutOfMemory → e ≡ PlaceFault.List) }
 {
     if above >= DEEPEST {
-        return Err(PlaceFault::List);
+        return Err(Failed::from(io::Error::other("more than 128 folders lie in one another")));
     }
     found.waiting.push(Waiting {
         folder: path,
@@ -99,23 +96,27 @@ fn take_entry<R: Files + AllocGlobal>(
     found: &mut Found,
     here: &Waiting,
     name: &str,
-) -> Result<(), PlaceFault>
+) -> Result<(), Failed>
     ensures below { OnOk result (KeepsBelow here.now.folder found.old found.new) }
     ensures outside { OnOk result
         (KeepsOutside (option_copied left_out.entry) found.old found.new) }
-    ensures fault { IfErr result (λ e. e ≢ PlaceFault.OutOfMemory → e ≡ PlaceFault.List) }
 {
     let path = path_of(alloc, &here.folder, name)?;
     if is_left_out(left_out, &path) {
         return Ok(());
     }
     match standing_in(runtime, alloc, &here.folder, &path, name) {
-        Ok(Standing::File(_)) => add_file(found, path)?,
-        Ok(Standing::Folder) => add_folder(found, path, here.depth)?,
-        Ok(Standing::Nothing) => {}
-        Err(error) => return Err(fault_of(error, PlaceFault::List)),
+        Ok(Standing::File(_)) => {
+            add_file(found, path)?;
+            Ok(())
+        }
+        Ok(Standing::Folder) => {
+            add_folder(found, path, here.depth)?;
+            Ok(())
+        }
+        Ok(Standing::Nothing) => Ok(()),
+        Err(error) => Err(Failed::from(error)),
     }
-    Ok(())
 }
 
 /// Returns whether an error says that there is no such folder,
@@ -143,22 +144,29 @@ fn entries_of<'a, R: Files + AllocGlobal>(
     runtime: &'a R,
     alloc: Global,
     here: &Waiting,
-) -> Result<Option<fs::ReadDir<&'a R>>, PlaceFault>
-    ensures fault { IfErr result (λ e. e ≢ PlaceFault.OutOfMemory → e ≡ PlaceFault.List) }
-{
+) -> Result<Option<fs::ReadDir<&'a R>>, Failed> {
     if is_passed_over(runtime, alloc, here)? {
         return Ok(None);
     }
     match fs::read_dir(&runtime, here.folder.as_str()) {
         Ok(entries) => Ok(Some(entries)),
         Err(error) if may_be_absent(here, &error) => Ok(None),
-        Err(error) => Err(fault_of(error, PlaceFault::List)),
+        Err(error) => Err(Failed::from(error)),
     }
+}
+
+/// Returns the failure of a folder that did not report an entry.
+fn untold(error: io::Error) -> Failed {
+    if error.kind() == io::ErrorKind::InvalidFilename {
+        let kind = io::ErrorKind::InvalidFilename;
+        return Failed::from(io::Error::new(kind, "a name in it is not UTF-8"));
+    }
+    Failed::from(error)
 }
 
 /// Adds an entry that a folder reports.
 ///
-/// Errors: `List`, if the folder reports a failure.
+/// Errors: a failure that the folder reports; those of `take_entry`.
 fn take_told<R: Files + AllocGlobal>(
     runtime: &R,
     alloc: Global,
@@ -166,30 +174,28 @@ fn take_told<R: Files + AllocGlobal>(
     found: &mut Found,
     here: &Waiting,
     entry: io::Result<fs::DirEntry<&R>>,
-) -> Result<(), PlaceFault>
+) -> Result<(), Failed>
     ensures below { OnOk result (KeepsBelow here.now.folder found.old found.new) }
     ensures outside { OnOk result
         (KeepsOutside (option_copied left_out.entry) found.old found.new) }
-    ensures fault { IfErr result (λ e. e ≢ PlaceFault.OutOfMemory → e ≡ PlaceFault.List) }
 {
     match entry {
         Ok(entry) => take_entry(runtime, alloc, left_out, found, here, entry.file_name()),
-        Err(error) => Err(fault_of(error, PlaceFault::List)),
+        Err(error) => Err(untold(error)),
     }
 }
 
 /// Adds the entries of a folder. If it is the one that is listed and does not exist, it has none.
-fn take_folder<R: Files + AllocGlobal>(
+fn take_entries<R: Files + AllocGlobal>(
     runtime: &R,
     alloc: Global,
     left_out: Option<&PathText>,
     found: &mut Found,
     here: &Waiting,
-) -> Result<(), PlaceFault>
+) -> Result<(), Failed>
     ensures below { OnOk result (KeepsBelow here.now.folder found.old found.new) }
     ensures outside { OnOk result
         (KeepsOutside (option_copied left_out.entry) found.old found.new) }
-    ensures fault { IfErr result (λ e. e ≢ PlaceFault.OutOfMemory → e ≡ PlaceFault.List) }
 {
     let Some(entries) = entries_of(runtime, alloc, here)? else {
         return Ok(());
@@ -200,6 +206,24 @@ fn take_folder<R: Files + AllocGlobal>(
     Ok(())
 }
 
+/// Adds the entries of a folder as `take_entries` does. A failure has the folder's path.
+fn take_folder<R: Files + AllocGlobal>(
+    runtime: &R,
+    alloc: Global,
+    left_out: Option<&PathText>,
+    found: &mut Found,
+    here: &Waiting,
+) -> Result<(), Failed>
+    ensures below { OnOk result (KeepsBelow here.now.folder found.old found.new) }
+    ensures outside { OnOk result
+        (KeepsOutside (option_copied left_out.entry) found.old found.new) }
+{
+    match take_entries(runtime, alloc, left_out, found, here) {
+        Ok(()) => Ok(()),
+        Err(failed) => Err(failed.at(alloc, here.folder.as_str())),
+    }
+}
+
 /// Returns all files below a folder that are not left out, as they
 /// come. It takes one folder after another, the one found last first.
 fn files_found<R: Files + AllocGlobal>(
@@ -207,10 +231,9 @@ fn files_found<R: Files + AllocGlobal>(
     alloc: Global,
     left_out: Option<&PathText>,
     folder: &PathText,
-) -> Result<Vec<PathText>, PlaceFault>
+) -> Result<Vec<PathText>, Failed>
     ensures below { IfOk result (λ files. AreBelow folder.now files.items) }
     ensures outside { IfOk result (λ files. AreOutside (option_copied left_out.entry) files.items) }
-    ensures fault { IfErr result (λ e. e ≢ PlaceFault.OutOfMemory → e ≡ PlaceFault.List) }
 {
     let mut found = Found {
         files: Vec::new(alloc),
@@ -226,7 +249,7 @@ fn files_found<R: Files + AllocGlobal>(
             None => return Ok(found.files),
         }
     }
-    Err(PlaceFault::List)
+    Err(Failed::from(io::Error::other("there are too many folders")))
 }
 
 /// Returns whether an entry's name is not UTF-8.
@@ -245,9 +268,8 @@ fn take_named<R: Files + AllocGlobal>(
     left_out: Option<&PathText>,
     found: &mut Found,
     here: &Waiting,
-) -> Result<(), PlaceFault>
+) -> Result<(), Failed>
     ensures below { OnOk result (KeepsBelow here.now.folder found.old found.new) }
-    ensures fault { IfErr result (λ e. e ≢ PlaceFault.OutOfMemory → e ≡ PlaceFault.List) }
 {
     let Some(entries) = entries_of(runtime, alloc, here)? else {
         return Ok(());
@@ -267,9 +289,8 @@ pub(crate) fn found_here<R: Files + AllocGlobal>(
     alloc: Global,
     left_out: Option<&PathText>,
     folder: &PathText,
-) -> Result<Found, PlaceFault>
+) -> Result<Found, Failed>
     ensures below { IfOk result (λ found. StaysBelow folder.now found) }
-    ensures fault { IfErr result (λ e. e ≢ PlaceFault.OutOfMemory → e ≡ PlaceFault.List) }
 {
     let here = Waiting {
         folder: folder.copy(alloc)?,
@@ -290,11 +311,10 @@ fn files_listed<R: Files + AllocGlobal>(
     alloc: Global,
     left_out: Option<&PathText>,
     folder: &PathText,
-) -> Result<Items<PathText>, PlaceFault>
+) -> Result<Items<PathText>, Failed>
     ensures below { IfOk result (λ paths. AreBelow folder.now paths) }
     ensures outside { IfOk result (λ paths. AreOutside (option_copied left_out.entry) paths) }
     ensures ordered { IfOk result AreOrdered }
-    ensures fault { IfErr result (λ e. e ≢ PlaceFault.OutOfMemory → e ≡ PlaceFault.List) }
 {
     let mut files = files_found(runtime, alloc, left_out, folder)?;
     files.sort()?;
@@ -312,10 +332,9 @@ pub(crate) fn files_below<R: Files + AllocGlobal>(
     runtime: &R,
     alloc: Global,
     folder: &PathText,
-) -> Result<Items<PathText>, PlaceFault>
+) -> Result<Items<PathText>, Failed>
     ensures below { IfOk result (λ paths. AreBelow folder.now paths) }
     ensures ordered { IfOk result AreOrdered }
-    ensures fault { IfErr result (λ e. e ≢ PlaceFault.OutOfMemory → e ≡ PlaceFault.List) }
 {
     files_listed(runtime, alloc, None, folder)
 }
@@ -327,11 +346,10 @@ pub(crate) fn files_outside<R: Files + AllocGlobal>(
     alloc: Global,
     folder: &PathText,
     left_out: &PathText,
-) -> Result<Items<PathText>, PlaceFault>
+) -> Result<Items<PathText>, Failed>
     ensures below { IfOk result (λ paths. AreBelow folder.now paths) }
     ensures outside { IfOk result (λ paths. AreOutside (Some left_out.now) paths) }
     ensures ordered { IfOk result AreOrdered }
-    ensures fault { IfErr result (λ e. e ≢ PlaceFault.OutOfMemory → e ≡ PlaceFault.List) }
 {
     if folder.starts_with(left_out) {
         return Ok(Items::new(alloc));
@@ -346,10 +364,9 @@ pub(crate) fn files_directly<R: Files + AllocGlobal>(
     runtime: &R,
     alloc: Global,
     folder: &PathText,
-) -> Result<Items<PathText>, PlaceFault>
+) -> Result<Items<PathText>, Failed>
     ensures below { IfOk result (λ paths. AreBelow folder.now paths) }
     ensures ordered { IfOk result AreOrdered }
-    ensures fault { IfErr result (λ e. e ≢ PlaceFault.OutOfMemory → e ≡ PlaceFault.List) }
 {
     let mut found = found_here(runtime, alloc, None, folder)?;
     found.files.sort()?;
@@ -357,10 +374,9 @@ pub(crate) fn files_directly<R: Files + AllocGlobal>(
 }
 
 /// Returns the paths of some folders that wait.
-fn folders_of(alloc: Global, waiting: Vec<Waiting>) -> Result<Vec<PathText>, PlaceFault>
+fn folders_of(alloc: Global, waiting: Vec<Waiting>) -> Result<Vec<PathText>, Failed>
     ensures folders { IfOk result
         (λ folders. folders.items ≡ map (λ here. here.folder) waiting.items) }
-    ensures fault { IfErr result (λ e. e ≡ PlaceFault.OutOfMemory) }
 {
     let mut folders = Vec::new(alloc);
     for here in waiting {
@@ -377,10 +393,9 @@ pub(crate) fn folders_directly<R: Files + AllocGlobal>(
     alloc: Global,
     folder: &PathText,
     left_out: &PathText,
-) -> Result<Items<PathText>, PlaceFault>
+) -> Result<Items<PathText>, Failed>
     ensures below { IfOk result (All (λ path. is_at_or_below folder.now path ≡ true)) }
     ensures ordered { IfOk result AreOrdered }
-    ensures fault { IfErr result (λ e. e ≢ PlaceFault.OutOfMemory → e ≡ PlaceFault.List) }
 {
     if folder.starts_with(left_out) {
         return Ok(Items::new(alloc));

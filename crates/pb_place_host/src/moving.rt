@@ -4,7 +4,7 @@ use crate::listing::found_here;
 use crate::reading::says_absent;
 use crate::tag::is_tagged;
 use pb_data::TryCopy;
-use pb_place_types::{PathText, PlaceFault};
+use pb_place_types::PathText;
 use std::alloc::{AllocError, Global};
 use std::fs;
 use std::os::unix::fs::MetadataExt;
@@ -112,7 +112,7 @@ fn add_entries<R: Files + AllocGlobal>(
 ) -> Result<bool, AllocError> {
     let found = match found_here(runtime, alloc, Some(left_out), folder) {
         Ok(found) => found,
-        Err(PlaceFault::OutOfMemory) => return Err(AllocError),
+        Err(failed) if failed.is_memory() => return Err(AllocError),
         Err(_) => return Ok(false),
     };
     for file in found.files {

@@ -1,14 +1,12 @@
 //! Which program a name means.
 
-ghost use Rattle.std.specs.Prelude.{◌≡◌, ◌≢◌, IfErr};
-
 use pb_data::Text;
-use pb_place_types::StartFault;
 use std::alloc::{AllocError, Global};
 use std::env::VarError;
+use std::io::ErrorKind;
 use std::os::unix::fs::MetadataExt;
 use std::rt::{Env, Files};
-use std::{env, fs};
+use std::{env, fs, io};
 
 /// Where programs are looked for if `PATH` is not set, as in the system.
 const WITHOUT_PATH: &str = "/bin:/usr/bin";
@@ -56,18 +54,21 @@ fn first_program<R: Files + Env + AllocGlobal>(
     Ok(None)
 }
 
+/// Returns the error for a program that no folder has.
+fn not_found() -> io::Error {
+    io::Error::new(ErrorKind::NotFound, "no folder of PATH has it")
+}
+
 /// Looks for a program in some folders.
 fn found_in<R: Files + Env + AllocGlobal>(
     runtime: &R,
     alloc: Global,
     folders: &str,
     name: &str,
-) -> Result<Text, StartFault>
-    ensures fault { IfErr result (λ e. e ≢ StartFault.OutOfMemory → e ≡ StartFault.CannotStart) }
-{
+) -> io::Result<Text> {
     match first_program(runtime, alloc, folders, name)? {
         Some(path) => Ok(Text::new(path)),
-        None => Err(StartFault::CannotStart),
+        None => Err(not_found()),
     }
 }
 
@@ -80,17 +81,15 @@ pub(crate) fn program_of<R: Files + Env + AllocGlobal>(
     runtime: &R,
     alloc: Global,
     name: &str,
-) -> Result<Text, StartFault>
-    ensures fault { IfErr result (λ e. e ≢ StartFault.OutOfMemory → e ≡ StartFault.CannotStart) }
-{
+) -> io::Result<Text> {
     if name.contains('/') {
         return Ok(Text::from_str(alloc, name)?);
     }
     match env::var(runtime, "PATH") {
         Ok(folders) => found_in(runtime, alloc, folders.as_str(), name),
         Err(VarError::NotPresent) => found_in(runtime, alloc, WITHOUT_PATH, name),
-        Err(VarError::OutOfMemory) => Err(StartFault::OutOfMemory),
+        Err(VarError::OutOfMemory) => Err(io::Error::from(ErrorKind::OutOfMemory)),
         // It contains no path of ours.
-        Err(VarError::NotUnicode) => Err(StartFault::CannotStart),
+        Err(VarError::NotUnicode) => Err(not_found()),
     }
 }

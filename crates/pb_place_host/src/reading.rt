@@ -4,6 +4,7 @@ ghost use Rattle.std.specs.Prelude.{◌≡◌, ◌≢◌, ◌⊎◌, ◌↔◌, 
 ghost use Rattle.std.specs.IoError.{error_kind};
 ghost use Rattle.pb_place_types.specs.declared.child.ViewFault.TheVariants as view_fault;
 
+use crate::failed::Failed;
 use pb_data::{Bytes, Text};
 use pb_place_types::ViewFault;
 use std::env::VarError;
@@ -26,11 +27,12 @@ pub(crate) enum Standing {
 }
 
 /// Returns why reading failed: out of memory, or a failure of the outside.
-fn fault_of(error: io::Error) -> ViewFault
-    ensures memory { error_kind error ≡ ErrorKind.OutOfMemory → result ≡ view_fault.OutOfMemory }
-    ensures failed { error_kind error ≢ ErrorKind.OutOfMemory → result ≡ view_fault.Failed }
+pub(crate) fn fault_of(failed: Failed) -> ViewFault
+    ensures memory { error_kind failed.error ≡ ErrorKind.OutOfMemory
+        → result ≡ view_fault.OutOfMemory }
+    ensures failed { error_kind failed.error ≢ ErrorKind.OutOfMemory → result ≡ view_fault.Failed }
 {
-    if error.kind() == ErrorKind::OutOfMemory {
+    if failed.is_memory() {
         return ViewFault::OutOfMemory;
     }
     ViewFault::Failed
@@ -64,19 +66,19 @@ pub(crate) fn standing_of(metadata: &fs::Metadata) -> Standing {
 /// Returns what is at a path, links followed. A link that leads
 /// nowhere, or in a circle, is nothing.
 ///
-/// Errors: `Failed`, if it cannot be found out.
-pub(crate) fn standing_at<R: Files>(runtime: &R, path: &str) -> Result<Standing, ViewFault> {
+/// Errors: the system's error, if it cannot be found out.
+fn standing_at<R: Files>(runtime: &R, path: &str) -> io::Result<Standing> {
     match fs::metadata(runtime, path) {
         Ok(metadata) => Ok(standing_of(&metadata)),
         Err(error) if says_absent(&error) => Ok(Standing::Nothing),
-        Err(error) => Err(fault_of(error)),
+        Err(error) => Err(error),
     }
 }
 
 /// Returns whether a file is at a path, links followed.
 ///
-/// Errors: `Failed`, if it cannot be found out.
-pub(crate) fn is_file<R: Files>(runtime: &R, path: &str) -> Result<bool, ViewFault> {
+/// Errors: the system's error, if it cannot be found out.
+pub(crate) fn is_file<R: Files>(runtime: &R, path: &str) -> Result<bool, Failed> {
     match standing_at(runtime, path)? {
         Standing::File(_) => Ok(true),
         Standing::Folder | Standing::Nothing => Ok(false),
@@ -116,13 +118,12 @@ pub(crate) fn bytes_at<R: Files + AllocGlobal>(
 pub(crate) fn file_at<R: Files + AllocGlobal>(
     runtime: &R,
     path: &str,
-) -> Result<Option<Bytes>, ViewFault> {
+) -> Result<Option<Bytes>, Failed> {
     match standing_at(runtime, path)? {
-        Standing::File(length) if length > MOST_BYTES => Err(ViewFault::Failed),
-        Standing::File(length) => match bytes_at(runtime, path, length) {
-            Ok(bytes) => Ok(Some(Bytes::new(bytes))),
-            Err(error) => Err(fault_of(error)),
-        },
+        Standing::File(length) if length > MOST_BYTES => {
+            Err(Failed::from(io::Error::from(ErrorKind::FileTooLarge)))
+        }
+        Standing::File(length) => Ok(Some(Bytes::new(bytes_at(runtime, path, length)?))),
         _ => Ok(None),
     }
 }
@@ -146,13 +147,10 @@ pub(crate) fn first_of<R: Files + AllocGlobal>(
     runtime: &R,
     path: &str,
     most: usize,
-) -> Result<Option<Bytes>, ViewFault> {
+) -> Result<Option<Bytes>, Failed> {
     match standing_at(runtime, path)? {
         Standing::File(length) if length < most as u64 => file_at(runtime, path),
-        Standing::File(_) => match first_bytes_at(runtime, path, most) {
-            Ok(bytes) => Ok(Some(Bytes::new(bytes))),
-            Err(error) => Err(fault_of(error)),
-        },
+        Standing::File(_) => Ok(Some(Bytes::new(first_bytes_at(runtime, path, most)?))),
         _ => Ok(None),
     }
 }

@@ -1,32 +1,19 @@
 //! Starting real children, and waiting for their end.
 
-ghost use Rattle.std.specs.Prelude.{◌≡◌, ◌≢◌, ◌⊎◌, ◌++◌, ℕ, List, Some, None, if◌then◌else◌, OnOk, IfOk, IfErr};
+ghost use Rattle.std.specs.Prelude.{◌≡◌, ◌++◌, ℕ, List, Some, None, if◌then◌else◌, OnOk, IfOk, IfErr};
 ghost use Rattle.std.specs.Str.{bytes_eq};
 ghost use Rattle.std.specs.Process.{command_program, command_args, command_var, command_dir, clears_env, exit_code, SameEnv, SameDir, SameProgramAndArgs};
-ghost use Rattle.std.specs.IoError.{error_kind};
-ghost use Rattle.pb_place_types.specs.declared.place.StartFault.TheVariants as start_fault;
 ghost use Rattle.pb_place_host.specs.Starting.{value_over, IsProcessOf};
 
+use crate::failed::Failed;
 use crate::moving::{Moment, moment_of};
 use crate::program::program_of;
 use pb_data::{Bytes, Text, with_next};
 use pb_place_types::{Command, Ended, StartFault};
 use std::alloc::{AllocError, Global};
-use std::io::ErrorKind;
-use std::process::{Child, OpenProcess, Output, Processes, Stdio};
+use std::process::{Child, Output, Processes, Stdio};
 use std::rt::{Env, Files};
 use std::{fs, io, process};
-
-/// Returns the fault of a start for an error: out of memory, or this one.
-fn fault_of(error: io::Error, own: StartFault) -> StartFault
-    ensures memory { error_kind error ≡ ErrorKind.OutOfMemory → result ≡ start_fault.OutOfMemory }
-    ensures own { error_kind error ≢ ErrorKind.OutOfMemory → result ≡ own }
-{
-    if error.kind() == ErrorKind::OutOfMemory {
-        return StartFault::OutOfMemory;
-    }
-    own
-}
 
 /// Adds arguments to those of a process.
 fn add_words(made: &mut process::Command, words: &[Text]) -> Result<(), AllocError>
@@ -102,36 +89,30 @@ fn process_of(
 }
 
 /// Starts a process with an empty standard input, whose output is read later.
-fn begin<R: Processes>(
-    runtime: &R,
-    mut made: process::Command,
-) -> Result<Child<R::Started>, StartFault>
-    ensures fault { IfErr result (λ e. e ≢ StartFault.OutOfMemory → e ≡ StartFault.CannotStart) }
-{
+fn begin<R: Processes>(runtime: &R, mut made: process::Command) -> io::Result<Child<R::Started>> {
     made.stdin(Stdio::null());
     made.stdout(Stdio::piped());
     made.stderr(Stdio::piped());
     let spawned = made.spawn(runtime);
     drop(made);
-    match spawned {
-        Ok(child) => Ok(child),
-        Err(error) => Err(fault_of(error, StartFault::CannotStart)),
-    }
+    spawned
 }
 
 /// Makes the output folder of a command, and returns when that was, by the clock of its file
 /// system; `None` if the command has no output folder, or the time cannot be found out.
 ///
-/// Errors: `CannotStart`, if the folder cannot be made; `OutOfMemory`.
-fn make_out<R: Files>(runtime: &R, command: &Command) -> Result<Option<Moment>, StartFault>
-    ensures fault { IfErr result (λ e. e ≢ StartFault.OutOfMemory → e ≡ StartFault.CannotStart) }
-{
+/// Errors: the system's error with the folder's path, if the folder cannot be made.
+fn make_out<R: Files>(
+    runtime: &R,
+    alloc: Global,
+    command: &Command,
+) -> Result<Option<Moment>, Failed> {
     let Some(out) = &command.out else {
         return Ok(None);
     };
     match fs::create_dir_all(runtime, out.as_str()) {
         Ok(()) => Ok(moment_of(runtime, out)),
-        Err(error) => Err(fault_of(error, StartFault::CannotStart)),
+        Err(error) => Err(Failed::from(error).at(alloc, out.as_str())),
     }
 }
 
@@ -144,38 +125,19 @@ pub(crate) fn spawn<R: Files + Env + Processes + AllocGlobal>(
     runtime: &R,
     alloc: Global,
     command: &Command,
-) -> Result<(Child<R::Started>, Option<Moment>), StartFault>
-    ensures fault { IfErr result (λ e. e ≢ StartFault.OutOfMemory → e ≡ StartFault.CannotStart) }
-{
+) -> Result<(Child<R::Started>, Option<Moment>), Failed> {
     // The folder before the child: a compiler does not make it.
-    let since = make_out(runtime, command)?;
+    let since = make_out(runtime, alloc, command)?;
     let program = program_of(runtime, alloc, command.program.as_str())?;
     let made = process_of(alloc, program.as_str(), command)?;
     let child = begin(runtime, made)?;
     Ok((child, since))
 }
 
-/// Waits for the end of a child, and reads what it writes until then.
-///
-/// Errors: `Capture`, if what the child writes cannot be read;
-/// `Died`, if it ends without a status code.
-pub(crate) fn finish<S: OpenProcess + Drop>(
-    alloc: Global,
-    child: Child<S>,
-) -> Result<Ended, StartFault>
-    ensures fault { IfErr result (λ e. e ≢ StartFault.OutOfMemory → (e ≡ StartFault.Died)
-        ⊎ (e ≡ StartFault.Capture)) }
-{
-    match child.wait_with_output(alloc) {
-        Ok(output) => ended(output),
-        Err(error) => Err(fault_of(error, StartFault::Capture)),
-    }
-}
-
 /// Returns how a child ended: its status code and both its streams, as they were written.
 ///
 /// Errors: `Died`, if it has no status code.
-fn ended(output: Output) -> Result<Ended, StartFault>
+pub(crate) fn ended(output: Output) -> Result<Ended, StartFault>
     ensures ended { IfOk result (λ e. (exit_code output.status ≡ Some e.status)
         × (e.stdout ≡ output.stdout.items) × (e.stderr ≡ output.stderr.items)) }
     ensures fault { IfErr result (λ e. (exit_code output.status ≡ None) × (e ≡ StartFault.Died)) }

@@ -1,11 +1,8 @@
 //! Writing and removing real files.
 
-ghost use Rattle.std.specs.Prelude.{◌≡◌, ◌≢◌, ◌⊎◌, IfErr};
-ghost use Rattle.std.specs.IoError.{error_kind};
-ghost use Rattle.pb_place_types.specs.declared.place.PlaceFault.TheVariants as place_fault;
-
+use crate::failed::Failed;
 use crate::reading::{MOST_BYTES, says_absent};
-use pb_place_types::{PathText, PlaceFault};
+use pb_place_types::PathText;
 use std::alloc::{AllocError, Global};
 use std::fs::Permissions;
 use std::io::ErrorKind;
@@ -16,17 +13,6 @@ use std::{fs, io};
 /// The mode of a folder that its owner may read, write and go through.
 const OWNED: u32 = 0o700;
 
-/// Returns the fault of a call on files for an error: out of memory, or the call's own fault.
-pub(crate) fn fault_of(error: io::Error, own: PlaceFault) -> PlaceFault
-    ensures memory { error_kind error ≡ ErrorKind.OutOfMemory → result ≡ place_fault.OutOfMemory }
-    ensures own { error_kind error ≢ ErrorKind.OutOfMemory → result ≡ own }
-{
-    if error.kind() == ErrorKind::OutOfMemory {
-        return PlaceFault::OutOfMemory;
-    }
-    own
-}
-
 /// Writes a file, and makes the folders above it. It does
 /// nothing if there are more bytes than a file may have.
 pub(crate) fn write_file<R: Files>(
@@ -34,20 +20,14 @@ pub(crate) fn write_file<R: Files>(
     alloc: Global,
     path: &PathText,
     bytes: &[u8],
-) -> Result<(), PlaceFault>
-    ensures fault { IfErr result (λ e. e ≢ PlaceFault.OutOfMemory → e ≡ PlaceFault.Write) }
-{
+) -> Result<(), Failed> {
     if bytes.len() as u64 > MOST_BYTES {
-        return Err(PlaceFault::Write);
+        return Err(Failed::from(io::Error::from(ErrorKind::FileTooLarge)));
     }
     let folder = path.folder(alloc)?;
-    if let Err(error) = fs::create_dir_all(runtime, folder.as_str()) {
-        return Err(fault_of(error, PlaceFault::Write));
-    }
-    match fs::write(runtime, path.as_str(), bytes) {
-        Ok(()) => Ok(()),
-        Err(error) => Err(fault_of(error, PlaceFault::Write)),
-    }
+    fs::create_dir_all(runtime, folder.as_str())?;
+    fs::write(runtime, path.as_str(), bytes)?;
+    Ok(())
 }
 
 /// Removes what is at a path itself: a folder with its
@@ -119,18 +99,94 @@ fn remove_whole<R: Files + AllocGlobal>(
     }
 }
 
+/// Removes an entry of a folder, unless it is a folder itself. Returns whether it is one.
+fn remove_entry<R: Files>(runtime: &R, path: &str) -> io::Result<bool> {
+    let metadata = fs::symlink_metadata(runtime, path)?;
+    if metadata.is_dir() {
+        return Ok(true);
+    }
+    fs::remove_file(runtime, path)?;
+    Ok(false)
+}
+
+/// Removes the files of a folder, and adds its folders to those that wait. It leaves out names that
+/// are not UTF-8.
+///
+/// Errors: the first file that cannot be removed; the folder, if it cannot be listed; out of
+/// memory.
+fn clear_folder<R: Files + AllocGlobal>(
+    runtime: &R,
+    folder: &str,
+    waiting: &mut Vec<String>,
+) -> Result<(), Failed> {
+    let alloc = runtime.alloc();
+    let entries = match fs::read_dir(&runtime, folder) {
+        Ok(entries) => entries,
+        Err(error) => return Err(Failed::from(error).at(alloc, folder)),
+    };
+    for entry in entries {
+        if let Ok(entry) = entry {
+            let path = format!(in alloc; "{folder}/{}", entry.file_name())?;
+            match remove_entry(runtime, path.as_str()) {
+                Ok(true) => waiting.push(path)?,
+                Ok(false) => {}
+                Err(error) => return Err(Failed::from(error).at(alloc, path.as_str())),
+            }
+        }
+    }
+    Ok(())
+}
+
+/// Removes all files below a folder. Returns the folders, each after the one that it is in.
+///
+/// Errors: those of `clear_folder`.
+fn clear_folders<R: Files + AllocGlobal>(runtime: &R, path: &str) -> Result<Vec<String>, Failed> {
+    let alloc = runtime.alloc();
+    let mut waiting = Vec::new(alloc);
+    let mut cleared = Vec::new(alloc);
+    waiting.push(String::from_str(alloc, path)?)?;
+    for _ in 0..u64::MAX {
+        let Some(folder) = waiting.pop() else {
+            return Ok(cleared);
+        };
+        clear_folder(runtime, folder.as_str(), &mut waiting)?;
+        cleared.push(folder)?;
+    }
+    Ok(cleared)
+}
+
+/// Removes a folder and what is below it, one after another. So the path that cannot be removed is
+/// known.
+///
+/// Errors: the first file or folder that cannot be removed; out of memory.
+fn remove_singly<R: Files + AllocGlobal>(runtime: &R, path: &str) -> Result<(), Failed> {
+    let mut folders = clear_folders(runtime, path)?;
+    for _ in 0..u64::MAX {
+        let Some(folder) = folders.pop() else {
+            return Ok(());
+        };
+        if let Err(error) = fs::remove_dir(runtime, folder.as_str()) {
+            return Err(Failed::from(error).at(runtime.alloc(), folder.as_str()));
+        }
+    }
+    Ok(())
+}
+
 /// Removes the file or folder at a path, with all that is below it; it does nothing
 /// if nothing is there. A link is removed itself, and what it leads to stays.
-pub(crate) fn remove_tree<R: Files + AllocGlobal>(runtime: &R, path: &str) -> Result<(), PlaceFault>
-    ensures fault { IfErr result (λ e. e ≢ PlaceFault.OutOfMemory → e ≡ PlaceFault.Remove) }
-{
+///
+/// Errors: the first file or folder that cannot be removed; out of memory.
+pub(crate) fn remove_tree<R: Files + AllocGlobal>(runtime: &R, path: &str) -> Result<(), Failed> {
     let metadata = match fs::symlink_metadata(runtime, path) {
         Ok(metadata) => metadata,
         Err(error) if says_absent(&error) => return Ok(()),
-        Err(error) => return Err(fault_of(error, PlaceFault::Remove)),
+        Err(error) => return Err(Failed::from(error)),
     };
     match remove_whole(runtime, path, metadata.is_dir()) {
         Ok(()) => Ok(()),
-        Err(error) => Err(fault_of(error, PlaceFault::Remove)),
+        Err(error) if metadata.is_dir() && error.kind() != ErrorKind::OutOfMemory => {
+            remove_singly(runtime, path)
+        }
+        Err(error) => Err(Failed::from(error)),
     }
 }

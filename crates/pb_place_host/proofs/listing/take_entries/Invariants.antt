@@ -2,7 +2,7 @@ use Rattle.std.proofs.Common.{◌≡◌, ℕ, List, true}
 use Rattle.std.specs.Option.{option_copied}
 use Rattle.pb_place_types.specs.Paths.{is_at_or_below}
 use Rattle.pb_place_host.specs.Listing.{AreOutside, StaysBelow}
-use Rattle.pb_place_host.proofs.listing.take_folder.Given as goal
+use Rattle.pb_place_host.proofs.listing.take_entries.Given as goal
 
 abbrev pub invariant-loop-entry : goal.invariant-loop-entry
 invariant-loop-entry g l = record {

@@ -1,0 +1,88 @@
+//! What a place reports of a failure.
+
+ghost use Rattle.std.specs.Prelude.{◌≡◌, ◌<◌, [], All, IsTrue, ◌↔◌};
+ghost use Rattle.pb_place_host.specs.Reports.{IsPlain};
+
+use pb_data::{Items, Text};
+use std::alloc::{AllocError, Global};
+use std::marker::Model;
+
+/// The most texts of one report.
+const MOST_TEXTS: usize = 10;
+
+/// The most bytes of a text before it is cut. A path of the system has at most 4,096.
+const LONGEST: usize = 8_192;
+
+/// Returns a text with `?` for each control character. A longer text is cut, and ends with `..`.
+///
+/// Errors: out of memory.
+fn plain_text(alloc: Global, text: &str) -> Result<String, AllocError> {
+    let mut out = String::new(alloc);
+    for letter in text.chars() {
+        if out.len() > LONGEST {
+            out.push_str("..")?;
+            break;
+        }
+        out.push(if letter.is_control() { '?' } else { letter })?;
+    }
+    Ok(out)
+}
+
+/// Returns whether a text has no byte below 32, so no line feed.
+fn is_plain(text: &str) -> bool
+    ensures { IsTrue result ↔ All IsPlain text.now }
+{
+    text.as_bytes().iter().all(|byte| *byte > 31)
+}
+
+/// What is known of a failure: at most ten texts without line feeds. Contracts see the texts.
+#[derive(Drop)]
+pub(crate) struct Report {
+    inside: Items<Text>,
+}
+
+impl Model for Report {
+    ghost use Rattle.std.specs.Prelude.{ℕ, List};
+    ghost use Rattle.pb_place_host.specs.Reports.{AreReported};
+
+    ghost Value = { List (List ℕ) };
+
+    ghost view = { λ a. a.inside };
+
+    ghost invariant = { λ a. AreReported a.inside };
+}
+
+impl Report {
+    ghost use Rattle.pb_place_host.specs.Reports.{AreReported};
+
+    /// Returns a report without a text. It uses no memory.
+    pub(crate) fn new(alloc: Global) -> Report
+        ensures { result ≡ [] }
+    {
+        Report {
+            inside: Items::new(alloc),
+        }
+    }
+
+    /// Adds a text, if it is plain, there are fewer than ten, and memory does not run out.
+    fn push(&mut self, text: String) {
+        if self.inside.len() < MOST_TEXTS && is_plain(text.as_str()) {
+            let _ = self.inside.push(Text::new(text));
+        }
+    }
+
+    /// Adds a text with `?` for each control character, if memory does not run out.
+    pub(crate) fn say(&mut self, alloc: Global, text: &str) {
+        if let Ok(text) = plain_text(alloc, text) {
+            self.push(text);
+        }
+    }
+
+    /// Returns the texts.
+    pub(crate) fn texts(&self) -> &[Text]
+        ensures texts { result.now ≡ self.now }
+        ensures plain { AreReported result.now }
+    {
+        self.inside.as_slice()
+    }
+}
