@@ -1,6 +1,7 @@
 //! Message lines as text, and the command lines of children, for people at a terminal.
 #![tactic(auto)]
 
+mod long_record;
 pub mod rendering;
 pub mod screen;
 pub mod spoken;

@@ -3,14 +3,16 @@
 ghost use Rattle.std.specs.Prelude.{◌≡◌, Bool};
 ghost use Rattle.pb_place_types.specs.At.{IsUnchanged};
 
+use crate::long_record::long_record_line;
 use pb_data::{Bytes, Items, Text};
+use pb_place_host::Reporting;
 use pb_place_types::{
     Command, Ended, Moved, Out, PathFault, PathText, Place, PlaceFault, StartFault, write_all,
 };
 use std::alloc::{AllocError, Global};
 
-/// A place that can also name the children that it starts.
-pub trait Speaking: Place {
+/// A place that can also name the children that it starts, and report what failed.
+pub trait Speaking: Place + Reporting {
     /// How it is set to name children: the place before, whether it names them, and the place
     /// after.
     ghost speaks: { Self → Bool → Self → Type 0 };
@@ -80,6 +82,15 @@ fn name<S: Out>(alloc: Global, aside: &mut S, command: &Command) {
     };
 }
 
+/// Writes the note on a file that was written, if it is the long record of a script.
+fn weigh<S: Out>(alloc: Global, aside: &mut S, path: &PathText, bytes: &[u8]) {
+    match long_record_line(alloc, path, bytes) {
+        Ok(Some(line)) => write_all(aside, line.as_bytes()),
+        Ok(None) => true,
+        Err(_) => write_all(aside, b"note: out of memory for a note on a long record\n"),
+    };
+}
+
 impl<P: Place, S: Out> Spoken<P, S> {
     /// Returns a place that does what this one does, and names no child yet.
     pub fn new(inside: P, aside: S) -> Spoken<P, S>
@@ -93,7 +104,21 @@ impl<P: Place, S: Out> Spoken<P, S> {
     }
 }
 
-impl<P: Place, S: Out> Speaking for Spoken<P, S> {
+impl<P: Reporting, S: Out> Reporting for Spoken<P, S> {
+    fn failed_call(&self) -> &[Text] {
+        self.inside.failed_call()
+    }
+
+    fn failed_child(&self, key: &str) -> &[Text] {
+        self.inside.failed_child(key)
+    }
+
+    fn answered_query(&self) -> &[Text] {
+        self.inside.answered_query()
+    }
+}
+
+impl<P: Place + Reporting, S: Out> Speaking for Spoken<P, S> {
     ghost speaks = { λ old on new. new ≡ record old { on = on } };
 
     fn speak(&mut self, on: bool) {
@@ -158,7 +183,11 @@ impl<P: Place, S: Out> Place for Spoken<P, S> {
     }
 
     fn write(&mut self, alloc: Global, path: &PathText, bytes: &[u8]) -> Result<(), PlaceFault> {
-        self.inside.write(alloc, path, bytes)
+        let answer = self.inside.write(alloc, path, bytes);
+        if answer.is_ok() {
+            weigh(alloc, &mut self.aside, path, bytes);
+        }
+        answer
     }
 
     fn remove_tree(&mut self, alloc: Global, path: &PathText) -> Result<(), PlaceFault> {
