@@ -14,7 +14,7 @@ use Rattle.pb_build.specs.Session.{Breaks, Course, Point, point}
 use Rattle.pb_build.specs.declared.sessions.BuildOutcome.{BuildOutcome}
 use Rattle.pb_tool_program.specs.Session.{SessionStopped, SessionWritten, small_compiler, lines_of}
 use Rattle.pb_place_types.specs.declared.moved.Moved.{Moved}
-use Rattle.pb_tool_notes.specs.Notes.{lines_of as note_lines}
+use Rattle.pb_tool_notes_pages.specs.Notes.{lines_of as note_lines}
 use Rattle.pb_tool_program.specs.Building.{notes_of, moved_notes}
 use Rattle.pb_tool_program.specs.Writing.{Tells, TellsOr, Writes}
 

@@ -13,9 +13,10 @@ use Rattle.pb_workspace_types.specs.declared.options.Options.{Options}
 use Rattle.pb_build.specs.AnyPlan.{BuildsOnFirst}
 use Rattle.pb_build.specs.Ending.{BuildsFirst, PlansFrom}
 use Rattle.pb_build.specs.declared.builder.BuildPlan.{BuildPlan}
+use Rattle.pb_place_host.specs.Reports.{AreReported}
 use Rattle.pb_place_types.specs.Sinks.{SinkState}
 use Rattle.pb_build_turns.specs.Executor.{BuildState}
-use Rattle.pb_tool_notes.specs.Notes.{AreNotes, lines_of}
+use Rattle.pb_tool_notes_pages.specs.Notes.{AreNotes, lines_of}
 use Rattle.pb_tool_program.specs.Details.{detail}
 use Rattle.pb_tool_program.specs.Writing.{Tells, TellsOr}
 
@@ -67,6 +68,9 @@ said_lost = codes "note: out of memory for what a child said\n"
 abbrev pub detail_lost : List ℕ
 detail_lost = codes "note: out of memory for what the fault is about\n"
 
+abbrev pub report_lost : List ℕ
+report_lost = codes "note: out of memory for what is known of the fault\n"
+
 abbrev pub look_lost : List ℕ
 look_lost = codes "note: out of memory for the notes\n"
 
@@ -93,9 +97,23 @@ TellsSaid (Ok summary) old new = TellsOr said_lost (said_by_bad summary.bad summ
 abbrev pub TellsDetail : Result Summary BuildFault → SinkState → SinkState → Type 0
 TellsDetail answer old new = TellsOr detail_lost (detail answer) old new
 
+-- what a place reports of a fault of the outside: at most ten texts without line feeds; nothing more is promised of
+-- them. Without such a fault there are none.
+abbrev pub Reported : Result Summary BuildFault → List (List ℕ) → Type 0
+Reported (Err (build.Child unit fault)) texts = AreReported texts
+Reported (Err (build.Device unit fault)) texts = AreReported texts
+Reported (Err build.Toolchain) texts = AreReported texts
+Reported answer texts = texts ≡ []
+
+-- what is written of a report: a line `note: TEXT` for each text, or that memory ran out for that; nothing if there are
+-- none
+abbrev pub TellsReport : List (List ℕ) → SinkState → SinkState → Type 0
+TellsReport texts old new = TellsOr report_lost (lines_of texts) old new
+
 -- how a build with this answer ends: with its status; and beside the output, why children were started if that is
--- requested, what a failing child printed, the detail of the fault, and why the build failed
-pub record Concludes (explain : Bool) (answer : Result Summary BuildFault) (notes : List (List ℕ)) (status : ℕ) (old new : SinkState) : Type 0 where
+-- requested, what a failing child printed, the detail of the fault, what the place reports of it, and why the build
+-- failed
+pub record Concludes (explain : Bool) (answer : Result Summary BuildFault) (report notes : List (List ℕ)) (status : ℕ) (old new : SinkState) : Type 0 where
   pub told : status ≡ status_of answer
   pub explained : SinkState
   pub reasons : TellsReasons explain answer old explained
@@ -103,8 +121,10 @@ pub record Concludes (explain : Bool) (answer : Result Summary BuildFault) (note
   pub said : TellsSaid answer explained repeated
   pub detailed : SinkState
   pub detail : TellsDetail answer repeated detailed
+  pub reported : SinkState
+  pub reports : TellsReport report detailed reported
   pub told_again : SinkState
-  pub again : TellsOr look_lost (lines_of notes) detailed told_again
+  pub again : TellsOr look_lost (lines_of notes) reported told_again
   pub reason : TellsWhy status answer told_again new
 
 -- a look at the place: nothing has changed but the counters of calls and of failures, so no child was started
@@ -158,5 +178,8 @@ pub record BuildsTold (is_modelled : Bool) (child : Answers) (Guards : Option (L
   pub stood : IsTrue is_modelled → moved ≡ []
   pub marked : SinkState
   pub marks : TellsOr moved_lost (moved_notes moved) held marked
+  -- what the place reports of a fault, without a further call
+  pub report : List (List ℕ)
+  pub reports : Reported answer report
   -- what is written after the build
-  pub concluded : Concludes explain answer notes_again status marked said_after
+  pub concluded : Concludes explain answer report notes_again status marked said_after

@@ -9,7 +9,7 @@ use Rattle.pb_place_types.specs.declared.place.PlaceFault.{PlaceFault}
 use Rattle.pb_build_result.specs.declared.fault.BuildFault.TheVariants as build_fault
 use Rattle.pb_tool_arguments.specs.Asking.{Asks, Unasks}
 use Rattle.pb_tool_arguments.specs.declared.invocation.Invocation.{Invocation}
-use Rattle.pb_tool_arguments.specs.declared.invocation.Invocation.TheVariants.{Build, Session, Explain}
+use Rattle.pb_tool_arguments.specs.declared.invocation.Invocation.TheVariants.{Build, Session, Explain, Plan, Clean}
 use Rattle.pb_tool_arguments.specs.declared.invocation.Shown.{Shown}
 use Rattle.pb_tool_arguments.specs.declared.invocation.ArgumentsError.{ArgumentsError}
 use Rattle.pb_tool_arguments.specs.declared.invocation.ArgumentsError.TheVariants.{Help, Wrong, OutOfMemory}
@@ -20,6 +20,8 @@ use Rattle.pb_build_session.specs.declared.fault.BadSession.TheVariants.{BadForm
 use Rattle.pb_place_types.specs.Sinks.{SinkState}
 use Rattle.pb_build_turns.specs.Executor.{BuildState}
 use Rattle.pb_tool_program.specs.Building.{BuildsTold, error_of}
+use Rattle.pb_tool_program.specs.Cleaning.{CleansTold}
+use Rattle.pb_tool_program.specs.Planning.{PlansTold}
 use Rattle.pb_tool_program.specs.Names.{Means, Prints}
 use Rattle.pb_tool_program.specs.Session.{Refused, SessionStopped, SessionWritten}
 use Rattle.pb_tool_program.specs.Writing.{Tells}
@@ -82,6 +84,8 @@ AsksOrNot words here (Err unasked) = Unasks words here.folder unasked
 abbrev pub Does : Bool → Answers → (Option (List ℕ) → Counts → SinkState → SinkState → Type 0) → (Shown → Type 0) → Page → List Moved → Result Invocation ArgumentsError → ℕ → BuildState → BuildState → SinkState → SinkState → Type 0
 Does is_modelled child Guards Told page moved (Ok (Build options shown)) status old new said_before said_after = Told shown × BuildsTold is_modelled child Guards moved options shown.explain status old new said_before said_after
 Does is_modelled child Guards Told page moved (Ok (Session path)) status old new said_before said_after = RunsFile is_modelled path status old new said_before said_after × Guards None old.counts said_before said_before
+Does is_modelled child Guards Told page moved (Ok (Plan options form)) status old new said_before said_after = PlansTold is_modelled options form status old new said_before said_after × Guards None old.counts said_before said_before
+Does is_modelled child Guards Told page moved (Ok (Clean options one_profile)) status old new said_before said_after = CleansTold is_modelled Guards options one_profile status old new said_before said_after
 Does is_modelled child Guards Told page moved (Ok (Explain name)) status old new said_before said_after = (new ≡ record old { heard = new.heard }) × Means page name status old.heard new.heard said_before said_after × Guards None old.counts said_before said_before
 Does is_modelled child Guards Told page moved (Err unasked) status old new said_before said_after = (new ≡ record old { heard = new.heard }) × Explains unasked status old.heard new.heard said_before said_after × Guards None old.counts said_before said_before
 

@@ -9,17 +9,19 @@ ghost use Rattle.pb_build_turns.specs.Executor.{BuildState, moment};
 ghost use Rattle.pb_build_result.specs.ResultLine.{result_line};
 ghost use Rattle.pb_build_result.specs.declared.fault.BuildFault.{BuildFault};
 ghost use Rattle.pb_build_result.specs.declared.summary.Summary.{Summary};
-ghost use Rattle.pb_tool_notes.specs.Looks.{LooksAgain};
-ghost use Rattle.pb_tool_notes.specs.Notes.{lines_of};
+ghost use Rattle.pb_tool_notes_pages.specs.Looks.{LooksAgain};
+ghost use Rattle.pb_tool_notes_pages.specs.Notes.{lines_of};
 ghost use Rattle.pb_tool_program.specs.Building.{status_of, notes_of, moved_lost, moved_note, moved_notes, look_lost, error_of, folder_of, LooksOver, NotesOf, TellsDetail, TellsReasons, TellsSaid, TellsWhy, Concludes, BuildsTold};
 ghost use Rattle.pb_tool_program.specs.Guarding.{Guarded, waiting};
 ghost use Rattle.pb_tool_program.specs.Writing.{Tells, TellsOr};
 
 use crate::details::detail;
 use crate::guard::Guard;
+use crate::reports::{reported, tell_report};
 use pb_build::{BuildPlan, build_plan, plan_build};
 use pb_build_result::{BuildFault, Refusal, Summary, explanation, result_line, said};
 use pb_data::Text;
+use pb_place_host::Reporting;
 use pb_place_types::{Moved, Out, PathText, Place, write_all};
 use pb_tool_notes::{Notes, notes_on_build, notes_on_features, notes_on_load, notes_on_plan};
 use pb_workspace_types::Options;
@@ -37,7 +39,8 @@ fn status_of(answer: &Result<Summary, BuildFault>) -> u8
 
 /// Adds a line for a package without a library.
 fn push_note(notes: &mut String, name: &str) -> Result<(), AllocError>
-    ensures { OnOk result (string_bytes notes.new ≡ string_bytes notes.old ++ codes "note: " ++ name.now ++ codes " has no library\n") }
+    ensures { OnOk result (string_bytes notes.new ≡ string_bytes notes.old ++ codes "note: "
+        ++ name.now ++ codes " has no library\n") }
 {
     notes.push_str("note: ")?;
     notes.push_str(name)?;
@@ -147,8 +150,14 @@ fn tell_waiting<E: Out>(err: &mut E)
 }
 
 /// Takes a folder. If another build has it, this writes a line and waits.
-fn take<P: Place, G: Guard<P, E>, E: Out>(guard: &mut G, place: &P, err: &mut E, folder: &PathText)
-    ensures { Guarded G.asks G.waits guard.old guard.new (Some folder.now) (P.at place.now).counts (E.heard err.old) (E.heard err.new) }
+pub(crate) fn take<P: Place, G: Guard<P, E>, E: Out>(
+    guard: &mut G,
+    place: &P,
+    err: &mut E,
+    folder: &PathText,
+)
+    ensures { Guarded G.asks G.waits guard.old guard.new (Some folder.now) (P.at place.now).counts
+        (E.heard err.old) (E.heard err.new) }
 {
     if guard.is_taken(place, err, folder) {
         tell_waiting(err);
@@ -163,7 +172,8 @@ fn hold<P: Place, G: Guard<P, E>, E: Out>(
     err: &mut E,
     plan: &Result<BuildPlan, BuildFault>,
 )
-    ensures { Guarded G.asks G.waits guard.old guard.new (folder_of plan.now) (P.at place.now).counts (E.heard err.old) (E.heard err.new) }
+    ensures { Guarded G.asks G.waits guard.old guard.new (folder_of plan.now)
+        (P.at place.now).counts (E.heard err.old) (E.heard err.new) }
 {
     match plan {
         Ok(plan) => take(guard, place, err, &plan.environment.target),
@@ -256,7 +266,7 @@ fn look_at_refusal<P: Place>(
 
 /// Looks again at the workspace of a build that was refused or ended without a fault, for notes on
 /// it. After any other fault it makes no call of the place.
-fn look<P: Place>(
+pub(crate) fn look<P: Place>(
     alloc: Global,
     place: &mut P,
     options: &Options,
@@ -287,18 +297,21 @@ fn tell_notes<E: Out>(alloc: Global, err: &mut E, notes: &Notes)
 }
 
 /// Writes what is written after a build, and returns its status.
-fn conclude<E: Out>(
+pub(crate) fn conclude<E: Out>(
     alloc: Global,
     err: &mut E,
     explain: bool,
     answer: &Result<Summary, BuildFault>,
+    report: &[Text],
     notes: &Notes,
 ) -> u8
-    ensures { Concludes explain answer.now notes.now result (E.heard err.old) (E.heard err.new) }
+    ensures { Concludes explain answer.now report.now notes.now result
+        (E.heard err.old) (E.heard err.new) }
 {
     explain_to(alloc, err, explain, answer);
     repeat_to(alloc, err, answer);
     tell_detail(alloc, err, answer);
+    tell_report(alloc, err, report);
     tell_notes(alloc, err, notes);
     let status = status_of(answer);
     tell(alloc, err, status, answer);
@@ -315,13 +328,14 @@ fn conclude<E: Out>(
 ///   unit again.
 /// - If requested, why each child was started.
 /// - What the child of a bad unit printed that no message line contains.
-/// - The detail of the fault, as the path of a manifest, if the fault has more than a name, and the
-///   notes of a second look.
+/// - The detail of the fault, as the path of a manifest, if the fault has more than a name.
+/// - What the place reports of a fault of the outside.
+/// - The notes of a second look.
 /// - For a build that failed or was refused, `error: ` and its result line.
 ///
 /// Between the plan and the query of the compiler's version, the guard is asked for the target
 /// folder. If another build has it, a line on `err` says so, and this build waits.
-pub fn build_options<P: Place, G: Guard<P, E>, O: Out, E: Out>(
+pub fn build_options<P: Place + Reporting, G: Guard<P, E>, O: Out, E: Out>(
     alloc: Global,
     place: &mut P,
     guard: &mut G,
@@ -345,5 +359,6 @@ pub fn build_options<P: Place, G: Guard<P, E>, O: Out, E: Out>(
     // For the proof: they are at most ten lines.
     notes.texts();
     mark(alloc, err, place.moved());
-    conclude(alloc, err, explain, &answer, &notes)
+    let report = reported(place, &answer);
+    conclude(alloc, err, explain, &answer, report, &notes)
 }

@@ -21,7 +21,8 @@ pub trait Guard<P: Place, E: Out> {
     /// Requests a folder, takes it if it is free, and returns whether another build has it. A
     /// folder that cannot be guarded counts as free.
     fn is_taken(&mut self, place: &P, err: &E, folder: &PathText) -> bool
-        ensures { asks self.old folder.now (P.at place.now).counts (E.heard err.now) result self.new };
+        ensures { asks self.old folder.now (P.at place.now).counts
+            (E.heard err.now) result self.new };
 
     /// Waits until the folder that was requested last is free, and takes it.
     fn wait(&mut self, place: &P, err: &E)

@@ -3,21 +3,26 @@
 #![tactic(auto)]
 
 mod building;
+mod cleaning;
 mod details;
 mod folder_lock;
 mod guard;
 mod machine;
 mod names;
+mod planning;
 mod processors;
+mod reports;
 mod running;
 mod session;
 
 pub use building::build_options;
+pub use cleaning::clean_options;
 pub use guard::Guard;
 pub use machine::tool;
 pub use pb_place_host::HostPlace;
-pub use pb_tool_arguments::Here;
+pub use pb_tool_arguments::{Here, PlanForm};
 pub use pb_tool_explain::page_of_errors;
 pub use pb_tool_screen::{Rendered, Spoken};
+pub use planning::plan_options;
 pub use running::run;
 pub use session::{run_session, write_results};

@@ -7,8 +7,10 @@ ghost use Rattle.pb_tool_program.specs.Building.{BuildsTold};
 ghost use Rattle.pb_tool_program.specs.Running.{RunsFile, Explains, IsTold, Runs};
 
 use crate::building::build_options;
+use crate::cleaning::clean_options;
 use crate::guard::Guard;
 use crate::names::mean;
+use crate::planning::plan_options;
 use crate::session::{refuse, run_session};
 use pb_place_types::{Out, PathText, Place, write_all};
 use pb_tool_arguments::{ArgumentsError, Here, Invocation, Shown, read_command_line};
@@ -123,6 +125,15 @@ pub fn run<S: AsStr, P: Speaking, G: Guard<P, E>, O: Screen, E: Out>(
         Ok(Invocation::Build { options, shown }) => {
             build(alloc, place, guard, out, err, &options, shown)
         }
+        Ok(Invocation::Plan { options, form }) => {
+            plan_options(alloc, place, out, err, &options, form)
+        }
+        Ok(
+            Invocation::Clean {
+                options,
+                one_profile,
+            },
+        ) => clean_options(alloc, place, guard, err, &options, one_profile),
         Ok(Invocation::Session(path)) => run_file(alloc, place, &path, out, err),
         Ok(Invocation::Explain(name)) => mean(alloc, page, name.as_str(), out, err),
         Err(unasked) => explain(&unasked, out, err),

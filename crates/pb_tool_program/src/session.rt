@@ -44,7 +44,8 @@ pub fn write_results<O: Out>(
     answers: &[BuildOutcome],
     out: &mut O,
 ) -> Result<bool, AllocError>
-    ensures written { IfOk result (λ whole. Writes whole (lines_of answers.now) (O.heard out.old) (O.heard out.new)) }
+    ensures written { IfOk result (λ whole.
+        Writes whole (lines_of answers.now) (O.heard out.old) (O.heard out.new)) }
     ensures memory { OnErr result (out.new ≡ out.old) }
 {
     let lines = result_lines(alloc, answers)?;
@@ -53,7 +54,8 @@ pub fn write_results<O: Out>(
 
 /// Runs a session and writes its lines. Returns whether all result lines were written.
 fn carry_out<O: Out>(alloc: Global, bytes: &[u8], out: &mut O) -> Result<bool, BadSession>
-    ensures written { IfOk result (λ whole. SessionWritten whole bytes.now (O.heard out.old) (O.heard out.new)) }
+    ensures written { IfOk result (λ whole.
+        SessionWritten whole bytes.now (O.heard out.old) (O.heard out.new)) }
     ensures stopped { OnErr result (SessionStopped bytes.now (O.heard out.old) (O.heard out.new)) }
     ensures bad { IfErr result (λ e. e ≡ BadForm → session_of bytes.now ≡ Err BadForm) }
     ensures untouched { session_of bytes.now ≡ Err BadForm → out.new ≡ out.old }
@@ -79,8 +81,10 @@ fn carry_out<O: Out>(alloc: Global, bytes: &[u8], out: &mut O) -> Result<bool, B
 /// build that is refused or fails does not make a session bad: its result line reports it.
 pub fn run_session<O: Out, E: Out>(alloc: Global, bytes: &[u8], out: &mut O, err: &mut E) -> u8
     ensures status { (result ≡ 0) ⊎ (result ≡ 1) }
-    ensures written { result ≡ 0 → SessionWritten true bytes.now (O.heard out.old) (O.heard out.new) }
-    ensures cut { result ≡ 1 → SessionStopped bytes.now (O.heard out.old) (O.heard out.new) ⊎ SessionWritten false bytes.now (O.heard out.old) (O.heard out.new) }
+    ensures written { result ≡ 0 →
+        SessionWritten true bytes.now (O.heard out.old) (O.heard out.new) }
+    ensures cut { result ≡ 1 → SessionStopped bytes.now (O.heard out.old) (O.heard out.new)
+        ⊎ SessionWritten false bytes.now (O.heard out.old) (O.heard out.new) }
     ensures untouched { session_of bytes.now ≡ Err BadForm → out.new ≡ out.old }
     ensures quiet { result ≡ 0 → err.new ≡ err.old }
     ensures told { result ≡ 1 → Refused (E.heard err.old) (E.heard err.new) }

@@ -37,5 +37,7 @@ returns g c =
       notes_again = c.look-notes.result;
       are_notes = c.texts.ensures.notes;
       looked = c.look-notes.ensures (g.O.Out.heard c.build_plan-answer.new.out);
+      report = c.reported-report.result.now;
+      reports = c.reported-report.ensures;
       concluded = c.conclude.ensures;
     }

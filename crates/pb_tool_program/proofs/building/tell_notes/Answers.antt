@@ -1,5 +1,5 @@
 use Rattle.std.proofs.Common.{◌≡◌, ◌==◌, ◌∙◌, inl, inr, length, false, true, refl, sym, subst}
-use Rattle.pb_tool_notes.specs.Notes.{lines_of}
+use Rattle.pb_tool_notes_pages.specs.Notes.{lines_of}
 use Rattle.pb_tool_program.specs.Building.{look_lost}
 use Rattle.pb_tool_program.specs.Writing.{TellsOr}
 use Rattle.pb_tool_program.proofs.Lines.{lines_none, lines_some, tells_by, tells_some}

@@ -1,0 +1,26 @@
+use Rattle.std.proofs.Common.{◌≡◌, ◌==◌, ◌∙◌, inl, inr, length, true, refl, sym, subst}
+use Rattle.pb_tool_notes_pages.specs.Notes.{lines_of}
+use Rattle.pb_tool_program.specs.Building.{TellsReport, report_lost}
+use Rattle.pb_tool_program.specs.Writing.{TellsOr}
+use Rattle.pb_tool_program.proofs.Lines.{lines_none, lines_some, tells_by, tells_some}
+use Rattle.pb_place_types.specs.Sinks.{SinkState}
+use Rattle.pb_tool_program.proofs.reports.tell_report.Goals as goal
+
+pub returns-then-is_empty : goal.returns-then-is_empty
+returns-then-is_empty g c =
+    let old : SinkState = (g.E.Out.heard c.args.err.now) in
+    subst (λ lines. TellsOr report_lost lines old old) (sym (lines_none c.args.texts.now (sym c.is_empty.ensures ∙ c.if-is_empty.true))) refl
+
+pub returns-in-Ok : goal.returns-in-Ok
+returns-in-Ok g c =
+    let old : SinkState = (g.E.Out.heard c.args.err.now) in
+    let new : SinkState = (g.E.Out.heard c.write_all.new.out) in
+    tells_some report_lost (lines_of c.args.texts.now) old new (lines_some c.args.texts.now (sym c.is_empty.ensures ∙ c.if-is_empty.false))
+    (inl (tells_by c.write_all.result (lines_of c.args.texts.now) c.as_bytes.result.now old new (c.as_bytes.ensures.value ∙ c.in-Ok.ensures) c.write_all.ensures.all c.write_all.ensures.whole c.write_all.ensures.part c.write_all.ensures.fault))
+
+pub returns-in-Err : goal.returns-in-Err
+returns-in-Err g c =
+    let old : SinkState = (g.E.Out.heard c.args.err.now) in
+    let new : SinkState = (g.E.Out.heard c.write_all-in-Err.new.out) in
+    tells_some report_lost (lines_of c.args.texts.now) old new (lines_some c.args.texts.now (sym c.is_empty.ensures ∙ c.if-is_empty.false))
+    (inr (tells_by c.write_all-in-Err.result report_lost report_lost old new refl c.write_all-in-Err.ensures.all c.write_all-in-Err.ensures.whole c.write_all-in-Err.ensures.part c.write_all-in-Err.ensures.fault))

@@ -1,0 +1,12 @@
+use Rattle.std.proofs.Common.{Ok, map, subst}
+use Rattle.pb_tool_arguments.specs.Asking.{Asks}
+use Rattle.pb_tool_arguments.specs.declared.invocation.Invocation.{Invocation}
+use Rattle.pb_tool_arguments.specs.declared.invocation.Invocation.TheVariants.{Clean}
+use Rattle.pb_tool_program.proofs.running.run.Goals as goal
+
+pub returns-in-Ok-Clean : goal.returns-in-Ok-Clean
+returns-in-Ok-Clean g c = (
+  Ok (Clean c.in-Ok-Clean.options c.in-Ok-Clean.one_profile),
+  subst (λ (asked : Invocation). Asks (map g.S.AsStr.text c.args.words.now) c.args.here.now asked) c.in-Ok-Clean.field-0-is c.in-Ok-Clean.ensures.asked,
+  c.clean_options.ensures (g.O.Out.heard c.args.out.now),
+)
