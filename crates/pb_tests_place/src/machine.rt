@@ -1,5 +1,6 @@
-//! Tests of the machine that the programs run on: a place of real files, variables and children. Each test works in a
-//! folder of its own in the system's folder for temporary files, and removes it.
+//! Tests of the machine that the programs run on: a place of real files, variables and children.
+//! Each test works in a folder of its own in the system's folder for temporary files, and removes
+//! it.
 
 mod broken;
 mod calls;
@@ -12,3 +13,4 @@ mod folders;
 mod links;
 mod meaning;
 mod moving;
+mod reports;

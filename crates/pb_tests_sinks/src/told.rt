@@ -1,14 +1,15 @@
 //! A place of which the variables are chosen.
 
 use pb_data::{Bytes, Items, Text, TryCopy};
+use pb_place_host::Reporting;
 use pb_place_types::{
     Command, Ended, Moved, Out, PathFault, PathText, Place, PlaceFault, StartFault,
 };
 use pb_tool_program::Guard;
 use std::alloc::{AllocError, Global};
 
-/// A place that passes every call on to another, but for variables: `RUSTC` is what it was made with, and no other is
-/// set.
+/// A place that passes every call on to another, but for variables: `RUSTC` is what it was made
+/// with, and no other is set.
 #[derive(Drop)]
 pub(crate) struct Told<P> {
     /// The place whose calls these are.
@@ -133,6 +134,20 @@ impl<P: Place> Place for Told<P> {
 
     fn most(&self) -> u64 {
         self.inside.most()
+    }
+}
+
+impl<P: Reporting> Reporting for Told<P> {
+    fn failed_call(&self) -> &[Text] {
+        self.inside.failed_call()
+    }
+
+    fn failed_child(&self, key: &str) -> &[Text] {
+        self.inside.failed_child(key)
+    }
+
+    fn answered_query(&self) -> &[Text] {
+        self.inside.answered_query()
     }
 }
 
