@@ -83,7 +83,7 @@ fn push_largest(
     Ok(())
 }
 
-/// Returns the note on a script's long record, without the line feed at its end.
+/// Returns the note on a script's long record, as a line.
 ///
 /// Errors: out of memory.
 fn text_of(alloc: Global, length: usize, record: &Record) -> Result<String, AllocError> {
@@ -96,8 +96,8 @@ fn text_of(alloc: Global, length: usize, record: &Record) -> Result<String, Allo
     Ok(text)
 }
 
-/// Returns the note on a file that was written, as a line: if the file is the record of a script
-/// that names no input and has more than 16,777,216 bytes. For any other file it is empty.
+/// Returns the note on a file that was written, as a line, if the file is the record of a script
+/// that names no input and has more than 16,777,216 bytes; `None` for any other file.
 ///
 /// Errors: out of memory.
 pub(crate) fn long_record_line(
