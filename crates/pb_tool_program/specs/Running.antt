@@ -79,8 +79,9 @@ abbrev pub AsksOrNot : List (List ℕ) → Here → Result Invocation ArgumentsE
 AsksOrNot words here (Ok asked) = Asks words here asked
 AsksOrNot words here (Err unasked) = Unasks words here.folder unasked
 
--- what follows from that: the requested build or session; else the place is not used. Only a build asks the guard for a
--- folder. What it shows beside its lines changes nothing else: `BuildsTold` depends on `explain` only.
+-- what follows from that: the requested build, plan, removal or session; else the place is not used. Only a build and a
+-- removal ask the guard for a folder. What a build shows beside its lines changes nothing else: `BuildsTold` depends on
+-- `explain` only.
 abbrev pub Does : Bool → Answers → (Option (List ℕ) → Counts → SinkState → SinkState → Type 0) → (Shown → Type 0) → Page → List Moved → Result Invocation ArgumentsError → ℕ → BuildState → BuildState → SinkState → SinkState → Type 0
 Does is_modelled child Guards Told page moved (Ok (Build options shown)) status old new said_before said_after = Told shown × BuildsTold is_modelled child Guards moved options shown.explain status old new said_before said_after
 Does is_modelled child Guards Told page moved (Ok (Session path)) status old new said_before said_after = RunsFile is_modelled path status old new said_before said_after × Guards None old.counts said_before said_before

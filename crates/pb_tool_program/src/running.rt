@@ -94,13 +94,13 @@ fn build<P: Speaking, G: Guard<P, E>, O: Screen, E: Out>(
 /// The whole program: does what the arguments of the command line request, the program's own name
 /// first.
 ///
-/// A build asks the guard for its target folder, once it is planned. What it shows beside its lines
-/// is set at the place (its children) and at `out` (its lines, as text). The page contains the
-/// meanings of the names of result lines.
+/// A build asks the guard for its target folder, once it is planned, and a removal once it has
+/// listed. What a build shows beside its lines is set at the place (its children) and at `out` (its
+/// lines, as text). The page contains the meanings of the names of result lines.
 ///
 /// The status is:
 ///
-/// - that of `build_options` or `run_session`;
+/// - that of `build_options`, `plan_options`, `clean_options` or `run_session`;
 /// - 1 for a bad command line, and for a name that the page does not have;
 /// - 0 if help or a name's meaning was requested, 1 if it cannot be written;
 /// - 101 if memory runs out before.
