@@ -31,3 +31,9 @@ for option in --target=a --all-targets --exclude --targ --realese -Z -x; do
     echo "status $?"
     sed -n '1p; /tip:/p' said
 done
+# A plan has one form, and a removal one profile.
+bad plan --json --dot
+bad plan --jobs 2
+bad clean --release --profile dev
+bad clean --all-features
+bad clean app

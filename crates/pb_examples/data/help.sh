@@ -15,3 +15,9 @@ grep -c Usage help
 pb_tool --version
 echo "status $?"
 pb_tool -V
+# What a plan and a removal mean by each status.
+for command in plan clean; do
+    pb_tool $command --help > help
+    echo "status $?"
+    sed -n '/^It removes/p; /^Status/,$p' help
+done
