@@ -1,4 +1,4 @@
-# Completions of pb_tool for bash. `bench/completions.py` writes this file.
+# Completions of pb_tool for bash. `bench/pages/completions.py` writes this file.
 _pb_tool() {
     local word="${COMP_WORDS[COMP_CWORD]}" before="${COMP_WORDS[COMP_CWORD-1]}" words=""
     case "${COMP_WORDS[1]}" in

@@ -1,4 +1,4 @@
-# Completions of pb_tool for fish. `bench/completions.py` writes this file.
+# Completions of pb_tool for fish. `bench/pages/completions.py` writes this file.
 complete -c pb_tool -f
 complete -c pb_tool -n __fish_use_subcommand -a build -d 'Builds a workspace of path packages and prints message lines in JSON'
 complete -c pb_tool -n __fish_use_subcommand -a plan -d 'Prints the units of a build and what each needs, and builds nothing'

@@ -1,5 +1,5 @@
 //! What the names of result lines mean, as `docs/ERRORS.md` says it, and which name is near a word.
-//! `bench/explained.py` writes the tables from that page.
+//! `bench/pages/explained.py` writes the tables from that page.
 #![tactic(auto)]
 
 pub mod entry;

@@ -1,4 +1,4 @@
-//! What the names of bad units and of faults mean. Written by `bench/explained.py`: change `docs/ERRORS.md`.
+//! What the names of bad units and of faults mean. Written by `bench/pages/explained.py`: change `docs/ERRORS.md`.
 
 use crate::entry::Entry;
 
