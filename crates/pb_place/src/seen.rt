@@ -2,6 +2,7 @@
 
 ghost use Rattle.std.specs.Prelude.{◌≡◌, ◌≢◌, ℕ, Bool, true, false, IfOk, IfErr, OnOk, OnErr, IsTrue, IfSome, take};
 ghost use Rattle.std.specs.FinMap as map;
+ghost use Rattle.std.specs.List.{concat};
 ghost use Rattle.std.specs.Option.{option_map};
 ghost use Rattle.pb_place_types.specs.At.{IsUnchanged, LooksOnce, ChangesOnce, Spawns, Finishes, Starts};
 ghost use Rattle.pb_place_types.specs.Paths.{is_at_or_below};
@@ -220,6 +221,27 @@ impl<P: Place> Place for Seen<P> {
             ≡ seen (call_failed result) (self.old.faulted, self.old.after) }
     {
         let answer = self.place.write(alloc, path, bytes);
+        self.note(call_failed(&answer));
+        answer
+    }
+
+    fn write_pieces(
+        &mut self,
+        alloc: Global,
+        path: &PathText,
+        pieces: &[Bytes],
+    ) -> Result<(), PlaceFault>
+        ensures ok { IsTrue P.is_modelled → OnOk result ((P.at self.new.place).world
+            ≡ written path.now (concat pieces.now) (P.at self.old.place).world) }
+        ensures err { IsTrue P.is_modelled → OnErr result (Torn path.now (concat pieces.now)
+            (P.at self.old.place).world (P.at self.new.place).world) }
+        ensures changes { ChangesOnce (is_at_or_below path.now) (call.Write path.now) result
+            (P.at self.old.place) (P.at self.new.place) }
+        ensures fails { IfErr result (λ e. e ≢ PlaceFault.OutOfMemory → P.fails self.old.place) }
+        ensures seen { (self.new.faulted, self.new.after)
+            ≡ seen (call_failed result) (self.old.faulted, self.old.after) }
+    {
+        let answer = self.place.write_pieces(alloc, path, pieces);
         self.note(call_failed(&answer));
         answer
     }

@@ -6,6 +6,7 @@ pub mod InFlight
 pub mod Folders
 pub mod MapLemmas
 pub mod PathLemmas
+pub mod Joins
 pub mod Starts
 pub mod TakenApart
 pub mod Towards

@@ -9,6 +9,7 @@ mod files;
 mod laws;
 pub mod moved;
 pub mod path;
+mod pieces;
 pub mod place;
 mod relative;
 mod sink;
@@ -28,6 +29,7 @@ pub use laws::{
 };
 pub use moved::Moved;
 pub use path::{PathFault, PathText};
+pub use pieces::{joined, length_of};
 pub use place::{Failure, Place, PlaceFault, StartFault};
 pub use relative::RelativePath;
 pub use sink::{Out, Over};

@@ -2,6 +2,7 @@
 
 ghost use Rattle.std.specs.Prelude.{◌≡◌, ◌≢◌, [], Bool, true, IfOk, IfErr, OnOk, OnErr, IsTrue, IfSome, take};
 ghost use Rattle.std.specs.FinMap as map;
+ghost use Rattle.std.specs.List.{concat};
 ghost use Rattle.std.specs.Option.{option_map};
 ghost use Rattle.pb_data.specs.UnlessOom.{UnlessOom};
 ghost use Rattle.pb_place_types.specs.At.{At, IsUnchanged, LooksOnce, ChangesOnce, Spawns, Finishes, Starts};
@@ -243,6 +244,24 @@ pub trait Place {
             ((at self.new).world ≡ written path.now bytes.now (at self.old).world) }
         ensures err { IsTrue is_modelled → OnErr result
             (Torn path.now bytes.now (at self.old).world (at self.new).world) }
+        ensures changes { ChangesOnce (is_at_or_below path.now) (call.Write path.now) result
+            (at self.old) (at self.new) }
+        ensures fails { IfErr result (λ e. e ≢ PlaceFault.OutOfMemory → fails self.old) };
+
+    /// Writes a file whose bytes come in pieces: those of the first piece, then those of the next.
+    /// Apart from that it is `write`, and is counted as `write` is.
+    ///
+    /// Errors: `Write`; `OutOfMemory`.
+    fn write_pieces(
+        &mut self,
+        alloc: Global,
+        path: &PathText,
+        pieces: &[Bytes],
+    ) -> Result<(), PlaceFault>
+        ensures ok { IsTrue is_modelled → OnOk result
+            ((at self.new).world ≡ written path.now (concat pieces.now) (at self.old).world) }
+        ensures err { IsTrue is_modelled → OnErr result
+            (Torn path.now (concat pieces.now) (at self.old).world (at self.new).world) }
         ensures changes { ChangesOnce (is_at_or_below path.now) (call.Write path.now) result
             (at self.old) (at self.new) }
         ensures fails { IfErr result (λ e. e ≢ PlaceFault.OutOfMemory → fails self.old) };

@@ -3,6 +3,7 @@
 
 ghost use Rattle.std.specs.Prelude.{◌≡◌, ◌≢◌, ◌-◌, true, IfOk, IfErr, OnErr, Err};
 ghost use Rattle.std.specs.FinMap as map;
+ghost use Rattle.std.specs.List.{concat};
 ghost use Rattle.pb_place_types.specs.World.{has_file, removed, listed, listed_directly, listed_folders, ChangesOnly, Torn, PartlyRemoved, Ends};
 ghost use Rattle.pb_place_types.specs.Paths.{is_at_or_below};
 ghost use Rattle.pb_place_types.specs.CallsInTurn.{own_fault};
@@ -11,13 +12,15 @@ ghost use Rattle.pb_place_types.specs.Counts.{past_call, counted_start, counted_
 ghost use Rattle.pb_place_types.specs.Children.{child_spawned, is_flying};
 ghost use Rattle.pb_place.specs.InFlight.{children_in};
 ghost use Rattle.pb_place.specs.Memory.{at_in, counts_in, may_fail};
-ghost use Rattle.pb_place.specs.Fuses.{FailsByFuse, called, after_write, after_removal};
+ghost use Rattle.pb_place.specs.Fuses.{FailsByFuse, called, fuse_past, after_write, after_removal};
 ghost use Rattle.pb_place.specs.Starts.{SpawnFails, SpawnsIn, EndFails, EndsIn, StartFails, StartsIn};
 
 use crate::memory::Memory;
 use crate::sight::file_in;
 use pb_data::{Bytes, Items, Text};
-use pb_place_types::{Call, Child, Command, Ended, Moved, PathText, Place, PlaceFault, StartFault};
+use pb_place_types::{
+    Call, Child, Command, Ended, Moved, PathText, Place, PlaceFault, StartFault, joined,
+};
 use std::alloc::{AllocError, Global};
 
 impl<C> Memory<C> {
@@ -46,6 +49,20 @@ impl<C> Memory<C> {
         self.fuse = 0;
         let own = call.own_fault();
         self.tally.count(call, Err(own))
+    }
+
+    /// Counts a write for which memory ran out before it changed anything. If it was to fail, the
+    /// fuse stays.
+    fn refuse(&mut self)
+        ensures { self.new ≡ record self.old {
+          tally = past_call self.old.tally;
+          fuse = fuse_past PlaceFault.OutOfMemory self.old.fuse;
+        } }
+    {
+        self.tally.pass();
+        if self.fuse > 1 {
+            self.fuse -= 1;
+        }
     }
 
     /// Fails as a write: writes the first half of the bytes, rounded down, unless memory runs out.
@@ -213,6 +230,28 @@ impl<C: Child> Place for Memory<C> {
         self.pass();
         self.files.insert(alloc, path, bytes)?;
         Ok(())
+    }
+
+    fn write_pieces(
+        &mut self,
+        alloc: Global,
+        path: &PathText,
+        pieces: &[Bytes],
+    ) -> Result<(), PlaceFault>
+        ensures answers { FailsByFuse (call.Write path.now) result self.old }
+        ensures err { OnErr result (Torn path.now (concat pieces.now) self.old.world self.new.world) }
+        ensures only { ChangesOnly (is_at_or_below path.now) self.old.world self.new.world }
+        ensures state { self.new ≡ record (called (call.Write path.now) result self.old) {
+          world = after_write result path.now (concat pieces.now) self.old.world;
+        } }
+    {
+        match joined(alloc, pieces) {
+            Ok(bytes) => self.write(alloc, path, bytes.as_slice()),
+            Err(_) => {
+                self.refuse();
+                Err(PlaceFault::OutOfMemory)
+            }
+        }
     }
 
     fn remove_tree(&mut self, alloc: Global, path: &PathText) -> Result<(), PlaceFault>
