@@ -1,5 +1,6 @@
 pub mod NumberLemmas
 pub mod PartLemmas
+pub mod PieceLemmas
 pub mod BlockLemmas
 pub mod FrontLemmas
 pub mod InputLemmas

@@ -1,8 +1,8 @@
 -- Lemmas on what was asked and on records as wholes.
-use Rattle.std.proofs.Common.{◌≡◌, ℕ, List, [], ◌∷◌, ◌++◌, refl, sym, ◌∙◌, ap, subst, Option, Some, None, codes, ◌↔◌}
-use Rattle.std.specs.Prelude.{MatchOption}
+use Rattle.std.proofs.Common.{◌≡◌, ℕ, List, [], ◌∷◌, ◌++◌, refl, sym, ◌∙◌, ap, subst, Option, Some, None, Result, Ok, Err, codes, ◌↔◌}
+use Rattle.std.specs.Prelude.{MatchOption, IfOk}
 use Rattle.std.specs.Str.{IsUtf8}
-use Rattle.std.specs.List.{AllByRecursion}
+use Rattle.std.specs.List.{AllByRecursion, concat}
 use Rattle.std.proofs.lemmas.List.{append_assoc, append_cancel_left}
 use Rattle.pb_record.specs.Grammar.{line, number, block, listed, both, files, input_bytes, asked_bytes, bytes_by, record_bytes}
 use Rattle.pb_record.specs.Parts.{IsAny, IsNumber, IsPlace, AreFiles, AreBoth, ArePairs, IsInput, IsAsked, AreNeeded, Says}
@@ -218,3 +218,29 @@ reads text (Some s) says r = ((λ e. let same : s ≡ r = cc in subst (Says text
 pub written_by : (r : Record) (needed : Needed) (old new : List ℕ) → r.needed ≡ needed → new ≡ old ++ bytes_by r needed → new ≡ old ++ record_bytes r
 unfolding record_bytes
 written_by r needed old new e written = written ∙ ap (λ n. old ++ bytes_by r n) (sym e)
+
+-- what was put in pieces, by the format
+
+put_numbered : (r : Record) (own : ℕ) (needs : List (List ℕ × ℕ)) (text : List ℕ) → r.needed ≡ Numbers own needs → AreNumbered (numbered_parts r own needs)
+    → text ≡ line (codes "record 2") ++ (numbered_spelled (numbered_parts r own needs) ++ line (codes "end")) → Says text r
+put_numbered r own needs text is are e =
+    let says = says_numbered (numbered_parts r own needs) (are, refl) in
+    subst (λ t. Says t r) (sym e) (subst (λ s. Says (line (codes "record 2") ++ (numbered_spelled (numbered_parts r own needs) ++ line (codes "end"))) s) (ap (record_by r) (sym is)) says)
+
+put_copied : (r : Record) (copies : List (List ℕ × Files)) (text : List ℕ) → r.needed ≡ Copies copies → AreCopied (copied_parts r copies)
+    → text ≡ line (codes "record 1") ++ (copied_spelled (copied_parts r copies) ++ line (codes "end")) → Says text r
+put_copied r copies text is are e =
+    let says = says_copied (copied_parts r copies) (are, refl) in
+    subst (λ t. Says t r) (sym e) (subst (λ s. Says (line (codes "record 1") ++ (copied_spelled (copied_parts r copies) ++ line (codes "end"))) s) (ap (record_by r) (sym is)) says)
+
+pub pieces_numbered : {E : Type 0} (r : Record) (own : ℕ) (needs : List (List ℕ × ℕ)) (result : Result (List (List ℕ)) E) → r.needed ≡ Numbers own needs
+    → IfOk result (λ pieces. AreNumbered (numbered_parts r own needs) × (concat pieces ≡ line (codes "record 2") ++ (numbered_spelled (numbered_parts r own needs) ++ line (codes "end"))))
+    → IfOk result (λ pieces. Says (concat pieces) r)
+pieces_numbered r own needs (Ok pieces) is ensures = put_numbered r own needs (concat pieces) is ensures.0 ensures.1
+pieces_numbered r own needs (Err e) is ensures = tt
+
+pub pieces_copied : {E : Type 0} (r : Record) (copies : List (List ℕ × Files)) (result : Result (List (List ℕ)) E) → r.needed ≡ Copies copies
+    → IfOk result (λ pieces. AreCopied (copied_parts r copies) × (concat pieces ≡ line (codes "record 1") ++ (copied_spelled (copied_parts r copies) ++ line (codes "end"))))
+    → IfOk result (λ pieces. Says (concat pieces) r)
+pieces_copied r copies (Ok pieces) is ensures = put_copied r copies (concat pieces) is ensures.0 ensures.1
+pieces_copied r copies (Err e) is ensures = tt

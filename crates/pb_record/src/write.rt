@@ -1,7 +1,7 @@
 //! A record written as its text.
 
 ghost use Rattle.std.specs.Prelude.{◌≡◌, ◌++◌, ◌<◌, codes, ℕ, List, length, take, Option, Some, None, IfOk, OnOk};
-ghost use Rattle.std.specs.List.{AllByRecursion};
+ghost use Rattle.std.specs.List.{AllByRecursion, concat};
 ghost use Rattle.std.specs.Str.{IsUtf8};
 ghost use Rattle.pb_record.specs.Grammar.{◌⨾◌, line, block, listed, asked_bytes, input_bytes, bytes_by, record_bytes};
 ghost use Rattle.pb_record.specs.Parts.{Says, IsReading, IsAsked, IsInput, AreNeeded, IsRecord};
@@ -9,6 +9,8 @@ ghost use Rattle.pb_record.specs.declared.record.Needed.TheVariants.{Copies, Num
 ghost use Rattle.pb_record.specs.declared.record.Record.{Record};
 
 use crate::part::Part;
+use crate::pieces::Pieces;
+use crate::put::Put;
 use crate::record::{Needed, Record};
 use crate::room::room_for;
 use pb_data::{Bytes, Items, Text};
@@ -119,4 +121,43 @@ pub fn write_record(alloc: Global, kept: &Record) -> Result<Bytes, AllocError>
 {
     let text = text_of(alloc, kept)?;
     Ok(text)
+}
+
+/// Returns the text in pieces that consists of a first line, a part, and the line `end`.
+fn pieces_of<T: Put>(alloc: Global, first: &[u8], part: T) -> Result<Items<Bytes>, AllocError>
+    ensures { IfOk result (λ pieces. T.is_part part
+        × (concat pieces ≡ first.now ++ (T.spelled part ++ line (codes "end")))) }
+{
+    let mut out = Pieces::new(alloc);
+    out.push(first)?;
+    part.put(&mut out)?;
+    out.push(b"end\n")?;
+    out.into_items()
+}
+
+/// Returns the text of a record in pieces: joined in order, they are what `write_record` returns.
+/// A value of many bytes is moved, so no memory is taken for it once more.
+///
+/// Errors: only out of memory.
+pub fn write_record_pieces(alloc: Global, kept: Record) -> Result<Items<Bytes>, AllocError>
+    ensures { IfOk result (λ pieces. Says (concat pieces) kept) }
+{
+    let Record {
+        key,
+        asked,
+        inputs,
+        needed,
+        stdout,
+        stderr,
+    } = kept;
+    match needed {
+        Needed::Numbers(own, needs) => {
+            let parts = (own, (key, (asked, (inputs, (needs, (stdout, stderr))))));
+            pieces_of(alloc, b"record 2\n", parts)
+        }
+        Needed::Copies(copies) => {
+            let parts = (key, (asked, (inputs, (copies, (stdout, stderr)))));
+            pieces_of(alloc, b"record 1\n", parts)
+        }
+    }
 }
