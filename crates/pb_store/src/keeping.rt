@@ -1,6 +1,7 @@
 //! The record of a unit that was built is kept, with the run number that was taken for it.
 
 ghost use Rattle.std.specs.Prelude.{◌≡◌, true, IsTrue, IfOk, OnOk, OnErr, Some, map};
+ghost use Rattle.std.specs.List.{concat};
 ghost use Rattle.pb_place_types.specs.declared.call.Call.TheVariants as call;
 ghost use Rattle.pb_place_types.specs.At.{IsUnchanged};
 ghost use Rattle.pb_place_types.specs.Paths.{is_at_or_below};
@@ -21,7 +22,7 @@ use crate::numbers::{note, numbered};
 use crate::store::{Store, place_path};
 use pb_data::{Bytes, Items, Table, Text, TryCopy, with_next};
 use pb_place_types::{Command, Ended, PathText, Place};
-use pb_record::{Input, InputName, Needed, Record, RecordedCommand, write_record};
+use pb_record::{Input, InputName, Needed, Record, RecordedCommand, write_record_pieces};
 use std::alloc::{AllocError, Global};
 
 /// Returns the number of a record.
@@ -34,38 +35,38 @@ pub(crate) fn number_of(kept: &Record) -> Option<u64>
     }
 }
 
-/// Writes a file.
+/// Writes a file whose bytes come in pieces.
 fn write<P: Place>(
     alloc: Global,
     place: &mut P,
     path: &PathText,
-    bytes: &[u8],
+    pieces: &[Bytes],
 ) -> Result<(), StoreFault>
-    ensures ok { IsTrue P.is_modelled →
-        OnOk result ((P.at place.new).world ≡ written path.now bytes.now (P.at place.old).world) }
-    ensures err { IsTrue P.is_modelled →
-        OnErr result (Torn path.now bytes.now (P.at place.old).world (P.at place.new).world) }
+    ensures ok { IsTrue P.is_modelled → OnOk result
+        ((P.at place.new).world ≡ written path.now (concat pieces.now) (P.at place.old).world) }
+    ensures err { IsTrue P.is_modelled → OnErr result
+        (Torn path.now (concat pieces.now) (P.at place.old).world (P.at place.new).world) }
     ensures only { ChangesOnlyAt (is_at_or_below path.now) MayWrite result (P.at place.old)
         (P.at place.new) }
     ensures calls { CallsOnce (call.Write path.now) result (P.at place.old).counts
         (P.at place.new).counts }
 {
-    match place.write(alloc, path, bytes) {
+    match place.write_pieces(alloc, path, pieces) {
         Ok(()) => Ok(()),
         Err(fault) => Err(stored(fault)),
     }
 }
 
-/// Writes the record of its unit.
+/// Writes the record of its unit, without a second copy of its large values.
 pub(crate) fn put_record<P: Place>(
     alloc: Global,
     place: &mut P,
     folder: &PathText,
     key: &Key,
-    kept: &Record,
+    kept: Record,
 ) -> Result<(), StoreFault>
-    ensures record { IsTrue P.is_modelled → kept.now.key ≡ key.now →
-        PutsRecord P.child folder.now key.now kept.now result (P.at place.old).world
+    ensures record { IsTrue P.is_modelled → kept.key ≡ key.now →
+        PutsRecord P.child folder.now key.now kept result (P.at place.old).world
         (P.at place.new).world }
     ensures only { ChangesOnlyAt (is_at_or_below (place_of folder.now key.now)) MayWrite result
         (P.at place.old) (P.at place.new) }
@@ -78,11 +79,11 @@ pub(crate) fn put_record<P: Place>(
         Ok(path) => path,
         Err(_) => return Err(StoreFault::OutOfMemory),
     };
-    let text = match write_record(alloc, kept) {
-        Ok(text) => text,
+    let pieces = match write_record_pieces(alloc, kept) {
+        Ok(pieces) => pieces,
         Err(_) => return Err(StoreFault::OutOfMemory),
     };
-    match write(alloc, place, &path, text.as_slice()) {
+    match write(alloc, place, &path, pieces.as_slice()) {
         Ok(()) => Ok(()),
         Err(fault) => Err(fault),
     }
@@ -241,10 +242,10 @@ fn put_still<P: Place>(
     key: &Key,
     command: &Command,
     names: &[InputName],
-    kept: &Record,
+    kept: Record,
 ) -> Result<(), StoreFault>
-    ensures record { IsTrue P.is_modelled → kept.now.key ≡ key.now →
-        PutsRecord P.child folder.now key.now kept.now result (P.at place.old).world
+    ensures record { IsTrue P.is_modelled → kept.key ≡ key.now →
+        PutsRecord P.child folder.now key.now kept result (P.at place.old).world
         (P.at place.new).world }
     ensures only { ChangesOnlyAt (is_at_or_below (place_of folder.now key.now)) MayWrite result
         (P.at place.old) (P.at place.new) }
@@ -335,15 +336,9 @@ impl Store {
                 return Err(fault);
             }
         }
-        match put_still(alloc, place, &self.folder, key, command, names, &kept) {
-            Ok(()) => {
-                drop(kept);
-                Ok(())
-            }
-            Err(fault) => {
-                drop(kept);
-                Err(fault)
-            }
+        match put_still(alloc, place, &self.folder, key, command, names, kept) {
+            Ok(()) => Ok(()),
+            Err(fault) => Err(fault),
         }
     }
 }

@@ -87,15 +87,9 @@ impl Store {
         // The number is taken before the write: a torn write may have used it, and the record
         // exists or not.
         self.next = number_after(number);
-        match put_record(alloc, place, &self.folder, key, &kept) {
-            Ok(()) => {
-                drop(kept);
-                Ok(())
-            }
-            Err(fault) => {
-                drop(kept);
-                Err(fault)
-            }
+        match put_record(alloc, place, &self.folder, key, kept) {
+            Ok(()) => Ok(()),
+            Err(fault) => Err(fault),
         }
     }
 
