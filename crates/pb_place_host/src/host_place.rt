@@ -10,12 +10,14 @@ ghost use Rattle.pb_place_host.specs.Flying.{silent_child};
 
 use crate::children::{Running, Spawned, add_child, begun, child_in_flight, parts_of};
 use crate::known::{Known, answered, answered_variable, finished, started};
+use crate::leading_out::links_out;
 use crate::listing::{files_below, files_directly, files_outside, folders_directly};
 use crate::meaning::path_from;
 use crate::moving::{Moment, first_moved};
 use crate::reading::{file_at, first_of, is_file, variable_of};
+use crate::report::Report;
 use crate::reporting::Reporting;
-use crate::writing::{remove_tree, write_file};
+use crate::writing::{remove_tree, write_file, write_file_pieces};
 use pb_data::{Bytes, Items, Text, TryCopy, with_next};
 use pb_place::Tally;
 use pb_place::in_flight::{Flying, flies, free_ticket, take_out};
@@ -132,12 +134,14 @@ impl<'a, R: Files + Env + Processes + AllocGlobal> HostPlace<'a, R> {
         };
         let (command, Running { process, spawned }) = parts_of(flying);
         self.ended = spawned;
-        finished(
-            alloc,
-            &mut self.known,
-            &command,
-            process.wait_with_output(alloc),
-        )
+        let output = process.wait_with_output(alloc);
+        let answer = finished(alloc, &mut self.known, &command, output);
+        let links = match &answer {
+            Ok(ended) => links_out(self.runtime, alloc, &command, ended.stdout.as_slice()),
+            Err(_) => Report::new(alloc),
+        };
+        self.known.set_links(links);
+        answer
     }
 
     /// Returns when the child of this output folder was spawned, if
@@ -193,6 +197,10 @@ impl<'a, R: Files + Env + Processes + AllocGlobal> Reporting for HostPlace<'a, R
 
     fn answered_query(&self) -> &[Text] {
         self.known.query()
+    }
+
+    fn links_out(&self) -> &[Text] {
+        self.known.links()
     }
 }
 
@@ -293,6 +301,18 @@ impl<'a, R: Files + Env + Processes + AllocGlobal> Place for HostPlace<'a, R> {
         let call = self.tally.kept(Call::write(alloc, path))?;
         let answer = write_file(self.runtime, alloc, path, bytes);
         let answer = answered(alloc, &mut self.known, path, PlaceFault::Write, answer);
+        self.tally.count(call, answer)
+    }
+
+    fn write_pieces(
+        &mut self,
+        alloc: Global,
+        path: &PathText,
+        pieces: &[Bytes],
+    ) -> Result<(), PlaceFault> {
+        let call = self.tally.kept(Call::write(alloc, path))?;
+        let written = write_file_pieces(self.runtime, alloc, path, pieces);
+        let answer = answered(alloc, &mut self.known, path, PlaceFault::Write, written);
         self.tally.count(call, answer)
     }
 

@@ -39,6 +39,8 @@ pub(crate) struct Known {
     children: Vec<FailedChild>,
     /// The answer of the last child without an output folder.
     query: Report,
+    /// The links that the last child left and that lead out of the target folder.
+    links: Report,
 }
 
 impl Known {
@@ -48,6 +50,7 @@ impl Known {
             call: Report::new(alloc),
             children: Vec::new(alloc),
             query: Report::new(alloc),
+            links: Report::new(alloc),
         }
     }
 
@@ -75,6 +78,18 @@ impl Known {
         ensures { AreReported result.now }
     {
         self.query.texts()
+    }
+
+    /// Returns which links of the last child lead out of the target folder.
+    pub(crate) fn links(&self) -> &[Text]
+        ensures { AreReported result.now }
+    {
+        self.links.texts()
+    }
+
+    /// Remembers which links of the last child lead out of the target folder.
+    pub(crate) fn set_links(&mut self, links: Report) {
+        self.links = links;
     }
 
     /// Remembers what is known of a child that did not answer, if memory does not run out.

@@ -8,6 +8,7 @@ mod failed;
 mod host_place;
 mod host_view;
 mod known;
+mod leading_out;
 mod listing;
 mod meaning;
 mod moving;

@@ -30,6 +30,14 @@ pub trait Reporting {
     {
         &[]
     }
+
+    /// Returns the links that the child which ended last left in its output folder and that lead
+    /// out of the target folder, if it was a script.
+    fn links_out(&self) -> &[Text]
+        ensures { AreReported result.now }
+    {
+        &[]
+    }
 }
 
 /// A place in memory knows no more than its faults.

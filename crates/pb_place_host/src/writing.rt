@@ -2,16 +2,33 @@
 
 use crate::failed::Failed;
 use crate::reading::{MOST_BYTES, says_absent};
-use pb_place_types::PathText;
+use pb_data::Bytes;
+use pb_place_types::{PathText, length_of};
 use std::alloc::{AllocError, Global};
 use std::fs::Permissions;
-use std::io::ErrorKind;
+use std::io::{ErrorKind, Write};
 use std::os::unix::fs::PermissionsExt;
 use std::rt::Files;
 use std::{fs, io};
 
 /// The mode of a folder that its owner may read, write and go through.
 const OWNED: u32 = 0o700;
+
+/// Returns an empty file for n bytes, and makes the folders above it. It does
+/// nothing if these are more bytes than a file may have.
+fn created<R: Files>(
+    runtime: &R,
+    alloc: Global,
+    path: &PathText,
+    length: u64,
+) -> Result<R::File, Failed> {
+    if length > MOST_BYTES {
+        return Err(Failed::from(io::Error::from(ErrorKind::FileTooLarge)));
+    }
+    let folder = path.folder(alloc)?;
+    fs::create_dir_all(runtime, folder.as_str())?;
+    Ok(fs::create(runtime, path.as_str())?)
+}
 
 /// Writes a file, and makes the folders above it. It does
 /// nothing if there are more bytes than a file may have.
@@ -21,12 +38,22 @@ pub(crate) fn write_file<R: Files>(
     path: &PathText,
     bytes: &[u8],
 ) -> Result<(), Failed> {
-    if bytes.len() as u64 > MOST_BYTES {
-        return Err(Failed::from(io::Error::from(ErrorKind::FileTooLarge)));
+    let mut file = created(runtime, alloc, path, bytes.len() as u64)?;
+    file.write_all(bytes)?;
+    Ok(())
+}
+
+/// Writes a file whose bytes come in pieces, as `write_file` does. It takes no memory for them.
+pub(crate) fn write_file_pieces<R: Files>(
+    runtime: &R,
+    alloc: Global,
+    path: &PathText,
+    pieces: &[Bytes],
+) -> Result<(), Failed> {
+    let mut file = created(runtime, alloc, path, length_of(pieces))?;
+    for piece in pieces {
+        file.write_all(piece.as_slice())?;
     }
-    let folder = path.folder(alloc)?;
-    fs::create_dir_all(runtime, folder.as_str())?;
-    fs::write(runtime, path.as_str(), bytes)?;
     Ok(())
 }
 
