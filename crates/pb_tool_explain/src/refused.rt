@@ -346,6 +346,7 @@ error: refused TooLarge
         text: r#"There are more than 256 packages.
 
 ```
+note: in /w/Cargo.toml, line 3, key workspace.members: 257 members; with the packages that they need, at most 256 are possible
 error: refused TooMany
 ```
 
@@ -357,6 +358,8 @@ error: refused TooMany
         text: r#"There are more than 4,096 units.
 
 ```
+note: a plan has at most 4096 units, and each binary is one: the packages have 4096 binaries
+note: in /w/Cargo.toml: 4096 of them; --bin NAME and -p NAME select fewer
 error: refused TooManyUnits
 ```
 

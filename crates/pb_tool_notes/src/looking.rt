@@ -15,7 +15,7 @@ use pb_tool_notes_pages::{Notes, Page, Pages, is_file, pages_of, tell_key, text_
 use pb_tool_notes_workspace::{
     tell_above, tell_all_items, tell_binaries, tell_circle, tell_entries, tell_missing, tell_names,
     tell_no_inherited, tell_no_package, tell_nothing, tell_patterns, tell_requested, tell_same,
-    tell_same_binaries, tell_taken_sources, tell_versions,
+    tell_same_binaries, tell_taken_sources, tell_too_many, tell_too_many_units, tell_versions,
 };
 use pb_unit::PlanFault;
 use pb_workspace_types::{LoadFault, Options};
@@ -133,10 +133,10 @@ fn tell_load(
         LoadFault::VersionMismatch => tell_versions(alloc, notes, pages),
         LoadFault::SameBinary => tell_same_binaries(alloc, notes, pages),
         LoadFault::NoSuchPackage => tell_no_package(alloc, notes, pages, options),
+        LoadFault::TooMany => tell_too_many(alloc, notes, pages),
         LoadFault::NoManifest(_)
         | LoadFault::NoInherited
         | LoadFault::LinksWithoutScript
-        | LoadFault::TooMany
         | LoadFault::Place(_, _)
         | LoadFault::OutOfMemory => Ok(()),
     }
@@ -224,7 +224,8 @@ fn tell_plan<P: Place>(
             tell_profile(alloc, notes, pages, options, *fault)?;
             Ok(())
         }
-        PlanFault::TooManyUnits | PlanFault::OutOfMemory => Ok(()),
+        PlanFault::TooManyUnits => tell_too_many_units(alloc, place, notes, pages),
+        PlanFault::OutOfMemory => Ok(()),
     }
 }
 

@@ -1,0 +1,117 @@
+//! Notes on a workspace of too many packages, and on a plan of too many units.
+
+ghost use Rattle.pb_tool_notes_pages.specs.Looks.{LooksAgain};
+
+use crate::binaries::push_binaries;
+use pb_data::{MAX_PACKAGES, MAX_UNITS, Text};
+use pb_place_types::{Place, PlaceFault};
+use pb_tool_notes_pages::{Notes, Page, Pages, Role, tell_key, tell_page};
+use std::alloc::{AllocError, Global};
+
+/// Returns how many members the root names.
+fn members_in(pages: &Pages) -> usize {
+    pages
+        .asks
+        .iter()
+        .filter(|ask| ask.role == Role::Member)
+        .count()
+}
+
+/// Adds how many packages the root names, if a workspace has too many.
+///
+/// Errors: out of memory.
+pub fn tell_too_many(alloc: Global, notes: &mut Notes, pages: &Pages) -> Result<(), AllocError> {
+    let Some(root) = pages.root() else {
+        return Ok(());
+    };
+    let members = members_in(pages);
+    if members == 0 {
+        let text = format!(in alloc;
+            "with what it needs, it has more than {MAX_PACKAGES} packages, which is the limit"
+        )?;
+        return tell_page(alloc, notes, root, text.as_str());
+    }
+    let text = format!(in alloc;
+        "{members} members; with the packages that they need, at most {MAX_PACKAGES} are possible"
+    )?;
+    tell_key(alloc, notes, root, "workspace", "members", text.as_str())
+}
+
+/// Returns how many names there are, each counted once.
+///
+/// Errors: out of memory.
+fn count_once(mut names: Vec<Text>) -> Result<usize, AllocError> {
+    names.sort()?;
+    let names = names.as_slice();
+    let repeats = names.windows(2).filter(|pair| pair[0] == pair[1]).count();
+    Ok(names.len().saturating_sub(repeats))
+}
+
+/// Returns how many binaries a package has.
+fn binaries_in<P: Place>(alloc: Global, place: &mut P, page: &Page) -> Result<usize, PlaceFault>
+    ensures { LooksAgain (P.at place.old) (P.at place.new) }
+{
+    let mut names = Vec::new(alloc);
+    push_binaries(alloc, place, &mut names, page)?;
+    Ok(count_once(names)?)
+}
+
+/// How many binaries some packages have.
+#[derive(Drop)]
+struct Counted<'a> {
+    /// All of them.
+    all: usize,
+    /// Those of the package that has the most.
+    most: usize,
+    /// The manifest of that package.
+    page: Option<&'a Page>,
+}
+
+/// Returns how many binaries the packages have.
+fn count_all<'a, P: Place>(
+    alloc: Global,
+    place: &mut P,
+    pages: &'a Pages,
+) -> Result<Counted<'a>, PlaceFault>
+    ensures { LooksAgain (P.at place.old) (P.at place.new) }
+{
+    let mut counted = Counted {
+        all: 0,
+        most: 0,
+        page: None,
+    };
+    for page in pages.pages.as_slice() {
+        let here = binaries_in(alloc, place, page)?;
+        counted.all = counted.all.saturating_add(here);
+        if here > counted.most {
+            counted.most = here;
+            counted.page = Some(page);
+        }
+    }
+    Ok(counted)
+}
+
+/// Adds how many binaries the packages have, and which has the most, if a plan has too many units.
+///
+/// Errors: those of its calls; out of memory.
+pub fn tell_too_many_units<P: Place>(
+    alloc: Global,
+    place: &mut P,
+    notes: &mut Notes,
+    pages: &Pages,
+) -> Result<(), PlaceFault>
+    ensures { LooksAgain (P.at place.old) (P.at place.new) }
+{
+    let counted = count_all(alloc, place, pages)?;
+    let all = counted.all;
+    let text = format!(in alloc;
+        "a plan has at most {MAX_UNITS} units, and each binary is one: the packages have {all} binaries"
+    )?;
+    notes.say(alloc, text.as_str())?;
+    if let Some(page) = counted.page {
+        let most = counted.most;
+        let text = format!(in alloc; "{most} of them; --bin NAME and -p NAME select fewer")?;
+        tell_page(alloc, notes, page, text.as_str())?;
+    }
+    Ok(())
+}
