@@ -1,3 +1,3 @@
 pub mod Faults
 pub mod ResultLine
-pub mod Explanation
+pub mod Said

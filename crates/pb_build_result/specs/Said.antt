@@ -1,0 +1,19 @@
+-- What a failing child wrote that no message line contains (our own choice of words).
+use Rattle.std.specs.Prelude.{ℕ, ◌==◌, ◌-◌, if◌then◌else◌, codes, length, slice_get, List, [], ◌∷◌, ◌++◌, Option, Some, None}
+use Rattle.pb_data.specs.Ascii.{line_feed}
+use Rattle.pb_command_types.specs.declared.fault.UnitFault.{UnitFault}
+
+abbrev pub feed_after : Option ℕ → List ℕ
+feed_after None = []
+feed_after (Some b) = if b == line_feed then [] else line_feed ∷ []
+
+-- the bytes, and a line feed if they do not end with one
+abbrev pub ended : List ℕ → List ℕ
+ended bytes = bytes ++ feed_after (slice_get bytes (length bytes - 1))
+
+-- what a bad unit's child wrote that no message line contains,
+-- after a line with the unit's key; nothing if it wrote nothing
+abbrev pub said_by_bad : Option (List ℕ × UnitFault) → List ℕ → List ℕ
+said_by_bad None said = []
+said_by_bad (Some bad) [] = []
+said_by_bad (Some bad) (b ∷ said) = bad.0 ++ codes " said:\n" ++ ended (b ∷ said)

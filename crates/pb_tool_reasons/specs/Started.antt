@@ -1,0 +1,44 @@
+-- Why a build started what it started (our own choice of words).
+use Rattle.std.specs.Prelude.{ℕ, ◌-◌, Bool, true, false, nat_lt, if◌then◌else◌, codes, length, slice_get, drop, List, [], ◌∷◌, ◌++◌, Option, Some, None}
+use Rattle.std.specs.Fmt.{decimal}
+use Rattle.std.specs.List.{list_all}
+use Rattle.std.specs.Str.{bytes_eq}
+use Rattle.pb_build_result.specs.declared.summary.Summary.{Summary}
+use Rattle.pb_store.specs.declared.difference.Difference.{Difference}
+use Rattle.pb_store.specs.declared.difference.Difference.TheVariants.{Pair}
+use Rattle.pb_tool_reasons.specs.Grouping.{grouped}
+use Rattle.pb_tool_reasons.specs.Reasons.{if_some, reason}
+use Rattle.pb_tool_reasons.specs.declared.grouping.Row.{Row}
+
+abbrev pub started_row : List ℕ → Difference → Row
+started_row key difference = record { key = key; said = codes "started, since " ++ reason difference }
+
+abbrev pub row_if : List ℕ → Option Difference → List Row
+row_if key None = []
+row_if key (Some difference) = started_row key difference ∷ []
+
+-- a row for each unit whose child was started
+abbrev pub rows_of : List (List ℕ) → List Difference → List Row
+rows_of [] differences = []
+rows_of (key ∷ keys) differences = row_if key (slice_get differences 0) ++ rows_of keys (drop 1 differences)
+
+abbrev pub counts_line : ℕ → ℕ → ℕ → List ℕ
+counts_line started kept unreached = decimal started ++ codes " started, " ++ decimal kept ++ codes " kept" ++ if_some unreached (codes " not reached") ++ codes "\n"
+
+-- that children are told another text as `CARGO` than before is what differed first
+abbrev pub is_tool : Difference → Bool
+is_tool (Pair name) = bytes_eq name (codes "CARGO")
+is_tool _ = false
+
+abbrev pub note_if : Bool → List ℕ
+note_if false = []
+note_if true = codes "note: CARGO is how this program was called; --tool TEXT sets it\n"
+
+-- a note if that is so of all units that were started, and there is one
+abbrev pub tool_note : List Difference → List ℕ
+tool_note differences = if nat_lt 0 (length differences) then note_if (list_all is_tool differences) else []
+
+-- why a build of so many units started what it started; then how many units it started, for how many of those that
+-- began nothing differed, and how many did not begin; before this line, a note if only `CARGO` is known to differ
+abbrev pub explanation : ℕ → Summary → List ℕ
+explanation units s = grouped (rows_of s.started s.differences) ++ tool_note s.differences ++ counts_line (length s.started) (length s.kept) (units - length s.started - length s.kept)

@@ -1,0 +1,139 @@
+//! Why a build started what it started.
+
+ghost use Rattle.std.specs.Prelude.{◌≡◌, ◌++◌, ◌∷◌, [], IfOk, OnOk, string_bytes};
+ghost use Rattle.std.specs.List.{list_all};
+ghost use Rattle.std.specs.Option.{option_copied};
+ghost use Rattle.pb_tool_reasons.specs.Started.{counts_line, explanation, is_tool, note_if, row_if, rows_of, started_row, tool_note};
+ghost use Rattle.pb_tool_reasons.specs.declared.grouping.Row.{Row};
+
+use crate::grouping::{Row, grouped};
+use crate::wording::{if_some, reason};
+use pb_build_result::Summary;
+use pb_data::{Items, Text, TryCopy};
+use pb_store::Difference;
+use std::alloc::{AllocError, Global};
+
+/// Returns the row of a unit whose child was started.
+fn started_row(alloc: Global, key: &Text, difference: &Difference) -> Result<Row, AllocError>
+    ensures { IfOk result (λ row. row ≡ started_row key.now difference.now) }
+{
+    let mut said = String::from_str(alloc, "started, since ")?;
+    let reason = reason(alloc, difference)?;
+    said.push_str(reason.as_str())?;
+    Ok(Row {
+        key: key.copy(alloc)?,
+        said: Text::new(said),
+    })
+}
+
+/// Adds the row of a unit whose child was started, if it is known what differed.
+fn push_row(
+    alloc: Global,
+    rows: &mut Items<Row>,
+    key: &Text,
+    difference: Option<&Difference>,
+) -> Result<(), AllocError>
+    ensures { OnOk result (rows.new ≡ rows.old
+        ++ row_if key.now (option_copied difference.entry)) }
+{
+    match difference {
+        Some(difference) => rows.push(started_row(alloc, key, difference)?),
+        None => Ok(()),
+    }
+}
+
+/// Returns a row for each unit whose child was started.
+fn rows_of(
+    alloc: Global,
+    keys: &[Text],
+    differences: &[Difference],
+) -> Result<Items<Row>, AllocError>
+    ensures { IfOk result (λ rows. rows ≡ rows_of keys.now differences.now) }
+{
+    let mut rows = Items::new(alloc);
+    for index in 0..keys.len() {
+        push_row(alloc, &mut rows, &keys[index], differences.get(index))?;
+    }
+    Ok(rows)
+}
+
+/// Returns the line with how many units were started and kept, and how many were not reached.
+fn counts_line(
+    alloc: Global,
+    started: usize,
+    kept: usize,
+    unreached: usize,
+) -> Result<String, AllocError>
+    ensures { IfOk result (λ text. string_bytes text ≡ counts_line started kept unreached) }
+{
+    let unreached = if_some(alloc, unreached, " not reached")?;
+    let mut text = format!(in alloc; "{started} started, {kept} kept")?;
+    text.push_str(unreached.as_str())?;
+    text.push_str("\n")?;
+    Ok(text)
+}
+
+/// Returns whether what differed first is the text that children are told as `CARGO`.
+fn is_tool(difference: &Difference) -> bool
+    ensures { result ≡ is_tool difference.now }
+{
+    match difference {
+        Difference::Pair(name) => name.as_str() == "CARGO",
+        _ => false,
+    }
+}
+
+/// Returns whether that is so of all units that were started.
+fn are_tools(differences: &[Difference]) -> bool
+    ensures { result ≡ list_all is_tool differences.now }
+{
+    differences.iter().all(is_tool)
+}
+
+/// Returns a note if that is so.
+fn note_if(are_tools: bool) -> &'static str
+    ensures { result.now ≡ note_if are_tools }
+{
+    if are_tools {
+        "note: CARGO is how this program was called; --tool TEXT sets it\n"
+    } else {
+        ""
+    }
+}
+
+/// Returns a note if that is so of all units that were started, and there is one.
+fn tool_note(differences: &[Difference]) -> &'static str
+    ensures { result.now ≡ tool_note differences.now }
+{
+    if 0 < differences.len() {
+        note_if(are_tools(differences))
+    } else {
+        ""
+    }
+}
+
+/// Returns why a build of so many units started what it started: for each unit whose child was
+/// started, in order of starting, its key and what differed first, or one line for five or more
+/// units with one reason; then how many were started, how many were replayed from their records,
+/// and how many did not begin, if any. A note before this line says what `CARGO` is, if that alone
+/// is known to differ. Each line ends with a line feed. The words are our own
+/// choice.
+///
+/// Errors: out of memory.
+pub fn explanation(alloc: Global, summary: &Summary, units: usize) -> Result<String, AllocError>
+    ensures { IfOk result (λ text. string_bytes text ≡ explanation units summary.now) }
+{
+    let rows = rows_of(
+        alloc,
+        summary.started.as_slice(),
+        summary.differences.as_slice(),
+    )?;
+    let mut text = grouped(alloc, rows.as_slice())?;
+    text.push_str(tool_note(summary.differences.as_slice()))?;
+    let started = summary.started.len();
+    let kept = summary.kept.len();
+    let unreached = units.saturating_sub(started).saturating_sub(kept);
+    let counts = counts_line(alloc, started, kept, unreached)?;
+    text.push_str(counts.as_str())?;
+    Ok(text)
+}
