@@ -57,7 +57,7 @@ module _ {S R : Type 0} (Turns : S → List ℕ → List ℕ → Step → S → 
   hands_as needs es last (Some u) back (i, missing, at, turned) = (i, missing, at, turns_as last _ _ (step.Answer i) back turned)
 
   module _ (is_modelled : Bool) (child : Answers) (options : Options) (from last : S) where
-    ends_as : (setup : Setup) (project : Project) (next : Option ℕ) (result : Result Summary BuildFault) (old new : BuildState) → TurnsEnd is_modelled child Turns setup project next from last result old new
+    pub ends_as : (setup : Setup) (project : Project) (next : Option ℕ) (result : Result Summary BuildFault) (old new : BuildState) → TurnsEnd is_modelled child Turns setup project next from last result old new
         → TurnsEnd is_modelled child Others setup project next (image from) (image last) result old new
     ends_as setup project next (Ok summary) old new e = record {
       es = e.es;
@@ -139,7 +139,7 @@ module _ {S R : Type 0} (Turns : S → List ℕ → List ℕ → Step → S → 
     works_as result old new (inr units) =
         inr record { prepared = units.prepared; mid = units.mid; heard = units.heard; prepares = units.prepares; ends = ends_as units.prepared.setup units.prepared.project units.prepared.store.next result units.mid new units.ends }
 
-    builds_as : (result : Result Summary BuildFault) (old new : BuildState) → Builds is_modelled child Turns options from last result old new → Builds is_modelled child Others options (image from) (image last) result old new
+    pub builds_as : (result : Result Summary BuildFault) (old new : BuildState) → Builds is_modelled child Turns options from last result old new → Builds is_modelled child Others options (image from) (image last) result old new
     builds_as result old new builds = record { inner = builds.inner; heard = builds.heard; works = works_as builds.inner old _ builds.works; closes = builds.closes }
 
 -- Turns by a number of jobs.

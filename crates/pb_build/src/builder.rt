@@ -217,7 +217,11 @@ pub fn plan_build<P: Place>(
 
 /// Prepares what the units of a planned build start from: queries the compiler's version
 /// and opens the records of the profile's folder. If the plan failed, returns its fault.
-fn prepare<P: Place>(
+/// No file is changed, and no line is written.
+///
+/// Errors: the plan's fault; `Child` with `-vV`, if the compiler gives no answer; `Toolchain`, if
+/// it does not report its host; `Device`, with the path of the failed call; `OutOfMemory`.
+pub fn prepare<P: Place>(
     alloc: Global,
     place: &mut P,
     options: &Options,

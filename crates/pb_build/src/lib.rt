@@ -12,6 +12,7 @@ mod toolchain;
 
 pub use builder::{
     BuildPlan, Prepared, build, build_plan, build_plan_turns, build_turns, build_with, plan_build,
+    prepare,
 };
 pub use environment::Environment;
 pub use laws::{
