@@ -1,0 +1,115 @@
+-- What a build would do with each unit, as far as the records of one world say.
+use Rattle.std.specs.Prelude.{◌≡◌, ℕ, Bool, true, false, not, if◌then◌else◌, List, [], ◌∷◌, ◌++◌, Option, Some, None, is_some, Result, MatchOption, MatchResult, slice_get}
+use Rattle.std.specs.List.{find}
+use Rattle.pb_build_result.specs.declared.fault.BuildFault.{BuildFault}
+use Rattle.pb_build_result.specs.declared.fault.BuildFault.TheVariants.{Plan, Toolchain, Child, Device, Sink, OutOfMemory}
+use Rattle.pb_build_result.specs.declared.fault.DeviceFault.{DeviceFault}
+use Rattle.pb_build_result.specs.declared.fault.DeviceFault.TheVariants as device
+use Rattle.pb_command.specs.Command.{command_of}
+use Rattle.pb_command_types.specs.Targets.{unit_at}
+use Rattle.pb_command_types.specs.declared.project.Project.{Project}
+use Rattle.pb_command_types.specs.declared.project.Setup.{Setup}
+use Rattle.pb_directive.specs.declared.directive.Directive.{Directive}
+use Rattle.pb_place_types.specs.At.{At}
+use Rattle.pb_place_types.specs.World.{World}
+use Rattle.pb_place_types.specs.declared.command.Command.{Command}
+use Rattle.pb_run.specs.Invariants.{records_folder}
+use Rattle.pb_run.specs.Outcome.{ran_of}
+use Rattle.pb_run.specs.Steps.{HasCause}
+use Rattle.pb_run.specs.declared.ran.Ran.{Ran}
+use Rattle.pb_store.specs.Differences.{FirstDifference, IsReplayed}
+use Rattle.pb_store.specs.declared.replaying.Replayed.{Replayed}
+use Rattle.pb_store_soundness.specs.Records.{records}
+use Rattle.pb_tool_preview.specs.declared.fate.Fate.{Fate}
+use Rattle.pb_tool_preview.specs.declared.fate.Fate.TheVariants.{Starts, Kept, Bad, Waits, Unreached}
+use Rattle.pb_unit.specs.declared.plan.Planned.{Planned}
+
+-- Units that cannot be compared yet.
+
+abbrev pub is_kept : Fate → Bool
+is_kept (Starts difference) = false
+is_kept Kept = true
+is_kept Bad = false
+is_kept (Waits index) = false
+is_kept (Unreached index) = false
+
+abbrev pub is_kept_if : Option Fate → Bool
+is_kept_if None = false
+is_kept_if (Some fate) = is_kept fate
+
+abbrev pub is_kept_at : List Fate → ℕ → Bool
+is_kept_at fates index = is_kept_if (slice_get fates index)
+
+-- the first of the reached units that is not kept
+abbrev pub first_unkept : List Fate → List ℕ → Option ℕ
+first_unkept fates reached = find (λ index. not (is_kept_at fates index)) reached
+
+-- no unit that reaches a unit of this fate begins
+abbrev pub ends_badly : Option Fate → Bool
+ends_badly None = false
+ends_badly (Some (Starts difference)) = false
+ends_badly (Some Kept) = false
+ends_badly (Some Bad) = true
+ends_badly (Some (Waits index)) = false
+ends_badly (Some (Unreached index)) = true
+
+-- a unit whose first reached unit that is not kept is at this index is not reached if that unit would be bad; else it
+-- waits for it
+abbrev pub waits_for : List Fate → ℕ → Fate
+waits_for fates index = if ends_badly (slice_get fates index) then Unreached index else Waits index
+
+-- Units that can be compared.
+
+-- by what came of a unit, it is kept or bad, and these are its directives
+abbrev pub Judges : Ran → Fate → Option (List Directive) → Type 0
+Judges ran fate said = (fate ≡ (if is_some ran.bad then Bad else Kept)) × (said ≡ ran.directives)
+
+-- nothing differs from a unit's record for this command, and what the record replays is judged so
+pub record IsReplay (project : Project) (w : World) (u : Planned) (c : Command) (fate : Fate) (said : Option (List Directive)) : Type 0 where
+  pub same : FirstDifference (records_folder project) u.key c w None
+  pub again : Replayed
+  pub replays : IsReplayed (records (records_folder project) w u.key) again
+  pub judged : Judges (ran_of project u c again.ended w.files) fate said
+
+-- the comparison of a unit with its record, for this command: if the child would be started, this is the first
+-- difference; else its record would be replayed
+abbrev pub IsCompared : Project → World → Planned → Command → Fate → Option (List Directive) → Type 0
+IsCompared project w u c (Starts difference) said = FirstDifference (records_folder project) u.key c w (Some difference) × (said ≡ None)
+IsCompared project w u c Kept said = IsReplay project w u c Kept said
+IsCompared project w u c Bad said = IsReplay project w u c Bad said
+IsCompared project w u c (Waits index) said = ⊥
+IsCompared project w u c (Unreached index) said = ⊥
+
+-- The units of a plan.
+
+-- the fate of a unit by the fates and the directives of the units before it: if all that it reaches is kept, it is
+-- compared with its record for the command that a build would give it
+abbrev pub IsFate : Setup → Project → World → List Fate → List (Option (List Directive)) → Planned → Fate → Option (List Directive) → Type 0
+IsFate setup project w fates done u fate said =
+    MatchOption (first_unkept fates u.reaches) (IsCompared project w u (command_of setup project u done) fate said) (λ index. (fate ≡ waits_for fates index) × (said ≡ None))
+
+-- the fates of some first units of a plan, each by those before it
+pub data Foresees (setup : Setup) (project : Project) (w : World) : List Planned → List Fate → List (Option (List Directive)) → Type 0 where
+  nothing : Foresees setup project w [] [] []
+  more : (units : List Planned) (fates : List Fate) (done : List (Option (List Directive))) (u : Planned) (fate : Fate) (said : Option (List Directive))
+      (before : Foresees setup project w units fates done) (is : IsFate setup project w fates done u fate said)
+      → Foresees setup project w (units ++ u ∷ []) (fates ++ fate ∷ []) (done ++ said ∷ [])
+
+-- What it does to the place.
+
+-- it only looks: nothing changes but counters, no child is started, and a call that failed is the last one
+pub record Looks {T : Type 0} (result : Result T BuildFault) (old new : At) : Type 0 where
+  pub world : new.world ≡ old.world
+  pub most : new.most ≡ old.most
+  pub starts : new.counts.starts ≡ old.counts.starts
+  pub cause : MatchResult result (λ x. new.counts.failures ≡ old.counts.failures) (λ e. HasCause e old.counts new.counts)
+
+-- a look at the unit of this key failed: a file, a folder or a variable could not be read, or memory ran out
+abbrev pub LooksAt : List ℕ → BuildFault → Type 0
+LooksAt key (Device unit (device.Place fault)) = unit ≡ key
+LooksAt key OutOfMemory = Unit {0}
+LooksAt key fault = ⊥
+
+-- the same for one of the units of a project
+abbrev pub LooksAtSome : Project → BuildFault → Type 0
+LooksAtSome project fault = (index : ℕ) × (u : Planned) × (unit_at project index ≡ Some u) × LooksAt u.key fault

@@ -1,0 +1,3 @@
+pub mod Foreseeing
+pub mod Telling
+pub mod Laws
