@@ -96,6 +96,11 @@ fn text_of(alloc: Global, length: usize, record: &Record) -> Result<String, Allo
     Ok(text)
 }
 
+/// Returns whether a file may be the long record of a script, by its path and its length.
+pub(crate) fn may_be_long(path: &PathText, length: u64) -> bool {
+    length > LONGEST as u64 && path.as_str().ends_with(RUN_RECORD)
+}
+
 /// Returns the note on a file that was written, as a line, if the file is the record of a script
 /// that names no input and has more than 16,777,216 bytes; `None` for any other file.
 ///
@@ -105,7 +110,7 @@ pub(crate) fn long_record_line(
     path: &PathText,
     bytes: &[u8],
 ) -> Result<Option<String>, AllocError> {
-    if bytes.len() <= LONGEST || !path.as_str().ends_with(RUN_RECORD) {
+    if !may_be_long(path, bytes.len() as u64) {
         return Ok(None);
     }
     let Some(record) = read_record(alloc, bytes)? else {

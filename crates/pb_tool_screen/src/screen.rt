@@ -4,18 +4,22 @@ ghost use Rattle.std.specs.Prelude.{◌≡◌, ◌≤◌, ◌++◌, Bool, false,
 ghost use Rattle.std.specs.Io.KnownBytes.{Keeps, Appends};
 ghost use Rattle.pb_place_types.specs.Sinks.{SinkState, sunk};
 
+use crate::colored::{Colored, Coloring};
+use crate::line::ERASE;
 use crate::rendering::line_shown;
 use pb_place_types::{Out, write_all};
 use std::alloc::{AllocError, Global};
 
 /// A sink of message lines that can also show them as text.
 pub trait Screen: Out {
-    /// How it is set to show lines: the sink before, whether it shows lines, and the sink after.
-    ghost shows: { Self → Bool → Self → Type 0 };
+    /// How it is set to show lines: the sink before, whether it shows lines, whether it erases a
+    /// status line, whether levels have colours, and the sink after.
+    ghost shows: { Self → Bool → Bool → Bool → Self → Type 0 };
 
-    /// Sets whether lines are shown from now on. What the sink has received stays.
-    fn show(&mut self, on: bool)
-        ensures shows { shows self.old on self.new }
+    /// Sets whether lines are shown from now on, whether a status line is erased before each write,
+    /// and whether levels have colours. What the sink has received stays.
+    fn show(&mut self, on: bool, erases: bool, colors: bool)
+        ensures shows { shows self.old on erases colors self.new }
         ensures heard { Self.heard self.new ≡ Self.heard self.old };
 }
 
@@ -27,9 +31,11 @@ pub struct Rendered<O, S> {
     /// The sink that receives the lines.
     out: O,
     /// The sink on which they are shown.
-    aside: S,
+    aside: Colored<S>,
     /// Whether they are shown.
     on: bool,
+    /// Whether a status line on the third sink is erased before each write.
+    erases: bool,
     /// What was received of a line that has not ended.
     line: Vec<u8>,
     alloc: Global,
@@ -71,8 +77,9 @@ impl<O: Out, S: Out> Rendered<O, S> {
     {
         Rendered {
             out,
-            aside,
+            aside: Colored::new(aside),
             on: false,
+            erases: false,
             line: Vec::new(alloc),
             alloc,
         }
@@ -83,6 +90,9 @@ impl<O: Out, S: Out> Out for Rendered<O, S> {
     ghost heard = { λ r. O.heard r.out };
 
     fn write(&mut self, bytes: &[u8]) -> Option<usize> {
+        if self.erases {
+            let _ = write_all(&mut self.aside, ERASE);
+        }
         let taken = self.out.write(bytes);
         if !self.on {
             return taken;
@@ -101,9 +111,15 @@ impl<O: Out, S: Out> Out for Rendered<O, S> {
 }
 
 impl<O: Out, S: Out> Screen for Rendered<O, S> {
-    ghost shows = { λ old on new. new ≡ record old { on = on } };
+    ghost shows = { λ old on erases colors new. new ≡ record old {
+      aside = record old.aside { on = colors };
+      on = on;
+      erases = erases;
+    } };
 
-    fn show(&mut self, on: bool) {
+    fn show(&mut self, on: bool, erases: bool, colors: bool) {
+        self.aside.color(colors);
         self.on = on;
+        self.erases = erases;
     }
 }

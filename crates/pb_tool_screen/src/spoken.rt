@@ -3,23 +3,29 @@
 ghost use Rattle.std.specs.Prelude.{◌≡◌, Bool};
 ghost use Rattle.pb_place_types.specs.At.{IsUnchanged};
 
-use crate::long_record::long_record_line;
+use crate::line::ERASE;
+use crate::long_record::{long_record_line, may_be_long};
 use pb_data::{Bytes, Items, Text};
 use pb_place_host::Reporting;
 use pb_place_types::{
-    Command, Ended, Moved, Out, PathFault, PathText, Place, PlaceFault, StartFault, write_all,
+    Command, Ended, Moved, Out, PathFault, PathText, Place, PlaceFault, StartFault, joined,
+    length_of, write_all,
 };
 use std::alloc::{AllocError, Global};
 
+/// The note if memory runs out for another note.
+const NO_MEMORY: &[u8] = b"note: out of memory for a note on a long record\n";
+
 /// A place that can also name the children that it starts, and report what failed.
 pub trait Speaking: Place + Reporting {
-    /// How it is set to name children: the place before, whether it names them, and the place
-    /// after.
-    ghost speaks: { Self → Bool → Self → Type 0 };
+    /// How it is set to say so: the place before, whether it names children, whether it erases a
+    /// status line, and the place after.
+    ghost speaks: { Self → Bool → Bool → Self → Type 0 };
 
-    /// Sets whether children are named from now on. Everything else of the place stays.
-    fn speak(&mut self, on: bool)
-        ensures speaks { speaks self.old on self.new }
+    /// Sets whether children are named from now on, and whether a status line is erased before each
+    /// text. Everything else of the place stays.
+    fn speak(&mut self, on: bool, erases: bool)
+        ensures speaks { speaks self.old on erases self.new }
         ensures at { IsUnchanged (Self.at self.old) (Self.at self.new) };
 }
 
@@ -34,6 +40,8 @@ pub struct Spoken<P, S> {
     aside: S,
     /// Whether they are named.
     on: bool,
+    /// Whether a status line on the sink is erased before each text.
+    erases: bool,
 }
 
 /// Returns whether a shell takes an argument as it is.
@@ -74,24 +82,63 @@ fn line_of(alloc: Global, command: &Command) -> Result<String, AllocError> {
     Ok(line)
 }
 
+/// Writes a text to a sink, and erases a status line there before, if that is asked for.
+fn write_text<S: Out>(aside: &mut S, erases: bool, text: &[u8]) {
+    if erases {
+        let _ = write_all(aside, ERASE);
+    }
+    let _ = write_all(aside, text);
+}
+
 /// Names a child.
-fn name<S: Out>(alloc: Global, aside: &mut S, command: &Command) {
+fn name<S: Out>(alloc: Global, aside: &mut S, erases: bool, command: &Command) {
     match line_of(alloc, command) {
-        Ok(line) => write_all(aside, line.as_bytes()),
-        Err(_) => write_all(aside, b"note: out of memory for the words of a child\n"),
+        Ok(line) => write_text(aside, erases, line.as_bytes()),
+        Err(_) => write_text(
+            aside,
+            erases,
+            b"note: out of memory for the words of a child\n",
+        ),
     };
 }
 
 /// Writes the note on a file that was written, if it is the long record of a script.
-fn weigh<S: Out>(alloc: Global, aside: &mut S, path: &PathText, bytes: &[u8]) {
+fn weigh<S: Out>(alloc: Global, aside: &mut S, erases: bool, path: &PathText, bytes: &[u8]) {
     match long_record_line(alloc, path, bytes) {
-        Ok(Some(line)) => write_all(aside, line.as_bytes()),
-        Ok(None) => true,
-        Err(_) => write_all(aside, b"note: out of memory for a note on a long record\n"),
+        Ok(Some(line)) => write_text(aside, erases, line.as_bytes()),
+        Ok(None) => {}
+        Err(_) => write_text(aside, erases, NO_MEMORY),
     };
 }
 
-impl<P: Place, S: Out> Spoken<P, S> {
+/// Writes the note on a file that was written in pieces, if it is the long record of a script. Only
+/// then it takes memory for the whole file.
+fn weigh_pieces<S: Out>(
+    alloc: Global,
+    aside: &mut S,
+    erases: bool,
+    path: &PathText,
+    pieces: &[Bytes],
+) {
+    if !may_be_long(path, length_of(pieces)) {
+        return;
+    }
+    match joined(alloc, pieces) {
+        Ok(bytes) => weigh(alloc, aside, erases, path, bytes.as_slice()),
+        Err(_) => write_text(aside, erases, NO_MEMORY),
+    }
+}
+
+/// Writes a note for each text.
+fn note<S: Out>(aside: &mut S, erases: bool, texts: &[Text]) {
+    for text in texts {
+        write_text(aside, erases, b"note: ");
+        let _ = write_all(aside, text.as_bytes());
+        let _ = write_all(aside, b"\n");
+    }
+}
+
+impl<P: Place + Reporting, S: Out> Spoken<P, S> {
     /// Returns a place that does what this one does, and names no child yet.
     pub fn new(inside: P, aside: S) -> Spoken<P, S>
         ensures { IsUnchanged (P.at inside) (⟦<Spoken<P, S> as Place>⟧.at result) }
@@ -100,6 +147,7 @@ impl<P: Place, S: Out> Spoken<P, S> {
             inside,
             aside,
             on: false,
+            erases: false,
         }
     }
 }
@@ -116,17 +164,22 @@ impl<P: Reporting, S: Out> Reporting for Spoken<P, S> {
     fn answered_query(&self) -> &[Text] {
         self.inside.answered_query()
     }
-}
 
-impl<P: Place + Reporting, S: Out> Speaking for Spoken<P, S> {
-    ghost speaks = { λ old on new. new ≡ record old { on = on } };
-
-    fn speak(&mut self, on: bool) {
-        self.on = on;
+    fn links_out(&self) -> &[Text] {
+        self.inside.links_out()
     }
 }
 
-impl<P: Place, S: Out> Place for Spoken<P, S> {
+impl<P: Place + Reporting, S: Out> Speaking for Spoken<P, S> {
+    ghost speaks = { λ old on erases new. new ≡ record old { on = on; erases = erases } };
+
+    fn speak(&mut self, on: bool, erases: bool) {
+        self.on = on;
+        self.erases = erases;
+    }
+}
+
+impl<P: Place + Reporting, S: Out> Place for Spoken<P, S> {
     ghost is_modelled = { P.is_modelled };
 
     ghost at = { λ p. P.at p.inside };
@@ -185,7 +238,20 @@ impl<P: Place, S: Out> Place for Spoken<P, S> {
     fn write(&mut self, alloc: Global, path: &PathText, bytes: &[u8]) -> Result<(), PlaceFault> {
         let answer = self.inside.write(alloc, path, bytes);
         if answer.is_ok() {
-            weigh(alloc, &mut self.aside, path, bytes);
+            weigh(alloc, &mut self.aside, self.erases, path, bytes);
+        }
+        answer
+    }
+
+    fn write_pieces(
+        &mut self,
+        alloc: Global,
+        path: &PathText,
+        pieces: &[Bytes],
+    ) -> Result<(), PlaceFault> {
+        let answer = self.inside.write_pieces(alloc, path, pieces);
+        if answer.is_ok() {
+            weigh_pieces(alloc, &mut self.aside, self.erases, path, pieces);
         }
         answer
     }
@@ -200,13 +266,15 @@ impl<P: Place, S: Out> Place for Spoken<P, S> {
 
     fn spawn(&mut self, alloc: Global, command: &Command) -> Result<u64, StartFault> {
         if self.on {
-            name(alloc, &mut self.aside, command);
+            name(alloc, &mut self.aside, self.erases, command);
         }
         self.inside.spawn(alloc, command)
     }
 
     fn finish(&mut self, alloc: Global, ticket: u64) -> Result<Ended, StartFault> {
-        self.inside.finish(alloc, ticket)
+        let answer = self.inside.finish(alloc, ticket);
+        note(&mut self.aside, self.erases, self.inside.links_out());
+        answer
     }
 
     fn path_from(

@@ -1,0 +1,117 @@
+//! A sink on which the levels of lines have colours.
+
+ghost use Rattle.std.specs.Prelude.{◌≡◌, Bool, None};
+ghost use Rattle.pb_place_types.specs.Sinks.{SinkState};
+
+use pb_place_types::{Out, write_all};
+
+/// What ends a colour.
+const PLAIN: &[u8] = b"\x1b[0m";
+
+const RED: &[u8] = b"\x1b[1;31m";
+
+const YELLOW: &[u8] = b"\x1b[1;33m";
+
+const CYAN: &[u8] = b"\x1b[1;36m";
+
+/// A sink for people that can also show levels in colours.
+pub trait Coloring: Out {
+    /// How it is set to show colours: the sink before, whether it shows them, and the sink after.
+    ghost colors: { Self → Bool → Self → Type 0 };
+
+    /// Sets whether levels have colours from now on. What the sink has received stays.
+    fn color(&mut self, on: bool)
+        ensures colors { colors self.old on self.new }
+        ensures heard { Self.heard self.new ≡ Self.heard self.old };
+}
+
+/// A sink over another one. If it is set to do so, the level at the start of a line, as `warning`
+/// in `warning: ..`, has a colour on the other sink. Each write starts a line.
+#[derive(Drop)]
+pub struct Colored<S> {
+    inside: S,
+    /// Whether levels have colours.
+    on: bool,
+    failures: u64,
+}
+
+/// Returns the colour of a level, if the word is one.
+fn color_of(word: &[u8]) -> Option<&'static [u8]> {
+    if word == b"error".as_slice() {
+        return Some(RED);
+    }
+    if word == b"warning".as_slice() {
+        return Some(YELLOW);
+    }
+    if word == b"note".as_slice() || word == b"help".as_slice() {
+        return Some(CYAN);
+    }
+    None
+}
+
+/// Writes a line, with its level in a colour, if it begins with one. Returns whether all of it was
+/// written.
+fn write_line<S: Out>(sink: &mut S, line: &[u8]) -> bool {
+    let end = line.iter().position(|byte| *byte == b':' || *byte == b'[');
+    let (word, rest) = line.split_at(end.unwrap_or(0));
+    match color_of(word) {
+        Some(color) => {
+            write_all(sink, color)
+                && write_all(sink, word)
+                && write_all(sink, PLAIN)
+                && write_all(sink, rest)
+        }
+        None => write_all(sink, line),
+    }
+}
+
+/// Writes lines, each with its level in a colour. Returns whether all of them were written.
+fn write_lines<S: Out>(sink: &mut S, lines: &[u8]) -> bool {
+    for line in lines.split_inclusive(|byte| *byte == b'\n') {
+        if !write_line(sink, line) {
+            return false;
+        }
+    }
+    true
+}
+
+impl<S: Out> Colored<S> {
+    /// Returns a sink over another one, without colours yet.
+    pub fn new(inside: S) -> Colored<S> {
+        Colored {
+            inside,
+            on: false,
+            failures: 0,
+        }
+    }
+}
+
+impl<S: Out> Out for Colored<S> {
+    ghost heard = { λ c. record { taken = None; faults = c.failures } };
+
+    fn write(&mut self, bytes: &[u8]) -> Option<usize> {
+        let written = if self.on {
+            write_lines(&mut self.inside, bytes)
+        } else {
+            write_all(&mut self.inside, bytes)
+        };
+        if written {
+            Some(bytes.len())
+        } else {
+            self.failures = self.failures.saturating_add(1);
+            None
+        }
+    }
+
+    fn failures(&self) -> u64 {
+        self.failures
+    }
+}
+
+impl<S: Out> Coloring for Colored<S> {
+    ghost colors = { λ old on new. new ≡ record old { on = on } };
+
+    fn color(&mut self, on: bool) {
+        self.on = on;
+    }
+}
