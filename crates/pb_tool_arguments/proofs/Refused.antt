@@ -5,30 +5,29 @@ use Rattle.clap.specs.Kinds.{HasKind, IsAmong}
 use Rattle.clap.specs.Simple.{App, subcommand_of}
 use Rattle.clap.specs.Values.{kind_of}
 use Rattle.clap.specs.Walk.{Row, Text}
-use Rattle.clap.specs.declared.builder.value_parser.ValueParser.{ValueParser}
 use Rattle.clap.specs.declared.error.Error.{Error}
 use Rattle.clap.proofs.OnLiterals.{clap_on_literals}
 use Rattle.pb_place_types.specs.Paths.{joined}
 use Rattle.pb_place_types.specs.declared.path.PathFault.{PathFault}
 use Rattle.pb_tool_arguments.specs.Asking.{AsksWrongly, BuildsWrongly, PlansWrongly, HasBadJobs, HasTwoProfiles, IsForm, IsProfile, IsTaken, Unasks, bad_build, bad_clean, bad_file, bad_jobs, bad_manifest, bad_options, bad_plan, file_of, is_help, jobs_told, manifest_of, path_told, profiles_told, two_profiles}
-use Rattle.pb_tool_arguments.specs.Description.{IsJson, program}
+use Rattle.pb_tool_arguments.specs.Description.{AreChoices, Choices, program}
 use Rattle.pb_tool_arguments.specs.Private.{ToldWrong, TellsKind, RefusedBy}
 use Rattle.pb_tool_arguments.specs.declared.invocation.ArgumentsError.{ArgumentsError}
 use Rattle.pb_tool_arguments.specs.declared.invocation.ArgumentsError.TheVariants.{Help, Wrong, OutOfMemory}
 use Rattle.pb_tool_arguments.specs.declared.invocation.PlanForm.{PlanForm}
 
 -- no option of the program has a rule on another, so `clap` tells which kinds of fault its words have
-pub program_is_free : (formats : ValueParser) → is_simple_and_free (program formats) ≡ true
+pub program_is_free : (choices : Choices) → is_simple_and_free (program choices) ≡ true
 unfolding clap_on_literals
-program_is_free formats = refl
+program_is_free choices = refl
 
 -- an error of one of these kinds
-pub refused_by : (words : List Text) (formats : ValueParser) (app : App) (e : Error) (unasked : ArgumentsError) → IsJson formats → app ≡ program formats → HasKind (fault_of app words) e → TellsKind (kind_of e) unasked → RefusedBy words unasked
-refused_by words formats app e (Help text) json is (inl none) tells = let no : false ≡ true = sym (ap is_help none) ∙ tells in cc
-refused_by words formats app e (Help text) json is (inr among) tells = (formats, json, (kind_of e, tells, subst (λ a. IsAmong (kind_of e) (fault_of a words)) is among))
-refused_by words formats app e (Wrong text) json is (inl none) tells = absurd (tells.1 none)
-refused_by words formats app e (Wrong text) json is (inr among) tells = (formats, json, (kind_of e, tells.0, subst (λ a. IsAmong (kind_of e) (fault_of a words)) is among))
-refused_by words formats app e OutOfMemory json is has tells = tt
+pub refused_by : (words : List Text) (choices : Choices) (app : App) (e : Error) (unasked : ArgumentsError) → AreChoices choices → app ≡ program choices → HasKind (fault_of app words) e → TellsKind (kind_of e) unasked → RefusedBy words unasked
+refused_by words choices app e (Help text) json is (inl none) tells = let no : false ≡ true = sym (ap is_help none) ∙ tells in cc
+refused_by words choices app e (Help text) json is (inr among) tells = (choices, json, (kind_of e, tells, subst (λ a. IsAmong (kind_of e) (fault_of a words)) is among))
+refused_by words choices app e (Wrong text) json is (inl none) tells = absurd (tells.1 none)
+refused_by words choices app e (Wrong text) json is (inr among) tells = (choices, json, (kind_of e, tells.0, subst (λ a. IsAmong (kind_of e) (fault_of a words)) is among))
+refused_by words choices app e OutOfMemory json is has tells = tt
 
 -- what is wrong with the values of a build
 pub wrong_manifest : (folder value : Text) (rows : List Row) (unasked : ArgumentsError) → value ≡ manifest_of rows
@@ -84,14 +83,14 @@ wrong_session folder given rows (Wrong text) is (fault, bad, told) = bad_file ro
 wrong_session folder given rows OutOfMemory is told = tt
 
 -- what is wrong with what was given, of words that are taken
-pub wrong_words : (words : List Text) (folder : Text) (formats : ValueParser) (given : Option (Text × List Row)) (unasked : ArgumentsError) → IsJson formats → IsTaken formats words → given ≡ subcommand_of (program formats) words
+pub wrong_words : (words : List Text) (folder : Text) (choices : Choices) (given : Option (Text × List Row)) (unasked : ArgumentsError) → AreChoices choices → IsTaken choices words → given ≡ subcommand_of (program choices) words
     → ToldWrong (AsksWrongly folder given) unasked → Unasks words folder unasked
-wrong_words words folder formats given (Help text) json taken is told = absurd told
-wrong_words words folder formats given (Wrong text) json taken is told = (formats, json, inr (taken, subst (λ g. AsksWrongly folder g text) is told))
-wrong_words words folder formats given OutOfMemory json taken is told = tt
+wrong_words words folder choices given (Help text) json taken is told = absurd told
+wrong_words words folder choices given (Wrong text) json taken is told = (choices, json, inr (taken, subst (λ g. AsksWrongly folder g text) is told))
+wrong_words words folder choices given OutOfMemory json taken is told = tt
 
 -- words that are not taken
 pub refused_words : (words : List Text) (folder : Text) (unasked : ArgumentsError) → RefusedBy words unasked → Unasks words folder unasked
 refused_words words folder (Help text) refused = refused
-refused_words words folder (Wrong text) (formats, json, refused) = (formats, json, inl refused)
+refused_words words folder (Wrong text) (choices, json, refused) = (choices, json, inl refused)
 refused_words words folder OutOfMemory refused = tt

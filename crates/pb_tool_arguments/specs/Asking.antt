@@ -1,20 +1,19 @@
 -- What the words of a command line request, or why they request nothing.
-use Rattle.std.specs.Prelude.{◌≡◌, ◌≢◌, ◌⊎◌, ◌<◌, ◌^◌, ℕ, Bool, true, false, codes, List, [], ◌∷◌, Option, Some, None, Ok, Err, is_some, unwrap_or, option_map, ◌||◌, if◌then◌else◌}
+use Rattle.std.specs.Prelude.{◌≡◌, ◌≢◌, ◌⊎◌, ◌<◌, ◌^◌, ℕ, Bool, true, false, codes, List, [], ◌∷◌, Option, Some, None, Ok, Err, is_some, unwrap_or, option_map, not, ◌&&◌, ◌||◌, if◌then◌else◌}
 use Rattle.std.specs.Str.Parse.{IsNumeral, digits_value}
 use Rattle.clap.specs.Faults.{fault_of}
 use Rattle.clap.specs.Kinds.{IsAmong}
 use Rattle.clap.specs.Walk.{Row, Text, first_of, one_of, all_of}
 use Rattle.clap.specs.Simple.{subcommand_of}
-use Rattle.clap.specs.declared.builder.value_parser.ValueParser.{ValueParser}
 use Rattle.clap.specs.declared.error.kind.ErrorKind.{ErrorKind}
 use Rattle.clap.specs.declared.error.kind.ErrorKind.TheVariants as kind
 use Rattle.pb_directive.specs.Directives.{words_of}
 use Rattle.pb_place_types.specs.Paths.{joined}
 use Rattle.pb_place_types.specs.declared.path.PathFault.{PathFault}
 use Rattle.pb_workspace_types.specs.declared.options.Options.{Options}
-use Rattle.pb_tool_arguments.specs.Description.{IsJson, program}
+use Rattle.pb_tool_arguments.specs.Description.{AreChoices, Choices, program}
 use Rattle.pb_tool_arguments.specs.declared.invocation.Invocation.{Invocation}
-use Rattle.pb_tool_arguments.specs.declared.invocation.Invocation.TheVariants.{Session, Build, Explain, Plan, Clean}
+use Rattle.pb_tool_arguments.specs.declared.invocation.Invocation.TheVariants.{Session, Build, Explain, Plan, Clean, Preview}
 use Rattle.pb_tool_arguments.specs.declared.invocation.PlanForm.{PlanForm}
 use Rattle.pb_tool_arguments.specs.declared.invocation.PlanForm.TheVariants.{Lines, Json, Dot}
 use Rattle.pb_tool_arguments.specs.declared.invocation.Shown.{Shown}
@@ -88,11 +87,30 @@ pub record IsOptions (called : Text) (here : Here) (rows : List Row) (options : 
   pub tool : options.tool ≡ unwrap_or (first_of (codes "tool") rows) called
   pub jobs : IsJobs here.processors (first_of (codes "jobs") rows) options.jobs
 
+-- a status line is shown where standard error is a terminal, and where `--progress` was given; never where `--quiet` was
+abbrev pub ShowsProgress : Here → List Row → Bool → Type 0
+ShowsProgress here rows progress =
+    (asked quiet : Bool) × IsFlag (codes "progress") rows asked × IsFlag (codes "quiet") rows quiet × (progress ≡ ((here.is_terminal || asked) && not quiet))
+
+-- the counts come at the end where standard error is a terminal, and `--quiet` was not given
+abbrev pub ShowsCounts : Here → List Row → Bool → Type 0
+ShowsCounts here rows counts = (quiet : Bool) × IsFlag (codes "quiet") rows quiet × (counts ≡ (here.is_terminal && not quiet))
+
+-- whether levels have colours, by the value of an option: always or never, or as they have them without it
+abbrev pub IsColored : Bool → Option Text → Bool → Type 0
+IsColored shows None colors = colors ≡ shows
+IsColored shows (Some text) colors =
+    (text ≡ codes "always" → colors ≡ true) × (text ≡ codes "never" → colors ≡ false)
+    × (text ≢ codes "always" → text ≢ codes "never" → colors ≡ shows)
+
 -- what is shown of a build beside its message lines
-pub record IsShown (rows : List Row) (shown : Shown) : Type 0 where
+pub record IsShown (here : Here) (rows : List Row) (shown : Shown) : Type 0 where
   pub explain : IsFlag (codes "explain") rows shown.explain
   pub render : IsFlag (codes "render") rows shown.render
   pub verbose : IsFlag (codes "verbose") rows shown.verbose
+  pub progress : ShowsProgress here rows shown.progress
+  pub counts : ShowsCounts here rows shown.counts
+  pub colors : IsColored here.shows_colors (first_of (codes "color") rows) shown.colors
 
 -- the form in which a plan is printed: as JSON or for Graphviz if that was given, else in lines
 abbrev pub IsForm : List Row → PlanForm → Type 0
@@ -110,7 +128,8 @@ NamesProfile rows named = (release : Bool) × IsFlag (codes "release") rows rele
 
 -- a subcommand with these values requests this
 abbrev pub AsksBy : Text → Here → Option (Text × List Row) → Invocation → Type 0
-AsksBy tool here given (Build options shown) = (rows : List Row) × (given ≡ Some (codes "build", rows)) × IsOptions tool here rows options × IsShown rows shown
+AsksBy tool here given (Build options shown) = (rows : List Row) × (given ≡ Some (codes "build", rows)) × IsFlag (codes "dry-run") rows false × IsOptions tool here rows options × IsShown here rows shown
+AsksBy tool here given (Preview options) = (rows : List Row) × (given ≡ Some (codes "build", rows)) × IsFlag (codes "dry-run") rows true × IsOptions tool here rows options
 AsksBy tool here given (Session path) = (rows : List Row) × (given ≡ Some (codes "session", rows)) × (joined here.folder (file_of rows) ≡ Ok path)
 AsksBy tool here given (Plan options form) = (rows : List Row) × (given ≡ Some (codes "plan", rows)) × IsOptions tool here rows options × IsForm rows form
 AsksBy tool here given (Clean options one_profile) = (rows : List Row) × (given ≡ Some (codes "clean", rows)) × IsOptions tool here rows options × NamesProfile rows one_profile
@@ -122,12 +141,12 @@ tool_of [] = []
 tool_of (word ∷ words) = word
 
 -- the description of the command line accepts the words: `clap` finds no fault with them, and they do not request help
-abbrev pub IsTaken : ValueParser → List Text → Type 0
-IsTaken formats words = fault_of (program formats) words ≡ []
+abbrev pub IsTaken : Choices → List Text → Type 0
+IsTaken choices words = fault_of (program choices) words ≡ []
 
 -- the words request this, by the description of the command line
 abbrev pub Asks : List Text → Here → Invocation → Type 0
-Asks words here asked = (formats : ValueParser) × IsJson formats × IsTaken formats words × AsksBy (tool_of words) here (subcommand_of (program formats) words) asked
+Asks words here asked = (choices : Choices) × AreChoices choices × IsTaken choices words × AsksBy (tool_of words) here (subcommand_of (program choices) words) asked
 
 -- Why the words request nothing.
 
@@ -178,16 +197,16 @@ is_help kind.DisplayHelpOnMissingArgumentOrSubcommand = true
 is_help _ = false
 
 -- help or the version is requested, or there are no words
-abbrev pub AsksForHelp : ValueParser → List Text → Type 0
-AsksForHelp formats words = (found : ErrorKind) × (is_help found ≡ true) × IsAmong found (fault_of (program formats) words)
+abbrev pub AsksForHelp : Choices → List Text → Type 0
+AsksForHelp choices words = (found : ErrorKind) × (is_help found ≡ true) × IsAmong found (fault_of (program choices) words)
 
 -- `clap` finds a fault with the words
-abbrev pub IsRefused : ValueParser → List Text → Type 0
-IsRefused formats words = (found : ErrorKind) × (is_help found ≡ false) × IsAmong found (fault_of (program formats) words)
+abbrev pub IsRefused : Choices → List Text → Type 0
+IsRefused choices words = (found : ErrorKind) × (is_help found ≡ false) × IsAmong found (fault_of (program choices) words)
 
 -- why the words request nothing, and the text that is reported; nothing is said about the texts of `clap`;
 -- wrong values are reported only for words that `clap` accepts, so never if help is requested
 abbrev pub Unasks : List Text → Text → ArgumentsError → Type 0
-Unasks words folder (Help text) = (formats : ValueParser) × IsJson formats × AsksForHelp formats words
-Unasks words folder (Wrong text) = (formats : ValueParser) × IsJson formats × (IsRefused formats words ⊎ IsTaken formats words × AsksWrongly folder (subcommand_of (program formats) words) text)
+Unasks words folder (Help text) = (choices : Choices) × AreChoices choices × AsksForHelp choices words
+Unasks words folder (Wrong text) = (choices : Choices) × AreChoices choices × (IsRefused choices words ⊎ IsTaken choices words × AsksWrongly folder (subcommand_of (program choices) words) text)
 Unasks words folder OutOfMemory = Unit {0}

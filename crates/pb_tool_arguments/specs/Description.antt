@@ -36,8 +36,11 @@ abbrev pub at_one_time : List Rule
 at_one_time = record (option (codes "jobs")) { short = Some 106 } ∷ []
 
 -- the options for what is shown beside the messages
-abbrev pub telling : List Rule
-telling = flag (codes "explain") ∷ flag (codes "render") ∷ record (flag (codes "verbose")) { short = Some 118 } ∷ record (flag (codes "quiet")) { short = Some 113 } ∷ []
+abbrev pub telling : ValueParser → List Rule
+telling colors =
+    flag (codes "explain") ∷ flag (codes "dry-run") ∷ flag (codes "render") ∷ record (flag (codes "verbose")) { short = Some 118 }
+    ∷ flag (codes "progress") ∷ record (flag (codes "quiet")) { short = Some 113 }
+    ∷ record (option (codes "color")) { parser = Some colors } ∷ []
 
 -- the options for what a command reads, and for the folder of all that is made
 abbrev pub places : List Rule
@@ -51,10 +54,22 @@ children formats = record (option (codes "message-format")) { parser = Some form
 abbrev pub without_effect : List Rule
 without_effect = flag (codes "locked") ∷ flag (codes "offline") ∷ flag (codes "frozen") ∷ []
 
--- JSON is the only form
-abbrev pub IsJson : ValueParser → Type 0
-IsJson (Names names) = map (λ name. name.now) names.now ≡ codes "json" ∷ []
-IsJson _ = ⊥
+-- What the values of two options may be.
+pub record Choices : Type 0 where
+  -- the form of messages
+  pub formats : ValueParser
+  -- when colours are used
+  pub colors : ValueParser
+
+-- a value may be one of these texts
+abbrev pub IsOneOf : List Text → ValueParser → Type 0
+IsOneOf texts (Names names) = map (λ name. name.now) names.now ≡ texts
+IsOneOf texts _ = ⊥
+
+-- JSON is the only form; colours are used always, never, or where they are shown
+pub record AreChoices (choices : Choices) : Type 0 where
+  pub formats : IsOneOf (codes "json" ∷ []) choices.formats
+  pub colors : IsOneOf (codes "auto" ∷ codes "always" ∷ codes "never" ∷ []) choices.colors
 
 -- the app with more rules, one after another
 abbrev pub with_rules : List Rule → App → App
@@ -66,8 +81,8 @@ abbrev pub choosing : App → App
 choosing app = with_rules features (with_rules selection app)
 
 -- `pb_tool build`
-abbrev pub build : ValueParser → App
-build formats = with_rules without_effect (with_rules (children formats) (with_rules places (with_rules telling (with_rules at_one_time (choosing (new_app (codes "build")))))))
+abbrev pub build : Choices → App
+build choices = with_rules without_effect (with_rules (children choices.formats) (with_rules places (with_rules (telling choices.colors) (with_rules at_one_time (choosing (new_app (codes "build")))))))
 
 -- the options for the form of a plan
 abbrev pub forms : List Rule
@@ -100,6 +115,6 @@ abbrev pub wanting : App → App
 wanting app = record app { top = record app.top { has_version = true; arg_required_else_help = true; subcommand_required = true } }
 
 -- the program, which requires one of the three subcommands
-abbrev pub program : ValueParser → App
-program formats =
-    with_subcommand (with_subcommand (with_subcommand (with_subcommand (with_subcommand (wanting (new_app (codes "pb_tool"))) (build formats).top) plan.top) clean.top) session.top) explain.top
+abbrev pub program : Choices → App
+program choices =
+    with_subcommand (with_subcommand (with_subcommand (with_subcommand (with_subcommand (wanting (new_app (codes "pb_tool"))) (build choices).top) plan.top) clean.top) session.top) explain.top

@@ -1,11 +1,10 @@
 -- What private functions of the command line promise to one another. Nothing here is needed to read what words request.
 use Rattle.std.specs.Prelude.{◌≡◌, ◌≢◌, true, false, List}
 use Rattle.clap.specs.Walk.{Text}
-use Rattle.clap.specs.declared.builder.value_parser.ValueParser.{ValueParser}
 use Rattle.clap.specs.declared.error.kind.ErrorKind.{ErrorKind}
 use Rattle.clap.specs.declared.error.kind.ErrorKind.TheVariants as kind
 use Rattle.pb_tool_arguments.specs.Asking.{AsksForHelp, IsRefused, is_help}
-use Rattle.pb_tool_arguments.specs.Description.{IsJson}
+use Rattle.pb_tool_arguments.specs.Description.{AreChoices, Choices}
 use Rattle.pb_tool_arguments.specs.declared.invocation.ArgumentsError.{ArgumentsError}
 use Rattle.pb_tool_arguments.specs.declared.invocation.ArgumentsError.TheVariants.{Help, Wrong, OutOfMemory}
 
@@ -23,6 +22,6 @@ TellsKind k OutOfMemory = Unit {0}
 
 -- the description does not accept the words
 abbrev pub RefusedBy : List Text → ArgumentsError → Type 0
-RefusedBy words (Help text) = (formats : ValueParser) × IsJson formats × AsksForHelp formats words
-RefusedBy words (Wrong text) = (formats : ValueParser) × IsJson formats × IsRefused formats words
+RefusedBy words (Help text) = (choices : Choices) × AreChoices choices × AsksForHelp choices words
+RefusedBy words (Wrong text) = (choices : Choices) × AreChoices choices × IsRefused choices words
 RefusedBy words OutOfMemory = Unit {0}

@@ -3,9 +3,8 @@
 ghost use Rattle.std.specs.Prelude.{◌≡◌, IfOk, Some, None, false, List, length, map, option_map, IsOkAnd, true};
 ghost use Rattle.clap.specs.Walk.{Rule, rule_of};
 ghost use Rattle.clap.specs.Simple.{app_of, new_rule, shape_of, with_subcommand};
-ghost use Rattle.clap.specs.declared.builder.value_parser.ValueParser.{ValueParser};
 ghost use Rattle.clap.specs.declared.builder.value_parser.ValueParser.TheVariants.{Names};
-ghost use Rattle.pb_tool_arguments.specs.Description.{with_rules, IsJson, choosing, build, plan, clean, session, explain, program};
+ghost use Rattle.pb_tool_arguments.specs.Description.{with_rules, AreChoices, Choices, choosing, build, plan, clean, session, explain, program};
 ghost use Rattle.pb_tool_arguments.specs.declared.options.Described.{Described};
 
 use crate::options::{CHILDREN, Described, FEATURES, FORMS, PLACES, REMOVAL, SELECTION, TELLING};
@@ -141,8 +140,8 @@ Example:
 
 /// Returns the command `pb_tool build`.
 fn build_command<'a>(alloc: Global) -> Result<Command<'a>, AllocError>
-    ensures { IfOk result (λ command. (formats : ValueParser) × IsJson formats
-        × (app_of command ≡ build formats)) }
+    ensures { IfOk result (λ command. (choices : Choices) × AreChoices choices
+        × (app_of command ≡ build choices)) }
 {
     let command = Command::new(alloc, "build")
         .about("Builds a workspace of path packages and prints message lines in JSON")
@@ -214,8 +213,8 @@ const VERSION: &str = "0.1.0";
 
 /// Returns the whole command line.
 pub(crate) fn program<'a>(alloc: Global) -> Result<Command<'a>, AllocError>
-    ensures { IfOk result (λ command. (formats : ValueParser) × IsJson formats
-        × (app_of command ≡ program formats)) }
+    ensures { IfOk result (λ command. (choices : Choices) × AreChoices choices
+        × (app_of command ≡ program choices)) }
 {
     let command = Command::new(alloc, "pb_tool")
         .about("Builds workspaces of path packages")

@@ -9,4 +9,8 @@ pub struct Here {
     pub folder: PathText,
     /// How many processors it may use.
     pub processors: u64,
+    /// Whether standard error is a terminal.
+    pub is_terminal: bool,
+    /// Whether colours are used on standard error if no option says so.
+    pub shows_colors: bool,
 }

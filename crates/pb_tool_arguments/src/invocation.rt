@@ -22,6 +22,8 @@ pub enum Invocation {
     Session(PathText),
     /// A build, and what is shown of it beside its lines.
     Build { options: Options, shown: Shown },
+    /// What a build of these options would start. Nothing is built.
+    Preview(Options),
     /// What the name of a result line means.
     Explain(Text),
     /// The plan of a build of these options, in a form. Nothing is built.
@@ -51,6 +53,12 @@ pub struct Shown {
     pub render: bool,
     /// The program and the arguments of each child, before it is started.
     pub verbose: bool,
+    /// Which unit begins, on one line that is written over itself.
+    pub progress: bool,
+    /// At the end, how many units were built and kept, and how long that took.
+    pub counts: bool,
+    /// Words such as `warning` at the start of a line of standard error, in colours.
+    pub colors: bool,
 }
 
 /// Why a command line requests nothing that is done.

@@ -108,7 +108,7 @@ pub(crate) static FEATURES: [Described; 5] = [
 
 /// The options for how many units are in flight at a time, and for what is shown beside the
 /// messages.
-pub(crate) static TELLING: [Described; 5] = [
+pub(crate) static TELLING: [Described; 8] = [
     Described {
         name: "jobs",
         short: Some('j'),
@@ -124,6 +124,14 @@ pub(crate) static TELLING: [Described; 5] = [
         value: &[],
         among: None,
         help: "Say on standard error why each child was started",
+    },
+    Described {
+        name: "dry-run",
+        short: None,
+        action: Some(ArgAction::SetTrue),
+        value: &[],
+        among: None,
+        help: "Say on standard error which children would be started and why, and build nothing",
     },
     Described {
         name: "render",
@@ -142,12 +150,28 @@ pub(crate) static TELLING: [Described; 5] = [
         help: "Say on standard error which children are started: the program and its words",
     },
     Described {
+        name: "progress",
+        short: None,
+        action: Some(ArgAction::SetTrue),
+        value: &[],
+        among: None,
+        help: "Show on standard error which unit begins, on one line, also where that is no terminal",
+    },
+    Described {
         name: "quiet",
         short: Some('q'),
         action: Some(ArgAction::SetTrue),
         value: &[],
         among: None,
-        help: "No effect: nothing is told but what went wrong, and what is asked for",
+        help: "Show neither that line nor, at the end, how many units were built",
+    },
+    Described {
+        name: "color",
+        short: None,
+        action: None,
+        value: &["WHEN"],
+        among: Some(&["auto", "always", "never"]),
+        help: "Whether words such as `warning` have colours on standard error (default auto)",
     },
 ];
 

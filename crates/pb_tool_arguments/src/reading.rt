@@ -4,11 +4,10 @@ ghost use Rattle.std.specs.Prelude.{◌≡◌, Ok, IfOk, IfErr, Some, [], codes,
 ghost use Rattle.clap.specs.Matches.{found_of};
 ghost use Rattle.clap.specs.Walk.{rows_of, first_of};
 ghost use Rattle.clap.specs.Simple.{subcommand_of, subcommand_rows_of};
-ghost use Rattle.clap.specs.declared.builder.value_parser.ValueParser.{ValueParser};
 ghost use Rattle.pb_directive.specs.Directives.{words_of};
 ghost use Rattle.pb_place_types.specs.Paths.{joined};
-ghost use Rattle.pb_tool_arguments.specs.Description.{IsJson, program};
-ghost use Rattle.pb_tool_arguments.specs.Asking.{IsFlag, IsProfile, IsJobs, IsOptions, IsShown, IsForm, HasTwoForms, NamesProfile, IsTaken, BuildsWrongly, PlansWrongly, AsksBy, Asks, AsksWrongly, Unasks, manifest_of, values_of, tool_of, forms_told};
+ghost use Rattle.pb_tool_arguments.specs.Description.{AreChoices, Choices, program};
+ghost use Rattle.pb_tool_arguments.specs.Asking.{IsFlag, IsProfile, IsJobs, IsOptions, IsShown, ShowsProgress, ShowsCounts, IsColored, IsForm, HasTwoForms, NamesProfile, IsTaken, BuildsWrongly, PlansWrongly, AsksBy, Asks, AsksWrongly, Unasks, manifest_of, values_of, tool_of, forms_told};
 ghost use Rattle.pb_tool_arguments.specs.Private.{ToldWrong, RefusedBy};
 
 use crate::description::program;
@@ -216,15 +215,72 @@ fn options_of(
     Ok(joined_of(judged, named, tools, flags_of(matches)))
 }
 
+/// Returns whether a build has a status line.
+fn progress_of(here: &Here, matches: &ArgMatches<'_>) -> bool
+    ensures { ShowsProgress here.now (rows_of (found_of matches.now)) result }
+{
+    let asked = is_given(matches, "progress");
+    let quiet = is_given(matches, "quiet");
+    (here.is_terminal || asked) && !quiet
+}
+
+/// Returns whether counts come at the end of a build.
+fn counts_of(here: &Here, matches: &ArgMatches<'_>) -> bool
+    ensures { ShowsCounts here.now (rows_of (found_of matches.now)) result }
+{
+    let quiet = is_given(matches, "quiet");
+    here.is_terminal && !quiet
+}
+
+/// Returns whether levels have colours on standard error: as `--color` says, else as `here` does.
+fn colors_of(here: &Here, matches: &ArgMatches<'_>) -> bool
+    ensures { IsColored here.now.shows_colors
+        (first_of (codes "color") (rows_of (found_of matches.now))) result }
+{
+    match first(matches, "color") {
+        Some("always") => true,
+        Some("never") => false,
+        _ => here.shows_colors,
+    }
+}
+
 /// Returns what is shown of a build beside its lines.
-fn shown_of(matches: &ArgMatches<'_>) -> Shown
-    ensures { IsShown (rows_of (found_of matches.now)) result }
+fn shown_of(here: &Here, matches: &ArgMatches<'_>) -> Shown
+    ensures { IsShown here.now (rows_of (found_of matches.now)) result }
 {
     Shown {
         explain: is_given(matches, "explain"),
         render: is_given(matches, "render"),
         verbose: is_given(matches, "verbose"),
+        progress: progress_of(here, matches),
+        counts: counts_of(here, matches),
+        colors: colors_of(here, matches),
     }
+}
+
+/// Returns what `pb_tool build` requests: a build, or a look at what it would start.
+fn build_of(
+    alloc: Global,
+    tool: &str,
+    here: &Here,
+    matches: &ArgMatches<'_>,
+) -> Result<Invocation, ArgumentsError>
+    ensures asked { IfOk result
+        (AsksBy tool.now here.now (Some (codes "build", rows_of (found_of matches.now)))) }
+    ensures wrong { IfErr result
+        (ToldWrong (BuildsWrongly here.now.folder (rows_of (found_of matches.now)))) }
+{
+    let options = match options_of(alloc, tool, here, matches) {
+        Ok(options) => options,
+        Err(unasked) => return Err(unasked),
+    };
+    if is_given(matches, "dry-run") {
+        return Ok(Invocation::Preview(options));
+    }
+    Ok(Invocation::Build {
+        options,
+        shown: shown_of(here, matches),
+    })
 }
 
 /// Returns the form in which a plan is printed.
@@ -308,13 +364,7 @@ fn asked_by(
         (ToldWrong (AsksWrongly here.now.folder (subcommand_rows_of matches.now))) }
 {
     if let Some(build) = matches.subcommand_matches("build") {
-        return match options_of(alloc, tool, here, build) {
-            Ok(options) => Ok(Invocation::Build {
-                options,
-                shown: shown_of(build),
-            }),
-            Err(unasked) => Err(unasked),
-        };
+        return build_of(alloc, tool, here, build);
     }
     if let Some(plan) = matches.subcommand_matches("plan") {
         return plan_of(alloc, tool, here, plan);
@@ -340,9 +390,9 @@ fn asked_by(
 /// Returns the words as the description of the command line
 /// reads them, or why it does not accept them.
 fn matches_of<'a, S: AsStr>(alloc: Global, words: &'a [S]) -> Result<ArgMatches<'a>, ArgumentsError>
-    ensures matches { IfOk result (λ matches. (formats : ValueParser) × IsJson formats
-        × IsTaken formats (map S.text words.now)
-        × (subcommand_rows_of matches ≡ subcommand_of (program formats) (map S.text words.now))) }
+    ensures matches { IfOk result (λ matches. (choices : Choices) × AreChoices choices
+        × IsTaken choices (map S.text words.now)
+        × (subcommand_rows_of matches ≡ subcommand_of (program choices) (map S.text words.now))) }
     ensures refused { IfErr result (RefusedBy (map S.text words.now)) }
 {
     let program = program(alloc)?;

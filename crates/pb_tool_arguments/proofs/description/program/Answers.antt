@@ -14,7 +14,7 @@ returns c =
     let version_is = ap app_of_fields c.version.ensures ∙ ap (λ (a : App). record a { top = record a.top { has_version = true } }) about_is in
     let help_is = ap app_of_fields c.arg_required_else_help.ensures ∙ ap (λ (a : App). record a { top = record a.top { arg_required_else_help = true } }) version_is in
     let start_is = ap app_of_fields c.subcommand_required-command.ensures ∙ ap (λ (a : App). record a { top = record a.top { subcommand_required = true } }) help_is in
-    let (build, adds_build, (formats, json, build_is)) = both c.build_command.result _ _ c.in_ok-command.ensures c.build_command.ensures in
+    let (build, adds_build, (choices, are, build_is)) = both c.build_command.result _ _ c.in_ok-command.ensures c.build_command.ensures in
     let first = adds_build (ap (λ (a : App). a.top.is_plain) build_is) ∙ ap₂ with_subcommand start_is (ap (λ (a : App). a.top) build_is) in
     let (plan, adds_plan, plan_is) = both c.plan_command.result _ _ c.in_ok-command-2.ensures c.plan_command.ensures in
     let second = adds_plan (ap (λ (a : App). a.top.is_plain) plan_is) ∙ ap₂ with_subcommand first (ap (λ (a : App). a.top) plan_is) in
@@ -24,4 +24,4 @@ returns c =
     let fourth = adds_session (ap (λ (a : App). a.top.is_plain) session_is) ∙ ap₂ with_subcommand third (ap (λ (a : App). a.top) session_is) in
     IfOk-weaker c.with_subcommand-5.result _ _ (λ new adds.
     let (explain, adds_explain, explain_is) = both c.explain_command.result _ _ adds c.explain_command.ensures in
-    (formats, json, adds_explain (ap (λ (a : App). a.top.is_plain) explain_is) ∙ ap₂ with_subcommand fourth (ap (λ (a : App). a.top) explain_is))) c.with_subcommand-5.ensures
+    (choices, are, adds_explain (ap (λ (a : App). a.top.is_plain) explain_is) ∙ ap₂ with_subcommand fourth (ap (λ (a : App). a.top) explain_is))) c.with_subcommand-5.ensures

@@ -10,11 +10,12 @@ use Rattle.pb_tool_arguments.specs.Private.{ToldWrong}
 use Rattle.pb_tool_arguments.proofs.Refused.{wrong_build, wrong_clean, wrong_plan, wrong_session}
 use Rattle.pb_tool_arguments.proofs.reading.asked_by.Goals as goal
 
-pub returns-in-Err-clause-wrong : goal.returns-in-Err-clause-wrong
-returns-in-Err-clause-wrong c =
+pub returns-in-Some-clause-wrong : goal.returns-in-Some-clause-wrong
+returns-in-Some-clause-wrong c =
+    let given = subcommand_rows_of c.args.matches.now in
     let rows = rows_of (found_of c.in-Some.build.now) in
-    let is : subcommand_rows_of c.args.matches.now ≡ Some (codes "build", rows) = search rules in
-    wrong_build c.args.here.now.folder (subcommand_rows_of c.args.matches.now) rows c.in-Err.unasked is c.in-Err.ensures.wrong
+    let is : given ≡ Some (codes "build", rows) = search rules in
+    IfErr-weaker c.build_of.result _ _ (λ unasked told. wrong_build c.args.here.now.folder given rows unasked is told) c.build_of.ensures.wrong
 
 pub returns-in-Err-path_of-clause-wrong : goal.returns-in-Err-path_of-clause-wrong
 returns-in-Err-path_of-clause-wrong c =
