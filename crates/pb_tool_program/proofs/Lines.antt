@@ -3,7 +3,7 @@ use Rattle.std.proofs.Common.{◌≡◌, ◌≢◌, ◌⊎◌, ◌==◌, inl, in
 use Rattle.std.proofs.lemmas.Bool.{false≢true}
 use Rattle.std.proofs.lemmas.Bool.Decides.{Decides-eqb}
 use Rattle.std.specs.Io.KnownBytes.{Appends}
-use Rattle.pb_build_result.specs.Explanation.{ended, said_by_bad}
+use Rattle.pb_build_result.specs.Said.{ended, said_by_bad}
 use Rattle.pb_place_types.specs.Counts.{up}
 use Rattle.pb_place_types.specs.Sinks.{SinkState, TakesPart}
 use Rattle.pb_place.specs.Memory.{Held, no_held}

@@ -1,10 +1,10 @@
 -- What `pb_tool build` does.
-use Rattle.std.specs.Prelude.{◌≡◌, ◌⊎◌, ℕ, zero, suc, Bool, true, false, IsTrue, codes, List, [], ◌∷◌, ◌++◌, Option, Some, None, Result, Ok, Err}
+use Rattle.std.specs.Prelude.{◌≡◌, ◌⊎◌, ℕ, zero, suc, Bool, true, false, IsTrue, codes, length, List, [], ◌∷◌, ◌++◌, Option, Some, None, Result, Ok, Err}
 use Rattle.pb_place_types.specs.Counts.{Counts}
 use Rattle.pb_place_types.specs.Paths.{last_part}
 use Rattle.pb_place_types.specs.World.{Answers}
 use Rattle.pb_place_types.specs.declared.moved.Moved.{Moved}
-use Rattle.pb_build_result.specs.Explanation.{explanation, said_by_bad}
+use Rattle.pb_build_result.specs.Said.{said_by_bad}
 use Rattle.pb_build_result.specs.ResultLine.{result_line}
 use Rattle.pb_build_result.specs.declared.fault.BuildFault.{BuildFault}
 use Rattle.pb_build_result.specs.declared.fault.BuildFault.TheVariants as build
@@ -18,6 +18,7 @@ use Rattle.pb_place_types.specs.Sinks.{SinkState}
 use Rattle.pb_build_turns.specs.Executor.{BuildState}
 use Rattle.pb_tool_notes_pages.specs.Notes.{AreNotes, lines_of}
 use Rattle.pb_tool_program.specs.Details.{detail}
+use Rattle.pb_tool_reasons.specs.Started.{explanation}
 use Rattle.pb_tool_program.specs.Writing.{Tells, TellsOr}
 
 abbrev pub success_status : Bool → ℕ
@@ -79,12 +80,18 @@ abbrev pub TellsWhy : ℕ → Result Summary BuildFault → SinkState → SinkSt
 TellsWhy zero answer old new = new ≡ old
 TellsWhy (suc status) answer old new = Tells (error_of answer) old new ⊎ Tells why_lost old new
 
--- what is written if a build ended without a fault and its reasons are requested: why it started what it started, or
+-- how many units a plan has, if reasons are requested and there is a plan
+abbrev pub units_if : Bool → Result BuildPlan BuildFault → Option ℕ
+units_if false (Ok plan) = None
+units_if true (Ok plan) = Some (length plan.project.plan.planned)
+units_if explain (Err fault) = None
+
+-- what is written if a build of so many units ended without a fault and its reasons are requested: why it started what it started, or
 -- that memory ran out for that; else nothing
-abbrev pub TellsReasons : Bool → Result Summary BuildFault → SinkState → SinkState → Type 0
-TellsReasons false answer old new = new ≡ old
-TellsReasons true (Err fault) old new = new ≡ old
-TellsReasons true (Ok summary) old new = Tells (explanation summary) old new ⊎ Tells reasons_lost old new
+abbrev pub TellsReasons : Option ℕ → Result Summary BuildFault → SinkState → SinkState → Type 0
+TellsReasons None answer old new = new ≡ old
+TellsReasons (Some units) (Err fault) old new = new ≡ old
+TellsReasons (Some units) (Ok summary) old new = Tells (explanation units summary) old new ⊎ Tells reasons_lost old new
 
 -- what is written if a build ended without a fault: what its bad unit's child printed that no message line contains, or
 -- that memory ran out for that; nothing if it printed nothing
@@ -113,7 +120,7 @@ TellsReport texts old new = TellsOr report_lost (lines_of texts) old new
 -- how a build with this answer ends: with its status; and beside the output, why children were started if that is
 -- requested, what a failing child printed, the detail of the fault, what the place reports of it, and why the build
 -- failed
-pub record Concludes (explain : Bool) (answer : Result Summary BuildFault) (report notes : List (List ℕ)) (status : ℕ) (old new : SinkState) : Type 0 where
+pub record Concludes (explain : Option ℕ) (answer : Result Summary BuildFault) (report notes : List (List ℕ)) (status : ℕ) (old new : SinkState) : Type 0 where
   pub told : status ≡ status_of answer
   pub explained : SinkState
   pub reasons : TellsReasons explain answer old explained
@@ -182,4 +189,4 @@ pub record BuildsTold (is_modelled : Bool) (child : Answers) (Guards : Option (L
   pub report : List (List ℕ)
   pub reports : Reported answer report
   -- what is written after the build
-  pub concluded : Concludes explain answer report notes_again status marked said_after
+  pub concluded : Concludes (units_if explain plan) answer report notes_again status marked said_after

@@ -47,7 +47,7 @@ build_fault_of fault = build_fault.OutOfMemory
 pub record TellsFault (fault : BuildFault) (status : ℕ) (old new : SinkState) : Type 0 where
   pub report : List (List ℕ)
   pub reports : Reported (Err fault) report
-  pub concluded : Concludes false (Err fault) report [] status old new
+  pub concluded : Concludes None (Err fault) report [] status old new
 
 -- what is written after a removal: nothing if all is removed, with status 0; else why not, with status 101
 abbrev pub TellsEnd : Result (Unit {0}) CleanFault → ℕ → SinkState → SinkState → Type 0

@@ -1,5 +1,5 @@
 -- What `pb_tool plan` does.
-use Rattle.std.specs.Prelude.{◌≡◌, ℕ, Bool, true, false, List, Result, Ok, Err}
+use Rattle.std.specs.Prelude.{◌≡◌, ℕ, Bool, true, false, List, Result, Ok, Err, None}
 use Rattle.pb_build_result.specs.declared.fault.BuildFault.{BuildFault}
 use Rattle.pb_build_result.specs.declared.fault.BuildFault.TheVariants as build_fault
 use Rattle.pb_build_turns.specs.Executor.{BuildState}
@@ -51,7 +51,7 @@ pub record PlanFails (fault : BuildFault) (status : ℕ) (old new : BuildState) 
   pub looked : LooksOver (Err fault) notes old new
   pub report : List (List ℕ)
   pub reports : Reported (Err fault) report
-  pub concluded : Concludes false (Err fault) report notes status said_before said_after
+  pub concluded : Concludes None (Err fault) report notes status said_before said_after
 
 -- how it ends: with status 0, and nothing else is done or written; or with a fault
 abbrev pub EndsPlan : Result (Unit {0}) BuildFault → ℕ → BuildState → BuildState → SinkState → SinkState → Type 0

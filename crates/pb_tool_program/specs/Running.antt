@@ -9,7 +9,7 @@ use Rattle.pb_place_types.specs.declared.place.PlaceFault.{PlaceFault}
 use Rattle.pb_build_result.specs.declared.fault.BuildFault.TheVariants as build_fault
 use Rattle.pb_tool_arguments.specs.Asking.{Asks, Unasks}
 use Rattle.pb_tool_arguments.specs.declared.invocation.Invocation.{Invocation}
-use Rattle.pb_tool_arguments.specs.declared.invocation.Invocation.TheVariants.{Build, Session, Explain, Plan, Clean}
+use Rattle.pb_tool_arguments.specs.declared.invocation.Invocation.TheVariants.{Build, Session, Explain, Plan, Clean, Preview}
 use Rattle.pb_tool_arguments.specs.declared.invocation.Shown.{Shown}
 use Rattle.pb_tool_arguments.specs.declared.invocation.ArgumentsError.{ArgumentsError}
 use Rattle.pb_tool_arguments.specs.declared.invocation.ArgumentsError.TheVariants.{Help, Wrong, OutOfMemory}
@@ -22,6 +22,7 @@ use Rattle.pb_build_turns.specs.Executor.{BuildState}
 use Rattle.pb_tool_program.specs.Building.{BuildsTold, error_of}
 use Rattle.pb_tool_program.specs.Cleaning.{CleansTold}
 use Rattle.pb_tool_program.specs.Planning.{PlansTold}
+use Rattle.pb_tool_program.specs.Previewing.{PreviewsTold}
 use Rattle.pb_tool_program.specs.Names.{Means, Prints}
 use Rattle.pb_tool_program.specs.Session.{Refused, SessionStopped, SessionWritten}
 use Rattle.pb_tool_program.specs.Writing.{Tells}
@@ -70,9 +71,12 @@ Explains OutOfMemory status old new said_before said_after = (status ≡ 101) ×
 -- The program.
 
 -- what a build shows beside its lines was set before it: whether the place names its children, and whether the sink of
--- the lines shows them as text
-abbrev pub IsTold : {P O : Type 0} → (P → Bool → P → Type 0) → (O → Bool → O → Type 0) → P → O → Shown → Type 0
-IsTold {P} {O} Speaks Shows place out shown = ((told : P) × Speaks place shown.verbose told) × ((told : O) × Shows out shown.render told)
+-- the lines shows them as text; for both, whether they erase a status line; and for the sinks of text, whether levels
+-- have colours
+abbrev pub IsTold : {P O E : Type 0} → (P → Bool → Bool → P → Type 0) → (O → Bool → Bool → Bool → O → Type 0) → (E → Bool → E → Type 0) → P → O → E → Shown → Type 0
+IsTold {P} {O} {E} Speaks Shows Colors place out err shown =
+    ((told : P) × Speaks place shown.verbose shown.progress told) × ((told : O) × Shows out shown.render shown.progress shown.colors told)
+    × ((told : E) × Colors err shown.colors told)
 
 -- what arguments request, or why they request nothing
 abbrev pub AsksOrNot : List (List ℕ) → Here → Result Invocation ArgumentsError → Type 0
@@ -84,6 +88,7 @@ AsksOrNot words here (Err unasked) = Unasks words here.folder unasked
 -- `explain` only.
 abbrev pub Does : Bool → Answers → (Option (List ℕ) → Counts → SinkState → SinkState → Type 0) → (Shown → Type 0) → Page → List Moved → Result Invocation ArgumentsError → ℕ → BuildState → BuildState → SinkState → SinkState → Type 0
 Does is_modelled child Guards Told page moved (Ok (Build options shown)) status old new said_before said_after = Told shown × BuildsTold is_modelled child Guards moved options shown.explain status old new said_before said_after
+Does is_modelled child Guards Told page moved (Ok (Preview options)) status old new said_before said_after = PreviewsTold is_modelled child options status old new said_before said_after × Guards None old.counts said_before said_before
 Does is_modelled child Guards Told page moved (Ok (Session path)) status old new said_before said_after = RunsFile is_modelled path status old new said_before said_after × Guards None old.counts said_before said_before
 Does is_modelled child Guards Told page moved (Ok (Plan options form)) status old new said_before said_after = PlansTold is_modelled options form status old new said_before said_after × Guards None old.counts said_before said_before
 Does is_modelled child Guards Told page moved (Ok (Clean options one_profile)) status old new said_before said_after = CleansTold is_modelled Guards options one_profile status old new said_before said_after

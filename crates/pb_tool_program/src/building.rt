@@ -11,19 +11,22 @@ ghost use Rattle.pb_build_result.specs.declared.fault.BuildFault.{BuildFault};
 ghost use Rattle.pb_build_result.specs.declared.summary.Summary.{Summary};
 ghost use Rattle.pb_tool_notes_pages.specs.Looks.{LooksAgain};
 ghost use Rattle.pb_tool_notes_pages.specs.Notes.{lines_of};
-ghost use Rattle.pb_tool_program.specs.Building.{status_of, notes_of, moved_lost, moved_note, moved_notes, look_lost, error_of, folder_of, LooksOver, NotesOf, TellsDetail, TellsReasons, TellsSaid, TellsWhy, Concludes, BuildsTold};
+ghost use Rattle.pb_tool_program.specs.Building.{status_of, notes_of, moved_lost, moved_note, moved_notes, look_lost, error_of, folder_of, units_if, LooksOver, NotesOf, TellsDetail, TellsReasons, TellsSaid, TellsWhy, Concludes, BuildsTold};
 ghost use Rattle.pb_tool_program.specs.Guarding.{Guarded, waiting};
 ghost use Rattle.pb_tool_program.specs.Writing.{Tells, TellsOr};
 
 use crate::details::detail;
 use crate::guard::Guard;
 use crate::reports::{reported, tell_report};
-use pb_build::{BuildPlan, build_plan, plan_build};
-use pb_build_result::{BuildFault, Refusal, Summary, explanation, result_line, said};
+use pb_build::{BuildPlan, plan_build};
+use pb_build_result::{BuildFault, Refusal, Summary, result_line, said};
 use pb_data::Text;
 use pb_place_host::Reporting;
 use pb_place_types::{Moved, Out, PathText, Place, write_all};
 use pb_tool_notes::{Notes, notes_on_build, notes_on_features, notes_on_load, notes_on_plan};
+use pb_tool_progress::build_watched;
+use pb_tool_reasons::explanation;
+use pb_tool_screen::StatusLine;
 use pb_workspace_types::Options;
 use std::alloc::{AllocError, Global};
 
@@ -122,7 +125,7 @@ fn error_of(alloc: Global, answer: &Result<Summary, BuildFault>) -> Result<Strin
 /// Writes which packages that are depended on have no library, by the build's plan. It writes
 /// nothing if there are none, or if there is no plan: the build then reports why. If memory runs
 /// out, it writes a line that needs no memory.
-fn note<E: Out>(alloc: Global, err: &mut E, plan: &Result<BuildPlan, BuildFault>)
+pub(crate) fn note<E: Out>(alloc: Global, err: &mut E, plan: &Result<BuildPlan, BuildFault>)
     ensures { NotesOf plan.now (E.heard err.old) (E.heard err.new) }
 {
     let plan = match plan {
@@ -195,24 +198,41 @@ fn tell<E: Out>(alloc: Global, err: &mut E, status: u8, answer: &Result<Summary,
     };
 }
 
-/// Writes why a build started what it started, if it ended without a fault and that is requested.
-/// If memory runs out for that, it writes a line that needs no memory.
+/// Returns how many units a plan has, if reasons are requested and there is a plan.
+fn units_if(explain: bool, plan: &Result<BuildPlan, BuildFault>) -> Option<usize>
+    ensures { result ≡ units_if explain plan.now }
+{
+    match plan {
+        Ok(plan) => {
+            if explain {
+                Some(plan.project.units().len())
+            } else {
+                None
+            }
+        }
+        Err(_) => None,
+    }
+}
+
+/// Writes why a build of so many units started what it started, if it ended without a fault and
+/// that is requested. If memory runs out for that, it writes a line that needs no memory.
 fn explain_to<E: Out>(
     alloc: Global,
     err: &mut E,
-    explain: bool,
+    explain: Option<usize>,
     answer: &Result<Summary, BuildFault>,
 )
     ensures { TellsReasons explain answer.now (E.heard err.old) (E.heard err.new) }
 {
-    if !explain {
-        return;
-    }
+    let units = match explain {
+        Some(units) => units,
+        None => return,
+    };
     let summary = match answer {
         Ok(summary) => summary,
         Err(_) => return,
     };
-    match explanation(alloc, summary) {
+    match explanation(alloc, summary, units) {
         Ok(text) => write_all(err, text.as_bytes()),
         Err(_) => write_all(err, b"note: out of memory for the reasons\n"),
     };
@@ -300,7 +320,7 @@ fn tell_notes<E: Out>(alloc: Global, err: &mut E, notes: &Notes)
 pub(crate) fn conclude<E: Out>(
     alloc: Global,
     err: &mut E,
-    explain: bool,
+    explain: Option<usize>,
     answer: &Result<Summary, BuildFault>,
     report: &[Text],
     notes: &Notes,
@@ -335,12 +355,16 @@ pub(crate) fn conclude<E: Out>(
 ///
 /// Between the plan and the query of the compiler's version, the guard is asked for the target
 /// folder. If another build has it, a line on `err` says so, and this build waits.
-pub fn build_options<P: Place + Reporting, G: Guard<P, E>, O: Out, E: Out>(
+///
+/// If the status line is on, it shows each unit that begins. It changes nothing else, and the
+/// contract says nothing about it.
+pub fn build_options<P: Place + Reporting, G: Guard<P, E>, O: Out, E: Out, L: Out>(
     alloc: Global,
     place: &mut P,
     guard: &mut G,
     out: &mut O,
     err: &mut E,
+    line: &mut StatusLine<L>,
     options: &Options,
     explain: bool,
 ) -> u8
@@ -354,11 +378,12 @@ pub fn build_options<P: Place + Reporting, G: Guard<P, E>, O: Out, E: Out>(
     note(alloc, err, &plan);
     // After the plan: a refused build makes no folder.
     hold(guard, place, err, &plan);
-    let answer = build_plan(alloc, place, out, options, plan);
+    let units = units_if(explain, &plan);
+    let answer = build_watched(alloc, place, out, line, options, plan);
     let notes = look(alloc, place, options, &answer);
     // For the proof: they are at most ten lines.
     notes.texts();
     mark(alloc, err, place.moved());
     let report = reported(place, &answer);
-    conclude(alloc, err, explain, &answer, report, &notes)
+    conclude(alloc, err, units, &answer, report, &notes)
 }

@@ -99,7 +99,7 @@ fn tell_fault<P: Place + Reporting, E: Out>(
     let answer = Err(fault);
     let report = reported(place, &answer);
     let notes = Notes::new(alloc);
-    conclude(alloc, err, false, &answer, report, &notes)
+    conclude(alloc, err, None, &answer, report, &notes)
 }
 
 /// Writes how a removal ended, unless all is removed, and returns the status.

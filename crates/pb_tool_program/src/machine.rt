@@ -7,8 +7,10 @@ use pb_place_host::HostPlace;
 use pb_place_types::{Over, PathFault, PathText, write_all};
 use pb_tool_arguments::Here;
 use pb_tool_explain::page_of_errors;
-use pb_tool_screen::{Rendered, Spoken};
-use std::io::ErrorKind;
+use pb_tool_screen::{Colored, Counted, Rendered, Spoken, StatusLine};
+use std::env::VarError;
+use std::io::{ErrorKind, IsTerminal};
+use std::time::{Duration, Instant};
 use std::{env, io};
 
 /// Returns the arguments of the command line, the program's own name first.
@@ -27,6 +29,16 @@ fn folder(rt: &HostRuntime) -> io::Result<PathText> {
     }
 }
 
+/// Returns whether the variable `NO_COLOR` says that programs use no colours: it is set, and not
+/// empty.
+fn has_no_color(rt: &HostRuntime) -> bool {
+    match env::var(rt, "NO_COLOR") {
+        Ok(value) => !value.is_empty(),
+        Err(VarError::NotPresent) => false,
+        Err(_) => true,
+    }
+}
+
 /// Writes to standard error why nothing was done.
 fn say(rt: &HostRuntime, text: &str) {
     let _ = write_all(&mut Over::new(rt.stderr()), text.as_bytes());
@@ -36,6 +48,27 @@ fn say(rt: &HostRuntime, text: &str) {
 fn out_of_memory(rt: &HostRuntime) -> u8 {
     say(rt, "error: fault memory OutOfMemory\n");
     FAILED
+}
+
+/// Returns a time in seconds, as `31 s`; below ten seconds with tenths.
+fn seconds(rt: &HostRuntime, time: Duration) -> io::Result<String> {
+    let whole = time.as_secs();
+    let text = if whole < 10 {
+        let tenths = time.subsec_millis() / 100;
+        format!(in rt.alloc(); "{whole}.{tenths} s")?
+    } else {
+        format!(in rt.alloc(); "{whole} s")?
+    };
+    Ok(text)
+}
+
+/// Writes how many units a build has built and kept, and how long that took.
+fn say_counts(rt: &HostRuntime, counted: Counted, start: Instant) -> io::Result<()> {
+    let time = seconds(rt, start.elapsed(rt)?)?;
+    let Counted { built, kept } = counted;
+    let line = format!(in rt.alloc(); "{built} built, {kept} kept in {time}\n")?;
+    say(rt, line.as_str());
+    Ok(())
 }
 
 /// Does what the arguments of this process request, over its files, variables and children, and
@@ -60,11 +93,16 @@ pub fn tool(rt: &HostRuntime) -> u8 {
             return FAILED;
         }
     };
+    let is_terminal = rt.stderr().is_terminal();
     let here = Here {
         folder,
         processors: processors(rt),
+        is_terminal,
+        shows_colors: is_terminal && !has_no_color(rt),
     };
-    run(
+    let start = Instant::now(rt);
+    let mut line = StatusLine::new(rt.alloc(), Over::new(rt.stderr()));
+    let status = run(
         rt.alloc(),
         words.as_slice(),
         &here,
@@ -76,6 +114,12 @@ pub fn tool(rt: &HostRuntime) -> u8 {
             Over::new(io::writer(rt)),
             Over::new(rt.stderr()),
         ),
-        &mut Over::new(rt.stderr()),
-    )
+        &mut Colored::new(Over::new(rt.stderr())),
+        &mut line,
+    );
+    // The time is taken here alone: nothing that is proved depends on it.
+    if let (Ok(start), Some(counted)) = (start, line.counted()) {
+        let _ = say_counts(rt, counted, start);
+    }
+    status
 }

@@ -77,7 +77,7 @@ fn print_plan<P: Place, O: Out>(
 }
 
 /// Looks again, writes what a build with this fault writes, and returns the status.
-fn fail<P: Place + Reporting, E: Out>(
+pub(crate) fn fail<P: Place + Reporting, E: Out>(
     alloc: Global,
     place: &mut P,
     err: &mut E,
@@ -93,7 +93,7 @@ fn fail<P: Place + Reporting, E: Out>(
     // For the proof: they are at most ten lines.
     notes.texts();
     let report = reported(place, &answer);
-    conclude(alloc, err, false, &answer, report, &notes)
+    conclude(alloc, err, None, &answer, report, &notes)
 }
 
 /// Prints the plan of a build in a form, and returns the status: 0, or 101 if there is no plan or

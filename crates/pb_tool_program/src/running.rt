@@ -11,11 +11,12 @@ use crate::cleaning::clean_options;
 use crate::guard::Guard;
 use crate::names::mean;
 use crate::planning::plan_options;
+use crate::previewing::preview_options;
 use crate::session::{refuse, run_session};
 use pb_place_types::{Out, PathText, Place, write_all};
 use pb_tool_arguments::{ArgumentsError, Here, Invocation, Shown, read_command_line};
 use pb_tool_explain::Page;
-use pb_tool_screen::{Screen, Speaking};
+use pb_tool_screen::{Coloring, Screen, Speaking, StatusLine};
 use pb_workspace_types::Options;
 use std::alloc::Global;
 use std::convert::AsStr;
@@ -69,34 +70,38 @@ fn explain<O: Out, E: Out>(unasked: &ArgumentsError, out: &mut O, err: &mut E) -
     }
 }
 
-/// Sets what the place and the sink of the lines show of a build, and builds.
-fn build<P: Speaking, G: Guard<P, E>, O: Screen, E: Out>(
+/// Sets what the place and the sinks show of a build, and builds.
+fn build<P: Speaking, G: Guard<P, E>, O: Screen, E: Coloring, L: Out>(
     alloc: Global,
     place: &mut P,
     guard: &mut G,
     out: &mut O,
     err: &mut E,
+    line: &mut StatusLine<L>,
     options: &Options,
     shown: Shown,
 ) -> u8
     requires none { (P.at place.old).counts.starts.flying ≡ [] }
-    ensures told { IsTold P.speaks O.shows place.old out.old shown }
+    ensures told { IsTold P.speaks O.shows E.colors place.old out.old err.old shown }
     ensures builds { BuildsTold P.is_modelled P.child (Guarded G.asks G.waits guard.old guard.new)
         (P.at place.new).moved options.now shown.explain result
         (moment (P.at place.old) (O.heard out.old)) (moment (P.at place.new) (O.heard out.new))
         (E.heard err.old) (E.heard err.new) }
 {
-    place.speak(shown.verbose);
-    out.show(shown.render);
-    build_options(alloc, place, guard, out, err, options, shown.explain)
+    place.speak(shown.verbose, shown.progress);
+    out.show(shown.render, shown.progress, shown.colors);
+    err.color(shown.colors);
+    line.switch(shown.progress, shown.counts);
+    build_options(alloc, place, guard, out, err, line, options, shown.explain)
 }
 
 /// The whole program: does what the arguments of the command line request, the program's own name
 /// first.
 ///
 /// A build asks the guard for its target folder, once it is planned, and a removal once it has
-/// listed. What a build shows beside its lines is set at the place (its children) and at `out` (its
-/// lines, as text). The page contains the meanings of the names of result lines.
+/// listed. What a build shows beside its lines is set at the place (its children), at `out` (its
+/// lines, as text), at `err` (colours) and at the status line (which unit begins). The page
+/// contains the meanings of the names of result lines.
 ///
 /// The status is:
 ///
@@ -104,7 +109,7 @@ fn build<P: Speaking, G: Guard<P, E>, O: Screen, E: Out>(
 /// - 1 for a bad command line, and for a name that the page does not have;
 /// - 0 if help or a name's meaning was requested, 1 if it cannot be written;
 /// - 101 if memory runs out before.
-pub fn run<S: AsStr, P: Speaking, G: Guard<P, E>, O: Screen, E: Out>(
+pub fn run<S: AsStr, P: Speaking, G: Guard<P, E>, O: Screen, E: Coloring, L: Out>(
     alloc: Global,
     words: &[S],
     here: &Here,
@@ -113,18 +118,20 @@ pub fn run<S: AsStr, P: Speaking, G: Guard<P, E>, O: Screen, E: Out>(
     guard: &mut G,
     out: &mut O,
     err: &mut E,
+    line: &mut StatusLine<L>,
 ) -> u8
     requires none { (P.at place.old).counts.starts.flying ≡ [] }
     ensures { Runs P.is_modelled P.child (Guarded G.asks G.waits guard.old guard.new)
-        (IsTold P.speaks O.shows place.old out.old) page.now (P.at place.new).moved
+        (IsTold P.speaks O.shows E.colors place.old out.old err.old) page.now (P.at place.new).moved
         (map S.text words.now) here.now result
         (moment (P.at place.old) (O.heard out.old)) (moment (P.at place.new) (O.heard out.new))
         (E.heard err.old) (E.heard err.new) }
 {
     match read_command_line(alloc, words, here) {
         Ok(Invocation::Build { options, shown }) => {
-            build(alloc, place, guard, out, err, &options, shown)
+            build(alloc, place, guard, out, err, line, &options, shown)
         }
+        Ok(Invocation::Preview(options)) => preview_options(alloc, place, err, &options),
         Ok(Invocation::Plan { options, form }) => {
             plan_options(alloc, place, out, err, &options, form)
         }

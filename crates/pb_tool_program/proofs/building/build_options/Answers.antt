@@ -1,7 +1,7 @@
 use Rattle.pb_build_turns.specs.Executor.{moment}
 use Rattle.std.proofs.Common.{◌∙◌, refl, subst, sym}
 use Rattle.pb_build.specs.Ending.{PlansFrom}
-use Rattle.pb_tool_program.specs.Building.{moved_lost, moved_notes}
+use Rattle.pb_tool_program.specs.Building.{Concludes, moved_lost, moved_notes}
 use Rattle.pb_tool_program.specs.Writing.{TellsOr}
 use Rattle.pb_tool_program.proofs.building.build_options.Goals as goal
 
@@ -27,17 +27,17 @@ returns g c =
       notes = c.note.ensures;
       held = (g.E.Out.heard c.hold.new.err);
       guards = c.hold.ensures;
-      answer = c.build_plan-answer.result;
-      built = moment (g.P.Place.at c.build_plan-answer.new.place) (g.O.Out.heard c.build_plan-answer.new.out);
-      on = c.build_plan-answer.ensures.on;
-      builds = c.build_plan-answer.ensures.builds before plans;
+      answer = c.build_watched-answer.result;
+      built = moment (g.P.Place.at c.build_watched-answer.new.place) (g.O.Out.heard c.build_watched-answer.new.out);
+      on = c.build_watched-answer.ensures.on;
+      builds = c.build_watched-answer.ensures.builds before plans;
       stood = λ told. sym c.moved.ensures.all ∙ c.moved.ensures.none told;
       marked = (g.E.Out.heard c.mark.new.err);
       marks = subst (λ list. TellsOr moved_lost (moved_notes list) (g.E.Out.heard c.hold.new.err) (g.E.Out.heard c.mark.new.err)) c.moved.ensures.all c.mark.ensures;
       notes_again = c.look-notes.result;
       are_notes = c.texts.ensures.notes;
-      looked = c.look-notes.ensures (g.O.Out.heard c.build_plan-answer.new.out);
+      looked = c.look-notes.ensures (g.O.Out.heard c.build_watched-answer.new.out);
       report = c.reported-report.result.now;
       reports = c.reported-report.ensures;
-      concluded = c.conclude.ensures;
+      concluded = subst (λ units. Concludes units c.build_watched-answer.result c.reported-report.result.now c.look-notes.result c.conclude.result (g.E.Out.heard c.mark.new.err) (g.E.Out.heard c.conclude.new.err)) c.units_if-units.ensures c.conclude.ensures;
     }

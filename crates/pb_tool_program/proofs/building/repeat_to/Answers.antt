@@ -1,5 +1,5 @@
 use Rattle.std.proofs.Common.{◌≡◌, ◌==◌, ◌∙◌, inr, length, not, Result, false, refl, sym, ap, subst}
-use Rattle.pb_build_result.specs.Explanation.{said_by_bad}
+use Rattle.pb_build_result.specs.Said.{said_by_bad}
 use Rattle.pb_build_result.specs.declared.fault.BuildFault.{BuildFault}
 use Rattle.pb_build_result.specs.declared.summary.Summary.{Summary}
 use Rattle.pb_tool_program.specs.Building.{TellsSaid, said_lost}

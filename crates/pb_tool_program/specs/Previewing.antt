@@ -1,0 +1,81 @@
+-- What `pb_tool build --dry-run` does.
+use Rattle.std.specs.Prelude.{◌≡◌, ◌⊎◌, ℕ, Bool, codes, List, Option, IsTrue, IfErr, IfOk, MatchResult, Result, Ok, Err}
+use Rattle.pb_build.specs.AnyPlan.{Readies}
+use Rattle.pb_build.specs.Ending.{PlansFrom}
+use Rattle.pb_build.specs.declared.builder.BuildPlan.{BuildPlan}
+use Rattle.pb_build.specs.declared.builder.Prepared.{Prepared}
+use Rattle.pb_build_result.specs.declared.fault.BuildFault.{BuildFault}
+use Rattle.pb_build_turns.specs.Executor.{BuildState}
+use Rattle.pb_directive.specs.declared.directive.Directive.{Directive}
+use Rattle.pb_place_types.specs.Counts.{up_starts}
+use Rattle.pb_place_types.specs.Sinks.{SinkState}
+use Rattle.pb_place_types.specs.World.{Answers}
+use Rattle.pb_run.specs.Steps.{HasCause}
+use Rattle.pb_tool_preview.specs.Foreseeing.{Foresees, LooksAtSome}
+use Rattle.pb_tool_preview.specs.Telling.{preview_lines}
+use Rattle.pb_tool_preview.specs.declared.fate.Fate.{Fate}
+use Rattle.pb_tool_program.specs.Building.{NotesOf}
+use Rattle.pb_tool_program.specs.Planning.{EndsPlan}
+use Rattle.pb_tool_program.specs.Writing.{Tells}
+use Rattle.pb_unit.specs.declared.plan.Planned.{Planned}
+use Rattle.pb_workspace_types.specs.declared.options.Options.{Options}
+
+-- what is written if memory runs out for what would be started
+abbrev pub fates_lost : List ℕ
+fates_lost = codes "note: out of memory for what would be started\n"
+
+-- what a build would do with these units, or that memory ran out for that
+abbrev pub TellsFates : List Planned → List Fate → SinkState → SinkState → Type 0
+TellsFates units fates old new = Tells (preview_lines units fates) old new ⊎ Tells fates_lost old new
+
+-- the fates of the units were written; or the look at them ended with a fault, and nothing was
+abbrev pub TellsBy : List Planned → Result (List Fate) BuildFault → Result (Unit {0}) BuildFault → SinkState → SinkState → Type 0
+TellsBy units (Ok fates) answer old new = (answer ≡ Ok tt) × TellsFates units fates old new
+TellsBy units (Err fault) answer old new = (answer ≡ Err fault) × (new ≡ old)
+
+-- what a build would do with the prepared units was looked at and written. The fates are those that the records of this
+-- world say. Nothing changed but counters; a call that failed was the last one
+pub record Foretells (is_modelled : Bool) (prepared : Prepared) (answer : Result (Unit {0}) BuildFault) (old new : BuildState) (said_before said_after : SinkState) : Type 0 where
+  pub fates : Result (List Fate) BuildFault
+  pub are : IsTrue is_modelled → IfOk fates (λ found. (done : List (Option (List Directive))) × Foresees prepared.setup prepared.project old.world prepared.project.plan.planned found done)
+  pub world : new.world ≡ old.world
+  pub starts : new.counts.starts ≡ old.counts.starts
+  pub most : new.most ≡ old.most
+  pub heard : new.heard ≡ old.heard
+  pub cause : MatchResult fates (λ found. new.counts.failures ≡ old.counts.failures) (λ e. HasCause e old.counts new.counts)
+  pub at : IfErr fates (LooksAtSome prepared.project)
+  pub told : TellsBy prepared.project.plan.planned fates answer said_before said_after
+
+-- the prepared units were looked at; or the preparation failed, and nothing more was done
+abbrev pub ForetellsIf : Bool → Result Prepared BuildFault → Result (Unit {0}) BuildFault → BuildState → BuildState → SinkState → SinkState → Type 0
+ForetellsIf is_modelled (Ok prepared) answer old new said_before said_after = Foretells is_modelled prepared answer old new said_before said_after
+ForetellsIf is_modelled (Err fault) answer old new said_before said_after = (answer ≡ Err fault) × (new ≡ old) × (said_after ≡ said_before)
+
+-- a plan's units were prepared as those of a build are, and then looked at
+pub record LooksAhead (is_modelled : Bool) (child : Answers) (options : Options) (plan : Result BuildPlan BuildFault) (answer : Result (Unit {0}) BuildFault) (old new : BuildState) (said_before said_after : SinkState) : Type 0 where
+  pub prepared : Result Prepared BuildFault
+  pub readied : BuildState
+  pub readies : Readies is_modelled child options plan prepared old readied
+  pub foretells : ForetellsIf is_modelled prepared answer readied new said_before said_after
+
+-- A build was planned and prepared, and its units were looked at, but not begun. Nothing was changed, nothing was
+-- output, and no child was started but the one of the compiler's query.
+pub record PreviewsTold (is_modelled : Bool) (child : Answers) (options : Options) (status : ℕ) (old new : BuildState) (said_before said_after : SinkState) : Type 0 where
+  -- in all
+  pub unchanged : IsTrue is_modelled → new.world ≡ old.world
+  pub query : (new.counts.starts ≡ old.counts.starts) ⊎ (new.counts.starts ≡ up_starts old.counts.starts)
+  pub heard : new.heard ≡ old.heard
+  -- its plan
+  pub plan : Result BuildPlan BuildFault
+  pub planned : BuildState
+  pub plans : PlansFrom is_modelled options plan old planned
+  -- notes on its packages without a library
+  pub noted : SinkState
+  pub notes : NotesOf plan said_before noted
+  -- what it would start
+  pub answer : Result (Unit {0}) BuildFault
+  pub ahead : BuildState
+  pub said : SinkState
+  pub looks : LooksAhead is_modelled child options plan answer planned ahead noted said
+  -- the status is 0; or a fault is told as that of a build
+  pub ends : EndsPlan answer status ahead new said said_after
