@@ -90,5 +90,5 @@ pub fn lines_but_last(said: &str) -> &str {
 
 /// What a build said, as if no unit had been fresh.
 pub fn afresh(alloc: Global, said: &str) -> Result<String, AllocError> {
-    said.replace(alloc, "\"fresh\":true", "\"fresh\":false")
+    said.replace(alloc, r#""fresh":true"#, r#""fresh":false"#)
 }

@@ -73,7 +73,7 @@ fn lines_before<'a>(lines: &'a str, part: &str) -> &'a str {
 }
 
 /// The failing finish line.
-const FINISH: &str = "{\"reason\":\"build-finished\",\"success\":false}";
+const FINISH: &str = r#"{"reason":"build-finished","success":false}"#;
 
 /// The folder of the unit that a fault names, as lines name it.
 fn folder_named(alloc: Global, fault: &str) -> Result<String, AllocError> {
@@ -355,6 +355,7 @@ fn is_right(told: &str, last: &str) -> bool {
     !told.contains("wrong") && told.starts_with(FIRST) && told.ends_with(last)
 }
 
+/// Rules: `build.faults`.
 #[test]
 fn each_call_fails(rt: HostRuntime) -> Result<(), Fail> {
     for trial in TRIALS {

@@ -132,6 +132,7 @@ fn is_right(alloc: Global, files: &str, is_last_answered: bool) -> Result<bool, 
     is_right
 }
 
+/// Rules: `next.begin`, `next.reported`.
 #[test]
 fn the_last_that_began_is_answered_first(rt: HostRuntime) -> Result<(), Fail> {
     for files in BOTH {
@@ -140,6 +141,7 @@ fn the_last_that_began_is_answered_first(rt: HostRuntime) -> Result<(), Fail> {
     Ok(())
 }
 
+/// Rules: `next.begin`, `next.jobs`.
 #[test]
 fn the_first_that_began_is_answered_first(rt: HostRuntime) -> Result<(), Fail> {
     for files in BOTH {
@@ -181,6 +183,7 @@ fn try_at(alloc: Global, number: u64, whole: &str) -> Result<Option<&'static str
     fail_at(alloc, &mut Memory::new(alloc, Mini), number, whole)
 }
 
+/// Rules: `build.faults`.
 #[test]
 fn each_call_fails_in_turn(rt: HostRuntime) -> Result<(), Fail> {
     let whole = whole_of(rt.alloc(), GOOD)?;

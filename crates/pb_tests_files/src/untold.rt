@@ -67,6 +67,15 @@ impl<C: Child> Place for Untold<C> {
         self.inside.write(alloc, path, bytes)
     }
 
+    fn write_pieces(
+        &mut self,
+        alloc: Global,
+        path: &PathText,
+        pieces: &[Bytes],
+    ) -> Result<(), PlaceFault> {
+        self.inside.write_pieces(alloc, path, pieces)
+    }
+
     fn remove_tree(&mut self, alloc: Global, path: &PathText) -> Result<(), PlaceFault> {
         self.inside.remove_tree(alloc, path)
     }

@@ -62,6 +62,7 @@ fn are(alloc: Global, wanted: &str) -> Result<bool, Fail> {
     Ok(told.as_str() == wanted)
 }
 
+/// Rules: `places.calls`.
 #[test]
 fn variables_in_order(rt: HostRuntime) -> Result<(), Fail> {
     last_word_stands();

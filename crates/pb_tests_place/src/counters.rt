@@ -166,6 +166,7 @@ fn last_stays() -> bool {
     after_call(Ok(()), before) == after && after_call(Err(PlaceFault::OutOfMemory), before) == after
 }
 
+/// Rules: `places.counters`.
 #[test]
 fn calls_are_counted(rt: HostRuntime) {
     for case in LATE {

@@ -21,6 +21,7 @@ fn partial_removals()
     ensures none { (path : List ℕ) (w : World) → PartlyRemoved path w (removed path w) }
 {}
 
+/// Rules: `places.calls`.
 #[test]
 fn failing_calls(_rt: HostRuntime) -> Result<(), Fail> {
     torn_writes();

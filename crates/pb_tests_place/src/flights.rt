@@ -171,6 +171,12 @@ pub const HALVES: &str = "fuse 1 -> done\n\
      file /w/c -> x\n\
      \n\
      fuse 1 -> done\n\
+     pieces /w/a 1||2345 -> Write\n\
+     file /w/a -> 12\n\
+     file /w/b -> x\n\
+     counts -> 1 0\n\
+     \n\
+     fuse 1 -> done\n\
      remove /w -> Remove\n\
      file /w/a -> none\n\
      file /w/b -> x\n\

@@ -1,7 +1,7 @@
 //! What the clauses of a place alone say of calls in turn, for any modelled place.
 
 ghost use Rattle.std.specs.Prelude.{◌≡◌, ◌/◌, true, false, not, length, take, None, Some, if◌then◌else◌, IsTrue, IfOk, IfErr, OnOk};
-ghost use Rattle.std.specs.List.{list_any};
+ghost use Rattle.std.specs.List.{concat, list_any};
 ghost use Rattle.std.specs.FinMap as map;
 ghost use Rattle.pb_place_types.specs.Paths.{is_below, is_at_or_below};
 ghost use Rattle.pb_place_types.specs.World.{is_same_path, seen_by, written, removed, put_reply};
@@ -30,6 +30,22 @@ fn written_then_read<P: Place>(
         ((P.at place.new).counts.failures ≡ (P.at place.old).counts.failures) }
 {
     place.write(alloc, path, bytes)?;
+    let found = place.read(alloc, path)?;
+    Ok(found)
+}
+
+/// What is read where these pieces were just written: their bytes, joined in order.
+fn pieces_then_read<P: Place>(
+    alloc: Global,
+    place: &mut P,
+    path: &PathText,
+    pieces: &[Bytes],
+) -> Result<Option<Bytes>, PlaceFault>
+    ensures found { IsTrue P.is_modelled → IfOk result (λ found. found ≡ Some (concat pieces.now)) }
+    ensures quiet { OnOk result
+        ((P.at place.new).counts.failures ≡ (P.at place.old).counts.failures) }
+{
+    place.write_pieces(alloc, path, pieces)?;
     let found = place.read(alloc, path)?;
     Ok(found)
 }
@@ -164,6 +180,21 @@ fn torn_in_memory<C: Child>(
     memory.write(alloc, path, bytes)
 }
 
+/// Whether what is written in pieces is read whole.
+fn pieces_hold<P: Place>(
+    alloc: Global,
+    place: &mut P,
+    path: &PathText,
+) -> Result<bool, PlaceFault> {
+    let mut pieces = Items::new(alloc);
+    pieces.push(Bytes::from_slice(alloc, b"on")?)?;
+    pieces.push(Bytes::from_slice(alloc, b"e")?)?;
+    match pieces_then_read(alloc, place, path, pieces.as_slice())? {
+        Some(bytes) => Ok(bytes.as_slice() == b"one".as_slice()),
+        None => Ok(false),
+    }
+}
+
 /// Whether files are read and listed that were written, and are not read where they were removed.
 fn files_hold<P: Place>(
     alloc: Global,
@@ -174,7 +205,8 @@ fn files_hold<P: Place>(
     let is_read = written_then_read(alloc, place, path, b"one")?.is_some();
     let listed = written_then_listed(alloc, place, path, folder)?.len();
     let is_gone = removed_then_read(alloc, place, folder, path)?.is_none();
-    Ok(is_read && listed == 1 && is_gone)
+    let are_joined = pieces_hold(alloc, place, path)?;
+    Ok(is_read && listed == 1 && is_gone && are_joined)
 }
 
 /// Whether a child says what was just written, and ends.
@@ -242,6 +274,7 @@ fn all_hold(alloc: Global) -> Result<bool, Fail> {
     hold
 }
 
+/// Rules: `places.calls`, `places.uncounted`.
 #[test]
 fn clauses_of_a_place(rt: HostRuntime) -> Result<(), Fail> {
     assert!(rt; all_hold(rt.alloc())?);

@@ -27,6 +27,7 @@ static REAL_FILES: &[(&str, bool)] = &[
     ("/proc/version", true),
 ];
 
+/// Rules: `mini.program`.
 #[test]
 fn real_files(rt: HostRuntime) -> Result<(), Fail> {
     let view = HostView::new(&rt);

@@ -242,6 +242,10 @@ const WRITES_AND_REMOVES: &str = "remove /w/target -> done\n\
      write /w/ab -> done\n\
      write / root -> done\n\
      list / -> /w/ab /w/b/c \n\
+     pieces /w/b/d one|two||three -> done\n\
+     read /w/b/d -> onetwothree\n\
+     pieces /w/b/d -> done\n\
+     read /w/b/d -> \n\
      read /w/ab -> \n\
      read / -> root\n\
      remove / -> done\n\
@@ -294,6 +298,7 @@ static CALLS: &[&str] = &[
     STARTS,
 ];
 
+/// Rules: `places.calls`, `places.children`.
 #[test]
 fn at_a_place_in_memory(rt: HostRuntime) -> Result<(), Fail> {
     for steps in CALLS {

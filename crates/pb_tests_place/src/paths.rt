@@ -301,6 +301,7 @@ fn stands_before(alloc: Global, low: &str, high: &str) -> Result<bool, PathFault
     Ok(stands_before)
 }
 
+/// Rules: `paths.form`, `paths.join`.
 #[test]
 fn paths(rt: HostRuntime) -> Result<(), Fail> {
     for asked in ALL_ASKED {

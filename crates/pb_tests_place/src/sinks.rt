@@ -55,6 +55,7 @@ fn takes_all<O: Out>(sink: &mut O, cases: &[(&str, Option<usize>, u64)]) -> bool
     true
 }
 
+/// Rules: `sinks.take`.
 #[test]
 fn sinks(rt: HostRuntime) {
     assert!(rt; takes_all(&mut Over::new(Vec::new(rt.alloc())), OVER_BYTES));

@@ -127,6 +127,29 @@ fn first_text<P: Place>(
     }
 }
 
+/// The pieces of a text, with `|` between two; none of an empty text.
+fn pieces_of(alloc: Global, text: &str) -> Result<Items<Bytes>, AllocError> {
+    let mut pieces = Items::new(alloc);
+    if text.is_empty() {
+        return Ok(pieces);
+    }
+    for piece in text.split('|') {
+        pieces.push(Bytes::from_slice(alloc, piece.as_bytes())?)?;
+    }
+    Ok(pieces)
+}
+
+/// Writes the text of a step in pieces.
+fn write_pieces<P: Place>(
+    alloc: Global,
+    place: &mut P,
+    path: &PathText,
+    step: &Step,
+) -> Result<String, AllocError> {
+    let pieces = pieces_of(alloc, step.text)?;
+    done(alloc, place.write_pieces(alloc, path, pieces.as_slice()))
+}
+
 /// What a step answers, of which these are the two paths. `counts` tells how many calls failed, and how many came since
 /// the last of them; `starts` how many children were started, and how many flew at most at one moment.
 pub fn answer<P: Place>(
@@ -146,6 +169,7 @@ pub fn answer<P: Place>(
         "folders" => listed(alloc, root, place.list_folders(alloc, path, other)),
         "is" => truth(alloc, place.is_file(alloc, path)),
         "write" => done(alloc, place.write(alloc, path, step.text.as_bytes())),
+        "pieces" => write_pieces(alloc, place, path, step),
         "remove" => done(alloc, place.remove_tree(alloc, path)),
         "variable" => value_text(alloc, place.variable(alloc, step.name)),
         "counts" => numbers(alloc, place.failures(), place.late()),

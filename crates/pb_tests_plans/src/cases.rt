@@ -5,7 +5,7 @@
 //! profile; `!missing` asks for the dependencies without a library.
 
 /// The cases.
-pub const CASES: &str = r#"=== a library
+pub const CASES: &str = r#"=== [units.library] a library
 @ /w/a/Cargo.toml
 package.name = "a"
 @ /w/a/src/lib.rs
@@ -17,13 +17,13 @@ a bins = NothingToBuild
 a @release = a.target.lib 0
 a @nope = NoSuchProfile
 a @debug = NoSuchProfile
-=== nothing to build
+=== [plan.refused] nothing to build
 @ /w/m/Cargo.toml
 package.name = "m"
 ---
 m = NothingToBuild
 m @nope = NoSuchProfile
-=== a dependency comes first, whatever the names
+=== [plan.order] a dependency comes first, whatever the names
 @ /w/a-b/Cargo.toml
 package.name = "a-b"
 @ /w/a-b/src/lib.rs
@@ -36,7 +36,7 @@ a-b = { path = "../a-b" }
 r = a-b.target.lib 0; r.target.lib 1
 a-b r = a-b.target.lib 0; r.target.lib 1
 a-b = a-b.target.lib 0
-=== an optional dependency
+=== [units.library] an optional dependency
 @ /w/p/Cargo.toml
 package.name = "p"
 [dependencies]
@@ -50,7 +50,7 @@ package.name = "x"
 ---
 p = p.target.lib 0
 p f:withx = x.target.lib 0; p.target.lib 1
-=== a circle of two
+=== [plan.refused] a circle of two
 @ /w/a/Cargo.toml
 package.name = "a"
 [dependencies]
@@ -66,7 +66,7 @@ a = Cycle a b
 b = Cycle a b
 a b = Cycle a b
 a @nope = NoSuchProfile
-=== a circle through an entry that is off
+=== [plan.refused] a circle through an entry that is off
 @ /w/a/Cargo.toml
 package.name = "a"
 [dependencies]
@@ -80,7 +80,7 @@ a = { path = "../a", optional = true }
 ---
 a = b.target.lib 0; a.target.lib 1
 b = b.target.lib 0
-=== a package that depends on itself
+=== [plan.refused] a package that depends on itself
 @ /w/a/Cargo.toml
 package.name = "a"
 [dependencies]
@@ -88,7 +88,7 @@ a = { path = "../a" }
 @ /w/a/src/lib.rs
 ---
 a = Cycle a
-=== a build dependency without a script is not built
+=== [units.script] a build dependency without a script is not built
 @ /w/a/Cargo.toml
 package.name = "a"
 [build-dependencies]
@@ -102,7 +102,7 @@ a = { path = "../a" }
 ---
 a = a.target.lib 0
 b = a.target.lib 0; b.target.lib 1
-=== packages that only lead to a circle are not told
+=== [plan.refused] packages that only lead to a circle are not told
 @ /w/a/Cargo.toml
 package.name = "a"
 [dependencies]
@@ -125,7 +125,7 @@ package.name = "d"
 a = Cycle b c
 d = d.target.lib 0
 a d = Cycle b c
-=== a dependency without a library
+=== [plan.without-library] a dependency without a library
 @ /w/a/Cargo.toml
 package.name = "a"
 [dependencies]
@@ -138,7 +138,7 @@ package.name = "b"
 a = a.target.lib 0
 a !missing = b
 a b = a.target.lib 0; b.target.bin-b 0
-=== an entry that is off has no library to be missed
+=== [plan.without-library] an entry that is off has no library to be missed
 @ /w/a/Cargo.toml
 package.name = "a"
 [dependencies]
@@ -149,7 +149,7 @@ package.name = "b"
 ---
 a = a.target.lib 0
 a !missing = 
-=== a library and two binaries
+=== [units.roots] a library and two binaries
 @ /w/a/Cargo.toml
 package.name = "a"
 @ /w/a/src/lib.rs
@@ -163,7 +163,7 @@ a bin:y = a.target.lib 0; a.target.bin-y 1
 a bin:y bin:x bin:y = a.target.lib 0; a.target.bin-x 1; a.target.bin-y 1
 a bin:z = NothingToBuild
 a lib bin:z = a.target.lib 0
-=== two binaries
+=== [units.roots] two binaries
 @ /w/a/Cargo.toml
 package.name = "a"
 @ /w/a/src/bin/x.rs
@@ -171,7 +171,7 @@ package.name = "a"
 ---
 a = a.target.bin-x 0; a.target.bin-y 0
 a lib = NothingToBuild
-=== a binary that requires a feature
+=== [units.roots] a binary that requires a feature
 @ /w/a/Cargo.toml
 package.name = "a"
 [features]
@@ -186,7 +186,7 @@ a = a.target.lib 0; a.target.bin-y 1
 a f:f = a.target.lib 0; a.target.bin-x 1; a.target.bin-y 1
 a bin:x = NothingToBuild
 a bin:x f:f = a.target.lib 0; a.target.bin-x 1
-=== a diamond
+=== [plan.order] a diamond
 @ /w/a/Cargo.toml
 package.name = "a"
 [dependencies]
@@ -209,7 +209,7 @@ package.name = "d"
 ---
 a = d.target.lib 0; b.target.lib 1; c.target.lib 1; a.target.lib 2
 a !whole = d.target.lib 0 /; b.target.lib 1 0/0; c.target.lib 1 0/0; a.target.lib 2 1,2/0,1,2
-=== levels come before names
+=== [plan.order] levels come before names
 @ /w/a/Cargo.toml
 package.name = "a"
 @ /w/a/src/lib.rs
@@ -223,7 +223,7 @@ package.name = "z"
 @ /w/z/src/lib.rs
 ---
 a b = a.target.lib 0; z.target.lib 0; b.target.lib 1
-=== byte order of keys
+=== [plan.order] byte order of keys
 @ /w/A/Cargo.toml
 package.name = "A"
 @ /w/A/src/lib.rs
@@ -238,7 +238,7 @@ package.name = "a_b"
 @ /w/a_b/src/lib.rs
 ---
 A a a-b a_b = A.target.lib 0; a-b.target.lib 0; a.target.lib 0; a_b.target.lib 0
-=== two entries of one package
+=== [units.library] two entries of one package
 @ /w/a/Cargo.toml
 package.name = "a"
 [dependencies]
@@ -250,7 +250,7 @@ package.name = "b"
 @ /w/b/src/lib.rs
 ---
 a !whole = b.target.lib 0 /; a.target.lib 1 0/0
-=== the binaries of the selected packages alone
+=== [units.roots] the binaries of the selected packages alone
 @ /w/a/Cargo.toml
 package.name = "a"
 [dependencies]
@@ -269,7 +269,7 @@ package.name = "c"
 a b = c.target.lib 0; a.target.lib 1; b.target.lib 1
 c = c.target.lib 0; c.target.bin-x 1
 a b c bin:x = c.target.lib 0; c.target.bin-x 1
-=== what is needed twice is reached once
+=== [plan.order] what is needed twice is reached once
 @ /w/a/Cargo.toml
 package.name = "a"
 [dependencies]

@@ -2,6 +2,7 @@
 
 use crate::asking::{options_of, parts_of, workspace_of};
 use crate::enabled::put_enabled;
+use crate::refused_features::REFUSED;
 use crate::resolutions::RESOLUTIONS;
 use pb_feature::{FeatureFault, Features, resolve};
 use pb_tests_files::Shown;
@@ -93,12 +94,20 @@ fn try_case(rt: &impl Abort, alloc: Global, case: &str) -> Result<usize, Fail> {
     count
 }
 
+/// Tries the cases of a table. How many questions they have.
+fn try_cases(rt: &impl Abort, alloc: Global, table: &str) -> Result<usize, Fail> {
+    let mut count = 0usize;
+    for case in table.split("=== ") {
+        count = count.saturating_add(try_case(rt, alloc, case)?);
+    }
+    Ok(count)
+}
+
+/// Rules: `resolve.selected`.
 #[test]
 fn features(rt: HostRuntime) -> Result<(), Fail> {
-    let mut count = 0usize;
-    for case in RESOLUTIONS.split("=== ") {
-        count = count.saturating_add(try_case(&rt, rt.alloc(), case)?);
-    }
-    assert_eq!(rt; count, 112);
+    let on = try_cases(&rt, rt.alloc(), RESOLUTIONS)?;
+    let refused = try_cases(&rt, rt.alloc(), REFUSED)?;
+    assert_eq!(rt; on.saturating_add(refused), 112);
     Ok(())
 }

@@ -16,6 +16,8 @@ mod features;
 #[cfg(test)]
 mod plans;
 #[cfg(test)]
+mod refused_features;
+#[cfg(test)]
 mod resolutions;
 #[cfg(test)]
 mod script_cases;

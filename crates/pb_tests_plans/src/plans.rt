@@ -298,6 +298,7 @@ fn are_both_right(alloc: Global) -> Result<bool, Fail> {
     Ok(has_folders? && has_keys?)
 }
 
+/// Rules: `plan.key`, `plan.settings`, `plan.refused`.
 #[test]
 fn plans(rt: HostRuntime) -> Result<(), Fail> {
     assert_eq!(rt; try_cases(&rt, rt.alloc(), CASES)?, 53);

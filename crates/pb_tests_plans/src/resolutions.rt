@@ -4,7 +4,8 @@
 //! the two tables.
 
 /// The cases.
-pub const RESOLUTIONS: &str = r#"=== the sides of one package have features of their own
+pub const RESOLUTIONS: &str =
+    r#"=== [resolve.enabled] the sides of one package have features of their own
 @ /w/Cargo.toml
 package.name = "r"
 [dependencies]
@@ -18,7 +19,7 @@ f = []
 g = []
 ---
 - = r.target >x >>x; x.target f; x.host g
-=== an item of an entry that is enabled, where another feature enables it
+=== [resolve.slash] an item of an entry that is enabled, where another feature enables it
 @ /w/Cargo.toml
 package.name = "p"
 [dependencies]
@@ -37,7 +38,7 @@ f:full,withx = p.target full withx >x; x.target f
 f:withx = p.target withx >x; x.target
 all = p.target full withx >x; x.target f
 f:x = NoSuchFeature
-=== a ring of features
+=== [resolve.listed] a ring of features
 @ /w/Cargo.toml
 package.name = "a"
 [features]
@@ -49,7 +50,7 @@ h = ["f"]
 f:f = a.target f g
 f:g = a.target f g
 f:h = a.target f g h
-=== defaults of the selected package
+=== [resolve.selected] defaults of the selected package
 @ /w/Cargo.toml
 package.name = "a"
 [features]
@@ -64,7 +65,7 @@ no-default; f:default = a.target default f
 f:g = a.target default f g
 all = a.target default f g
 no-default; all = a.target default f g
-=== an optional entry makes a feature
+=== [found.features] an optional entry makes a feature
 @ /w/Cargo.toml
 package.name = "a"
 [dependencies]
@@ -78,7 +79,7 @@ package.name = "x"
 f:x = a.target x >x; x.target
 f:f = a.target f x >x; x.target
 all = a.target f x >x; x.target
-=== an entry that is not optional makes none
+=== [found.features] an entry that is not optional makes none
 @ /w/Cargo.toml
 package.name = "a"
 [dependencies]
@@ -88,7 +89,7 @@ package.name = "x"
 ---
 - = a.target >x; x.target
 f:x = NoSuchFeature
-=== a feature of an optional entry turns on the entry and its feature
+=== [resolve.slash] a feature of an optional entry turns on the entry and its feature
 @ /w/Cargo.toml
 package.name = "a"
 [dependencies]
@@ -103,7 +104,7 @@ g = []
 - = a.target
 f:f = a.target f x >x; x.target g
 f:x = a.target x >x; x.target
-=== where the entry is named elsewhere there is no such feature
+=== [found.features] where the entry is named elsewhere there is no such feature
 @ /w/Cargo.toml
 package.name = "a"
 [dependencies]
@@ -119,7 +120,7 @@ g = []
 f:f = a.target f >x; x.target g
 f:h = a.target h >x; x.target
 f:x = NoSuchFeature
-=== a feature of an entry that is always there
+=== [resolve.slash] a feature of an entry that is always there
 @ /w/Cargo.toml
 package.name = "a"
 [dependencies]
@@ -135,7 +136,7 @@ g = []
 - = a.target >x; x.target
 f:f = a.target f >x; x.target g
 f:x = a.target x >x; x.target
-=== a written feature takes the place of the one that an entry makes
+=== [found.features] a written feature takes the place of the one that an entry makes
 @ /w/Cargo.toml
 package.name = "a"
 [dependencies]
@@ -151,7 +152,7 @@ h = []
 ---
 f:x = a.target g x
 f:f = a.target f g x >x; x.target h
-=== an item of an entry that is always enabled
+=== [resolve.weak] an item of an entry that is always enabled
 @ /w/Cargo.toml
 package.name = "a"
 [dependencies]
@@ -164,104 +165,7 @@ package.name = "x"
 g = []
 ---
 - = NotOptional
-=== naming an entry that is always enabled
-@ /w/Cargo.toml
-package.name = "a"
-[dependencies]
-x = { path = "x" }
-[features]
-f = ["dep:x"]
-@ /w/x/Cargo.toml
-package.name = "x"
----
-- = NotOptional
-=== an item without its feature
-@ /w/Cargo.toml
-package.name = "a"
-[features]
-f = ["g"]
----
-- = NoSuchFeature
-=== a feature of no entry
-@ /w/Cargo.toml
-package.name = "a"
-[features]
-f = ["z/f"]
----
-- = NoSuchDependency
-=== a feature of no entry, where it is enabled
-@ /w/Cargo.toml
-package.name = "a"
-[features]
-f = ["z?/f"]
----
-- = NoSuchDependency
-=== no entry is named
-@ /w/Cargo.toml
-package.name = "a"
-[features]
-f = ["dep:z"]
----
-- = NoSuchDependency
-=== the first wrong item as they are written
-@ /w/Cargo.toml
-package.name = "a"
-[features]
-f = ["z/f", "g"]
----
-- = NoSuchDependency
-=== the first wrong item as they are written, the other way round
-@ /w/Cargo.toml
-package.name = "a"
-[features]
-f = ["g", "z/f"]
----
-- = NoSuchFeature
-=== the first wrong feature in byte order
-@ /w/Cargo.toml
-package.name = "a"
-[features]
-g = ["h"]
-f = ["z/f"]
----
-- = NoSuchDependency
-=== the first wrong package in byte order of names, not of folders
-@ /w/Cargo.toml
-package.name = "b"
-[dependencies]
-a = { path = "x" }
-[features]
-f = ["g"]
-@ /w/x/Cargo.toml
-package.name = "a"
-[features]
-f = ["z/f"]
----
-- = NoSuchDependency
-=== the items of a package that is off are looked at too, before what is asked for
-@ /w/Cargo.toml
-package.name = "a"
-[dependencies]
-x = { path = "x", optional = true }
-@ /w/x/Cargo.toml
-package.name = "x"
-[features]
-f = ["dep:z"]
----
-- = NoSuchDependency
-f:nope = NoSuchDependency
-=== names of dev-dependencies do nothing
-@ /w/Cargo.toml
-package.name = "a"
-[dev-dependencies]
-t = "1"
-[features]
-f = ["t/g", "dep:t", "t?/g"]
----
-- = a.target
-f:f = a.target f
-f:t = NoSuchFeature
-=== an entry in both tables, optional in one
+=== [resolve.dep] an entry in both tables, optional in one
 @ /w/Cargo.toml
 package.name = "a"
 [dependencies]
@@ -281,7 +185,7 @@ f:h = a.target h x >x >>x; x.target g; x.host g
 f:x = a.target x >x >>x; x.target; x.host
 f:f = a.target f >>x; x.host g
 f:f,x = a.target f x >x >>x; x.target g; x.host g
-=== an entry in both tables, optional in both
+=== [resolve.dep] an entry in both tables, optional in both
 @ /w/Cargo.toml
 package.name = "a"
 [dependencies]
@@ -297,7 +201,7 @@ g = []
 ---
 - = a.target
 f:f = a.target f >x >>x; x.target; x.host g
-=== a renamed entry goes by its key
+=== [resolve.dep] a renamed entry goes by its key
 @ /w/Cargo.toml
 package.name = "a"
 [dependencies]
@@ -312,20 +216,7 @@ g = []
 f:f = a.target f y >y; x.target g
 f:y = a.target y >y; x.target
 f:x = NoSuchFeature
-=== the package's name is no name of a renamed entry
-@ /w/Cargo.toml
-package.name = "a"
-[dependencies]
-y = { path = "x", package = "x" }
-[features]
-f = ["x/g"]
-@ /w/x/Cargo.toml
-package.name = "x"
-[features]
-g = []
----
-- = NoSuchDependency
-=== defaults of a dependency, off for one and on for another
+=== [resolve.enabled] defaults of a dependency, off for one and on for another
 @ /w/Cargo.toml
 [workspace]
 members = ["a", "b"]
@@ -349,7 +240,7 @@ p:b = b.target >x; x.target d default
 - = a.target >x; b.target >x; x.target d default
 p:a; no-default = a.target >x; x.target
 p:b; no-default = b.target >x; x.target d default
-=== defaults on one side alone
+=== [resolve.enabled] defaults on one side alone
 @ /w/Cargo.toml
 package.name = "a"
 [dependencies]
@@ -363,7 +254,7 @@ default = ["d"]
 d = []
 ---
 - = a.target >x >>x; x.target; x.host d default
-=== defaults that are off and listed
+=== [resolve.enabled] defaults that are off and listed
 @ /w/Cargo.toml
 package.name = "a"
 [dependencies]
@@ -375,36 +266,7 @@ default = ["d"]
 d = []
 ---
 - = a.target >x; x.target d default
-=== a feature that a dependency does not have
-@ /w/Cargo.toml
-package.name = "a"
-[dependencies]
-x = { path = "x", optional = true, features = ["nope"] }
-[features]
-f = ["x?/g"]
-@ /w/x/Cargo.toml
-package.name = "x"
----
-- = a.target
-f:f = a.target f
-f:x = NoSuchFeature
-=== a feature that is asked of a dependency and is not there
-@ /w/Cargo.toml
-package.name = "a"
-[dependencies]
-x = { path = "x", optional = true }
-[features]
-f = ["x/g"]
-h = ["x?/g"]
-@ /w/x/Cargo.toml
-package.name = "x"
----
-- = a.target
-f:f = NoSuchFeature
-f:h = a.target h
-f:h,x = NoSuchFeature
-f:x = a.target x >x; x.target
-=== asked features of several packages
+=== [resolve.selected] asked features of several packages
 @ /w/Cargo.toml
 [workspace]
 members = ["a", "b"]
@@ -436,19 +298,7 @@ f:f,nope = NoSuchFeature
 f:dep:x = NoSuchFeature
 all = a.target f g; b.target g
 all; f:nope = NoSuchFeature
-=== features of dependencies are not asked for
-@ /w/Cargo.toml
-package.name = "a"
-[dependencies]
-x = { path = "x" }
-@ /w/x/Cargo.toml
-package.name = "x"
-[features]
-g = []
----
-f:x/g = NoSuchFeature
-all = a.target >x; x.target
-=== what a build dependency needs is made for the host
+=== [resolve.enabled] what a build dependency needs is made for the host
 @ /w/Cargo.toml
 package.name = "a"
 [build-dependencies]
@@ -465,7 +315,7 @@ package.name = "c"
 package.name = "d"
 ---
 - = a.target >>b; b.host >c >>d; c.host; d.host
-=== features lead from package to package
+=== [resolve.enabled] features lead from package to package
 @ /w/Cargo.toml
 package.name = "a"
 [dependencies]
@@ -484,7 +334,7 @@ h = []
 i = []
 ---
 - = a.target >b; b.target f >c; c.target g h
-=== an entry that another package turns on later
+=== [resolve.weak] an entry that another package turns on later
 @ /w/Cargo.toml
 [workspace]
 members = ["p", "q", "r"]
@@ -512,7 +362,7 @@ f = []
 p:p; f:full = p.target full
 p:p; p:q; f:full = p.target full withx >x; q.target >p; x.target f
 p:p; p:r; f:full = p.target full; p.host withx >x; r.target >>p; x.host
-=== an optional dependency named default
+=== [resolve.listed] an optional dependency named default
 @ /w/Cargo.toml
 package.name = "a"
 [dependencies]
@@ -522,7 +372,7 @@ package.name = "default"
 ---
 - = a.target default >default; default.target
 no-default = a.target
-=== packages that depend on each other
+=== [resolve.enabled] packages that depend on each other
 @ /w/Cargo.toml
 package.name = "a"
 [dependencies]
@@ -537,7 +387,7 @@ a = { path = "..", features = ["g"] }
 f = []
 ---
 - = a.target g >b; b.target f >a
-=== two entries of one package
+=== [resolve.enabled] two entries of one package
 @ /w/Cargo.toml
 package.name = "a"
 [dependencies]
@@ -552,7 +402,7 @@ g = []
 ---
 - = a.target >y; x.target f
 f:z = a.target z >y >z; x.target default f g
-=== entries of the workspace
+=== [resolve.enabled] entries of the workspace
 @ /w/Cargo.toml
 [workspace]
 members = ["m"]
@@ -574,7 +424,7 @@ g = []
 ---
 - = m.target >>x; x.host default f
 f:x = m.target x >x >>x; x.target f g; x.host default f
-=== a package with nothing
+=== [resolve.mandatory] a package with nothing
 @ /w/Cargo.toml
 package.name = "a"
 ---

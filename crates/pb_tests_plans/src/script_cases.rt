@@ -5,13 +5,13 @@
 //! profile; `!missing` asks for the dependencies without a library.
 
 /// The cases.
-pub const SCRIPT_CASES: &str = r#"=== a script alone
+pub const SCRIPT_CASES: &str = r#"=== [units.script] a script alone
 @ /w/a/Cargo.toml
 package.name = "a"
 @ /w/a/build.rs
 ---
 a = NothingToBuild
-=== a script, its run, the library
+=== [units.run] a script, its run, the library
 @ /w/a/Cargo.toml
 package.name = "a"
 @ /w/a/src/lib.rs
@@ -19,7 +19,7 @@ package.name = "a"
 ---
 a = a.target.script 0; a.target.run 1; a.target.lib 2
 a !whole = a.target.script 0 /; a.target.run 1 0/0; a.target.lib 2 1/0,1
-=== one package on both sides
+=== [units.library] one package on both sides
 @ /w/r/Cargo.toml
 package.name = "r"
 [dependencies]
@@ -36,7 +36,7 @@ package.name = "x"
 r = x.host.script 0; x.target.script 0; x.host.run 1; x.target.run 1; x.host.lib 2; x.target.lib 2; r.target.script 3; r.target.run 4; r.target.lib 5
 r !whole = x.host.script 0 /; x.target.script 0 /; x.host.run 1 0/0; x.target.run 1 1/1; x.host.lib 2 2/0,2; x.target.lib 2 3/1,3; r.target.script 3 4/0,2,4; r.target.run 4 6/0,2,4,6; r.target.lib 5 5,7/0,1,2,3,4,5,6,7
 x = x.target.script 0; x.target.run 1; x.target.lib 2
-=== runs lead to runs along links
+=== [units.run] runs lead to runs along links
 @ /w/a/Cargo.toml
 package.name = "a"
 [dependencies]
@@ -56,7 +56,7 @@ package = { name = "c", links = "c" }
 ---
 a = a.target.script 0; b.target.script 0; c.target.script 0; c.target.run 1; b.target.run 2; c.target.lib 2; a.target.run 3; b.target.lib 3; a.target.lib 4
 a !whole = a.target.script 0 /; b.target.script 0 /; c.target.script 0 /; c.target.run 1 2/2; b.target.run 2 1,3/1,2,3; c.target.lib 2 3/2,3; a.target.run 3 0,4/0,1,2,3,4; b.target.lib 3 4,5/1,2,3,4,5; a.target.lib 4 6,7/0,1,2,3,4,5,6,7
-=== a run without links leads to no other
+=== [units.run] a run without links leads to no other
 @ /w/a/Cargo.toml
 package.name = "a"
 [dependencies]
@@ -75,7 +75,7 @@ package = { name = "c", links = "c" }
 @ /w/c/build.rs
 ---
 a = a.target.script 0; b.target.script 0; c.target.script 0; a.target.run 1; c.target.run 1; b.target.run 2; c.target.lib 2; b.target.lib 3; a.target.lib 4
-=== a circle through a script
+=== [plan.refused] a circle through a script
 @ /w/a/Cargo.toml
 package.name = "a"
 [build-dependencies]
@@ -90,7 +90,7 @@ a = { path = "../a" }
 ---
 a = Cycle a b
 b = Cycle a b
-=== a script that needs itself on the host
+=== [plan.refused] a script that needs itself on the host
 @ /w/a/Cargo.toml
 package.name = "a"
 [build-dependencies]
@@ -106,7 +106,7 @@ b = { path = "../b" }
 ---
 a = Cycle b
 b = Cycle b
-=== a circle of libraries and runs
+=== [plan.refused] a circle of libraries and runs
 @ /w/a/Cargo.toml
 package = { name = "a", links = "a" }
 [dependencies]
@@ -121,7 +121,7 @@ a = { path = "../a" }
 @ /w/b/build.rs
 ---
 a = Cycle a b
-=== build dependencies without libraries
+=== [plan.without-library] build dependencies without libraries
 @ /w/a/Cargo.toml
 package.name = "a"
 [build-dependencies]
@@ -138,7 +138,7 @@ package = { name = "c", links = "c" }
 ---
 a = a.target.script 0; a.target.run 1; a.target.lib 2
 a !missing = b c
-=== links without a library
+=== [units.run] links without a library
 @ /w/a/Cargo.toml
 package.name = "a"
 [dependencies]
@@ -151,7 +151,7 @@ package = { name = "b", links = "b" }
 ---
 a = a.target.script 0; a.target.run 1; a.target.lib 2
 a !missing = b
-=== a binary's own script
+=== [units.binary] a binary's own script
 @ /w/a/Cargo.toml
 package.name = "a"
 [dependencies]
@@ -169,7 +169,7 @@ package.name = "c"
 ---
 a = b.target.lib 0; c.host.lib 0; a.target.script 1; a.target.run 2; a.target.bin-m 3
 a !whole = b.target.lib 0 /; c.host.lib 0 /; a.target.script 1 1/1; a.target.run 2 2/1,2; a.target.bin-m 3 0,3/0,1,2,3
-=== one library on two sides
+=== [units.library] one library on two sides
 @ /w/a/Cargo.toml
 package.name = "a"
 [dependencies]
@@ -183,7 +183,7 @@ package.name = "b"
 @ /w/b/src/lib.rs
 ---
 a = b.host.lib 0; b.target.lib 0; a.target.script 1; a.target.run 2; a.target.lib 3
-=== scripts upon scripts
+=== [units.script] scripts upon scripts
 @ /w/a/Cargo.toml
 package.name = "a"
 [build-dependencies]
@@ -201,7 +201,7 @@ package.name = "c"
 @ /w/c/src/lib.rs
 ---
 a = c.host.lib 0; b.host.script 1; b.host.run 2; b.host.lib 3; a.target.script 4; a.target.run 5; a.target.lib 6
-=== links on the host
+=== [units.run] links on the host
 @ /w/a/Cargo.toml
 package.name = "a"
 [build-dependencies]
@@ -220,7 +220,7 @@ package = { name = "c", links = "c" }
 @ /w/c/build.rs
 ---
 a = b.host.script 0; c.host.script 0; c.host.run 1; b.host.run 2; c.host.lib 2; b.host.lib 3; a.target.script 4; a.target.run 5; a.target.lib 6
-=== an optional build dependency
+=== [units.script] an optional build dependency
 @ /w/a/Cargo.toml
 package.name = "a"
 [build-dependencies]

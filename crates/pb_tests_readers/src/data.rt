@@ -233,6 +233,7 @@ fn items_are_copied(alloc: Global) -> Result<bool, AllocError> {
     is_copied
 }
 
+/// Rules: `conventions.order`.
 #[test]
 fn orders_and_values(rt: HostRuntime) {
     for case in ORDERS {

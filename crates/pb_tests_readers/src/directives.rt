@@ -267,6 +267,7 @@ pub fn is_modelled(alloc: Global, dep_info: &[u8], wanted: &str) -> bool {
     shown.says(wanted)
 }
 
+/// Rules: `directives.line`, `directives.values`, `directives.unknown`, `directives.first`, `directives.no-effect`, `dep-info.lines`, `dep-info.faults`.
 #[test]
 fn outputs_and_dep_info(rt: HostRuntime) {
     assert_outputs(&rt, rt.alloc(), LINES);
@@ -380,6 +381,7 @@ fn laws_are_named() {
     pb_data::table::table_joins::<Text>();
 }
 
+/// Rules: `directives.line`.
 #[test]
 fn long_lines_words_and_laws(rt: HostRuntime) -> Result<(), Fail> {
     assert!(rt; holds(plain_line_is_read(rt.alloc(), 4_194_304)));

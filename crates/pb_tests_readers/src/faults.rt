@@ -49,6 +49,9 @@ pub enum Ending {
     OutOfMemory,
 }
 
+/// The error for a name that no fault has. It fails the case that says the name.
+const NO_FAULT: PathFault = PathFault::NotAbsolute;
+
 /// The fault of a unit that has this name.
 fn named_fault(alloc: Global, name: &str) -> Result<UnitFault, PathFault> {
     Ok(match name {
@@ -56,7 +59,8 @@ fn named_fault(alloc: Global, name: &str) -> Result<UnitFault, PathFault> {
         "NoDepInfo" => UnitFault::NoDepInfo,
         "ForeignInput" => UnitFault::ForeignInput(PathText::parse(alloc, "/w/target/x")?),
         "OutputTooLong" => UnitFault::OutputTooLong,
-        _ => UnitFault::OutOfMemory,
+        "OutOfMemory" => UnitFault::OutOfMemory,
+        _ => return Err(NO_FAULT),
     })
 }
 
@@ -69,30 +73,32 @@ pub fn unit_fault(alloc: Global, bad: Bad) -> Result<UnitFault, PathFault> {
     }
 }
 
-/// The fault of a workspace that has this name and tells no path.
-fn pathless_fault(name: &str) -> LoadFault {
+/// The fault of a workspace that has this name and no path.
+fn pathless_fault(name: &str) -> Result<LoadFault, PathFault> {
     match name {
-        "SameName" => LoadFault::SameName,
-        "NameMismatch" => LoadFault::NameMismatch,
-        "VersionMismatch" => LoadFault::VersionMismatch,
-        "LinksTwice" => LoadFault::LinksTwice,
-        "LinksWithoutScript" => LoadFault::LinksWithoutScript,
-        "NoInherited" => LoadFault::NoInherited,
-        "TooMany" => LoadFault::TooMany,
-        "SameBinary" => LoadFault::SameBinary,
-        "NoSuchPackage" => LoadFault::NoSuchPackage,
-        _ => LoadFault::OutOfMemory,
+        "SameName" => Ok(LoadFault::SameName),
+        "NameMismatch" => Ok(LoadFault::NameMismatch),
+        "VersionMismatch" => Ok(LoadFault::VersionMismatch),
+        "LinksTwice" => Ok(LoadFault::LinksTwice),
+        "LinksWithoutScript" => Ok(LoadFault::LinksWithoutScript),
+        "NoInherited" => Ok(LoadFault::NoInherited),
+        "TooMany" => Ok(LoadFault::TooMany),
+        "SameBinary" => Ok(LoadFault::SameBinary),
+        "NoSuchPackage" => Ok(LoadFault::NoSuchPackage),
+        "OutOfMemory" => Ok(LoadFault::OutOfMemory),
+        _ => Err(NO_FAULT),
     }
 }
 
 /// The refusal of a workspace for the fault of this name.
 fn refused_workspace(alloc: Global, name: &str) -> Result<Refusal, PathFault> {
     let path = PathText::parse(alloc, "/w/Cargo.toml")?;
-    Ok(Refusal::Load(match name {
-        "NoManifest" => LoadFault::NoManifest(path),
-        "Place" => LoadFault::Place(path, PlaceFault::Read),
+    let fault = match name {
+        "NoManifest" => Ok(LoadFault::NoManifest(path)),
+        "Place" => Ok(LoadFault::Place(path, PlaceFault::Read)),
         _ => pathless_fault(name),
-    }))
+    };
+    Ok(Refusal::Load(fault?))
 }
 
 /// The refusal of a manifest for this fault.
@@ -107,7 +113,8 @@ fn refused_plan(alloc: Global, name: &str) -> Result<Refusal, PathFault> {
         "Cycle" => PlanFault::Cycle(texts_of(alloc, "a b")?),
         "TooManyUnits" => PlanFault::TooManyUnits,
         "NothingToBuild" => PlanFault::NothingToBuild,
-        _ => PlanFault::OutOfMemory,
+        "OutOfMemory" => PlanFault::OutOfMemory,
+        _ => return Err(NO_FAULT),
     }))
 }
 

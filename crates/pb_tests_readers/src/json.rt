@@ -16,6 +16,7 @@ static STRINGS: &[(&str, &str)] = &[
     ),
 ];
 
+/// Rules: `messages.lines`.
 #[test]
 fn strings(rt: HostRuntime) {
     for case in STRINGS {

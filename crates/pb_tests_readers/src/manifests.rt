@@ -19,8 +19,8 @@ use show::put_manifest;
 use std::alloc::{AllocError, Global};
 use std::process::Abort;
 
-/// Whether the answer to a manifest, in one line, is this.
-fn says(alloc: Global, manifest: &[u8], wanted: &str) -> bool {
+/// The answer to a manifest, in one line.
+fn answer_to(alloc: Global, manifest: &[u8]) -> Shown {
     let answer = read_manifest(alloc, manifest);
     let mut shown = Shown::new(alloc);
     match &answer {
@@ -28,17 +28,37 @@ fn says(alloc: Global, manifest: &[u8], wanted: &str) -> bool {
         Err(fault) => shown.put_value(fault),
     }
     drop(answer);
-    shown.says(wanted)
+    shown
+}
+
+/// Whether the answer to a manifest, in one line, is this.
+fn says(alloc: Global, manifest: &[u8], wanted: &str) -> bool {
+    answer_to(alloc, manifest).says(wanted)
+}
+
+/// Asserts the answer of a case: a line `[RULE] NAME`, a manifest, and a line `--- ANSWER`. Whether the text is a case.
+fn assert_case(rt: &impl Abort, alloc: Global, case: &str) -> bool {
+    let Some((name, rest)) = case.split_once('\n') else {
+        return false;
+    };
+    let Some((manifest, wanted)) = rest.split_once("--- ") else {
+        return false;
+    };
+    let wanted = wanted.trim();
+    let came = answer_to(alloc, manifest.as_bytes());
+    assert!(rt;
+        came.says(wanted),
+        "{name}: wanted {wanted}, came {}",
+        came.as_str()
+    );
+    true
 }
 
 /// Asserts the answers to the manifests of a table. How many there are.
 fn assert_answers(rt: &impl Abort, alloc: Global, cases: &str) -> usize {
     let mut count = 0usize;
     for case in cases.split("=== ") {
-        if let Some((wanted, manifest)) = case.split_once('\n') {
-            assert!(rt; says(alloc, manifest.as_bytes(), wanted), "{case}");
-            count = count.saturating_add(1);
-        }
+        count = count.saturating_add(usize::from(assert_case(rt, alloc, case)));
     }
     count
 }
@@ -59,6 +79,7 @@ fn assert_cases(rt: &impl Abort, alloc: Global) {
     }
 }
 
+/// Rules: `manifest.order`.
 #[test]
 fn manifests(rt: HostRuntime) {
     assert_cases(&rt, rt.alloc());
@@ -310,6 +331,7 @@ fn readme_is_copied(alloc: Global, path: &str) -> Result<bool, AllocError> {
     Ok(is_at_path)
 }
 
+/// Rules: `manifest.letters`, `package.version`, `dependencies.version`.
 #[test]
 fn letters_versions_and_words(rt: HostRuntime) {
     for case in LETTERS {
@@ -330,6 +352,7 @@ fn letters_versions_and_words(rt: HostRuntime) {
     assert!(rt; count_comparisons(rt.alloc(), ">=1, <2") == Ok(2));
 }
 
+/// Rules: `lib.name`.
 #[test]
 fn names_spellings_and_copies(rt: HostRuntime) {
     assert!(rt; is_text(crate_name(rt.alloc(), "a-b--c"), "a_b__c"));

@@ -59,6 +59,7 @@ fn is_passed_on(alloc: Global) -> Result<bool, Fail> {
     Ok(is_right? && is_all?)
 }
 
+/// Rules: `directives.metadata`.
 #[test]
 fn metadata_is_passed_on(rt: HostRuntime) -> Result<(), Fail> {
     assert!(rt; is_passed_on(rt.alloc())?);

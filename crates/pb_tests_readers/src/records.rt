@@ -1,24 +1,23 @@
 //! Records as text: worked examples, texts that are none, and texts made at random.
 
 use crate::dice::Dice;
-use pb_record::{Needed, Record, read_record, write_record};
+use pb_place_types::joined;
+use pb_record::{Needed, Record, read_record, write_record, write_record_pieces};
 use pb_tests_files::{Shown, holds};
 use std::alloc::{AllocError, Global};
 
-/// Whether a record is written as this text.
-fn is_written(alloc: Global, kept: &Record, text: &[u8]) -> Result<Option<bool>, AllocError> {
-    let again = write_record(alloc, kept)?;
-    Ok(Some(again.as_slice() == text))
+/// Whether a record is written as this text, whole and in pieces.
+fn is_written(alloc: Global, kept: Record, text: &[u8]) -> Result<Option<bool>, AllocError> {
+    let again = write_record(alloc, &kept)?;
+    let pieces = write_record_pieces(alloc, kept)?;
+    let joined = joined(alloc, pieces.as_slice())?;
+    Ok(Some(again.as_slice() == text && joined.as_slice() == text))
 }
 
 /// Whether the record that a text is, is written so again; none where it is no record.
 fn again(alloc: Global, text: &[u8]) -> Result<Option<bool>, AllocError> {
     match read_record(alloc, text)? {
-        Some(kept) => {
-            let is_written = is_written(alloc, &kept, text);
-            drop(kept);
-            is_written
-        }
+        Some(kept) => is_written(alloc, kept, text),
         None => Ok(None),
     }
 }
@@ -364,6 +363,7 @@ fn large_is_record(alloc: Global, size: usize) -> Result<bool, AllocError> {
     Ok(is_record(alloc, text.as_slice()))
 }
 
+/// Rules: `records.text`, `records.inputs`.
 #[test]
 fn records(rt: HostRuntime) {
     assert!(rt; holds(says_its_parts(rt.alloc())));

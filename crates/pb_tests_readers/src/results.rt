@@ -330,6 +330,7 @@ static FAULTS: &[(Ending, &str, bool)] = &[
     ),
 ];
 
+/// Rules: `results.line`.
 #[test]
 fn result_lines(rt: HostRuntime) {
     for case in ENDS {

@@ -317,6 +317,7 @@ fn assert_sessions(rt: &impl Abort, alloc: Global) {
     }
 }
 
+/// Rules: `sessions.files`.
 #[test]
 fn sessions_and_options(rt: HostRuntime) {
     assert_sessions(&rt, rt.alloc());

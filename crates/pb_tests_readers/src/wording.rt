@@ -58,6 +58,7 @@ static UNIT_WORDS: &[(Bad, &str)] = &[
     ),
 ];
 
+/// Rules: `tool.notes`.
 #[test]
 fn words(rt: HostRuntime) {
     for case in BUILD_WORDS {

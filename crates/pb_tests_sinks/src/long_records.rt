@@ -128,6 +128,7 @@ fn try_case(alloc: Global, case: &Case) -> Result<(), Fail> {
     Ok(())
 }
 
+/// Rules: `tool.notes`.
 #[test]
 fn records_of_scripts(rt: HostRuntime) -> Result<(), Fail> {
     for case in CASES {

@@ -7,15 +7,32 @@ mod workspaces;
 
 ghost use Rattle.std.specs.Prelude.{◌≡◌, [], IfOk};
 
-use crate::told::Unguarded;
 use pb_mini::Mini;
 use pb_place::Memory;
-use pb_place_types::{Over, PathText};
+use pb_place_types::{Out, Over, PathText, Place};
 use pb_tests_files::put_files;
-use pb_tool_program::{Here, Rendered, Spoken, page_of_errors, run};
+use pb_tool_program::{Colored, Guard, Here, Rendered, Spoken, StatusLine, page_of_errors, run};
 use std::alloc::{AllocError, Global};
 use std::process::Abort;
 use std::test::Fail;
+
+/// A guard that holds no folder.
+#[derive(Drop)]
+struct Unguarded {}
+
+impl<P: Place, E: Out> Guard<P, E> for Unguarded {
+    ghost use Rattle.std.specs.Prelude.{⊤};
+
+    ghost asks = { λ old folder counts heard taken new. ⊤ };
+
+    ghost waits = { λ old counts heard new. ⊤ };
+
+    fn is_taken(&mut self, _place: &P, _err: &E, _folder: &PathText) -> bool {
+        false
+    }
+
+    fn wait(&mut self, _place: &P, _err: &E) {}
+}
 
 /// The words of a command line.
 fn words_of(alloc: Global, words: &str) -> Result<Vec<&str>, AllocError> {
@@ -38,6 +55,8 @@ fn said_at(alloc: Global, memory: Memory<Mini>, words: &str) -> Result<Vec<u8>, 
     let here = Here {
         folder: PathText::parse(alloc, "/w")?,
         processors: 1,
+        is_terminal: false,
+        shows_colors: false,
     };
     let mut said = Vec::new(alloc);
     let mut place = Spoken::new(memory, Over::new(Vec::new(alloc)));
@@ -53,7 +72,8 @@ fn said_at(alloc: Global, memory: Memory<Mini>, words: &str) -> Result<Vec<u8>, 
             Over::new(Vec::new(alloc)),
             Over::new(Vec::new(alloc)),
         ),
-        &mut Over::new(&mut said),
+        &mut Colored::new(Over::new(&mut said)),
+        &mut StatusLine::new(alloc, Over::new(Vec::new(alloc))),
     );
     drop(place);
     Ok(said)
@@ -104,24 +124,28 @@ fn try_all(rt: &impl Abort, alloc: Global, cases: &str) -> Result<usize, Fail> {
     Ok(count)
 }
 
+/// Rules: `tool.notes`.
 #[test]
 fn mistakes_in_a_manifest(rt: HostRuntime) -> Result<(), Fail> {
     assert_eq!(rt; try_all(&rt, rt.alloc(), manifests::CASES)?, 18);
     Ok(())
 }
 
+/// Rules: `tool.notes`.
 #[test]
 fn mistakes_in_a_workspace(rt: HostRuntime) -> Result<(), Fail> {
     assert_eq!(rt; try_all(&rt, rt.alloc(), workspaces::CASES)?, 14);
     Ok(())
 }
 
+/// Rules: `tool.notes`.
 #[test]
 fn mistakes_in_a_plan(rt: HostRuntime) -> Result<(), Fail> {
     assert_eq!(rt; try_all(&rt, rt.alloc(), plans::CASES)?, 15);
     Ok(())
 }
 
+/// Rules: `tool.notes`, `manifest.ignored`.
 #[test]
 fn keys_that_nothing_reads(rt: HostRuntime) -> Result<(), Fail> {
     assert_eq!(rt; try_all(&rt, rt.alloc(), unused::CASES)?, 5);
@@ -171,6 +195,7 @@ fn long_name(alloc: Global, count: usize) -> Result<String, AllocError> {
     Ok(text)
 }
 
+/// Rules: `tool.notes`.
 #[test]
 fn ten_thousand_bad_keys(rt: HostRuntime) -> Result<(), Fail> {
     let alloc = rt.alloc();
@@ -180,6 +205,7 @@ fn ten_thousand_bad_keys(rt: HostRuntime) -> Result<(), Fail> {
     Ok(())
 }
 
+/// Rules: `tool.notes`.
 #[test]
 fn a_line_of_a_mebibyte(rt: HostRuntime) -> Result<(), Fail> {
     let alloc = rt.alloc();
@@ -189,6 +215,7 @@ fn a_line_of_a_mebibyte(rt: HostRuntime) -> Result<(), Fail> {
     Ok(())
 }
 
+/// Rules: `tool.notes`.
 #[test]
 fn a_manifest_that_is_no_text(rt: HostRuntime) -> Result<(), Fail> {
     let (count, longest) = lines_said(rt.alloc(), b"[package]\nname = \"\xff\xfe\"\n")?;

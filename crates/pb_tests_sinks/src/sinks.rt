@@ -129,14 +129,18 @@ const LIBRARY: &str =
     r#"[{"write":["/w/Cargo.toml","[package]\nname = \"a\"\nversion = \"0.1.0\"\nedition = \"2021\"\n"]},{"write":["/w/src/lib.rs",""]},{"build":{}}]"#;
 
 const LIBRARY_LINES: &str =
-    "{\"reason\":\"compiler-artifact\",\"package_id\":\"path+file:///w#a@0.1.0\",\"manifest_path\":\"/w/Cargo.toml\",\"target\":{\"kind\":[\"lib\"],\"crate_types\":[\"lib\"],\"name\":\"a\",\"src_path\":\"/w/src/lib.rs\",\"edition\":\"2021\"},\"profile\":{\"opt_level\":\"0\",\"debuginfo\":2,\"debug_assertions\":true,\"overflow_checks\":true,\"test\":false},\"features\":[],\"filenames\":[\"/w/target/debug/a.target.lib/liba.rlib\"],\"executable\":null,\"fresh\":false}\n{\"reason\":\"build-finished\",\"success\":true}\n";
+    r#"{"reason":"compiler-artifact","package_id":"path+file:///w#a@0.1.0","manifest_path":"/w/Cargo.toml","target":{"kind":["lib"],"crate_types":["lib"],"name":"a","src_path":"/w/src/lib.rs","edition":"2021"},"profile":{"opt_level":"0","debuginfo":2,"debug_assertions":true,"overflow_checks":true,"test":false},"features":[],"filenames":["/w/target/debug/a.target.lib/liba.rlib"],"executable":null,"fresh":false}
+{"reason":"build-finished","success":true}
+"#;
 
 /// A library with an error.
 const BROKEN: &str =
     r#"[{"write":["/w/Cargo.toml","[package]\nname = \"a\"\nversion = \"0.1.0\"\nedition = \"2021\"\n"]},{"write":["/w/src/lib.rs","fail no\n"]},{"build":{}}]"#;
 
 const BROKEN_LINES: &str =
-    "{\"reason\":\"compiler-message\",\"package_id\":\"path+file:///w#a@0.1.0\",\"manifest_path\":\"/w/Cargo.toml\",\"target\":{\"kind\":[\"lib\"],\"crate_types\":[\"lib\"],\"name\":\"a\",\"src_path\":\"/w/src/lib.rs\",\"edition\":\"2021\"},\"message\":{\"level\":\"error\",\"message\":\"no\",\"line\":1}}\n{\"reason\":\"build-finished\",\"success\":false}\n";
+    r#"{"reason":"compiler-message","package_id":"path+file:///w#a@0.1.0","manifest_path":"/w/Cargo.toml","target":{"kind":["lib"],"crate_types":["lib"],"name":"a","src_path":"/w/src/lib.rs","edition":"2021"},"message":{"level":"error","message":"no","line":1}}
+{"reason":"build-finished","success":false}
+"#;
 
 /// Sessions of one build, its message lines, and its result line.
 const SESSIONS: &[(&str, &str, &str)] = &[
@@ -156,6 +160,7 @@ fn lines_of(alloc: Global, messages: &str, last: &str) -> Result<Vec<u8>, Fail> 
     Ok(printed)
 }
 
+/// Rules: `sinks.take`, `build.finish`.
 #[test]
 fn sinks_at_each_byte(rt: HostRuntime) -> Result<(), Fail> {
     let alloc = rt.alloc();
@@ -176,7 +181,9 @@ const TWICE: &str =
 
 /// The message lines of its second build.
 const FRESH_LINES: &str =
-    "{\"reason\":\"compiler-artifact\",\"package_id\":\"path+file:///w#a@0.1.0\",\"manifest_path\":\"/w/Cargo.toml\",\"target\":{\"kind\":[\"lib\"],\"crate_types\":[\"lib\"],\"name\":\"a\",\"src_path\":\"/w/src/lib.rs\",\"edition\":\"2021\"},\"profile\":{\"opt_level\":\"0\",\"debuginfo\":2,\"debug_assertions\":true,\"overflow_checks\":true,\"test\":false},\"features\":[],\"filenames\":[\"/w/target/debug/a.target.lib/liba.rlib\"],\"executable\":null,\"fresh\":true}\n{\"reason\":\"build-finished\",\"success\":true}\n";
+    r#"{"reason":"compiler-artifact","package_id":"path+file:///w#a@0.1.0","manifest_path":"/w/Cargo.toml","target":{"kind":["lib"],"crate_types":["lib"],"name":"a","src_path":"/w/src/lib.rs","edition":"2021"},"profile":{"opt_level":"0","debuginfo":2,"debug_assertions":true,"overflow_checks":true,"test":false},"features":[],"filenames":["/w/target/debug/a.target.lib/liba.rlib"],"executable":null,"fresh":true}
+{"reason":"build-finished","success":true}
+"#;
 
 /// Whether of two builds, the first of whose sinks fails once after these message bytes, the second starts nothing and
 /// says all.
@@ -198,6 +205,7 @@ fn wrong_after(alloc: Global, messages: &[u8]) -> Result<Option<usize>, Fail> {
     Ok(None)
 }
 
+/// Rules: `build.faults`.
 #[test]
 fn builds_after_sinks_that_fail(rt: HostRuntime) -> Result<(), Fail> {
     let wrong = wrong_after(rt.alloc(), LIBRARY_LINES.as_bytes())?;

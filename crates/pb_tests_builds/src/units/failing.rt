@@ -45,7 +45,7 @@ fn fail_at(
     reopen(alloc, place, project, bench)?;
     let again = call(alloc, place, project, bench, verb, first)?;
     let mut said = Shown::new(alloc);
-    said.put(&[told.as_str(), late, ": ", again.as_str(), ", "]);
+    said.put(&[told.as_str(), late, ": ", again.as_str(), "\n"]);
     Ok(said.whole()?)
 }
 
@@ -109,27 +109,78 @@ fn each_fails(alloc: Global, steps: &str) -> Result<String, Fail> {
     Ok(told.whole()?)
 }
 
-/// Trials, each behind `=== `: steps, one a line, the last of which is the call that fails, and behind `= ` its faults, and
-/// what the same call tells after each.
-const TRIALS: &str =
-    "=== run 0\n= fault a.target.lib Device: nothing is kept of it, fault a.target.lib Device: nothing is kept of it, fault a.target.lib Device: nothing is kept of it, fault a.target.lib CannotStart: nothing is kept of it, fault a.target.lib Died: nothing is kept of it, fault a.target.lib Device: nothing is kept of it, fault a.target.lib Device: nothing is kept of it, fault a.target.lib Device: nothing is kept of it, fault a.target.lib Device: nothing is kept of it, fault a.target.lib Device: nothing is kept of it, \n\
-     === run 0\nrun 0\n= fault a.target.lib Device: same, fault a.target.lib Device: same, fault a.target.lib Device: same, fault a.target.lib Device: same, fault a.target.lib Device: same, \n\
-     === run 0\nfile /w/a/src/n two\nrun 0\n= fault a.target.lib Device: `/w/a/src/n` has changed, fault a.target.lib Device: `/w/a/src/n` has changed, fault a.target.lib Device: `/w/a/src/n` has changed, fault a.target.lib Device: `/w/a/src/n` has changed, fault a.target.lib Device: nothing is kept of it, fault a.target.lib CannotStart: nothing is kept of it, fault a.target.lib Died: nothing is kept of it, fault a.target.lib Device: nothing is kept of it, fault a.target.lib Device: nothing is kept of it, fault a.target.lib Device: nothing is kept of it, fault a.target.lib Device: nothing is kept of it, fault a.target.lib Device: nothing is kept of it, \n\
-     === run 1\nrun 2\n= fault b.target.run Device: nothing is kept of it, fault b.target.run Device: nothing is kept of it, fault b.target.run Device: nothing is kept of it, fault b.target.run CannotStart: nothing is kept of it, fault b.target.run Died: nothing is kept of it, fault b.target.run Device: nothing is kept of it, fault b.target.run Device: nothing is kept of it, fault b.target.run Device: nothing is kept of it, fault b.target.run Device: nothing is kept of it, fault b.target.run Device: nothing is kept of it, fault b.target.run Device: nothing is kept of it, \n";
+/// Trials: a line `=== [RULE] NAME` and steps, a line each, of which the last is the call that fails. After a line `---`
+/// come its faults, and what the same call tells after each.
+const TRIALS: &str = r#"=== [build.faults] each call for a unit that was never built
+run 0
+---
+fault a.target.lib Device: nothing is kept of it
+fault a.target.lib Device: nothing is kept of it
+fault a.target.lib Device: nothing is kept of it
+fault a.target.lib CannotStart: nothing is kept of it
+fault a.target.lib Died: nothing is kept of it
+fault a.target.lib Device: nothing is kept of it
+fault a.target.lib Device: nothing is kept of it
+fault a.target.lib Device: nothing is kept of it
+fault a.target.lib Device: nothing is kept of it
+fault a.target.lib Device: nothing is kept of it
+=== [build.faults] each call for a unit that has not changed
+run 0
+run 0
+---
+fault a.target.lib Device: same
+fault a.target.lib Device: same
+fault a.target.lib Device: same
+fault a.target.lib Device: same
+fault a.target.lib Device: same
+=== [build.faults] each call for a unit whose source has changed
+run 0
+file /w/a/src/n two
+run 0
+---
+fault a.target.lib Device: `/w/a/src/n` has changed
+fault a.target.lib Device: `/w/a/src/n` has changed
+fault a.target.lib Device: `/w/a/src/n` has changed
+fault a.target.lib Device: `/w/a/src/n` has changed
+fault a.target.lib Device: nothing is kept of it
+fault a.target.lib CannotStart: nothing is kept of it
+fault a.target.lib Died: nothing is kept of it
+fault a.target.lib Device: nothing is kept of it
+fault a.target.lib Device: nothing is kept of it
+fault a.target.lib Device: nothing is kept of it
+fault a.target.lib Device: nothing is kept of it
+fault a.target.lib Device: nothing is kept of it
+=== [build.faults] each call for a script's run
+run 1
+run 2
+---
+fault b.target.run Device: nothing is kept of it
+fault b.target.run Device: nothing is kept of it
+fault b.target.run Device: nothing is kept of it
+fault b.target.run CannotStart: nothing is kept of it
+fault b.target.run Died: nothing is kept of it
+fault b.target.run Device: nothing is kept of it
+fault b.target.run Device: nothing is kept of it
+fault b.target.run Device: nothing is kept of it
+fault b.target.run Device: nothing is kept of it
+fault b.target.run Device: nothing is kept of it
+fault b.target.run Device: nothing is kept of it
+"#;
 
 /// Adds a case of which something else is told to `wrong`, and what is told; and one that has no steps.
 fn try_case(alloc: Global, case: &str, wrong: &mut Shown) -> Result<(), Fail> {
-    let Some((steps, told)) = parts_of(case) else {
+    let Some((name, steps, told)) = parts_of(case) else {
         wrong.put(&[case]);
         return Ok(());
     };
     let said = each_fails(alloc, steps)?;
     if said.as_str() != told {
-        wrong.put(&[steps, " = ", said.as_str(), "\n"]);
+        wrong.put(&[name, ": wanted\n", told, "came\n", said.as_str()]);
     }
     Ok(())
 }
 
+/// Rules: `build.units`, `build.faults`.
 #[test]
 fn calls_of_units_fail(rt: HostRuntime) -> Result<(), Fail> {
     let mut wrong = Shown::new(rt.alloc());

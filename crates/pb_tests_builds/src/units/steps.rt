@@ -16,10 +16,11 @@ use pb_tests_files::Untold;
 use std::alloc::Global;
 use std::test::Fail;
 
-/// The steps of a case, and what they tell.
-pub fn parts_of(case: &str) -> Option<(&str, &str)> {
-    let (steps, told) = case.split_once("\n= ")?;
-    Some((steps, told.strip_suffix("\n")?))
+/// The name of a case, its steps, and what they tell.
+pub fn parts_of(case: &str) -> Option<(&str, &str, &str)> {
+    let (name, rest) = case.split_once('\n')?;
+    let (steps, told) = rest.split_once("\n---\n")?;
+    Some((name, steps, told))
 }
 
 /// The words of a step: its verb, the next, and all behind that.
@@ -145,11 +146,11 @@ pub fn reopen(
     Ok(())
 }
 
-/// Adds what was told, with `, ` behind it, where something was.
+/// Adds what was told, if anything was, and a line feed.
 fn add(told: &mut String, said: &str) -> Result<(), Fail> {
     if !said.is_empty() {
         told.push_str(said)?;
-        told.push_str(", ")?;
+        told.push_str("\n")?;
     }
     Ok(())
 }
@@ -178,7 +179,7 @@ fn step(
     add(told, seen.as_str())
 }
 
-/// Makes steps, one a line, with `, ` behind what each tells.
+/// Makes steps, one a line, with a line feed after what each tells.
 pub fn make_steps(
     alloc: Global,
     place: &mut Untold<Mini>,

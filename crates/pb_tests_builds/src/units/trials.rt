@@ -51,46 +51,309 @@ fn tried(alloc: Global, steps: &str) -> Result<String, Fail> {
     told_in(alloc, &mut Untold { inside }, steps)
 }
 
-/// Trials, each behind `=== `: steps, one a line, and behind `= ` what they tell.
-const TRIALS: &str =
-    "=== run 0\nlines\nstarts\nrun 0\nlines\nstarts\n= nothing is kept of it, {\"reason\":\"compiler-message\",\"package_id\":\"path+file:///w/a#0.0.0\",\"manifest_path\":\"/w/a/Cargo.toml\",\"target\":{\"kind\":[\"lib\"],\"crate_types\":[\"lib\"],\"name\":\"a\",\"src_path\":\"/w/a/src/lib.rs\",\"edition\":\"2015\"},\"message\":{\"level\":\"warning\",\"message\":\"w\",\"line\":1}}\n{\"reason\":\"compiler-artifact\",\"package_id\":\"path+file:///w/a#0.0.0\",\"manifest_path\":\"/w/a/Cargo.toml\",\"target\":{\"kind\":[\"lib\"],\"crate_types\":[\"lib\"],\"name\":\"a\",\"src_path\":\"/w/a/src/lib.rs\",\"edition\":\"2015\"},\"profile\":{\"opt_level\":\"0\",\"debuginfo\":2,\"debug_assertions\":true,\"overflow_checks\":true,\"test\":false},\"features\":[],\"filenames\":[\"/w/target/debug/a.target.lib/liba.rlib\"],\"executable\":null,\"fresh\":false}\n, 1 starts, same, {\"reason\":\"compiler-message\",\"package_id\":\"path+file:///w/a#0.0.0\",\"manifest_path\":\"/w/a/Cargo.toml\",\"target\":{\"kind\":[\"lib\"],\"crate_types\":[\"lib\"],\"name\":\"a\",\"src_path\":\"/w/a/src/lib.rs\",\"edition\":\"2015\"},\"message\":{\"level\":\"warning\",\"message\":\"w\",\"line\":1}}\n{\"reason\":\"compiler-artifact\",\"package_id\":\"path+file:///w/a#0.0.0\",\"manifest_path\":\"/w/a/Cargo.toml\",\"target\":{\"kind\":[\"lib\"],\"crate_types\":[\"lib\"],\"name\":\"a\",\"src_path\":\"/w/a/src/lib.rs\",\"edition\":\"2015\"},\"profile\":{\"opt_level\":\"0\",\"debuginfo\":2,\"debug_assertions\":true,\"overflow_checks\":true,\"test\":false},\"features\":[],\"filenames\":[\"/w/target/debug/a.target.lib/liba.rlib\"],\"executable\":null,\"fresh\":true}\n, 1 starts, \n\
-     === run 0\nrun 1\nrun 2\nrun 3\nrun 0\nrun 1\nrun 2\nrun 3\nopen\nrun 0\nrun 1\nrun 2\nrun 3\n= nothing is kept of it, nothing is kept of it, nothing is kept of it, nothing is kept of it, same, same, same, same, same, same, same, same, \n\
-     === run 0\nflag --edition=2018\nrun 0\nrun 0\n= nothing is kept of it, its words have changed, same, \n\
-     === run 0\ncompiler mini\nrun 0\n= nothing is kept of it, its program has changed, \n\
-     === run 0\nversion v\nrun 0\n= nothing is kept of it, its compiler has changed, \n\
-     === run 0\ntool t\nrun 0\n= nothing is kept of it, the variable `CARGO` that its command sets has changed, \n\
-     === run 0\nfile /w/a/src/n two\nrun 0\nrun 0\n= nothing is kept of it, `/w/a/src/n` has changed, same, \n\
-     === run 0\ngone /w/a/src/n\nrun 0\nrun 0\nfile /w/a/src/n one\nrun 0\n= nothing is kept of it, `/w/a/src/n` has changed, but the child ended with status 1, nothing is kept of it, but the child ended with status 1, nothing is kept of it, \n\
-     === run 0\nset V v\nrun 0\nset V\nrun 0\nunset V\nrun 0\n= nothing is kept of it, `V` has changed, `V` has changed, `V` has changed, \n\
-     === run 0\nrun 1\nrun 2\nrun 3\nfile /w/a/src/n two\nrun 0\nrun 1\nrun 2\nrun 3\n= nothing is kept of it, nothing is kept of it, nothing is kept of it, nothing is kept of it, `/w/a/src/n` has changed, same, same, `a.target.lib` was built anew, \n\
-     === run 0\nrun 1\nrun 2\nrun 3\nfile /w/b/x\nrun 0\nrun 1\nrun 2\nrun 3\n= nothing is kept of it, nothing is kept of it, nothing is kept of it, nothing is kept of it, same, same, `/w/b` has changed, `b.target.run` was built anew, \n\
-     === run 0\ngone /w/target/debug/a.target.lib.record\nrun 0\n= nothing is kept of it, nothing is kept of it, \n\
-     === run 0\nfile /w/target/debug/a.target.lib.record record 2\nrun 0\n= nothing is kept of it, nothing is kept of it, \n\
-     === die a.target.lib CannotStart\nrun 0\nthere /w/target/debug/a.target.lib.record\nthere /w/target/debug/a.target.lib/a.d\nopen\nrun 0\n= fault a.target.lib CannotStart, gone, gone, nothing is kept of it, \n\
-     === die a.target.lib Died\nrun 0\nthere /w/target/debug/a.target.lib.record\nthere /w/target/debug/a.target.lib/a.d\nopen\nrun 0\n= fault a.target.lib Died, gone, there, nothing is kept of it, \n\
-     === die a.target.lib Capture\nrun 0\nthere /w/target/debug/a.target.lib.record\nthere /w/target/debug/a.target.lib/a.d\nopen\nrun 0\n= fault a.target.lib Capture, gone, there, nothing is kept of it, \n\
-     === run 0\nfile /w/a/src/n two\ndie a.target.lib CannotStart\nrun 0\nthere /w/target/debug/a.target.lib.record\nfile /w/a/src/n one\nopen\nrun 0\nrun 0\n= nothing is kept of it, fault a.target.lib CannotStart, gone, nothing is kept of it, same, \n\
-     === drop 0\nthere /w/target/debug/a.target.lib.record\nstarts\nrun 0\ndrop 0\nstarts\nrun 0\n= nothing is kept of it, gone, 1 starts, nothing is kept of it, same, 2 starts, same, \n\
-     === run 0\nfile /w/a/src/n two\ndrop 0\nthere /w/target/debug/a.target.lib.record\nfile /w/a/src/n one\nrun 0\n= nothing is kept of it, `/w/a/src/n` has changed, gone, nothing is kept of it, \n\
-     === file /w/a/src/lib.rs fail no\nrun 0\nlines\nthere /w/target/debug/a.target.lib.record\nrun 0\n= nothing is kept of it, but the child ended with status 1, {\"reason\":\"compiler-message\",\"package_id\":\"path+file:///w/a#0.0.0\",\"manifest_path\":\"/w/a/Cargo.toml\",\"target\":{\"kind\":[\"lib\"],\"crate_types\":[\"lib\"],\"name\":\"a\",\"src_path\":\"/w/a/src/lib.rs\",\"edition\":\"2015\"},\"message\":{\"level\":\"error\",\"message\":\"no\",\"line\":1}}\n, gone, nothing is kept of it, but the child ended with status 1, \n\
-     === file /w/b/build.rs exit 3\nrun 1\nrun 2\nthere /w/target/debug/b.target.run.record\nrun 2\n= nothing is kept of it, nothing is kept of it, but the child ended with status 3, gone, nothing is kept of it, but the child ended with status 3, \n\
-     === file /w/b/build.rs print cargo::nope\nrun 1\nrun 2\n= nothing is kept of it, nothing is kept of it, but a line of the script's output is refused: line 1 has a bad value, \n\
-     === fuse 1\nrun 0\nlate\nfuse 0\nopen\nrun 0\n= fault a.target.lib Device, 0 late, nothing is kept of it, \n\
-     === run 9\n= no unit, \n";
+/// Trials: a line `=== [RULE] NAME`, steps, a line each, and after a line `---` what they tell, a line each.
+const TRIALS: &str = r#"=== [build.units] a second run starts nothing, and prints its lines again
+run 0
+lines
+starts
+run 0
+lines
+starts
+---
+nothing is kept of it
+{"reason":"compiler-message","package_id":"path+file:///w/a#0.0.0","manifest_path":"/w/a/Cargo.toml","target":{"kind":["lib"],"crate_types":["lib"],"name":"a","src_path":"/w/a/src/lib.rs","edition":"2015"},"message":{"level":"warning","message":"w","line":1}}
+{"reason":"compiler-artifact","package_id":"path+file:///w/a#0.0.0","manifest_path":"/w/a/Cargo.toml","target":{"kind":["lib"],"crate_types":["lib"],"name":"a","src_path":"/w/a/src/lib.rs","edition":"2015"},"profile":{"opt_level":"0","debuginfo":2,"debug_assertions":true,"overflow_checks":true,"test":false},"features":[],"filenames":["/w/target/debug/a.target.lib/liba.rlib"],"executable":null,"fresh":false}
+
+1 starts
+same
+{"reason":"compiler-message","package_id":"path+file:///w/a#0.0.0","manifest_path":"/w/a/Cargo.toml","target":{"kind":["lib"],"crate_types":["lib"],"name":"a","src_path":"/w/a/src/lib.rs","edition":"2015"},"message":{"level":"warning","message":"w","line":1}}
+{"reason":"compiler-artifact","package_id":"path+file:///w/a#0.0.0","manifest_path":"/w/a/Cargo.toml","target":{"kind":["lib"],"crate_types":["lib"],"name":"a","src_path":"/w/a/src/lib.rs","edition":"2015"},"profile":{"opt_level":"0","debuginfo":2,"debug_assertions":true,"overflow_checks":true,"test":false},"features":[],"filenames":["/w/target/debug/a.target.lib/liba.rlib"],"executable":null,"fresh":true}
+
+1 starts
+=== [records.differs] four units, again, and with a store that is opened again
+run 0
+run 1
+run 2
+run 3
+run 0
+run 1
+run 2
+run 3
+open
+run 0
+run 1
+run 2
+run 3
+---
+nothing is kept of it
+nothing is kept of it
+nothing is kept of it
+nothing is kept of it
+same
+same
+same
+same
+same
+same
+same
+same
+=== [records.differs] an argument
+run 0
+flag --edition=2018
+run 0
+run 0
+---
+nothing is kept of it
+its words have changed
+same
+=== [records.differs] the program
+run 0
+compiler mini
+run 0
+---
+nothing is kept of it
+its program has changed
+=== [records.differs] the version of the compiler
+run 0
+version v
+run 0
+---
+nothing is kept of it
+its compiler has changed
+=== [records.differs] a variable that the command sets
+run 0
+tool t
+run 0
+---
+nothing is kept of it
+the variable `CARGO` that its command sets has changed
+=== [records.differs] a file
+run 0
+file /w/a/src/n two
+run 0
+run 0
+---
+nothing is kept of it
+`/w/a/src/n` has changed
+same
+=== [records.differs] a file that is gone and comes back
+run 0
+gone /w/a/src/n
+run 0
+run 0
+file /w/a/src/n one
+run 0
+---
+nothing is kept of it
+`/w/a/src/n` has changed, but the child ended with status 1
+nothing is kept of it, but the child ended with status 1
+nothing is kept of it
+=== [records.differs] an inherited variable
+run 0
+set V v
+run 0
+set V
+run 0
+unset V
+run 0
+---
+nothing is kept of it
+`V` has changed
+`V` has changed
+`V` has changed
+=== [records.differs] a needed unit that was built again
+run 0
+run 1
+run 2
+run 3
+file /w/a/src/n two
+run 0
+run 1
+run 2
+run 3
+---
+nothing is kept of it
+nothing is kept of it
+nothing is kept of it
+nothing is kept of it
+`/w/a/src/n` has changed
+same
+same
+`a.target.lib` was built anew
+=== [records.differs] a folder that a script has as its input
+run 0
+run 1
+run 2
+run 3
+file /w/b/x
+run 0
+run 1
+run 2
+run 3
+---
+nothing is kept of it
+nothing is kept of it
+nothing is kept of it
+nothing is kept of it
+same
+same
+`/w/b` has changed
+`b.target.run` was built anew
+=== [records.text] a record that is gone
+run 0
+gone /w/target/debug/a.target.lib.record
+run 0
+---
+nothing is kept of it
+nothing is kept of it
+=== [records.text] a text that is no record
+run 0
+file /w/target/debug/a.target.lib.record record 2
+run 0
+---
+nothing is kept of it
+nothing is kept of it
+=== [build.units] a child that cannot be started leaves no record and no files
+die a.target.lib CannotStart
+run 0
+there /w/target/debug/a.target.lib.record
+there /w/target/debug/a.target.lib/a.d
+open
+run 0
+---
+fault a.target.lib CannotStart
+gone
+gone
+nothing is kept of it
+=== [build.units] a child that dies leaves no record
+die a.target.lib Died
+run 0
+there /w/target/debug/a.target.lib.record
+there /w/target/debug/a.target.lib/a.d
+open
+run 0
+---
+fault a.target.lib Died
+gone
+there
+nothing is kept of it
+=== [build.units] a child whose output is lost leaves no record
+die a.target.lib Capture
+run 0
+there /w/target/debug/a.target.lib.record
+there /w/target/debug/a.target.lib/a.d
+open
+run 0
+---
+fault a.target.lib Capture
+gone
+there
+nothing is kept of it
+=== [build.units] a child that cannot be started after an edit, which is undone
+run 0
+file /w/a/src/n two
+die a.target.lib CannotStart
+run 0
+there /w/target/debug/a.target.lib.record
+file /w/a/src/n one
+open
+run 0
+run 0
+---
+nothing is kept of it
+fault a.target.lib CannotStart
+gone
+nothing is kept of it
+same
+=== [build.units] a child whose answer is dropped
+drop 0
+there /w/target/debug/a.target.lib.record
+starts
+run 0
+drop 0
+starts
+run 0
+---
+nothing is kept of it
+gone
+1 starts
+nothing is kept of it
+same
+2 starts
+same
+=== [build.units] a child whose answer is dropped after an edit
+run 0
+file /w/a/src/n two
+drop 0
+there /w/target/debug/a.target.lib.record
+file /w/a/src/n one
+run 0
+---
+nothing is kept of it
+`/w/a/src/n` has changed
+gone
+nothing is kept of it
+=== [answers.bad] a compile that fails leaves no record
+file /w/a/src/lib.rs fail no
+run 0
+lines
+there /w/target/debug/a.target.lib.record
+run 0
+---
+nothing is kept of it, but the child ended with status 1
+{"reason":"compiler-message","package_id":"path+file:///w/a#0.0.0","manifest_path":"/w/a/Cargo.toml","target":{"kind":["lib"],"crate_types":["lib"],"name":"a","src_path":"/w/a/src/lib.rs","edition":"2015"},"message":{"level":"error","message":"no","line":1}}
+
+gone
+nothing is kept of it, but the child ended with status 1
+=== [answers.bad] a script that fails leaves no record
+file /w/b/build.rs exit 3
+run 1
+run 2
+there /w/target/debug/b.target.run.record
+run 2
+---
+nothing is kept of it
+nothing is kept of it, but the child ended with status 3
+gone
+nothing is kept of it, but the child ended with status 3
+=== [answers.bad] a script with a line that is refused
+file /w/b/build.rs print cargo::nope
+run 1
+run 2
+---
+nothing is kept of it
+nothing is kept of it, but a line of the script's output is refused: line 1 has a bad value
+=== [build.faults] a call that fails, and no call after it
+fuse 1
+run 0
+late
+fuse 0
+open
+run 0
+---
+fault a.target.lib Device
+0 late
+nothing is kept of it
+=== [build.units] a unit that is not there
+run 9
+---
+no unit
+"#;
 
 /// Adds a case of which something else is told to `wrong`, and what is told; and one that has no steps.
 fn try_case(alloc: Global, case: &str, wrong: &mut Shown) -> Result<(), Fail> {
-    let Some((steps, told)) = parts_of(case) else {
+    let Some((name, steps, told)) = parts_of(case) else {
         wrong.put(&[case]);
         return Ok(());
     };
     let said = tried(alloc, steps)?;
     if said.as_str() != told {
-        wrong.put(&[steps, " = ", said.as_str(), "\n"]);
+        wrong.put(&[name, ": wanted\n", told, "came\n", said.as_str()]);
     }
     Ok(())
 }
 
+/// Rules: `build.units`, `records.differs`.
 #[test]
 fn units_tell(rt: HostRuntime) -> Result<(), Fail> {
     let mut wrong = Shown::new(rt.alloc());

@@ -88,6 +88,7 @@ fn try_children(rt: &HostRuntime, root: &PathText) -> Result<(), Fail> {
     finish(rt, root)
 }
 
+/// Rules: `places.children`, `machine.input`, `machine.output-folder`.
 #[test]
 fn children(rt: HostRuntime) -> Result<(), Fail> {
     let root = fresh(&rt, "child")?;

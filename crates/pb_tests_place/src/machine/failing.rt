@@ -24,12 +24,14 @@ fn try_broken(rt: &HostRuntime, root: &PathText, kind: ErrorKind, steps: &str) -
 const OWN_FAULTS: &str = "read b -> Read\n\
      list b -> List\n\
      write b -> Write\n\
+     pieces b c|d -> Write\n\
      remove b -> Remove\n\
-     counts -> 4 0";
+     counts -> 5 0";
 
 const WANT_OF_MEMORY: &str = "read b -> OutOfMemory\n\
      list b -> OutOfMemory\n\
      write b -> OutOfMemory\n\
+     pieces b c|d -> OutOfMemory\n\
      remove b -> OutOfMemory\n\
      counts -> 0 0";
 
@@ -93,6 +95,7 @@ fn try_machines(rt: &HostRuntime, root: &PathText) -> Result<(), Fail> {
     Ok(())
 }
 
+/// Rules: `machine.failures`.
 #[test]
 fn broken_machines(rt: HostRuntime) -> Result<(), Fail> {
     let root = PathText::parse(rt.alloc(), "/a")?;
@@ -119,6 +122,7 @@ fn hides_all(alloc: Global, machine: &Broken, path: &PathText) -> bool {
     hides_files && hides_variables
 }
 
+/// Rules: `machine.failures`.
 #[test]
 fn variables_and_views(rt: HostRuntime) -> Result<(), Fail> {
     let machine = Broken::new(rt.alloc(), ErrorKind::PermissionDenied);
@@ -166,6 +170,7 @@ fn try_odd_folder(rt: &HostRuntime, root: &PathText) -> Result<(), Fail> {
     finish(rt, root)
 }
 
+/// Rules: `machine.failures`, `machine.removal`.
 #[test]
 fn a_read_only_folder_and_names_that_are_no_texts(rt: HostRuntime) -> Result<(), Fail> {
     let root = fresh(&rt, "shut")?;

@@ -14,6 +14,12 @@ const WRITTEN: &str = "read a/b/c -> none\n\
      read a/b/c/d -> none\n\
      write a/e -> done\n\
      read a/e -> \n\
+     pieces p/q one|two||three -> done\n\
+     read p/q -> onetwothree\n\
+     pieces p/q x -> done\n\
+     read p/q -> x\n\
+     pieces p/q -> done\n\
+     read p/q -> \n\
      counts -> 0 0";
 
 const LISTED: &str = "write a/c/d -> done\n\
@@ -42,9 +48,10 @@ const IN_THE_WAY: &str = "write f x -> done\n\
      write -> Write\n\
      write f/g -> Write\n\
      write f/g/h -> Write\n\
-     counts -> 3 0\n\
+     pieces f/g a|b -> Write\n\
+     counts -> 4 0\n\
      read f -> x\n\
-     counts -> 3 1";
+     counts -> 4 1";
 
 /// The first bytes of a file.
 const FIRST: &str = "write f words -> done\n\
@@ -130,6 +137,7 @@ static FOLDERS: &[(&str, &str)] = &[
     ("nested", NESTED),
 ];
 
+/// Rules: `machine.links`, `machine.absent`.
 #[test]
 fn files_and_links(rt: HostRuntime) -> Result<(), Fail> {
     for case in FOLDERS {

@@ -131,6 +131,7 @@ fn try_flight(rt: &HostRuntime, first: &str, second: &str, wanted: &str) -> Resu
     try_said(flown(rt, &root, first, second), wanted)
 }
 
+/// Rules: `places.calls`.
 #[test]
 fn flights(rt: HostRuntime) -> Result<(), Fail> {
     for case in FLIGHTS {

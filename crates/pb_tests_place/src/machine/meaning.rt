@@ -85,6 +85,7 @@ fn try_here<P: Place>(alloc: Global, place: &mut P, root: &PathText) -> Result<(
     try_all(alloc, place, root)
 }
 
+/// Rules: `machine.dotdot`.
 #[test]
 fn meanings(rt: HostRuntime) -> Result<(), Fail> {
     let root = fresh(&rt, "meaning")?;

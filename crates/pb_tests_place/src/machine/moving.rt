@@ -151,6 +151,7 @@ fn try_scene(rt: &HostRuntime, scene: &(&str, &str, &str)) -> Result<(), Fail> {
     finish(rt, &root)
 }
 
+/// Rules: `machine.moved`.
 #[test]
 fn moving(rt: HostRuntime) -> Result<(), Fail> {
     for scene in SCENES {

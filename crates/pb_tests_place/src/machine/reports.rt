@@ -4,7 +4,7 @@ use crate::machine::broken::Broken;
 use crate::machine::calls::carry_out;
 use crate::machine::commands::{Asked, command, shell};
 use crate::machine::folders::{finish, fresh};
-use crate::told::said;
+use crate::told::{path_in, said};
 use pb_data::Text;
 use pb_place_host::{HostPlace, Reporting};
 use pb_place_types::PathText;
@@ -95,6 +95,7 @@ fn try_children(rt: &HostRuntime, root: &PathText) -> Result<(), Fail> {
     finish(rt, root)
 }
 
+/// Rules: `machine.output-folder`, `machine.program`, `tool.notes`.
 #[test]
 fn children_that_fail(rt: HostRuntime) -> Result<(), Fail> {
     let root = fresh(&rt, "failed")?;
@@ -132,12 +133,65 @@ fn try_query(rt: &HostRuntime, root: &PathText, told: &str, wanted: &str) -> Res
     went
 }
 
+/// Rules: `build.query`, `tool.notes`.
 #[test]
 fn answers_without_an_output_folder(rt: HostRuntime) -> Result<(), Fail> {
     let root = PathText::parse(rt.alloc(), "/tmp")?;
     for case in QUERIES {
         let (told, wanted) = *case;
         try_query(&rt, &root, told, wanted)?;
+    }
+    Ok(())
+}
+
+/// Children: an output folder in the target folder `t`, what the shell is told, and what is reported of the links that
+/// it leaves there.
+const LINKS: &[(&str, &str, &str)] = &[
+    (
+        "t/a.run",
+        ": > x; mkdir t/a.run/f; ln -s ../../../x t/a.run/f/x",
+        "in /t/a.run/f/x: this link leads to /x, out of the target folder; unless its script names that as an input (cargo::rerun-if-changed=/x), a change there may not be noticed;",
+    ),
+    (
+        "t/a.run",
+        ": > x; ln -s ../../x t/a.run/x; echo cargo::rerun-if-changed=$PWD/x",
+        "",
+    ),
+    ("t/a.run", "ln -s .. t/a.run/up; ln -s x t/a.run/none", ""),
+    ("t/a.lib", ": > x; ln -s ../../x t/a.lib/x", ""),
+    ("t/a.run", ": > x; ln -s ../../x t/a.run/x; kill $$", ""),
+];
+
+/// Starts a child in the target folder `t`, and tries what is reported of the links that it leaves.
+fn try_links(
+    rt: &HostRuntime,
+    root: &PathText,
+    out: &str,
+    told: &str,
+    wanted: &str,
+) -> Result<(), Fail> {
+    let alloc = rt.alloc();
+    let target = path_in(alloc, root, "t")?;
+    let mut command = command(alloc, root, &("/bin/sh", told, "", out, &[]))?;
+    command.target = target;
+    let mut place = HostPlace::new(alloc, rt);
+    let went = match said(alloc, &mut place, &command) {
+        Ok(_) => try_texts(alloc, root, told, place.links_out(), wanted),
+        Err(fault) => Err(fault),
+    };
+    drop(command);
+    drop(place);
+    went
+}
+
+/// Rules: `machine.links`, `tool.notes`.
+#[test]
+fn links_out_of_the_target_folder(rt: HostRuntime) -> Result<(), Fail> {
+    for case in LINKS {
+        let root = fresh(&rt, "links-out")?;
+        let (out, told, wanted) = *case;
+        try_links(&rt, &root, out, told, wanted)?;
+        finish(&rt, &root)?;
     }
     Ok(())
 }
@@ -167,6 +221,7 @@ fn try_calls(rt: &HostRuntime, root: &PathText, steps: &str, wanted: &str) -> Re
     went
 }
 
+/// Rules: `machine.failures`, `tool.notes`.
 #[test]
 fn calls_that_fail(rt: HostRuntime) -> Result<(), Fail> {
     let root = fresh(&rt, "calls")?;
@@ -205,6 +260,7 @@ fn try_refused(rt: &HostRuntime, root: &PathText, steps: &str, wanted: &str) -> 
     went
 }
 
+/// Rules: `machine.failures`, `tool.notes`.
 #[test]
 fn calls_that_are_refused(rt: HostRuntime) -> Result<(), Fail> {
     let root = PathText::parse(rt.alloc(), "/a")?;

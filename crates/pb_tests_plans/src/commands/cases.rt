@@ -3,7 +3,7 @@
 //! for the runner, and at the end `@PROFILE`. A file `/said/KEY` is what a run has printed, `/info/KEY` the dep-info of a compile.
 
 /// The cases.
-pub const CASES: &str = r#"=== a library
+pub const CASES: &str = r#"=== [commands.compile] a library
 @ /w/Cargo.toml
 [package]
 name = "a"
@@ -19,7 +19,7 @@ a.target.lib info = /w/target/debug/a.target.lib/a.d
 a.target.lib crate = a
 a.target.lib OUT_DIR = -
 a.target.lib CARGO_BIN_NAME = -
-=== words for people, types, a binary, flags -O -g @release
+=== [commands.environment] words for people, types, a binary, flags -O -g @release
 @ /w/Cargo.toml
 [package]
 name = "a-b"
@@ -65,7 +65,7 @@ a-b.target.bin-a-b CARGO_PKG_VERSION_PRE = rc.1
 a-b.target.bin-a-b file = /w/target/release/a-b.target.bin-a-b/a_b
 a-b.target.bin-a-b info = /w/target/release/a-b.target.bin-a-b/a_b.d
 a-b.target.bin-a-b rest = rustc /w /w/target/release/a-b.target.bin-a-b /w/target | /w/target/release/a-b.target.lib
-=== a renamed entry is given by its key
+=== [commands.libraries] a renamed entry is given by its key
 @ /w/Cargo.toml
 [package]
 name = "r"
@@ -92,7 +92,7 @@ package.name = "e"
 @ /w/e/src/lib.rs
 ---
 r.target.lib tail = --check-cfg cfg(feature, values("no")) -L dependency=/w/target/debug/a-b.target.lib -L dependency=/w/target/debug/c.target.lib -L dependency=/w/target/debug/d.target.lib --extern a=/w/target/debug/d.target.lib/libd.rlib --extern a1=/w/target/debug/d.target.lib/libd.rlib --extern cc=/w/target/debug/c.target.lib/libcc.rlib --extern q_x=/w/target/debug/a-b.target.lib/liba_b.rlib
-=== features, with the defaults and one more +two
+=== [commands.compile] features, with the defaults and one more +two
 @ /w/Cargo.toml
 [package]
 name = "a"
@@ -110,7 +110,7 @@ a.target.run CARGO_FEATURE_DEFAULT = 1
 a.target.run CARGO_FEATURE_ONE_X = 1
 a.target.run CARGO_FEATURE_TWO = 1
 a.target.run CARGO_FEATURE_THREE = -
-=== a script, with nothing that it says -Oa -g
+=== [commands.run] a script, with nothing that it says -Oa -g
 @ /w/Cargo.toml
 [package]
 name = "a"
@@ -131,7 +131,7 @@ a.target.run crate =
 a.target.lib OUT_DIR = /w/target/debug/a.target.run
 a.target.lib tail = --check-cfg cfg(feature, values()) -Oa -g
 a.target.lib rest = rustc /w /w/target/debug/a.target.lib /w/target | /w/target/debug/a.target.script /w/target/debug/a.target.run
-=== a runner, and a profile that inherits from release %mini %--run @fast
+=== [commands.run] a runner, and a profile that inherits from release %mini %--run @fast
 @ /w/Cargo.toml
 [workspace]
 members = ["m"]
@@ -151,7 +151,7 @@ m.target.run rest = mini /w/m /w/target/fast/m.target.run /w/target | /w/target/
 m.target.run PROFILE = release
 m.target.run OPT_LEVEL = s
 m.target.run DEBUG = true
-=== a profile that inherits from dev @slow
+=== [commands.settings] a profile that inherits from dev @slow
 @ /w/Cargo.toml
 [package]
 name = "a"
@@ -163,7 +163,7 @@ debug = 0
 ---
 a.target.run PROFILE = debug
 a.target.run DEBUG = false
-=== what scripts ask for
+=== [directives.values] what scripts ask for
 @ /w/Cargo.toml
 [package]
 name = "r"
@@ -213,7 +213,7 @@ r.target.run CARGO_MANIFEST_LINKS = -
 r.target.run E = -
 x.target.run CARGO_MANIFEST_LINKS = z-lib
 x.target.run DEP_Z_LIB_ROOT_DIR = -
-=== libraries to link of a package without a library
+=== [commands.libraries] libraries to link of a package without a library
 @ /w/Cargo.toml
 package.name = "a"
 @ /w/src/main.rs
@@ -222,7 +222,7 @@ package.name = "a"
 cargo:rustc-link-lib=n
 ---
 a.target.bin-a tail = --check-cfg cfg(feature, values()) -l n
-=== build entries are given to scripts, by the host's libraries
+=== [commands.libraries] build entries are given to scripts, by the host's libraries
 @ /w/Cargo.toml
 [package]
 name = "r"
@@ -241,7 +241,7 @@ cargo::rustc-link-search=/host
 ---
 r.target.script tail = --check-cfg cfg(feature, values()) -L dependency=/w/target/debug/x.host.lib --extern y=/w/target/debug/x.host.lib/libx.rlib -L /host
 r.target.lib tail = --check-cfg cfg(feature, values()) -L dependency=/w/target/debug/x.host.lib -L dependency=/w/target/debug/x.target.lib --extern x=/w/target/debug/x.target.lib/libx.rlib -L /host
-=== names that meet
+=== [commands.compile] names that meet
 @ /w/Cargo.toml
 [package]
 name = "r"
@@ -263,7 +263,7 @@ package.name = "z"
 @ /w/z/src/lib.rs
 ---
 r.target.lib tail = --check-cfg cfg(feature, values()) -L dependency=/w/target/debug/b.target.lib -L dependency=/w/target/debug/d.target.lib -L dependency=/w/target/debug/z.target.lib --extern d_x=/w/target/debug/d.target.lib/libd.rlib --extern q=/w/target/debug/b.target.lib/libq.rlib --extern q=/w/target/debug/z.target.lib/libz.rlib
-=== settings that are written @fast
+=== [commands.settings] settings that are written @fast
 @ /w/Cargo.toml
 [package]
 name = "a"
@@ -286,7 +286,7 @@ strip = "none"
 a.target.bin-a words = --crate-name a --edition=2015 /w/src/main.rs --error-format=json --crate-type bin --emit=dep-info,link --out-dir /w/target/fast/a.target.bin-a -C opt-level=z -C debuginfo=1 -C debug-assertions=on -C overflow-checks=off -C codegen-units=3 -C panic=unwind -C strip=debuginfo -C lto=thin --check-cfg cfg(feature, values())
 a.target.script words = --crate-name build_script_build --edition=2015 /w/build.rs --error-format=json --crate-type bin --emit=dep-info,link --out-dir /w/target/fast/a.target.script -C opt-level=2 -C debuginfo=line-directives-only -C debug-assertions=on -C overflow-checks=off -C codegen-units=256 -C panic=unwind --check-cfg cfg(feature, values())
 a.target.run OPT_LEVEL = z
-=== link-time optimisation that is off @thin
+=== [commands.settings] link-time optimisation that is off @thin
 @ /w/Cargo.toml
 [package]
 name = "a"
@@ -297,7 +297,7 @@ debug = 1
 @ /w/src/main.rs
 ---
 a.target.bin-a tail = -C lto=off --check-cfg cfg(feature, values())
-=== metadata goes to direct dependents, each side its own
+=== [directives.metadata] metadata goes to direct dependents, each side its own
 @ /w/Cargo.toml
 [package]
 name = "a"
@@ -334,7 +334,7 @@ a.target.run DEP_C_KEY = -
 c.host.run DEP_C_KEY = -
 c.host.run OUT_DIR = /w/target/debug/c.host.run
 c.host.lib OUT_DIR = /w/target/debug/c.host.run
-=== inputs of a compile
+=== [answers.inputs] inputs of a compile
 @ /w/Cargo.toml
 package.name = "a"
 @ /w/src/lib.rs
@@ -355,7 +355,7 @@ a.target.lib bad = Status(1)
 a.target.script good = ForeignInput(/w/target/debug/other/x.rs)
 a.target.run good = 1 /w
 a.target.run bad = Status(1)
-=== inputs of runs
+=== [answers.inputs] inputs of runs
 @ /w/Cargo.toml
 [workspace]
 members = ["*"]

@@ -66,6 +66,7 @@ fn has_status(alloc: Global, status: i32) -> Result<bool, AllocError> {
     Ok(has_status)
 }
 
+/// Rules: `answers.bad`.
 #[test]
 fn long_streams(rt: HostRuntime) -> Result<(), Fail> {
     assert!(rt; is_good(rt.alloc(), 4_194_304)?);
@@ -198,6 +199,7 @@ fn wrong(alloc: Global) -> Result<&'static str, Fail> {
     wrong
 }
 
+/// Rules: `build.query`, `commands.query`, `answers.bad`.
 #[test]
 fn queries_and_long_dep_info(rt: HostRuntime) -> Result<(), Fail> {
     assert_eq!(rt; wrong(rt.alloc())?, "");

@@ -114,6 +114,7 @@ fn try_case(rt: &impl Abort, alloc: Global, text: &str) -> Result<usize, Fail> {
     count
 }
 
+/// Rules: `commands.compile`.
 #[test]
 fn commands(rt: HostRuntime) -> Result<(), Fail> {
     let mut count = 0usize;

@@ -104,6 +104,16 @@ fn try_case(rt: &impl Abort, alloc: Global, case: &str) -> Result<bool, Fail> {
     Ok(true)
 }
 
+/// Tries the cases of a table. How many there are.
+fn try_table(rt: &impl Abort, alloc: Global, table: &str) -> Result<usize, Fail> {
+    let mut count = 0usize;
+    for case in table.split("=== ") {
+        let is_case = try_case(rt, alloc, case)?;
+        count = count.saturating_add(usize::from(is_case));
+    }
+    Ok(count)
+}
+
 /// Puts the shortest manifest of a member.
 fn put_member(alloc: Global, memory: &mut Memory<Silent>, number: usize) -> Result<(), Fail> {
     let path = format!(in alloc; "/w/m{number}/Cargo.toml")?;
@@ -205,12 +215,12 @@ fn count_own_roots(alloc: Global) -> Result<usize, PathFault> {
     count
 }
 
+/// Rules: `load.end`, `load.root`.
 #[test]
 fn workspaces(rt: HostRuntime) -> Result<(), Fail> {
     let mut count = 0usize;
-    for case in CASES.split("=== ") {
-        let is_case = try_case(&rt, rt.alloc(), case)?;
-        count = count.saturating_add(usize::from(is_case));
+    for table in CASES {
+        count = count.saturating_add(try_table(&rt, rt.alloc(), *table)?);
     }
     assert_eq!(rt; count, 95);
     assert!(rt; count_loaded(rt.alloc(), 256)? == (256, 0, 0));

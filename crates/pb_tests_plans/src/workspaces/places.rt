@@ -3,7 +3,8 @@
 //! Neighbouring places set each key to values that differ.
 
 /// The cases.
-pub const PLACES: &str = r#"=== workspace = {}
+pub const PLACES: &str = r#"=== [settings.places] each key at each place
+workspace = {}
 [profile.release]
 opt-level = "z"
 debug = "full"
@@ -56,7 +57,8 @@ faster a member target = One Limited false false Thin Abort 10 true DebugInfo
 faster b other host = Two LineTablesOnly true true Thin Unwind 20 true Symbols
 faster b member host = Size LineDirectivesOnly false false Thin Unwind 30 true DebugInfo
 faster b member target = SmallestSize Full true true Thin Abort 40 true Symbols
-=== workspace = {}
+=== [settings.places] nothing for other packages
+workspace = {}
 [profile.release]
 opt-level = "z"
 debug = "full"
@@ -90,7 +92,8 @@ release b other target = SmallestSize Full true true Thin Abort 40 true Symbols
 release b other host = Size LineDirectivesOnly false false Thin Unwind 30 true DebugInfo
 bench b other host = Size LineDirectivesOnly false false Thin Unwind 30 true DebugInfo
 faster b other target = SmallestSize Full true true Thin Abort 40 true Symbols
-=== workspace = {}
+=== [settings.places] nothing for the host
+workspace = {}
 [profile.release]
 opt-level = "z"
 debug = "full"
@@ -123,7 +126,8 @@ inherits = "fast"
 release b member host = Zero Nothing true true Thin Unwind 256 true Symbols
 release b other host = Two LineTablesOnly true true Thin Unwind 20 true Symbols
 faster b member host = Zero Nothing true true Thin Unwind 256 true Symbols
-=== workspace = {}
+=== [settings.places] the profile alone
+workspace = {}
 [profile.release]
 opt-level = "z"
 debug = "full"
@@ -144,7 +148,8 @@ release b other host = Zero Nothing true true Thin Unwind 256 true Symbols
 release b other target = SmallestSize Full true true Thin Abort 40 true Symbols
 bench b member target = SmallestSize Full true true Thin Abort 40 true Symbols
 fast b other host = Zero Nothing true true Thin Unwind 256 true Symbols
-=== workspace = {}
+=== [settings.places] overrides alone
+workspace = {}
 [profile.release.package.a]
 opt-level = 1
 debug = 1
@@ -179,7 +184,8 @@ release b member host = Size LineDirectivesOnly false false ThinLocal Unwind 30 
 release b member target = Three Nothing false false ThinLocal Unwind 16 false Nothing
 fast b member target = Three Nothing false false ThinLocal Unwind 16 false Nothing
 dev b other host = Zero Nothing true true ThinLocal Unwind 256 false Nothing
-=== workspace = {}
+=== [settings.line] overrides along a line
+workspace = {}
 [profile.release.package.a]
 opt-level = 1
 debug = 1
@@ -228,7 +234,8 @@ fast b member target = SmallestSize Full true true Thin Abort 40 true Symbols
 fast b member host = Zero Nothing true true Thin Unwind 256 true Symbols
 release a member target = One Limited false false ThinLocal Unwind 10 false DebugInfo
 release b other host = Zero Nothing false false ThinLocal Unwind 256 false Nothing
-=== workspace = {}
+=== [settings.places] keys at different places
+workspace = {}
 [profile.dev]
 overflow-checks = false
 strip = true
@@ -245,7 +252,8 @@ dev a other target = One Limited true false ThinLocal Unwind 256 false Symbols
 test a member target = One Full true false ThinLocal Unwind 256 false Symbols
 test b other target = Zero Limited true false ThinLocal Unwind 256 false Symbols
 test b member host = Zero Nothing false false ThinLocal Unwind 256 false Symbols
-=== workspace = {}
+=== [settings.refused] a circle of three, and a built-in profile that names it
+workspace = {}
 [profile.x]
 inherits = "y"
 [profile.y]

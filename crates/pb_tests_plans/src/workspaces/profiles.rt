@@ -3,7 +3,9 @@
 //! opt-level, debug, debug-assertions, overflow-checks, lto, panic, codegen-units, rpath and strip.
 
 /// The cases.
-pub const PROFILES: &str = r#"=== workspace = {}
+pub const PROFILES: &str =
+    r#"=== [settings.built-in] built-in values on each side, and profiles that are not there
+workspace = {}
 ---
 dev a member target = Zero Full true true ThinLocal Unwind 256 false Nothing
 test a member target = Zero Full true true ThinLocal Unwind 256 false Nothing
@@ -14,7 +16,8 @@ release a other host = Zero Nothing false false ThinLocal Unwind 256 false Nothi
 bench a member host = Zero Nothing false false ThinLocal Unwind 256 false Nothing
 debug a member target = NoSuchProfile
 nope a member target = NoSuchProfile
-=== workspace = {}
+=== [settings.places] what is set for a package
+workspace = {}
 [profile.dev.package.a]
 opt-level = 1
 debug = 1
@@ -29,7 +32,8 @@ dev a member host = One Limited false false ThinLocal Unwind 7 false DebugInfo
 test a other host = One Limited false false ThinLocal Unwind 7 false DebugInfo
 dev b member target = Zero Full true true ThinLocal Unwind 256 false Nothing
 release a member target = Three Nothing false false ThinLocal Unwind 16 false Nothing
-=== workspace = {}
+=== [settings.places] what is set for all packages that are no members
+workspace = {}
 [profile.dev.package."*"]
 opt-level = "s"
 debug = "line-tables-only"
@@ -42,7 +46,8 @@ dev a other target = Size LineTablesOnly false false ThinLocal Unwind 9 false Sy
 dev a other host = Size LineTablesOnly false false ThinLocal Unwind 9 false Symbols
 dev a member target = Zero Full true true ThinLocal Unwind 256 false Nothing
 dev a member host = Zero Nothing true true ThinLocal Unwind 256 false Nothing
-=== workspace = {}
+=== [settings.places] what is set for the host
+workspace = {}
 [profile.dev.build-override]
 opt-level = "z"
 debug = "line-directives-only"
@@ -56,7 +61,8 @@ dev a other host = SmallestSize LineDirectivesOnly false false ThinLocal Unwind 
 test a member host = SmallestSize LineDirectivesOnly false false ThinLocal Unwind 3 false Symbols
 dev a member target = Zero Full true true ThinLocal Unwind 256 false Nothing
 release a member host = Zero Nothing false false ThinLocal Unwind 256 false Nothing
-=== workspace = {}
+=== [settings.places] what a profile sets
+workspace = {}
 [profile.dev]
 opt-level = 2
 debug = false
@@ -73,7 +79,8 @@ dev a other target = Two Nothing false false Thin Abort 65536 true DebugInfo
 test a member target = Two Nothing false false Thin Abort 65536 true DebugInfo
 dev a member host = Zero Nothing false false Thin Unwind 256 true DebugInfo
 release a member target = Three Nothing false false ThinLocal Unwind 16 false Nothing
-=== workspace = {}
+=== [settings.places] each place comes before the next
+workspace = {}
 [profile.dev]
 codegen-units = 4
 [profile.dev.package.a]
@@ -90,7 +97,8 @@ dev c other target = Zero Full true true ThinLocal Unwind 2 false Nothing
 dev c other host = Zero Nothing true true ThinLocal Unwind 2 false Nothing
 dev c member host = Zero Nothing true true ThinLocal Unwind 3 false Nothing
 dev c member target = Zero Full true true ThinLocal Unwind 4 false Nothing
-=== workspace = {}
+=== [settings.line] custom profiles that inherit from one another
+workspace = {}
 [profile.release.package.a]
 opt-level = 1
 [profile.fast]
@@ -114,7 +122,8 @@ fastest a other target = One Nothing false false Fat Unwind 1 false Nothing
 fastest b other target = Size Nothing false false Fat Unwind 1 false Nothing
 fastest b member target = Two Nothing false false Fat Unwind 1 false Nothing
 fastest b member host = Zero Nothing false false Fat Unwind 256 false Nothing
-=== workspace = {}
+=== [settings.line] `bench` inherits from `release`
+workspace = {}
 [profile.bench]
 debug = true
 [profile.release]
@@ -126,7 +135,8 @@ inherits = "bench"
 bench a member target = Three Full false false ThinLocal Unwind 16 false Symbols
 release a member target = Three Limited false false ThinLocal Unwind 16 false Symbols
 measure a member target = Three Full false false ThinLocal Unwind 16 false Symbols
-=== workspace = {}
+=== [settings.line] `inherits` of a built-in profile has no effect
+workspace = {}
 [profile.dev]
 inherits = "release"
 [profile.test]
@@ -134,7 +144,8 @@ inherits = "nope"
 ---
 dev a member target = Zero Full true true ThinLocal Unwind 256 false Nothing
 test a member target = Zero Full true true ThinLocal Unwind 256 false Nothing
-=== workspace = {}
+=== [settings.refused] circles, and a profile that is not there
+workspace = {}
 [profile.x]
 inherits = "y"
 [profile.x.package.a]
@@ -161,7 +172,8 @@ w a other target = InheritsCycle
 dev a member target = Zero Full true true ThinLocal Unwind 256 false Nothing
 p a member target = NoSuchProfile
 q a member target = NoSuchProfile
-=== workspace = {}
+=== [settings.refused] overrides that set what they may not, along a line
+workspace = {}
 [profile.dev.package.nowhere]
 lto = false
 [profile.release.build-override]
@@ -177,7 +189,8 @@ own a member target = NotInOverride
 release a member target = NotInOverride
 bench a member target = NotInOverride
 other a member host = NotInOverride
-=== workspace = {}
+=== [settings.refused] an override for all packages that sets what it may not
+workspace = {}
 [profile.fast]
 inherits = "dev"
 [profile.fast.package."*"]
@@ -185,7 +198,8 @@ rpath = true
 ---
 dev a member target = Zero Full true true ThinLocal Unwind 256 false Nothing
 fast a member target = NotInOverride
-=== workspace = {}
+=== [settings.places] other packages come before the host
+workspace = {}
 [profile.dev.package."*"]
 opt-level = 2
 [profile.dev.build-override]
@@ -195,7 +209,8 @@ dev e other target = Two Full true true ThinLocal Unwind 256 false Nothing
 dev e other host = Two Nothing true true ThinLocal Unwind 256 false Nothing
 dev a member host = One Nothing true true ThinLocal Unwind 256 false Nothing
 dev a member target = Zero Full true true ThinLocal Unwind 256 false Nothing
-=== workspace = {}
+=== [settings.places] a package by its name comes before other packages
+workspace = {}
 [profile.dev.package."*"]
 opt-level = 2
 [profile.dev.package.e]

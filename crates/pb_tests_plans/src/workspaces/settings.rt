@@ -199,7 +199,8 @@ fn assert_case(
 fn assert_table(rt: &impl Abort, alloc: Global, table: &str) -> Result<usize, Fail> {
     let mut count = 0usize;
     for case in table.split("=== ") {
-        if let Some((manifest, questions)) = case.split_once("---\n") {
+        if let Some((head, questions)) = case.split_once("---\n") {
+            let (_name, manifest) = head.split_once('\n').unwrap_or(("", head));
             count = count.saturating_add(assert_case(rt, alloc, manifest, questions)?);
         }
     }
@@ -216,6 +217,7 @@ static FOLDERS: &[(&str, &str)] = &[
     ("devel", "devel"),
 ];
 
+/// Rules: `settings.folder`, `settings.line`.
 #[test]
 fn settings_and_folders(rt: HostRuntime) -> Result<(), Fail> {
     assert_eq!(rt; assert_table(&rt, rt.alloc(), PROFILES)?, 71);

@@ -181,6 +181,7 @@ fn round(alloc: Global, dice: &mut Dice) -> Result<bool, Fail> {
     went
 }
 
+/// Rules: `next.begin`, `next.reported`.
 #[test]
 fn random_steps_agree(rt: HostRuntime) -> Result<(), Fail> {
     let mut dice = Dice { state: 1 };

@@ -151,6 +151,7 @@ fn flown(
     Ok(if ends && stands { count? } else { 0 })
 }
 
+/// Rules: `next.begin`, `next.reported`.
 #[test]
 fn ready_follows_needs_and_the_first_bad_unit_is_told(rt: HostRuntime) {
     assert!(rt; flown(rt.alloc(), STEPS, None) == Ok(18));

@@ -54,6 +54,7 @@ fn laws_hold() {
     laws::one_job_is_one_by_one::<u8, First>();
 }
 
+/// Rules: `next.jobs`.
 #[test]
 fn picks_and_jobs(rt: HostRuntime) {
     assert!(rt; pick_ends());

@@ -17,16 +17,35 @@ static OBJECTS_ALONE: &[(&[u8], &str)] = &[
     (b"", ""),
     (b"{}", "{};"),
     (b"{}\n", "{};"),
-    (b"{}\n\n{\"a\":1}", "{};{\"a\":1};"),
+    (
+        br#"{}
+
+{"a":1}"#,
+        r#"{};{"a":1};"#,
+    ),
     (b" \t{ }\r\n", "{ };"),
     (b"[]\nnull\n1\n\"{}\"\ntrue", ""),
-    (b"error: no\n{\"b\":[]}\nmore", "{\"b\":[]};"),
-    (b"{\"a\":}\n{\"a\" : 1 }", "{\"a\" : 1 };"),
+    (
+        br#"error: no
+{"b":[]}
+more"#,
+        r#"{"b":[]};"#,
+    ),
+    (
+        br#"{"a":}
+{"a" : 1 }"#,
+        r#"{"a" : 1 };"#,
+    ),
     (b"{} {}", ""),
-    (b"{\"a\":\n1}", ""),
+    (
+        br#"{"a":
+1}"#,
+        "",
+    ),
     (b"{\"a\":\"\xff\"}\n{}", "{};"),
 ];
 
+/// Rules: `messages.diagnostics`.
 #[test]
 fn objects_alone(rt: HostRuntime) {
     for (place, case) in OBJECTS_ALONE.iter().enumerate() {

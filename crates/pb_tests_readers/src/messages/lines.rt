@@ -252,6 +252,7 @@ fn ends(success: bool, number: usize) -> bool {
     line.ends_with('\n') && line.lines().next() == WANTED.lines().nth(number)
 }
 
+/// Rules: `messages.lines`.
 #[test]
 fn lines(rt: HostRuntime) -> Result<(), Fail> {
     for (number, case) in LINES.iter().enumerate() {

@@ -69,21 +69,24 @@ static COMMAND_LINES: &[Case] = &[
         "--crate-name|a|--crate-type|lib|--out-dir|/o|/t",
         1,
         b"",
-        b"{\"level\":\"error\",\"message\":\"no source\",\"line\":0}\n",
+        br#"{"level":"error","message":"no source","line":0}
+"#,
         b"a.d=/o/liba.rlib: /t\n|",
     ),
     (
         "--crate-name|a|--crate-type|lib|--out-dir|/o|s",
         1,
         b"",
-        b"{\"level\":\"error\",\"message\":\"no source\",\"line\":0}\n",
+        br#"{"level":"error","message":"no source","line":0}
+"#,
         b"a.d=/o/liba.rlib:\n|",
     ),
     (
         "--crate-name|a|--crate-type|lib|--out-dir|/o|/s\0",
         1,
         b"",
-        b"{\"level\":\"error\",\"message\":\"no source\",\"line\":0}\n",
+        br#"{"level":"error","message":"no source","line":0}
+"#,
         b"a.d=/o/liba.rlib:\n|",
     ),
 ];
@@ -144,6 +147,7 @@ fn is_right(alloc: Global, case: &Case) -> bool {
     answers(alloc, reply, status, stdout, stderr, files)
 }
 
+/// Rules: `mini.program`.
 #[test]
 fn command_lines(rt: HostRuntime) {
     for case in COMMAND_LINES {

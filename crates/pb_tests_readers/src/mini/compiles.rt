@@ -34,25 +34,30 @@ pub static ODD_SOURCES: &[Case] = &[
     (
         b"\n#\nwarn\n\nprint x\r\nwarn  y ",
         0,
-        b"{\"level\":\"warning\",\"message\":\"\",\"line\":3}\n{\"level\":\"warning\",\"message\":\" y \",\"line\":6}\n",
+        br#"{"level":"warning","message":"","line":3}
+{"level":"warning","message":" y ","line":6}
+"#,
         b"liba.rlib=mini lib a\nprint x\r\n|a.d=/w/target/debug/a.target.lib/liba.rlib: /w/src/lib.rs\n|",
     ),
     (
         b"print\tx",
         1,
-        b"{\"level\":\"error\",\"message\":\"unknown line\",\"line\":1}\n",
+        br#"{"level":"error","message":"unknown line","line":1}
+"#,
         b"a.d=/w/target/debug/a.target.lib/liba.rlib: /w/src/lib.rs\n|",
     ),
     (
         b"\r\n",
         1,
-        b"{\"level\":\"error\",\"message\":\"unknown line\",\"line\":1}\n",
+        br#"{"level":"error","message":"unknown line","line":1}
+"#,
         b"a.d=/w/target/debug/a.target.lib/liba.rlib: /w/src/lib.rs\n|",
     ),
     (
         b"warn a\"b\\c\td\x01",
         0,
-        b"{\"level\":\"warning\",\"message\":\"a\\\"b\\\\c\\td\\u0001\",\"line\":1}\n",
+        br#"{"level":"warning","message":"a\"b\\c\td\u0001","line":1}
+"#,
         b"liba.rlib=mini lib a\n|a.d=/w/target/debug/a.target.lib/liba.rlib: /w/src/lib.rs\n|",
     ),
     (
@@ -64,7 +69,8 @@ pub static ODD_SOURCES: &[Case] = &[
     (
         b"warn \xc3",
         1,
-        b"{\"level\":\"error\",\"message\":\"no source\",\"line\":0}\n",
+        br#"{"level":"error","message":"no source","line":0}
+"#,
         b"a.d=/w/target/debug/a.target.lib/liba.rlib: /w/src/lib.rs\n|",
     ),
 ];
@@ -152,7 +158,8 @@ fn child_warns(alloc: Global) -> Result<bool, ViewFault> {
     let view = world(alloc, "/s", b"warn w")?;
     let reply = reply_of(alloc, &Mini, &view);
     drop(view);
-    let stderr = b"{\"level\":\"warning\",\"message\":\"w\",\"line\":1}\n";
+    let stderr = br#"{"level":"warning","message":"w","line":1}
+"#;
     let files = b"liba.rlib=mini lib a\n|a.d=/o/liba.rlib: /s\n|";
     Ok(answers(alloc, reply, 0, b"", stderr, files))
 }
@@ -165,6 +172,7 @@ fn child_fails(alloc: Global) -> bool {
     fails
 }
 
+/// Rules: `mini.language`.
 #[test]
 fn prefixes_and_a_child(rt: HostRuntime) {
     assert!(rt; count_prefixes(rt.alloc()) == Ok(24));

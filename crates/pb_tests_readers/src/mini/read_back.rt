@@ -59,6 +59,7 @@ fn is_read(alloc: Global, source: &[u8], wanted: &str) -> Result<bool, ViewFault
     Ok(has_told)
 }
 
+/// Rules: `mini.language`.
 #[test]
 fn names_are_read_back(rt: HostRuntime) {
     for case in SOURCES {

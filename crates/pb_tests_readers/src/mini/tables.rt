@@ -67,6 +67,7 @@ fn assert_runs(rt: &impl Abort, alloc: Global) {
     }
 }
 
+/// Rules: `mini.language`.
 #[test]
 fn compiles_and_runs(rt: HostRuntime) {
     assert_compiles(&rt, rt.alloc(), WORDS, "/w/s", USES, &[]);

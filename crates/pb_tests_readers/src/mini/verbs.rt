@@ -62,13 +62,15 @@ pub static ODD_INCLUDES: &[Case] = &[
     (
         b"include a\0b",
         1,
-        b"{\"level\":\"error\",\"message\":\"no file a\\u0000b\",\"line\":1}\n",
+        br#"{"level":"error","message":"no file a\u0000b","line":1}
+"#,
         b"c.d=/o/libc.rlib: /w/s\n|",
     ),
     (
         b"include $VAR/a\0",
         1,
-        b"{\"level\":\"error\",\"message\":\"no file $VAR/a\\u0000\",\"line\":1}\n",
+        br#"{"level":"error","message":"no file $VAR/a\u0000","line":1}
+"#,
         b"c.d=/o/libc.rlib: /w/s\n# env-dep:VAR=/v\n|",
     ),
     (

@@ -110,6 +110,7 @@ fn fails_so(alloc: Global, first: &str, verb: &str, told: &str) -> Result<bool, 
     Err(Fail::from("it does not end"))
 }
 
+/// Rules: `build.faults`.
 #[test]
 fn failing_calls_are_told(rt: HostRuntime) -> Result<(), Fail> {
     for case in TRIALS {

@@ -144,6 +144,7 @@ spent~gone /t~migrate -> migrated, "#;
 /// All trials, one a line: steps, and what they tell.
 static TRIALS: &[&str] = &[DIFFERENCES, NEXT_NUMBERS, KEPT, WITHOUT_NUMBER];
 
+/// Rules: `records.numbers`, `records.differs`.
 #[test]
 fn trials(rt: HostRuntime) -> Result<(), Fail> {
     for trials in TRIALS {

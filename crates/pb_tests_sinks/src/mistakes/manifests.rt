@@ -2,7 +2,7 @@
 //! behind a colon in the first line are arguments of `pb_tool build`.
 
 /// The cases.
-pub const CASES: &str = r#"=== a comma is missing
+pub const CASES: &str = r#"=== [manifest.order] a comma is missing
 @ /w/Cargo.toml
 [package]
 name = "a"
@@ -12,7 +12,7 @@ authors = ["A" "B"]
 note: in /w/Cargo.toml
 note: in /w/Cargo.toml, line 4, column 16: missing comma between array elements, expected `,` or `]`
 error: refused NotToml
-=== a key twice
+=== [manifest.order] a key twice
 @ /w/Cargo.toml
 [package]
 name = "a"
@@ -23,7 +23,7 @@ name = "b"
 note: in /w/Cargo.toml
 note: in /w/Cargo.toml, line 5, column 1: duplicate key
 error: refused NotToml
-=== another type in an entry
+=== [manifest.kinds] another type in an entry
 @ /w/Cargo.toml
 [package]
 name = "app"
@@ -41,7 +41,7 @@ note: in /w/Cargo.toml, line 3, key package.edition: 2021 is a number; it may be
 note: in /w/Cargo.toml, line 10, key bin[2].path: true is a truth value; it may be a text
 note: in /w/Cargo.toml, line 5, key dependencies.util.path: 3 is a number; it may be a text
 error: refused BadKind
-=== an edition that is none
+=== [package.edition] an edition that is none
 @ /w/Cargo.toml
 [package]
 name = "app"
@@ -50,7 +50,7 @@ edition = "2022"
 note: in /w/Cargo.toml, key edition
 note: in /w/Cargo.toml, line 3, key package.edition: "2022" is a text; it may be "2015", "2018", "2021" or "2024"
 error: refused BadKind
-=== a dependency's version that is a number
+=== [dependencies.version] a dependency's version that is a number
 @ /w/Cargo.toml
 [package]
 name = "app"
@@ -61,14 +61,14 @@ version = 1
 note: in /w/Cargo.toml, key version
 note: in /w/Cargo.toml, line 5, key dependencies.util.version: 1 is a number; it may be a text
 error: refused BadKind
-=== no package
+=== [package.present] no package
 @ /w/Cargo.toml
 [dependencies]
 ---
 note: in /w/Cargo.toml, key package
 note: in /w/Cargo.toml: there is no [package]
 error: refused BadKind
-=== a version of two numbers
+=== [package.version] a version of two numbers
 @ /w/Cargo.toml
 [package]
 name = "app"
@@ -77,7 +77,7 @@ version = "0.1"
 note: in /w/Cargo.toml
 note: in /w/Cargo.toml, line 3, key package.version: "0.1" has no third number
 error: refused BadVersion
-=== a requirement that is none
+=== [dependencies.version] a requirement that is none
 @ /w/Cargo.toml
 [package]
 name = "app"
@@ -87,7 +87,7 @@ util = { path = "util", version = "one" }
 note: in /w/Cargo.toml
 note: in /w/Cargo.toml, line 4, key dependencies.util.version: "one" is no requirement of a version, as "0.1" is one
 error: refused BadVersion
-=== an optimization that is none
+=== [profile.values] an optimization that is none
 @ /w/Cargo.toml
 [package]
 name = "app"
@@ -97,7 +97,7 @@ opt-level = 5
 note: in /w/Cargo.toml
 note: in /w/Cargo.toml, line 4, key profile.dev.opt-level: 5 is a number; it may be 0, 1, 2, 3, "s" or "z"
 error: refused BadProfile
-=== a custom profile without inherits
+=== [profile.inherits] a custom profile without inherits
 @ /w/Cargo.toml
 [package]
 name = "app"
@@ -107,7 +107,7 @@ opt-level = "z"
 note: in /w/Cargo.toml
 note: in /w/Cargo.toml, line 3, key profile.small: it has no inherits
 error: refused BadProfile
-=== a name with a blank
+=== [package.name] a name with a blank
 @ /w/Cargo.toml
 [package]
 name = "my app"
@@ -115,7 +115,7 @@ name = "my app"
 note: in /w/Cargo.toml
 note: in /w/Cargo.toml, line 2, key package.name: "my app" may have ASCII letters, digits, - and _, and at least one
 error: refused BadName
-=== a feature with a blank
+=== [features.item] a feature with a blank
 @ /w/Cargo.toml
 [package]
 name = "app"
@@ -125,7 +125,7 @@ default = ["a b"]
 note: in /w/Cargo.toml
 note: in /w/Cargo.toml, line 4, key features.default: "a b" has none of the forms "F", "dep:N", "N/F", "N?/F"
 error: refused BadFeature
-=== a registry, git, and a path
+=== [dependencies.source] a registry, git, and a path
 @ /w/Cargo.toml
 [package]
 name = "app"
@@ -140,7 +140,7 @@ note: in /w/Cargo.toml, line 6, key dependencies.log: it has no path
 note: in /w/Cargo.toml, line 5, key dependencies.serde: it has no path
 note: in /w/Cargo.toml, line 7, key dependencies.web: git is not supported
 error: refused UnsupportedSource
-=== an entry that is taken and has no path
+=== [dependencies.shared] an entry that is taken and has no path
 @ /w/Cargo.toml
 [workspace]
 members = ["m"]
@@ -155,7 +155,7 @@ serde = { workspace = true }
 note: in /w/m/Cargo.toml
 note: in /w/m/Cargo.toml, line 4, key dependencies.serde: it takes workspace.dependencies.serde of /w/Cargo.toml, which is no entry with a path alone
 error: refused UnsupportedSource
-=== a table for a target
+=== [manifest.order] a table for a target
 @ /w/Cargo.toml
 [package]
 name = "app"
@@ -165,7 +165,7 @@ util = { path = "util" }
 note: in /w/Cargo.toml
 note: in /w/Cargo.toml, line 3, key target: this table is not supported
 error: refused UnsupportedTable
-=== a dynamic library
+=== [lib.crate-type] a dynamic library
 @ /w/Cargo.toml
 [package]
 name = "app"
@@ -175,7 +175,7 @@ crate-type = ["lib", "cdylib"]
 note: in /w/Cargo.toml
 note: in /w/Cargo.toml, line 4, key lib.crate-type: "cdylib" is not supported; it may be "lib", "rlib" or "bin"
 error: refused UnsupportedCrateType
-=== a proc macro
+=== [lib.proc-macro] a proc macro
 @ /w/Cargo.toml
 package = { name = "app" }
 lib = { proc-macro = true }
@@ -183,7 +183,7 @@ lib = { proc-macro = true }
 note: in /w/Cargo.toml
 note: in /w/Cargo.toml, line 2, key lib.proc-macro: proc macros are not supported
 error: refused UnsupportedCrateType
-=== an old resolver
+=== [package.resolver] an old resolver
 @ /w/Cargo.toml
 [workspace]
 members = ["m"]

@@ -1,7 +1,7 @@
 //! Mistakes in features, profiles, binaries and circles, written as in `manifests.rt`.
 
 /// The cases.
-pub const CASES: &str = r#"=== no such feature: --features fsat
+pub const CASES: &str = r#"=== [resolve.requested] no such feature: --features fsat
 @ /w/Cargo.toml
 [package]
 name = "a"
@@ -11,7 +11,7 @@ fast = []
 ---
 note: --features fsat: no package has it
 error: refused NoSuchFeature
-=== no such feature of a package: --features a/fastt
+=== [resolve.requested] no such feature of a package: --features a/fastt
 @ /w/Cargo.toml
 [package]
 name = "a"
@@ -21,7 +21,7 @@ fast = []
 ---
 note: --features a/fastt: a has no feature fastt (near: fast)
 error: refused NoSuchFeature
-=== no such feature of a dependency
+=== [resolve.asked] no such feature of a dependency
 @ /w/Cargo.toml
 [package]
 name = "a"
@@ -37,7 +37,7 @@ quick = []
 ---
 note: in /w/Cargo.toml, line 4, key dependencies.util: util has no feature quik (near: quick)
 error: refused NoSuchFeature
-=== an item that names no feature
+=== [resolve.refused] an item that names no feature
 @ /w/Cargo.toml
 [package]
 name = "a"
@@ -48,7 +48,7 @@ fast = []
 ---
 note: in /w/Cargo.toml, line 4, key features.default: fastt is neither a feature nor an optional dependency (near: fast)
 error: refused NoSuchFeature
-=== an item that names no dependency
+=== [resolve.refused] an item that names no dependency
 @ /w/Cargo.toml
 [package]
 name = "a"
@@ -63,7 +63,7 @@ name = "serde"
 ---
 note: in /w/Cargo.toml, line 4, key features.default: dep:serd: there is no dependency serd (near: serde)
 error: refused NoSuchDependency
-=== an item that names no optional dependency
+=== [resolve.refused] an item that names no optional dependency
 @ /w/Cargo.toml
 [package]
 name = "a"
@@ -78,7 +78,7 @@ name = "serde"
 ---
 note: in /w/Cargo.toml, line 4, key features.default: dep:serde: the dependency serde is not optional
 error: refused NotOptional
-=== no such profile: --profile relase
+=== [settings.refused] no such profile: --profile relase
 @ /w/Cargo.toml
 [package]
 name = "a"
@@ -86,7 +86,7 @@ name = "a"
 ---
 note: --profile relase: there is no such profile (near: release)
 error: refused NoSuchProfile
-=== no such profile to inherit from: --profile small
+=== [settings.refused] no such profile to inherit from: --profile small
 @ /w/Cargo.toml
 [package]
 name = "a"
@@ -96,7 +96,7 @@ inherits = "relase"
 ---
 note: in /w/Cargo.toml, line 4, key profile.small.inherits: there is no profile relase (near: release)
 error: refused NoSuchProfile
-=== profiles that inherit from one another: --profile one
+=== [settings.refused] profiles that inherit from one another: --profile one
 @ /w/Cargo.toml
 [package]
 name = "a"
@@ -108,7 +108,7 @@ inherits = "one"
 ---
 note: in /w/Cargo.toml: profiles inherit so: one -> two -> one
 error: refused InheritsCycle
-=== an override that sets too much
+=== [settings.refused] an override that sets too much
 @ /w/Cargo.toml
 [package]
 name = "a"
@@ -119,7 +119,7 @@ panic = "abort"
 ---
 note: in /w/Cargo.toml, line 5, key profile.dev.package.util.panic: an override may not set it
 error: refused NotInOverride
-=== no such binary: --bin ap
+=== [units.roots] no such binary: --bin ap
 @ /w/Cargo.toml
 [package]
 name = "app"
@@ -127,7 +127,7 @@ name = "app"
 ---
 note: --bin ap: there is no such binary (near: app)
 error: refused NothingToBuild
-=== a binary that requires a feature: --bin mean
+=== [units.roots] a binary that requires a feature: --bin mean
 @ /w/Cargo.toml
 [package]
 name = "app"
@@ -140,13 +140,13 @@ required-features = ["mean"]
 ---
 note: in /w/Cargo.toml, line 7, key bin[1].required-features: mean is left out unless these features are on
 error: refused NothingToBuild
-=== a workspace without members
+=== [plan.refused] a workspace without members
 @ /w/Cargo.toml
 [workspace]
 ---
 note: in /w/Cargo.toml: the workspace has no members
 error: refused NothingToBuild
-=== a pattern that matches nothing
+=== [members.globs] a pattern that matches nothing
 @ /w/Cargo.toml
 [workspace]
 members = ["crates/*"]
@@ -154,7 +154,7 @@ members = ["crates/*"]
 note: in /w/Cargo.toml, line 2, key workspace.members: crates/* matches no package
 note: in /w/Cargo.toml: the workspace has no members
 error: refused NothingToBuild
-=== packages that depend on one another
+=== [plan.refused] packages that depend on one another
 @ /w/Cargo.toml
 [workspace]
 members = ["core-lib", "util", "app"]

@@ -1,7 +1,7 @@
 //! What a build passes over, written as in `manifests.rt`.
 
 /// The cases.
-pub const CASES: &str = r#"=== keys that nothing reads
+pub const CASES: &str = r#"=== [manifest.ignored] keys that nothing reads
 @ /w/Cargo.toml
 [package]
 name = "a"
@@ -19,7 +19,7 @@ y = 1
 note: in /w/Cargo.toml, line 4, key dependecies: it is not used (near: dependencies)
 note: in /w/Cargo.toml, line 3, key package.licence: it is not used (near: license)
 note: in /w/Cargo.toml, line 7, key profile.dev.optlevel: it is not used (near: opt-level)
-=== keys that nothing reads in a refused workspace
+=== [manifest.ignored] keys that nothing reads in a refused workspace
 @ /w/Cargo.toml
 [package]
 name = "a"
@@ -32,7 +32,7 @@ note: in /w/Cargo.toml
 note: in /w/Cargo.toml, line 3, key package.version: "0.1" has no third number
 note: in /w/Cargo.toml, line 6, key bin[1].requred-features: it is not used (near: required-features)
 error: refused BadVersion
-=== a workspace above that lists the package
+=== [members.which] a workspace above that lists the package
 @ /Cargo.toml
 [workspace]
 members = ["v", "w*"]
@@ -42,14 +42,14 @@ name = "a"
 @ /w/src/lib.rs
 ---
 note: in /Cargo.toml, line 2, key workspace.members: it lists /w: call from its folder, or give --manifest-path /Cargo.toml
-=== binaries of which one is not there: --bin a --bin b
+=== [units.roots] binaries of which one is not there: --bin a --bin b
 @ /w/Cargo.toml
 [package]
 name = "a"
 @ /w/src/main.rs
 ---
 note: --bin b: there is no such binary
-=== more than ten
+=== [manifest.ignored] more than ten
 @ /w/Cargo.toml
 [package]
 name = "a b"

@@ -1,7 +1,7 @@
 //! Mistakes in how manifests go together, written as in `manifests.rt`.
 
 /// The cases.
-pub const CASES: &str = r#"=== a typo in a dependency's path
+pub const CASES: &str = r#"=== [load.root] a typo in a dependency's path
 @ /w/Cargo.toml
 [workspace]
 members = ["app", "util"]
@@ -18,7 +18,7 @@ name = "util"
 note: no manifest at /w/utli/Cargo.toml
 note: in /w/app/Cargo.toml, line 5, key dependencies.util: it leads to /w/utli/Cargo.toml
 error: refused NoManifest
-=== a missing member
+=== [members.folder] a missing member
 @ /w/Cargo.toml
 [workspace]
 members = ["app", "gone"]
@@ -29,7 +29,7 @@ name = "app"
 note: no manifest at /w/gone/Cargo.toml
 note: in /w/Cargo.toml, line 2, key workspace.members: it names the folder of /w/gone/Cargo.toml
 error: refused NoManifest
-=== outside a workspace
+=== [load.root] outside a workspace
 @ /v/Cargo.toml
 [package]
 name = "a"
@@ -37,7 +37,7 @@ name = "a"
 note: no manifest at /w/Cargo.toml
 note: it is what --manifest-path names, or the current folder
 error: refused NoManifest
-=== a folder for a manifest: --manifest-path /w/app
+=== [load.root] a folder for a manifest: --manifest-path /w/app
 @ /w/app/Cargo.toml
 [package]
 name = "a"
@@ -46,7 +46,7 @@ note: no manifest at /w/app
 note: it is a folder: /w/app/Cargo.toml is there
 note: it is what --manifest-path names, or the current folder
 error: refused NoManifest
-=== another version
+=== [load.checks] another version
 @ /w/Cargo.toml
 [package]
 name = "app"
@@ -59,7 +59,7 @@ version = "0.1.0"
 ---
 note: in /w/Cargo.toml, line 4, key dependencies.util: it asks for util 0.2, and /w/util/Cargo.toml has 0.1.0
 error: refused VersionMismatch
-=== another name
+=== [load.checks] another name
 @ /w/Cargo.toml
 [package]
 name = "app"
@@ -71,7 +71,7 @@ name = "util"
 ---
 note: in /w/Cargo.toml, line 4, key dependencies.utils: it leads to /w/util/Cargo.toml, whose name is util (package = "util" says so)
 error: refused NameMismatch
-=== two packages of one name
+=== [load.checks] two packages of one name
 @ /w/Cargo.toml
 [workspace]
 members = ["m*"]
@@ -89,7 +89,7 @@ name = "util"
 ---
 note: in /w/m1/Cargo.toml, line 2, key package.name: util is in /w/m2/Cargo.toml too
 error: refused SameName
-=== one native library twice
+=== [load.checks] one native library twice
 @ /w/Cargo.toml
 [workspace]
 members = ["m1", "m2"]
@@ -106,7 +106,7 @@ links = "z"
 ---
 note: in /w/m1/Cargo.toml, line 3, key package.links: z is in /w/m2/Cargo.toml too
 error: refused LinksTwice
-=== a native library without a script
+=== [load.checks] a native library without a script
 @ /w/Cargo.toml
 [package]
 name = "a"
@@ -114,7 +114,7 @@ links = "z"
 ---
 note: in /w/Cargo.toml, line 3, key package.links: z is linked, and there is no build script
 error: refused LinksWithoutScript
-=== nothing to inherit
+=== [inherit.missing] nothing to inherit
 @ /w/Cargo.toml
 [workspace]
 members = ["m"]
@@ -128,7 +128,7 @@ util.workspace = true
 note: in /w/m/Cargo.toml, line 3, key package.version: /w/Cargo.toml has no workspace.package.version
 note: in /w/m/Cargo.toml, line 5, key dependencies.util: /w/Cargo.toml has no workspace.dependencies.util
 error: refused NoInherited
-=== in a member's folder: --manifest-path /w/m/Cargo.toml
+=== [inherit.missing] in a member's folder: --manifest-path /w/m/Cargo.toml
 @ /w/Cargo.toml
 [workspace]
 members = ["m"]
@@ -142,7 +142,7 @@ note: /w/m/Cargo.toml has no [workspace]: call from the workspace's root, or giv
 note: in /w/m/Cargo.toml, line 3, key package.version: /w/m/Cargo.toml has no workspace.package.version
 note: in /w/Cargo.toml, line 2, key workspace.members: it lists /w/m: call from its folder, or give --manifest-path /w/Cargo.toml
 error: refused NoInherited
-=== two binaries of one name
+=== [load.checks] two binaries of one name
 @ /w/Cargo.toml
 [package]
 name = "a"
@@ -155,7 +155,7 @@ path = "y.rs"
 ---
 note: in /w/Cargo.toml, line 7, key bin[2].name: x is the name of bin[1] too
 error: refused SameBinary
-=== no such package: -p utl
+=== [select.order] no such package: -p utl
 @ /w/Cargo.toml
 [workspace]
 members = ["util"]
@@ -165,7 +165,7 @@ name = "util"
 ---
 note: -p utl: there is no such member (near: util)
 error: refused NoSuchPackage
-=== no such default member
+=== [select.default-members] no such default member
 @ /w/Cargo.toml
 [workspace]
 members = ["app"]
