@@ -1,0 +1,5 @@
+# A file where the target folder would be.
+package . a
+file src/lib.rs
+file target
+build
