@@ -232,10 +232,28 @@ mkdir "$folder/long"
 cd "$folder/long"
 script_in .
 head -c 17000000 /dev/zero > film
-build > lines 2> said || cat said
-say 'a long record' "$PWD/film (17000000 bytes)" "$(sed -n 's/^note: the record of a.target.run has [0-9]* bytes: .* The largest: \([^,]*\), .*/\1/p' said)"
-build > lines 2> said || cat said
-say 'a long record that is kept' '0 notes' "$(grep -c '^note: the record' said || true) notes"
+build > ../lines 2> ../said || cat ../said
+say 'a long record' "$PWD/film (17000000 bytes)" "$(sed -n 's/^note: the record of a.target.run has [0-9]* bytes: .* The largest: \([^,]*\), .*/\1/p' ../said)"
+build > ../lines 2> ../said || cat ../said
+say 'a long record that is kept' '0 notes' "$(grep -c '^note: the record' ../said || true) notes"
+
+# A link that a script leaves in its output folder: a note names it, unless the script printed where it leads.
+mkdir "$folder/link"
+cd "$folder/link"
+script_in .
+echo text > data.txt
+# run.sh leads a link in the output folder to a source
+printf '#!/bin/sh\n%s "$@" || exit 1\nln -s %s "$OUT_DIR/d"\n' "$COMPILER" "$PWD/data.txt" > run.sh
+chmod +x run.sh
+echo 'print cargo::rerun-if-changed=build.rs' > build.rs
+"$PROGRAM" build --runner "$PWD/run.sh --run" > lines 2> said || cat said
+say 'a link out of the target folder' "note: in $PWD/target/debug/a.target.run/d: this link leads to $PWD/data.txt" "$(sed -n 's/, out of the target folder; .*//p' said)"
+echo "print cargo::rerun-if-changed=$PWD/data.txt" > build.rs
+"$PROGRAM" build --runner "$PWD/run.sh --run" > lines 2> said || cat said
+say 'a link whose goal is an input' '' "$(cat said)"
+echo more > data.txt
+"$PROGRAM" build --runner "$PWD/run.sh --run" --explain > lines 2> said || cat said
+say 'an edit behind such a link' '2 started' "$(started said)"
 
 # The lock of a folder that is gone: the second build waits, the folder is removed, and a third begins.
 mkdir "$folder/lock"
