@@ -1,6 +1,6 @@
 -- The arguments of a compile, group by group (The Cargo Book, Build Cache, Profiles, Features; the compiler's own
 -- command line).
-use Rattle.std.specs.Prelude.{ℕ, Bool, true, false, codes, List, [], ◌∷◌, ◌++◌}
+use Rattle.std.specs.Prelude.{ℕ, Bool, true, false, not, ◌&&◌, ◌||◌, if◌then◌else◌, codes, List, [], ◌∷◌, ◌++◌, Option, Some, None}
 use Rattle.std.specs.Fmt.{decimal}
 use Rattle.std.specs.List.{flat_map, join_by}
 use Rattle.pb_manifest_types.specs.Library.{crate_type_text}
@@ -8,17 +8,12 @@ use Rattle.pb_manifest_types.specs.Package.{edition_text}
 use Rattle.pb_manifest_types.specs.declared.package.Edition.{Edition}
 use Rattle.pb_manifest_types.specs.declared.feature.Feature.{Feature}
 use Rattle.pb_manifest_types.specs.declared.target.CrateType.{CrateType}
-use Rattle.pb_manifest_types.specs.declared.profile.DebugInfo.{DebugInfo}
-use Rattle.pb_manifest_types.specs.declared.profile.DebugInfo.TheVariants as debug_info
-use Rattle.pb_manifest_types.specs.declared.profile.Lto.{Lto}
-use Rattle.pb_manifest_types.specs.declared.profile.Lto.TheVariants as lto
-use Rattle.pb_manifest_types.specs.declared.profile.OptLevel.{OptLevel}
-use Rattle.pb_manifest_types.specs.declared.profile.Panic.{Panic}
-use Rattle.pb_manifest_types.specs.declared.profile.Panic.TheVariants as panic
-use Rattle.pb_manifest_types.specs.declared.profile.Strip.{Strip}
-use Rattle.pb_manifest_types.specs.declared.profile.Strip.TheVariants as strip
-use Rattle.pb_profile.specs.Words.{opt_level_text}
-use Rattle.pb_profile.specs.declared.settings.Settings.{Settings}
+use Rattle.pb_profile_keys.specs.Keys.{setting_at}
+use Rattle.pb_profile_keys.specs.Setting.{same, spelled}
+use Rattle.pb_profile_keys.specs.Table.{row, told}
+use Rattle.pb_profile_keys.specs.declared.key.ProfileKey.{ProfileKey}
+use Rattle.pb_profile_keys.specs.declared.setting.Setting.{Setting}
+use Rattle.pb_profile_keys.specs.declared.setting.Setting.TheVariants.{Truth, Number, Word}
 use Rattle.pb_feature_types.specs.Features.{features_at}
 use Rattle.pb_unit.specs.declared.plan.Planned.{Planned}
 use Rattle.pb_unit.specs.declared.unit.What.{What}
@@ -73,68 +68,31 @@ output_words unit p = type_words (crate_types p.library unit.unit.what) ++ emit_
 unfoldable pub setting : List ℕ → List ℕ → List (List ℕ)
 setting key value = option (codes "-C") (key ++ value)
 
-abbrev pub switch : Bool → List ℕ
-switch true = codes "on"
-switch false = codes "off"
+-- a setting as the compiler spells it, with this word for `true`
+abbrev pub value_text : List ℕ → Setting → List ℕ
+value_text shown (Truth true) = shown
+value_text shown (Truth false) = codes "off"
+value_text shown (Number n) = decimal n
+value_text shown (Word w) = spelled w
 
-abbrev pub debug_info_text : DebugInfo → List ℕ
-debug_info_text debug_info.Nothing = codes "0"
-debug_info_text debug_info.Limited = codes "1"
-debug_info_text debug_info.Full = codes "2"
-debug_info_text debug_info.LineTablesOnly = codes "line-tables-only"
-debug_info_text debug_info.LineDirectivesOnly = codes "line-directives-only"
+abbrev pub is_binary : What → Bool
+is_binary (Bin name) = true
+is_binary _ = false
 
-abbrev pub panic_text : Panic → List ℕ
-panic_text panic.Unwind = codes "unwind"
-panic_text panic.Abort = codes "abort"
+abbrev pub is_value : Option Setting → Setting → Bool
+is_value None value = false
+is_value (Some other) value = same other value
 
--- nothing if it is off
-abbrev pub rpath_words : Bool → List (List ℕ)
-rpath_words true = setting (codes "rpath=") (codes "yes")
-rpath_words false = []
+-- whether a key has no option: it has its value without one, or the unit is no binary and the key is one of binaries
+abbrev pub is_untold : What → ProfileKey → Setting → Bool
+is_untold what k value = ((row k).of_binaries && not (is_binary what)) || is_value (row k).untold value
 
--- nothing if nothing is stripped
-abbrev pub strip_words : Strip → List (List ℕ)
-strip_words strip.Nothing = []
-strip_words strip.DebugInfo = setting (codes "strip=") (codes "debuginfo")
-strip_words strip.Symbols = setting (codes "strip=") (codes "symbols")
+-- the option of a key, if it has one
+abbrev pub key_words : What → List Setting → ProfileKey → List (List ℕ)
+key_words what s k = if is_untold what k (setting_at s k) then [] else setting (row k).option (value_text (row k).yes (setting_at s k))
 
--- nothing for `false`
-abbrev pub lto_text_words : Lto → List (List ℕ)
-lto_text_words lto.ThinLocal = []
-lto_text_words lto.Fat = setting (codes "lto=") (codes "fat")
-lto_text_words lto.Thin = setting (codes "lto=") (codes "thin")
-lto_text_words lto.Off = setting (codes "lto=") (codes "off")
-
--- the same for a binary; nothing for other units
-abbrev pub lto_words : What → Lto → List (List ℕ)
-lto_words (Bin name) l = lto_text_words l
-lto_words _ l = []
-
-unfoldable pub level_words : OptLevel → List (List ℕ)
-level_words level = setting (codes "opt-level=") (opt_level_text level)
-
-unfoldable pub debug_words : DebugInfo → List (List ℕ)
-debug_words debug = setting (codes "debuginfo=") (debug_info_text debug)
-
-unfoldable pub assertion_words : Bool → List (List ℕ)
-assertion_words on = setting (codes "debug-assertions=") (switch on)
-
-unfoldable pub overflow_words : Bool → List (List ℕ)
-overflow_words on = setting (codes "overflow-checks=") (switch on)
-
-unfoldable pub codegen_words : ℕ → List (List ℕ)
-codegen_words units = setting (codes "codegen-units=") (decimal units)
-
-unfoldable pub panic_words : Panic → List (List ℕ)
-panic_words p = setting (codes "panic=") (panic_text p)
-
--- the settings that each compile gets
-abbrev pub common_settings : Settings → List (List ℕ)
-common_settings s = level_words s.opt_level ++ debug_words s.debug ++ assertion_words s.debug_assertions ++ overflow_words s.overflow_checks ++ codegen_words s.codegen_units ++ panic_words s.panic
-
-abbrev pub settings_words : What → Settings → List (List ℕ)
-settings_words what s = common_settings s ++ rpath_words s.rpath ++ strip_words s.strip ++ lto_words what s.lto
+abbrev pub settings_words : What → List Setting → List (List ℕ)
+settings_words what s = flat_map (key_words what s) told
 
 -- Features.
 

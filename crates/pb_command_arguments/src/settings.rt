@@ -1,12 +1,13 @@
 //! The settings of a compile as arguments of the compiler (The Cargo Book, Profiles).
 
-ghost use Rattle.std.specs.Prelude.{◌≡◌, ◌++◌, OnOk};
-ghost use Rattle.pb_command_arguments.specs.Words.{setting, switch, debug_info_text, panic_text, rpath_words, strip_words, lto_text_words, lto_words, level_words, debug_words, assertion_words, overflow_words, codegen_words, panic_words, common_settings, settings_words};
+ghost use Rattle.std.specs.Prelude.{◌≡◌, ◌++◌, IfOk, OnOk, string_bytes};
+ghost use Rattle.std.specs.List.{flat_map};
+ghost use Rattle.pb_command_arguments.specs.Words.{setting, value_text, is_binary, is_value, is_untold, key_words, settings_words};
 
 use crate::words::{joined, push_option};
 use pb_data::{Items, Text};
-use pb_manifest_types::{DebugInfo, Lto, OptLevel, Panic, Strip};
-use pb_profile::{Settings, opt_level_text};
+use pb_profile::Settings;
+use pb_profile_keys::{ProfileKey, Setting, told};
 use pb_unit::What;
 use std::alloc::{AllocError, Global};
 
@@ -25,142 +26,79 @@ pub(crate) fn push_setting(
     Ok(())
 }
 
-/// Returns a truth value as a switch.
-fn switch(on: bool) -> &'static str
-    ensures { result.now ≡ switch on }
-{
-    if on { "on" } else { "off" }
-}
-
-/// Returns the level of debug information.
-fn debug_info_text(debug: DebugInfo) -> &'static str
-    ensures { result.now ≡ debug_info_text debug }
-{
-    match debug {
-        DebugInfo::Nothing => "0",
-        DebugInfo::Limited => "1",
-        DebugInfo::Full => "2",
-        DebugInfo::LineTablesOnly => "line-tables-only",
-        DebugInfo::LineDirectivesOnly => "line-directives-only",
-    }
-}
-
-/// Returns what a panic does.
-fn panic_text(panic: Panic) -> &'static str
-    ensures { result.now ≡ panic_text panic }
-{
-    match panic {
-        Panic::Unwind => "unwind",
-        Panic::Abort => "abort",
-    }
-}
-
-/// Adds whether paths of libraries are kept.
-fn push_rpath(alloc: Global, words: &mut Items<Text>, rpath: bool) -> Result<(), AllocError>
-    ensures { OnOk result (words.new ≡ words.old ++ rpath_words rpath) }
-{
-    if rpath {
-        push_setting(alloc, words, "rpath=", "yes")?;
-    }
-    Ok(())
-}
-
-/// Adds what is stripped.
-fn push_strip(alloc: Global, words: &mut Items<Text>, strip: Strip) -> Result<(), AllocError>
-    ensures { OnOk result (words.new ≡ words.old ++ strip_words strip) }
-{
-    match strip {
-        Strip::Nothing => Ok(()),
-        Strip::DebugInfo => push_setting(alloc, words, "strip=", "debuginfo"),
-        Strip::Symbols => push_setting(alloc, words, "strip=", "symbols"),
-    }
-}
-
-/// Adds the link-time optimisation.
-fn push_lto_text(alloc: Global, words: &mut Items<Text>, lto: Lto) -> Result<(), AllocError>
-    ensures { OnOk result (words.new ≡ words.old ++ lto_text_words lto) }
-{
-    match lto {
-        Lto::ThinLocal => Ok(()),
-        Lto::Fat => push_setting(alloc, words, "lto=", "fat"),
-        Lto::Thin => push_setting(alloc, words, "lto=", "thin"),
-        Lto::Off => push_setting(alloc, words, "lto=", "off"),
-    }
-}
-
-/// Adds the link-time optimisation of a binary.
-fn push_lto(alloc: Global, words: &mut Items<Text>, what: &What, lto: Lto) -> Result<(), AllocError>
-    ensures { OnOk result (words.new ≡ words.old ++ lto_words what.now lto) }
+/// Returns whether a unit is a binary.
+fn is_binary(what: &What) -> bool
+    ensures { result ≡ is_binary what.now }
 {
     match what {
-        What::Bin(_) => push_lto_text(alloc, words, lto),
-        _ => Ok(()),
+        What::Bin(_) => true,
+        _ => false,
     }
 }
 
-/// Adds the optimisation level.
-#[tactic(auto, unfolding(crate::specs::Words::level_words))]
-fn push_level(alloc: Global, words: &mut Items<Text>, level: OptLevel) -> Result<(), AllocError>
-    ensures { OnOk result (words.new ≡ words.old ++ level_words level) }
+/// Returns whether a value is this one, if there is one.
+fn is_value(other: Option<Setting>, value: Setting) -> bool
+    ensures { result ≡ is_value other value }
 {
-    push_setting(alloc, words, "opt-level=", opt_level_text(level))
+    match other {
+        Some(other) => other.is_same(value),
+        None => false,
+    }
 }
 
-/// Adds the level of debug information.
-#[tactic(auto, unfolding(crate::specs::Words::debug_words))]
-fn push_debug(alloc: Global, words: &mut Items<Text>, debug: DebugInfo) -> Result<(), AllocError>
-    ensures { OnOk result (words.new ≡ words.old ++ debug_words debug) }
+/// Returns whether a key has no option.
+fn is_untold(what: &What, key: ProfileKey, value: Setting) -> bool
+    ensures { result ≡ is_untold what.now key value }
 {
-    push_setting(alloc, words, "debuginfo=", debug_info_text(debug))
+    let row = key.row();
+    (row.of_binaries && !is_binary(what)) || is_value(row.untold, value)
 }
 
-/// Adds whether debug assertions are on.
-#[tactic(auto, unfolding(crate::specs::Words::assertion_words))]
-fn push_assertions(alloc: Global, words: &mut Items<Text>, on: bool) -> Result<(), AllocError>
-    ensures { OnOk result (words.new ≡ words.old ++ assertion_words on) }
+/// Returns a setting as the compiler spells it, with this word for `true`.
+fn value_text(alloc: Global, shown: &str, value: Setting) -> Result<String, AllocError>
+    ensures { IfOk result (λ text. string_bytes text ≡ value_text shown.now value) }
 {
-    push_setting(alloc, words, "debug-assertions=", switch(on))
+    match value {
+        Setting::Truth(true) => String::from_str(alloc, shown),
+        Setting::Truth(false) => String::from_str(alloc, "off"),
+        Setting::Number(number) => number.to_string(alloc),
+        Setting::Word(word) => String::from_str(alloc, word.spelled()),
+    }
 }
 
-/// Adds whether overflows are checked.
-#[tactic(auto, unfolding(crate::specs::Words::overflow_words))]
-fn push_overflows(alloc: Global, words: &mut Items<Text>, on: bool) -> Result<(), AllocError>
-    ensures { OnOk result (words.new ≡ words.old ++ overflow_words on) }
-{
-    push_setting(alloc, words, "overflow-checks=", switch(on))
-}
-
-/// Adds the number of codegen units.
-#[tactic(auto, unfolding(crate::specs::Words::codegen_words))]
-fn push_codegen(alloc: Global, words: &mut Items<Text>, units: u32) -> Result<(), AllocError>
-    ensures { OnOk result (words.new ≡ words.old ++ codegen_words units) }
-{
-    let text = units.to_string(alloc)?;
-    push_setting(alloc, words, "codegen-units=", text.as_str())
-}
-
-/// Adds what a panic does.
-#[tactic(auto, unfolding(crate::specs::Words::panic_words))]
-fn push_panic(alloc: Global, words: &mut Items<Text>, panic: Panic) -> Result<(), AllocError>
-    ensures { OnOk result (words.new ≡ words.old ++ panic_words panic) }
-{
-    push_setting(alloc, words, "panic=", panic_text(panic))
-}
-
-/// Adds the settings that each compile gets.
-fn push_common(
+/// Adds the option of a key, if it has one.
+fn push_key(
     alloc: Global,
     words: &mut Items<Text>,
+    what: &What,
     settings: &Settings,
+    key: ProfileKey,
 ) -> Result<(), AllocError>
-    ensures { OnOk result (words.new ≡ words.old ++ common_settings settings.now) }
+    ensures { OnOk result (words.new ≡ words.old ++ key_words what.now settings.now key) }
 {
-    push_level(alloc, words, settings.opt_level)?;
-    push_debug(alloc, words, settings.debug)?;
-    push_assertions(alloc, words, settings.debug_assertions)?;
-    push_overflows(alloc, words, settings.overflow_checks)?;
-    push_codegen(alloc, words, settings.codegen_units)?;
-    push_panic(alloc, words, settings.panic)?;
+    let value = settings.get(key);
+    if is_untold(what, key, value) {
+        return Ok(());
+    }
+    let row = key.row();
+    let text = value_text(alloc, row.yes, value)?;
+    push_setting(alloc, words, row.option, text.as_str())
+}
+
+/// Adds the options of these keys.
+fn push_keys(
+    alloc: Global,
+    words: &mut Items<Text>,
+    what: &What,
+    settings: &Settings,
+    keys: &[ProfileKey],
+) -> Result<(), AllocError>
+    ensures { OnOk result (words.new
+        ≡ words.old ++ flat_map (key_words what.now settings.now) keys.now) }
+{
+    for key in keys {
+        push_key(alloc, words, what, settings, *key)?;
+    }
     Ok(())
 }
 
@@ -175,9 +113,5 @@ pub fn push_settings(
 ) -> Result<(), AllocError>
     ensures { OnOk result (words.new ≡ words.old ++ settings_words what.now settings.now) }
 {
-    push_common(alloc, words, settings)?;
-    push_rpath(alloc, words, settings.rpath)?;
-    push_strip(alloc, words, settings.strip)?;
-    push_lto(alloc, words, what, settings.lto)?;
-    Ok(())
+    push_keys(alloc, words, what, settings, told())
 }

@@ -10,12 +10,13 @@ use Rattle.pb_directive.specs.Metadata.{in_capitals, dep_pairs}
 use Rattle.pb_directive.specs.declared.directive.Directive.{Directive}
 use Rattle.pb_directive.specs.declared.directive.Directive.TheVariants.{Env}
 use Rattle.pb_feature_types.specs.Features.{features_at}
-use Rattle.pb_manifest_types.specs.declared.profile.DebugInfo.{DebugInfo}
-use Rattle.pb_manifest_types.specs.declared.profile.DebugInfo.TheVariants as debug_info
 use Rattle.pb_profile.specs.Line.{Seen, checked_line}
-use Rattle.pb_profile.specs.Words.{opt_level_text}
 use Rattle.pb_profile.specs.declared.fault.ProfileFault.{ProfileFault}
-use Rattle.pb_profile.specs.declared.settings.Settings.{Settings}
+use Rattle.pb_profile_keys.specs.Keys.{opt_level, debug}
+use Rattle.pb_profile_keys.specs.Setting.{spelled}
+use Rattle.pb_profile_keys.specs.declared.setting.Setting.{Setting}
+use Rattle.pb_profile_keys.specs.declared.setting.Word.{Word}
+use Rattle.pb_profile_keys.specs.declared.setting.Word.TheVariants as word
 use Rattle.pb_unit.specs.declared.plan.Planned.{Planned}
 use Rattle.pb_unit.specs.declared.unit.What.{What}
 use Rattle.pb_unit.specs.declared.unit.What.TheVariants.{Lib, Bin, Script, Run}
@@ -127,8 +128,8 @@ first_host (line ∷ lines) = or_else (host_in line) (first_host lines)
 abbrev pub triple_of : List ℕ → List ℕ
 triple_of toolchain = first_host (lines_of toolchain)
 
-abbrev pub is_debugged : DebugInfo → Bool
-is_debugged debug_info.Nothing = false
+abbrev pub is_debugged : Word → Bool
+is_debugged word.Zero = false
 is_debugged _ = true
 
 abbrev pub is_released : List Seen → Bool
@@ -147,8 +148,8 @@ abbrev pub platform_pairs : List ℕ → List (List ℕ × List ℕ)
 platform_pairs triple = (codes "TARGET", triple) ∷ (codes "HOST", triple) ∷ (codes "NUM_JOBS", codes "1") ∷ []
 
 -- the settings of the package, in the role of the run's side
-abbrev pub settings_pairs : Settings → List ℕ → List (List ℕ × List ℕ)
-settings_pairs s profile = (codes "OPT_LEVEL", opt_level_text s.opt_level) ∷ (codes "DEBUG", truth_text (is_debugged s.debug)) ∷ (codes "PROFILE", profile) ∷ []
+abbrev pub settings_pairs : List Setting → List ℕ → List (List ℕ × List ℕ)
+settings_pairs s profile = (codes "OPT_LEVEL", spelled (opt_level s)) ∷ (codes "DEBUG", truth_text (is_debugged (debug s))) ∷ (codes "PROFILE", profile) ∷ []
 
 -- arguments with byte 0x1f between them
 abbrev pub encoded : List (List ℕ) → List ℕ

@@ -12,9 +12,9 @@ use crate::platform::{profile_word, triple_of};
 use pb_command_types::{Project, Setup, is_run, package_of, unit_at};
 use pb_data::{Items, Text, truth_text};
 use pb_directive::{Directives, dep_pairs, underscored};
-use pb_manifest_types::DebugInfo;
+use pb_manifest_types::Word;
 use pb_place_types::TextMap;
-use pb_profile::{Settings, opt_level_text};
+use pb_profile::Settings;
 use pb_unit::Planned;
 use pb_workspace_types::Package;
 use std::alloc::{AllocError, Global};
@@ -64,10 +64,13 @@ fn set_features(alloc: Global, all: &mut TextMap, features: &[Text]) -> Result<(
 }
 
 /// Returns whether any debug information is kept.
-fn is_debugged(debug: DebugInfo) -> bool
+fn is_debugged(debug: Word) -> bool
     ensures { result ≡ is_debugged debug }
 {
-    debug != DebugInfo::Nothing
+    match debug {
+        Word::Zero => false,
+        _ => true,
+    }
 }
 
 /// Sets the platform that is compiled for, the host, and the number of jobs.
@@ -89,8 +92,8 @@ fn set_settings(
 ) -> Result<(), AllocError>
     ensures { OnOk result (all.new ≡ all_set all.old (settings_pairs settings.now profile.now)) }
 {
-    let debug = truth_text(is_debugged(settings.debug));
-    all.insert(alloc, "OPT_LEVEL", opt_level_text(settings.opt_level))?;
+    let debug = truth_text(is_debugged(settings.debug()));
+    all.insert(alloc, "OPT_LEVEL", settings.opt_level().spelled())?;
     all.insert(alloc, "DEBUG", debug)?;
     all.insert(alloc, "PROFILE", profile)?;
     Ok(())

@@ -1,8 +1,8 @@
 -- What each group of the words of a compile says.
-use Rattle.std.proofs.Common.{◌≡◌, ℕ, ◌&&◌, eqb, Bool, true, false, cond, if◌then◌else◌, codes, List, [], ◌∷◌, ◌++◌, map, filter, Option, Some, None, refl, sym, ◌∙◌, ap, is_some}
+use Rattle.std.proofs.Common.{◌≡◌, ℕ, ◌&&◌, ◌||◌, not, eqb, Bool, true, false, cond, if◌then◌else◌, codes, List, [], ◌∷◌, ◌++◌, map, filter, Option, Some, None, refl, sym, ◌∙◌, ap, is_some}
 use Rattle.std.proofs.lemmas.Bool.Decides.{Decides-eqb}
 use Rattle.std.proofs.lemmas.Grind.{flat_map-append}
-use Rattle.std.proofs.lemmas.List.{map-append}
+use Rattle.std.proofs.lemmas.List.{append_assoc, map-append}
 use Rattle.std.proofs.lemmas.List.Concat.{flat_map_single}
 use Rattle.std.specs.Fmt.{decimal}
 use Rattle.std.specs.List.{flat_map, filter_map, cons_option}
@@ -15,14 +15,16 @@ use Rattle.pb_manifest_types.specs.Package.{edition_text}
 use Rattle.pb_manifest_types.specs.declared.feature.Feature.{Feature}
 use Rattle.pb_manifest_types.specs.declared.package.Edition.{Edition}
 use Rattle.pb_manifest_types.specs.declared.package.Edition.TheVariants as edition
-use Rattle.pb_manifest_types.specs.declared.profile.Lto.{Lto}
-use Rattle.pb_manifest_types.specs.declared.profile.Lto.TheVariants as lto
-use Rattle.pb_manifest_types.specs.declared.profile.Strip.{Strip}
-use Rattle.pb_manifest_types.specs.declared.profile.Strip.TheVariants as strip
 use Rattle.pb_manifest_types.specs.declared.target.CrateType.{CrateType}
 use Rattle.pb_place_types.specs.Paths.{is_path, is_relative}
-use Rattle.pb_profile.specs.Words.{opt_level_text}
-use Rattle.pb_profile.specs.declared.settings.Settings.{Settings}
+use Rattle.pb_profile_keys.specs.Keys.{setting_at}
+use Rattle.pb_profile_keys.specs.Setting.{same}
+use Rattle.pb_profile_keys.specs.Table.{told, row as facts}
+use Rattle.pb_profile_keys.specs.declared.key.ProfileKey.{ProfileKey}
+use Rattle.pb_profile_keys.specs.declared.key.ProfileKey.TheVariants as key
+use Rattle.pb_profile_keys.specs.declared.setting.Setting.{Setting}
+use Rattle.pb_profile_keys.specs.declared.setting.Setting.TheVariants.{Truth, Word}
+use Rattle.pb_profile_keys.specs.declared.setting.Word.TheVariants as word
 use Rattle.pb_unit.specs.declared.plan.Planned.{Planned}
 use Rattle.pb_unit.specs.declared.unit.What.{What}
 use Rattle.pb_unit.specs.declared.unit.What.TheVariants.{Lib, Bin, Script, Run}
@@ -32,10 +34,10 @@ use Rattle.pb_command_types.specs.Targets.{unit_at, crate_name_of, crate_types, 
 use Rattle.pb_command_types.specs.declared.project.Project.{Project}
 use Rattle.pb_command_arguments.specs.Externs.{folder_words, folder_words_in, folder_words_at, extern_word}
 use Rattle.pb_command_arguments.specs.Said.{search_word, link_word, condition_word, check_word, argument_word, binaries_word, binary_word, searched_words, condition_words, argument_words, binary_link_words, own_words}
-use Rattle.pb_command_arguments.specs.Words.{option, name_words, edition_word, format_words, crate_words, type_word, type_words, emit_words, out_words, output_words, setting, rpath_words, strip_words, lto_text_words, lto_words, level_words, debug_words, assertion_words, overflow_words, codegen_words, panic_words, common_settings, settings_words, feature_text, feature_word, expected_text, active_words, expected_words, feature_words, quoted, switch, debug_info_text, panic_text}
+use Rattle.pb_command_arguments.specs.Words.{option, name_words, edition_word, format_words, crate_words, type_word, type_words, emit_words, out_words, output_words, setting, value_text, is_binary as binary, is_untold, key_words, settings_words, feature_text, feature_word, expected_text, active_words, expected_words, feature_words, quoted}
 use Rattle.pb_mini.specs.CommandLine.{takes_value}
 use Rattle.pb_command_laws.specs.Libraries.{assigned}
-use Rattle.pb_command_laws.specs.Compiles.{is_binary, hears, strip_value, lto_value, row, settings_table, linker_flags, feature_is_on, features_there_are, libraries_at}
+use Rattle.pb_command_laws.specs.Compiles.{is_binary, hears, unless_is, row, settings_table, linker_flags, feature_is_on, features_there_are, libraries_at}
 use Rattle.pb_command_laws.proofs.Asking.{folder_searched, library_linked, condition_set, condition_expected, flag_for_all, flag_for_binaries, flag_for, flags_asked, binaries_asked, one_binary_asked}
 use Rattle.pb_command_laws.proofs.Sayings.{Gives, gives_none, gives_one, gives_alone, gives_both, gives_each, gives_same, Says, Group, says_one, says_both, says_nothing}
 
@@ -106,56 +108,53 @@ setting_gives : (key value : List ℕ) → Gives (setting key value) (codes "-C"
 unfolding setting option
 setting_gives key value = gives_one (codes "-C") (key ++ value) refl
 
-abbrev told_row : List ℕ → Option (List ℕ) → List (List ℕ)
-told_row key value = map assigned (row key value)
+-- the value of an option, if there is one
+abbrev values_of : What → List Setting → ProfileKey → List (List ℕ)
+values_of what s k = if is_untold what k (setting_at s k) then [] else ((facts k).option ++ value_text (facts k).yes (setting_at s k)) ∷ []
 
-rpath_gives : (on : Bool) → Gives (rpath_words on) (codes "-C") (told_row (codes "rpath") (if on then Some (codes "yes") else None))
-rpath_gives true = setting_gives (codes "rpath=") (codes "yes")
-rpath_gives false = gives_none (codes "-C")
+key_gives : (what : What) (s : List Setting) (k : ProfileKey) → Gives (key_words what s k) (codes "-C") (values_of what s k)
+key_gives what s k = by (is_untold what k (setting_at s k))
+  where
+    by : (untold : Bool) → Gives (if untold then [] else setting (facts k).option (value_text (facts k).yes (setting_at s k))) (codes "-C") (if untold then [] else ((facts k).option ++ value_text (facts k).yes (setting_at s k)) ∷ [])
+    by true = gives_none (codes "-C")
+    by false = setting_gives (facts k).option (value_text (facts k).yes (setting_at s k))
 
-strip_gives : (s : Strip) → Gives (strip_words s) (codes "-C") (told_row (codes "strip") (strip_value s))
-strip_gives strip.Nothing = gives_none (codes "-C")
-strip_gives strip.DebugInfo = setting_gives (codes "strip=") (codes "debuginfo")
-strip_gives strip.Symbols = setting_gives (codes "strip=") (codes "symbols")
+-- a row that may be missing
+more_row : (untold : Bool) (shown name value : List ℕ) → shown ≡ assigned (name, value) → (words : List (List ℕ)) (rows : List (List ℕ × List ℕ)) → words ≡ map assigned rows
+    → (if untold then [] else shown ∷ []) ++ words ≡ map assigned (row name (if untold then None else Some value) ++ rows)
+more_row true shown name value is words rows rest = rest
+more_row false shown name value is words rows rest = λ i. is i ∷ rest i
 
-lto_text_gives : (l : Lto) → Gives (lto_text_words l) (codes "-C") (told_row (codes "lto") (lto_value l))
-lto_text_gives lto.ThinLocal = gives_none (codes "-C")
-lto_text_gives lto.Fat = setting_gives (codes "lto=") (codes "fat")
-lto_text_gives lto.Thin = setting_gives (codes "lto=") (codes "thin")
-lto_text_gives lto.Off = setting_gives (codes "lto=") (codes "off")
+-- the row of binaries, which may be missing
+last_row : (other untold : Bool) (value : List ℕ) → (if other || untold then [] else (codes "lto=" ++ value) ∷ []) ++ [] ≡ map assigned (row (codes "lto") (if not other then (if untold then None else Some value) else None))
+last_row true untold value = refl
+last_row false true value = refl
+last_row false false value = refl
 
-lto_gives : (what : What) (l : Lto) → Gives (lto_words what l) (codes "-C") (told_row (codes "lto") (if is_binary what then lto_value l else None))
-lto_gives (Bin name) l = lto_text_gives l
-lto_gives _ l = gives_none (codes "-C")
+binary_is : (what : What) → is_binary what ≡ not (not (binary what))
+binary_is (Bin name) = refl
+binary_is _ = refl
 
--- two parts of what `-C` is given
-more : (a b x y : List (List ℕ)) → Gives a (codes "-C") x → Gives b (codes "-C") y → Gives (a ++ b) (codes "-C") (x ++ y)
-more a b x y one other = gives_both a b (codes "-C") x y one other
+values_are : (what : What) (s : List Setting) → flat_map (values_of what s) told ≡ map assigned (settings_table what s)
+unfolding facts
+values_are what s =
+    let rpath = row (codes "rpath") (unless_is (Truth false) (codes "yes") (setting_at s key.Rpath)) in
+    let strip = row (codes "strip") (unless_is (Word word.Nothing) (codes "on") (setting_at s key.Strip)) in
+    let lto = row (codes "lto") (if is_binary what then unless_is (Truth false) (codes "on") (setting_at s key.Lto) else None) in
+    ap (λ ws.
+    (codes "opt-level=" ++ value_text (codes "on") (setting_at s key.OptLevel)) ∷ (codes "debuginfo=" ++ value_text (codes "on") (setting_at s key.Debug))
+    ∷ (codes "debug-assertions=" ++ value_text (codes "on") (setting_at s key.DebugAssertions)) ∷ (codes "overflow-checks=" ++ value_text (codes "on") (setting_at s key.OverflowChecks))
+    ∷ (codes "codegen-units=" ++ value_text (codes "on") (setting_at s key.CodegenUnits)) ∷ (codes "panic=" ++ value_text (codes "on") (setting_at s key.Panic)) ∷ ws)
+    (more_row (same (Truth false) (setting_at s key.Rpath)) (codes "rpath=" ++ value_text (codes "yes") (setting_at s key.Rpath)) (codes "rpath") _ refl _ _
+    (more_row (same (Word word.Nothing) (setting_at s key.Strip)) (codes "strip=" ++ value_text (codes "on") (setting_at s key.Strip)) (codes "strip") _ refl _ _
+    (last_row (not (binary what)) (same (Truth false) (setting_at s key.Lto)) (value_text (codes "on") (setting_at s key.Lto))
+    ∙ ap (λ b. map assigned (row (codes "lto") (if b then unless_is (Truth false) (codes "on") (setting_at s key.Lto) else None))) (sym (binary_is what))))
+    ∙ ap (λ rows. map assigned rows) (sym (append_assoc rpath strip lto)))
 
-abbrev common_values : Settings → List (List ℕ)
-common_values s =
-    told_row (codes "opt-level") (Some (opt_level_text s.opt_level)) ++ told_row (codes "debuginfo") (Some (debug_info_text s.debug)) ++ told_row (codes "debug-assertions") (Some (switch s.debug_assertions))
-    ++ told_row (codes "overflow-checks") (Some (switch s.overflow_checks)) ++ told_row (codes "codegen-units") (Some (decimal s.codegen_units)) ++ told_row (codes "panic") (Some (panic_text s.panic))
-
-common_gives : (s : Settings) → Gives (common_settings s) (codes "-C") (common_values s)
-unfolding level_words debug_words assertion_words overflow_words codegen_words panic_words
-common_gives s =
-    more _ (panic_words s.panic) _ _ (more _ (codegen_words s.codegen_units) _ _ (more _ (overflow_words s.overflow_checks) _ _ (more _ (assertion_words s.debug_assertions) _ _
-    (more (level_words s.opt_level) (debug_words s.debug) _ _ (setting_gives _ _) (setting_gives _ _)) (setting_gives _ _)) (setting_gives _ _)) (setting_gives _ _)) (setting_gives _ _)
-
-pub settings_give : (what : What) (s : Settings) → Gives (settings_words what s) (codes "-C") (map assigned (settings_table what s))
+pub settings_give : (what : What) (s : List Setting) → Gives (settings_words what s) (codes "-C") (map assigned (settings_table what s))
 settings_give what s =
-    let on = row (codes "rpath") (if s.rpath then Some (codes "yes") else None) in
-    let stripped = row (codes "strip") (strip_value s.strip) in
-    let optimised = row (codes "lto") (if is_binary what then lto_value s.lto else None) in
-    let rpath = told_row (codes "rpath") (if s.rpath then Some (codes "yes") else None) in
-    let strip = told_row (codes "strip") (strip_value s.strip) in
-    let lto = told_row (codes "lto") (if is_binary what then lto_value s.lto else None) in
-    gives_same (settings_words what s) (codes "-C") (common_values s ++ rpath ++ strip ++ lto) (map assigned (settings_table what s))
-    (ap (λ ws. common_values s ++ ws) (sym (map-append assigned (on ++ stripped) optimised ∙ ap (λ ws. ws ++ lto) (map-append assigned on stripped))))
-    (more (common_settings s ++ rpath_words s.rpath ++ strip_words s.strip) (lto_words what s.lto) (common_values s ++ rpath ++ strip) lto
-    (more (common_settings s ++ rpath_words s.rpath) (strip_words s.strip) (common_values s ++ rpath) strip
-    (more (common_settings s) (rpath_words s.rpath) (common_values s) rpath (common_gives s) (rpath_gives s.rpath)) (strip_gives s.strip)) (lto_gives what s.lto))
+    gives_same (settings_words what s) (codes "-C") (flat_map (values_of what s) told) (map assigned (settings_table what s)) (values_are what s)
+    (gives_each (codes "-C") (key_words what s) (values_of what s) told (key_gives what s))
 
 -- ---- features
 
@@ -278,8 +277,8 @@ arguments_give name said =
     let one = flat_map (flag_for name) said in
     gives_same (argument_words name said) (codes "-C") (map link_arg all ++ map link_arg binaries ++ map link_arg one) (map link_arg (all ++ binaries ++ one))
     (ap (λ ws. ws ++ map link_arg one) (sym (map-append link_arg all binaries)) ∙ sym (map-append link_arg (all ++ binaries) one))
-    (more (flat_map argument_word said ++ flat_map binaries_word said) (flat_map (binary_word name) said) (map link_arg all ++ map link_arg binaries) (map link_arg one)
-    (more (flat_map argument_word said) (flat_map binaries_word said) (map link_arg all) (map link_arg binaries) (flags_give argument_word flag_for_all said argument_gives) (flags_give binaries_word flag_for_binaries said binaries_gives))
+    (gives_both (flat_map argument_word said ++ flat_map binaries_word said) (flat_map (binary_word name) said) (codes "-C") (map link_arg all ++ map link_arg binaries) (map link_arg one)
+    (gives_both (flat_map argument_word said) (flat_map binaries_word said) (codes "-C") (map link_arg all) (map link_arg binaries) (flags_give argument_word flag_for_all said argument_gives) (flags_give binaries_word flag_for_binaries said binaries_gives))
     (flags_give (binary_word name) (flag_for name) said (binary_gives name)))
 
 pub searches_give : (done : List (Option (List Directive))) (places : List ℕ) → Gives (flat_map (searched_words done) places) (codes "-L") (flat_map folder_searched (flat_map (said_at done) places))

@@ -13,11 +13,12 @@ use Rattle.pb_data.specs.Table.{value_at, names_of, last_value}
 use Rattle.pb_directive.specs.Metadata.{in_capitals, passed, dep_pairs}
 use Rattle.pb_directive.specs.declared.directive.Directive.{Directive}
 use Rattle.pb_feature_types.specs.Features.{features_at}
-use Rattle.pb_manifest_types.specs.declared.profile.DebugInfo.{DebugInfo}
-use Rattle.pb_manifest_types.specs.declared.profile.DebugInfo.TheVariants as debug_info
 use Rattle.pb_workspace_types.specs.declared.package.Package.{Package}
 use Rattle.pb_profile.specs.Line.{Seen, checked_line}
-use Rattle.pb_profile.specs.Words.{opt_level_text}
+use Rattle.pb_profile_keys.specs.Keys.{opt_level, debug}
+use Rattle.pb_profile_keys.specs.Setting.{spelled}
+use Rattle.pb_profile_keys.specs.declared.setting.Word.{Word}
+use Rattle.pb_profile_keys.specs.declared.setting.Word.TheVariants as word
 use Rattle.pb_profile.specs.declared.fault.ProfileFault.{ProfileFault}
 use Rattle.pb_unit.specs.declared.plan.Planned.{Planned}
 use Rattle.pb_unit.specs.declared.unit.What.{What}
@@ -105,12 +106,9 @@ links_row : (links : Option (List ℕ)) → links_pairs links ≡ row (codes "CA
 links_row None = refl
 links_row (Some links) = refl
 
-truth : (debug : DebugInfo) → truth_text (is_debugged debug) ≡ debug_text debug
-truth debug_info.Nothing = refl
-truth debug_info.Limited = refl
-truth debug_info.Full = refl
-truth debug_info.LineTablesOnly = refl
-truth debug_info.LineDirectivesOnly = refl
+truth : (debug : Word) → truth_text (is_debugged debug) ≡ debug_text debug
+truth word.Zero = refl
+truth _ = refl
 
 released : (line : Result (List Seen) ProfileFault) → released_text line ≡ (if list_any (λ (s : Seen). bytes_eq s.name (codes "release")) (result_unwrap_or line []) then codes "release" else codes "debug")
 released (Ok line) = refl
@@ -120,7 +118,7 @@ module _ (setup : Setup) (project : Project) (unit : Planned) (done : Lines) (p 
   -- where the run leaves its files, and how its package is compiled
   abbrev building : List ℕ → List ℕ → List Pair
   building debug profile =
-      (codes "OUT_DIR", unit.out) ∷ platform_pairs (triple_of setup.toolchain) ++ ((codes "OPT_LEVEL", opt_level_text unit.settings.opt_level) ∷ (codes "DEBUG", debug) ∷ (codes "PROFILE", profile) ∷ []) ++ compiler_pairs setup
+      (codes "OUT_DIR", unit.out) ∷ platform_pairs (triple_of setup.toolchain) ++ ((codes "OPT_LEVEL", spelled (opt_level unit.settings)) ∷ (codes "DEBUG", debug) ∷ (codes "PROFILE", profile) ∷ []) ++ compiler_pairs setup
 
   own : (what : What) → is_run what ≡ true → own_pairs setup project unit done p what ≡ run_pairs setup project unit done p
   own Run is = refl
@@ -131,10 +129,10 @@ module _ (setup : Setup) (project : Project) (unit : Planned) (done : Lines) (p 
   assoc (x ∷ a) b c = ap (λ more. x ∷ more) (assoc a b c)
 
   abbrev before : List Pair
-  before = building (truth_text (is_debugged unit.settings.debug)) (released_text (checked_line project.workspace.profiles project.profile))
+  before = building (truth_text (is_debugged (debug unit.settings))) (released_text (checked_line project.workspace.profiles project.profile))
 
   abbrev after : List Pair
-  after = building (debug_text unit.settings.debug) (if list_any (λ (s : Seen). bytes_eq s.name (codes "release")) (result_unwrap_or (checked_line project.workspace.profiles project.profile) []) then codes "release" else codes "debug")
+  after = building (debug_text (debug unit.settings)) (if list_any (λ (s : Seen). bytes_eq s.name (codes "release")) (result_unwrap_or (checked_line project.workspace.profiles project.profile) []) then codes "release" else codes "debug")
 
   abbrev on : List Pair
   on = map (λ name. (codes "CARGO_FEATURE_" ++ in_capitals name, codes "1")) (features_at project.features unit.unit.owner unit.unit.side)
@@ -151,7 +149,7 @@ module _ (setup : Setup) (project : Project) (unit : Planned) (done : Lines) (p 
       let names = features_at project.features unit.unit.owner unit.unit.side in
       let passed = passed_pairs project unit done in
       ap (last_value name) (assoc (links_pairs p.links ++ map feature_pair names) before passed)
-      ∙ (λ i. last_value name ((links_row p.links i ++ same_features names i) ++ (building (truth unit.settings.debug i) (released (checked_line project.workspace.profiles project.profile) i) ++ passed)))
+      ∙ (λ i. last_value name ((links_row p.links i ++ same_features names i) ++ (building (truth (debug unit.settings) i) (released (checked_line project.workspace.profiles project.profile) i) ++ passed)))
       ∙ last_behind name (links ++ on) (after ++ passed) (after ++ handed) (last_behind name after passed handed (handed_last project done unit.needs name))
 
   last : (name : List ℕ) → last_value name (package_table setup p ++ run_pairs setup project unit done p) ≡ last_value name (run_table setup project unit done p)

@@ -1,7 +1,6 @@
 -- What the arguments of a compile say (The Cargo Book, Build Cache,
 -- Profiles, Features, Build Scripts): all values of each option, in order.
 use Rattle.std.specs.Prelude.{◌≡◌, ℕ, Bool, true, false, ◌&&◌, ◌||◌, if◌then◌else◌, is_some, codes, List, [], ◌∷◌, ◌++◌, map, filter, Option, Some, None}
-use Rattle.std.specs.Fmt.{decimal}
 use Rattle.std.specs.List.{flat_map, filter_map, join_by}
 use Rattle.std.specs.Option.{option_map, option_to_list}
 use Rattle.pb_directive.specs.declared.directive.Directive.{Directive}
@@ -9,12 +8,12 @@ use Rattle.pb_directive.specs.declared.directive.Directive.TheVariants.{LinkSear
 use Rattle.pb_manifest_types.specs.Library.{crate_type_text}
 use Rattle.pb_manifest_types.specs.Package.{edition_text}
 use Rattle.pb_manifest_types.specs.declared.feature.Feature.{Feature}
-use Rattle.pb_manifest_types.specs.declared.profile.Lto.{Lto}
-use Rattle.pb_manifest_types.specs.declared.profile.Lto.TheVariants as lto
-use Rattle.pb_manifest_types.specs.declared.profile.Strip.{Strip}
-use Rattle.pb_manifest_types.specs.declared.profile.Strip.TheVariants as strip
-use Rattle.pb_profile.specs.Words.{opt_level_text}
-use Rattle.pb_profile.specs.declared.settings.Settings.{Settings}
+use Rattle.pb_profile_keys.specs.Keys.{setting_at}
+use Rattle.pb_profile_keys.specs.Setting.{same}
+use Rattle.pb_profile_keys.specs.declared.key.ProfileKey.TheVariants as key
+use Rattle.pb_profile_keys.specs.declared.setting.Setting.{Setting}
+use Rattle.pb_profile_keys.specs.declared.setting.Setting.TheVariants.{Truth, Word}
+use Rattle.pb_profile_keys.specs.declared.setting.Word.TheVariants as word
 use Rattle.pb_feature_types.specs.Features.{features_at}
 use Rattle.pb_workspace_types.specs.Settled.{IsSettled}
 use Rattle.pb_workspace_types.specs.declared.package.Package.{Package}
@@ -26,7 +25,7 @@ use Rattle.pb_command_types.specs.Targets.{package_of, unit_at, crate_name_of, c
 use Rattle.pb_command_types.specs.declared.project.Project.{Project}
 use Rattle.pb_command_types.specs.declared.project.Setup.{Setup}
 use Rattle.pb_command.specs.Command.{command_of}
-use Rattle.pb_command_arguments.specs.Words.{switch, debug_info_text, panic_text}
+use Rattle.pb_command_arguments.specs.Words.{value_text}
 use Rattle.pb_command_laws.specs.Libraries.{AreLibraries, IsLibrary, assigned}
 use Rattle.pb_command_laws.specs.Reading.{said_by, values}
 
@@ -39,33 +38,26 @@ is_binary what = is_some (binary_name what)
 
 -- Settings.
 
-abbrev pub strip_value : Strip → Option (List ℕ)
-strip_value strip.Nothing = None
-strip_value strip.DebugInfo = Some (codes "debuginfo")
-strip_value strip.Symbols = Some (codes "symbols")
-
-abbrev pub lto_value : Lto → Option (List ℕ)
-lto_value lto.ThinLocal = None
-lto_value lto.Fat = Some (codes "fat")
-lto_value lto.Thin = Some (codes "thin")
-lto_value lto.Off = Some (codes "off")
+-- a setting as the compiler spells it, unless it is this one
+abbrev pub unless_is : Setting → List ℕ → Setting → Option (List ℕ)
+unless_is other shown value = if same other value then None else Some (value_text shown value)
 
 -- the row of a table for a value, if there is one
 abbrev pub row : List ℕ → Option (List ℕ) → List (List ℕ × List ℕ)
 row name value = option_to_list (option_map (λ text. (name, text)) value)
 
 -- each setting with its value; a setting without a value has no row
-abbrev pub settings_table : What → Settings → List (List ℕ × List ℕ)
+abbrev pub settings_table : What → List Setting → List (List ℕ × List ℕ)
 settings_table what s =
-    (codes "opt-level", opt_level_text s.opt_level)
-    ∷ (codes "debuginfo", debug_info_text s.debug)
-    ∷ (codes "debug-assertions", switch s.debug_assertions)
-    ∷ (codes "overflow-checks", switch s.overflow_checks)
-    ∷ (codes "codegen-units", decimal s.codegen_units)
-    ∷ (codes "panic", panic_text s.panic)
-    ∷ row (codes "rpath") (if s.rpath then Some (codes "yes") else None)
-    ++ row (codes "strip") (strip_value s.strip)
-    ++ row (codes "lto") (if is_binary what then lto_value s.lto else None)
+    (codes "opt-level", value_text (codes "on") (setting_at s key.OptLevel))
+    ∷ (codes "debuginfo", value_text (codes "on") (setting_at s key.Debug))
+    ∷ (codes "debug-assertions", value_text (codes "on") (setting_at s key.DebugAssertions))
+    ∷ (codes "overflow-checks", value_text (codes "on") (setting_at s key.OverflowChecks))
+    ∷ (codes "codegen-units", value_text (codes "on") (setting_at s key.CodegenUnits))
+    ∷ (codes "panic", value_text (codes "on") (setting_at s key.Panic))
+    ∷ row (codes "rpath") (unless_is (Truth false) (codes "yes") (setting_at s key.Rpath))
+    ++ row (codes "strip") (unless_is (Word word.Nothing) (codes "on") (setting_at s key.Strip))
+    ++ row (codes "lto") (if is_binary what then unless_is (Truth false) (codes "on") (setting_at s key.Lto) else None)
 
 -- What the lines of scripts say.
 

@@ -12,12 +12,14 @@ use Rattle.pb_directive.specs.Metadata.{in_capitals, passed}
 use Rattle.pb_directive.specs.declared.directive.Directive.{Directive}
 use Rattle.pb_directive.specs.declared.directive.Directive.TheVariants.{Env}
 use Rattle.pb_feature_types.specs.Features.{features_at}
-use Rattle.pb_manifest_types.specs.declared.profile.DebugInfo.{DebugInfo}
-use Rattle.pb_manifest_types.specs.declared.profile.DebugInfo.TheVariants as debug_info
 use Rattle.pb_workspace_types.specs.declared.package.Package.{Package}
 use Rattle.pb_place_types.specs.declared.command.Command.{Command}
 use Rattle.pb_profile.specs.Line.{Seen, checked_line}
-use Rattle.pb_profile.specs.Words.{opt_level_text}
+use Rattle.pb_profile_keys.specs.Keys.{setting_at, word_in}
+use Rattle.pb_profile_keys.specs.Setting.{spelled}
+use Rattle.pb_profile_keys.specs.declared.key.ProfileKey.TheVariants as key
+use Rattle.pb_profile_keys.specs.declared.setting.Word.{Word}
+use Rattle.pb_profile_keys.specs.declared.setting.Word.TheVariants as word
 use Rattle.pb_unit.specs.declared.plan.Planned.{Planned}
 use Rattle.pb_command_types.specs.Targets.{package_of, unit_at, crate_name_of, is_run, own_run, said_at}
 use Rattle.pb_command_types.specs.declared.project.Project.{Project}
@@ -74,8 +76,8 @@ CompilesHave = (setup : Setup) (project : Project) (unit : Planned) (done : List
 -- For runs.
 
 -- `true` if there is any debug information
-abbrev pub debug_text : DebugInfo → List ℕ
-debug_text debug_info.Nothing = codes "false"
+abbrev pub debug_text : Word → List ℕ
+debug_text word.Zero = codes "false"
 debug_text _ = codes "true"
 
 -- what the package of a run links, if it links something
@@ -95,7 +97,7 @@ run_table setup project unit done p =
     package_table setup p ++ row (codes "CARGO_MANIFEST_LINKS") p.links
     ++ map (λ name. (codes "CARGO_FEATURE_" ++ in_capitals name, codes "1")) (features_at project.features unit.unit.owner unit.unit.side)
     ++ (codes "OUT_DIR", unit.out) ∷ (codes "TARGET", triple_of setup.toolchain) ∷ (codes "HOST", triple_of setup.toolchain) ∷ (codes "NUM_JOBS", codes "1")
-    ∷ (codes "OPT_LEVEL", opt_level_text unit.settings.opt_level) ∷ (codes "DEBUG", debug_text unit.settings.debug)
+    ∷ (codes "OPT_LEVEL", spelled (word_in (setting_at unit.settings key.OptLevel))) ∷ (codes "DEBUG", debug_text (word_in (setting_at unit.settings key.Debug)))
     ∷ (codes "PROFILE", if list_any (λ (s : Seen). bytes_eq s.name (codes "release")) (result_unwrap_or (checked_line project.workspace.profiles project.profile) []) then codes "release" else codes "debug")
     ∷ (codes "RUSTC", setup.rustc) ∷ (codes "CARGO_ENCODED_RUSTFLAGS", join_by (λ flag. flag) (31 ∷ []) setup.flags) ∷ flat_map (handed_on project done) unit.needs
 

@@ -13,3 +13,4 @@ pub mod Spelled
 pub mod Tables
 pub mod Yields
 pub mod Zero
+pub mod Settings

@@ -1,8 +1,9 @@
 -- Each manifest that was read is one.
-use Rattle.std.proofs.Common.{◌≡◌, ◌≢◌, ◌≤◌, ℕ, ℤ, pos, negsuc, List, Bool, true, false, not, ◌&&◌, ◌||◌, nat_le, nat_lt, length, ap, sym, ◌∙◌, refl, subst, Option, Some, None, Err, IfSome, IsSome, is_some, if◌then◌else◌, codes, arith}
+use Rattle.std.proofs.Common.{◌≡◌, ◌≢◌, ◌≤◌, ℕ, ℤ, pos, negsuc, List, [], ◌∷◌, Bool, true, false, not, ◌&&◌, ◌||◌, nat_le, nat_lt, length, ap, sym, ◌∙◌, refl, subst, Option, Some, None, Err, IfSome, IsSome, is_some, if◌then◌else◌, codes, arith}
 use Rattle.std.proofs.lemmas.Bool.{and_parts, false≢true}
 use Rattle.std.proofs.lemmas.Bool.Decides.{nat_tests}
-use Rattle.std.specs.List.{AllByRecursion}
+use Rattle.std.specs.List.{AllByRecursion, AllZip}
+use Rattle.std.specs.Prelude.{option_and_then}
 use Rattle.std.specs.Str.{bytes_eq}
 use Rattle.toml.specs.Data.{Data, Members, as_str, as_bool, as_table, as_integer, is_sorted}
 use Rattle.pb_data.specs.Limits.{max_manifest_bytes}
@@ -13,8 +14,12 @@ use Rattle.pb_manifest.specs.Features.{features_at, feature_of}
 use Rattle.pb_manifest_types.specs.Keys.{spelled}
 use Rattle.pb_manifest_types.specs.Letters.{is_name, is_name_byte}
 use Rattle.pb_manifest.specs.Package.{resolver_at}
-use Rattle.pb_manifest.specs.Profiles.{codegen_units_from, codegen_units_in, debug_in, lto_in, opt_level_in, panic_in, strip_in, profile_value, profile_keys, profile_table, override_of, overrides_at, build_override_in, build_override_at, is_built_in, may_be_profile, profile_of_table, profile_of, profiles_at}
-use Rattle.pb_manifest.specs.Promises.{IsName, IsPath, Ascend, IsDependency, IsFeature, AreEntries, AreProfileKeys, IsOverride, IsProfile, IsPackage, IsLibrary, IsWorkspaceTable, IsManifest}
+use Rattle.pb_manifest.specs.Profiles.{written, setting_in, settings_at, profile_value, profile_keys, profile_table, override_of, overrides_at, build_override_in, build_override_at, is_built_in, may_be_profile, profile_of_table, profile_of, profiles_at}
+use Rattle.pb_manifest.specs.Promises.{IsName, IsPath, Ascend, IsDependency, IsFeature, AreEntries, MayHave, AreProfileKeys, IsOverride, IsProfile, IsPackage, IsLibrary, IsWorkspaceTable, IsManifest}
+use Rattle.pb_profile_keys.specs.Keys.{Said}
+use Rattle.pb_profile_keys.specs.Table.{keys, meaning_at}
+use Rattle.pb_profile_keys.specs.declared.key.ProfileKey.{ProfileKey}
+use Rattle.pb_profile_keys.specs.declared.setting.Setting.{Setting}
 use Rattle.pb_manifest_types.specs.Values.{Text}
 use Rattle.pb_manifest.specs.Values.{paths_at, listed, table_at, value_at, optional, entries_of}
 use Rattle.pb_manifest.specs.Workspace.{workspace_of, workspace_package_at, listed_paths_at}
@@ -25,48 +30,37 @@ use Rattle.pb_manifest_types.specs.declared.key.Key.{Key}
 use Rattle.pb_manifest_types.specs.declared.key.Key.TheVariants as key
 use Rattle.pb_manifest_types.specs.declared.manifest.WorkspaceTable.{WorkspaceTable}
 use Rattle.pb_manifest_types.specs.declared.profile.Profile.{Profile}
-use Rattle.pb_manifest_types.specs.declared.profile.ProfileKeys.{ProfileKeys}
 use Rattle.pb_manifest_types.specs.declared.profile.ProfileOverride.{ProfileOverride}
 use Rattle.pb_manifest.proofs.Promises.{package_in_is, library_in_is, binaries_in_are, dependency_key, dependency_is, shared_key, shared_is, feature_key, feature_is, AreBinaries}
 use Rattle.pb_manifest.proofs.Sorted.{bytes_sorted}
 use Rattle.pb_manifest.proofs.Yields.{Yields, yields_ok, yields_err, yields_then, yields_either, yields_some, yields_optional, Ordered, yields_table, table_sorted, value_sorted, Read1, yields_entries, yields_entries_at, yields_paths_at, keys_ascend}
 
--- `codegen-units`
-abbrev Units : ℕ → Type 0
-Units n = (1 ≤ n) × (n ≤ 65536)
+-- a value that was read is one that its key may have
+means_it : (k : ProfileKey) (found : Option Setting) (value : Setting) → option_and_then (meaning_at k) found ≡ Some value → MayHave k value
+means_it k None value is = cc
+means_it k (Some w) value is = (w, is)
 
-units_from_are : (found : Option ℤ) (n : ℕ) → codegen_units_from found ≡ Some n → Units n
-units_from_are None n is = cc
-units_from_are (Some (negsuc m)) n is = cc
-units_from_are (Some (pos m)) n is = by (nat_le 1 m && nat_le m 65536) refl is
-  where
-    by : (b : Bool) → (nat_le 1 m && nat_le m 65536) ≡ b → (if b then Some m else None) ≡ Some n → Units n
-    by true inside at =
-        let same : m ≡ n = cc in
-        let (low, high) = and_parts (nat_le 1 m) (nat_le m 65536) inside in
-        let least : 1 ≤ m = grind (arith, nat_tests) in
-        let most : m ≤ 65536 = grind (arith, nat_tests) in
-        subst Units same (least, most)
-    by false inside at = cc
-
-units_are : (d : Data) (n : ℕ) → codegen_units_in d ≡ Some n → Units n
-unfolding codegen_units_in
-units_are d n is = units_from_are (as_integer d) n is
+may_have : (k : ProfileKey) (d : Data) (value : Setting) → setting_in k d ≡ Some value → MayHave k value
+unfolding setting_in
+may_have k d value is = means_it k (written d) value is
 
 -- the keys that a profile or an override sets
+abbrev AreAt : List ProfileKey → Said → Type 0
+AreAt ks values = AllZip (λ k value. IfSome value (MayHave k)) ks values
+
+settings_are : (ks : List ProfileKey) (ms : Members) → Yields (AreAt ks) (settings_at ks ms)
+settings_are [] ms = yields_ok (AreAt []) [] tt
+settings_are (k ∷ ks) ms =
+    yields_then (AreAt (k ∷ ks)) (profile_value (setting_in k) (key.OfProfile k) ms) _ (λ value was.
+    yields_then (AreAt (k ∷ ks)) (settings_at ks ms) _ (λ values were.
+    yields_ok (AreAt (k ∷ ks)) (value ∷ values) (
+      yields_optional (MayHave k) _ (value_at (key.OfProfile k) ms) (λ d at. yields_some (MayHave k) BadProfile (setting_in k d) (may_have k d)) value was,
+      settings_are ks ms values were,
+    )))
+
 keys_are : (ms : Members) → Yields AreProfileKeys (profile_keys ms)
-keys_are ms =
-    yields_then AreProfileKeys (profile_value codegen_units_in key.CodegenUnits ms) _ (λ units was1.
-    yields_then AreProfileKeys (profile_value debug_in key.Debug ms) _ (λ debug was2.
-    yields_then AreProfileKeys (profile_value as_bool key.DebugAssertions ms) _ (λ debug_assertions was3.
-    yields_then AreProfileKeys (profile_value lto_in key.Lto ms) _ (λ lto was4.
-    yields_then AreProfileKeys (profile_value opt_level_in key.OptLevel ms) _ (λ opt_level was5.
-    yields_then AreProfileKeys (profile_value as_bool key.OverflowChecks ms) _ (λ overflow_checks was6.
-    yields_then AreProfileKeys (profile_value panic_in key.Panic ms) _ (λ panic was7.
-    yields_then AreProfileKeys (profile_value as_bool key.Rpath ms) _ (λ rpath was8.
-    yields_then AreProfileKeys (profile_value strip_in key.Strip ms) _ (λ strip was9.
-    yields_ok AreProfileKeys _
-    (yields_optional Units _ (value_at key.CodegenUnits ms) (λ d at. yields_some Units BadProfile (codegen_units_in d) (units_are d)) units was1))))))))))
+unfolding profile_keys
+keys_are ms = settings_are keys ms
 
 yields_profile_table : (k : Key) (ms : Members) → Ordered ms → Yields (λ o. IfSome o Ordered) (optional profile_table (value_at k ms))
 yields_profile_table k ms h =
@@ -93,7 +87,7 @@ overrides_are ms h =
     yields_then AreOverrides (optional profile_table (value_at key.Package ms)) (entries_of override_of) (λ found was.
     yields_entries override_key IsOverride override_of (λ name d s. override_is name d) found (yields_profile_table key.Package ms h found was))
 
-abbrev IfKeys : Option ProfileKeys → Type 0
+abbrev IfKeys : Option Said → Type 0
 IfKeys o = IfSome o AreProfileKeys
 
 build_override_in_is : (found : Option Members) → Yields IfKeys (build_override_in found)

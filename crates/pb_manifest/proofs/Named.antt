@@ -72,11 +72,12 @@ dependency_looks name ms ns same = simp (same.at)
 pub shared_dependency_looks : (name : Text) → LooksAtNamed (dependency.shared_dependency_keys name)
 shared_dependency_looks name ms ns same = simp (same.at)
 
-pub profile_looks : (name : Text) → LooksAtNamed (profile_of_table name)
-profile_looks name ms ns same = simp (same.at)
-
 pub settings_look : LooksAtNamed profile_keys
+unfolding profile_keys
 settings_look ms ns same = simp (same.at)
+
+pub profile_looks : (name : Text) → LooksAtNamed (profile_of_table name)
+profile_looks name ms ns same = simp (same.at, settings_look ms ns same)
 
 pub workspace_looks : LooksAtNamed workspace.workspace_of
 workspace_looks ms ns same = simp (same.at)

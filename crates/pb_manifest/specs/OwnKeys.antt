@@ -1,8 +1,9 @@
 -- The keys that the reading of each table looks at
 -- (The Cargo Book, Manifest Format, Workspaces, Specifying Dependencies, Profiles).
-use Rattle.std.specs.Prelude.{◌≡◌, List, [], ◌∷◌}
+use Rattle.std.specs.Prelude.{◌≡◌, List, [], ◌∷◌, map}
 use Rattle.std.specs.List.{AllByRecursion}
 use Rattle.toml.specs.Data.{Members}
+use Rattle.pb_profile_keys.specs.Table.{keys}
 use Rattle.pb_manifest_types.specs.Values.{Read}
 use Rattle.pb_manifest.specs.Values.{value_at}
 use Rattle.pb_manifest_types.specs.declared.key.Key.{Key}
@@ -36,7 +37,7 @@ of_dependency = key.DefaultFeatures ∷ key.Features ∷ key.Git ∷ key.Optiona
 
 -- what a profile or an override sets
 abbrev pub of_settings : List Key
-of_settings = key.CodegenUnits ∷ key.Debug ∷ key.DebugAssertions ∷ key.Lto ∷ key.OptLevel ∷ key.OverflowChecks ∷ key.Panic ∷ key.Rpath ∷ key.Strip ∷ []
+of_settings = map key.OfProfile keys
 
 -- a profile
 abbrev pub of_profile : List Key

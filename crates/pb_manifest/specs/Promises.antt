@@ -1,7 +1,7 @@
 -- What each manifest that was read promises.
-use Rattle.std.specs.Prelude.{◌≡◌, ◌≢◌, ◌≤◌, true, false, List, map, codes, IfSome, IsSome}
+use Rattle.std.specs.Prelude.{◌≡◌, ◌≢◌, true, false, List, map, codes, Option, Some, IfSome, IsSome}
 use Rattle.std.specs.Cmp.Lexicographic.{slice_cmp}
-use Rattle.std.specs.List.{AllByRecursion}
+use Rattle.std.specs.List.{AllByRecursion, AllZip}
 use Rattle.std.specs.List.Sorted.{IsStrictlySortedBy}
 use Rattle.std.specs.Ordering.{nat_cmp}
 use Rattle.pb_manifest_types.specs.Letters.{is_name, is_crate_name, is_feature_name, has_zero}
@@ -22,7 +22,10 @@ use Rattle.pb_manifest_types.specs.declared.package.Build.{Build}
 use Rattle.pb_manifest_types.specs.declared.package.Build.TheVariants as build
 use Rattle.pb_manifest_types.specs.declared.package.Package.{Package}
 use Rattle.pb_manifest_types.specs.declared.profile.Profile.{Profile}
-use Rattle.pb_manifest_types.specs.declared.profile.ProfileKeys.{ProfileKeys}
+use Rattle.pb_profile_keys.specs.Keys.{Said}
+use Rattle.pb_profile_keys.specs.Table.{keys, meaning_at}
+use Rattle.pb_profile_keys.specs.declared.key.ProfileKey.{ProfileKey}
+use Rattle.pb_profile_keys.specs.declared.setting.Setting.{Setting}
 use Rattle.pb_manifest_types.specs.declared.profile.ProfileOverride.{ProfileOverride}
 use Rattle.pb_manifest_types.specs.declared.target.Binary.{Binary}
 use Rattle.pb_manifest_types.specs.declared.target.Library.{Library}
@@ -90,9 +93,13 @@ pub record IsFeature (f : Feature) : Type 0 where
   pub name : IsFeatureName f.name
   pub items : AllByRecursion IsItem f.items
 
--- `codegen-units`, if set, is from 1 to 65,536
-abbrev pub AreProfileKeys : ProfileKeys → Type 0
-AreProfileKeys keys = IfSome keys.codegen_units (λ n. (1 ≤ n) × (n ≤ 65536))
+-- a value that a key may have: some written value means it there
+abbrev pub MayHave : ProfileKey → Setting → Type 0
+MayHave k value = (written : Setting) × (meaning_at k written ≡ Some value)
+
+-- each key that is set has a value that it may have
+abbrev pub AreProfileKeys : Said → Type 0
+AreProfileKeys values = AllZip (λ k value. IfSome value (MayHave k)) keys values
 
 abbrev pub IsOverride : ProfileOverride → Type 0
 IsOverride o = AreProfileKeys o.keys

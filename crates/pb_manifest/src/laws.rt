@@ -63,7 +63,7 @@ pub fn documents_are_in_order()
 /// Each manifest that was read keeps the promises of `specs/Promises.antt`.
 ///
 /// - Names have valid letters, and paths contain no byte 0.
-/// - `codegen-units` is from 1 to 65,536.
+/// - Each key of a profile has a value that it may have. So `codegen-units` is from 1 to 65,536.
 /// - A custom profile has `inherits`, and none is called `debug`.
 /// - The entries of each table are in byte order of their keys, without repeats.
 pub fn manifests_keep_promises()

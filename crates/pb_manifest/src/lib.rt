@@ -20,8 +20,8 @@ mod workspace;
 
 pub use document::read_manifest;
 pub use pb_manifest_types::{
-    Binary, Build, CrateType, DebugInfo, Dependency, Edition, Feature, FeatureItem, Inheritable,
-    Inherited, Key, Library, Lto, Manifest, ManifestFault, OptLevel, Package, Panic, PathSource,
-    Profile, ProfileKeys, ProfileOverride, Readme, Requirement, Source, Strip, Version,
-    WorkspaceDependency, WorkspacePackage, WorkspaceSource, WorkspaceTable, WrittenPath,
+    Binary, Build, CrateType, Dependency, Edition, Feature, FeatureItem, Inheritable, Inherited,
+    Key, Library, Manifest, ManifestFault, Package, PathSource, Profile, ProfileKey, ProfileKeys,
+    ProfileOverride, Readme, Requirement, Setting, Source, Version, Word, WorkspaceDependency,
+    WorkspacePackage, WorkspaceSource, WorkspaceTable, WrittenPath,
 };

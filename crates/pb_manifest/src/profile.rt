@@ -8,9 +8,7 @@ ghost use Rattle.pb_manifest.specs.Values.{each_entry};
 ghost use Rattle.pb_manifest.specs.Profiles.{profile_value, profile_keys, profile_table, override_of, overrides_at, build_override_at, is_built_in, may_be_profile, profile_of_table, profile_of, profiles_at};
 ghost use Rattle.pb_manifest_types.specs.declared.key.Key.TheVariants as key;
 
-use crate::profile_values::{
-    codegen_units_at, debug_at, lto_at, opt_level_at, panic_at, strip_at, truth_at,
-};
+use crate::profile_values::profile_keys;
 use crate::values::value_at;
 use pb_data::{Items, Text};
 use pb_manifest_types::letters::is_name;
@@ -32,32 +30,6 @@ fn inherits_at(alloc: Global, table: &Table) -> Result<Option<Text>, ManifestFau
             None => Err(ManifestFault::BadProfile),
         },
     }
-}
-
-/// Returns the keys that a profile or an override sets.
-fn profile_keys(table: &Table) -> Result<ProfileKeys, ManifestFault>
-    ensures { result ≡ profile_keys (table_view table.now) }
-{
-    let codegen_units = codegen_units_at(table)?;
-    let debug = debug_at(table)?;
-    let debug_assertions = truth_at(table, Key::DebugAssertions)?;
-    let lto = lto_at(table)?;
-    let opt_level = opt_level_at(table)?;
-    let overflow_checks = truth_at(table, Key::OverflowChecks)?;
-    let panic = panic_at(table)?;
-    let rpath = truth_at(table, Key::Rpath)?;
-    let strip = strip_at(table)?;
-    Ok(ProfileKeys {
-        codegen_units,
-        debug,
-        debug_assertions,
-        lto,
-        opt_level,
-        overflow_checks,
-        panic,
-        rpath,
-        strip,
-    })
 }
 
 /// Returns the table of a profile or an override.

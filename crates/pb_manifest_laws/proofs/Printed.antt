@@ -1,5 +1,5 @@
 -- What is written of a manifest can be printed: its tables do not nest too deep, their keys ascend, and it has no dates.
-use Rattle.std.proofs.Common.{◌≡◌, ◌≤◌, ◌&&◌, ℕ, suc, max, Bool, pos, true, false, List, [], ◌∷◌, map, codes, Option, Some, None, IfSome, Less, refl, sym, ap, subst, arith}
+use Rattle.std.proofs.Common.{◌≡◌, ◌≤◌, ◌&&◌, if◌then◌else◌, ℕ, suc, max, Bool, pos, true, false, List, [], ◌∷◌, map, codes, Option, Some, None, IfSome, Less, refl, sym, ap, subst, arith}
 use Rattle.std.proofs.lemmas.Bool.{and_parts}
 use Rattle.std.proofs.lemmas.Bool.Decides.{nat_tests}
 use Rattle.std.specs.Cmp.Lexicographic.{slice_cmp}
@@ -32,13 +32,15 @@ use Rattle.pb_manifest_types.specs.declared.package.Edition.{Edition}
 use Rattle.pb_manifest_types.specs.declared.package.Package.{Package}
 use Rattle.pb_manifest_types.specs.declared.package.Readme.{Readme}
 use Rattle.pb_manifest_types.specs.declared.package.Readme.TheVariants as readme
-use Rattle.pb_manifest_types.specs.declared.profile.OptLevel.TheVariants.{Zero, One, Two, Three, Size, SmallestSize}
-use Rattle.pb_manifest_types.specs.declared.profile.DebugInfo.TheVariants as debug
-use Rattle.pb_manifest_types.specs.declared.profile.Lto.TheVariants as lto
-use Rattle.pb_manifest_types.specs.declared.profile.Panic.TheVariants.{Unwind, Abort}
-use Rattle.pb_manifest_types.specs.declared.profile.Strip.TheVariants as strip
+use Rattle.pb_profile_keys.specs.Keys.{Said, says}
+use Rattle.pb_profile_keys.specs.Setting.{spelled}
+use Rattle.pb_profile_keys.specs.Table.{keys}
+use Rattle.pb_profile_keys.specs.declared.key.ProfileKey.{ProfileKey}
+use Rattle.pb_profile_keys.specs.declared.setting.Setting.{Setting}
+use Rattle.pb_profile_keys.specs.declared.setting.Setting.TheVariants.{Truth, Number, Word}
+use Rattle.pb_manifest.specs.Profiles.{setting_in}
+use Rattle.pb_manifest_laws.proofs.Profiles.{data_of, setting_back, form_data}
 use Rattle.pb_manifest_types.specs.declared.profile.Profile.{Profile}
-use Rattle.pb_manifest_types.specs.declared.profile.ProfileKeys.{ProfileKeys}
 use Rattle.pb_manifest_types.specs.declared.profile.ProfileOverride.{ProfileOverride}
 use Rattle.pb_manifest_types.specs.declared.target.Binary.{Binary}
 use Rattle.pb_manifest_types.specs.declared.target.Library.{Library}
@@ -47,9 +49,9 @@ use Rattle.pb_manifest.specs.Promises.{Ascend, IsProfile, IsWorkspaceTable, IsMa
 use Rattle.pb_manifest.proofs.Manifests.{manifest_is}
 use Rattle.pb_manifest_laws.specs.Laws.{ReadsWhatIsPrinted}
 use Rattle.pb_manifest_laws.specs.Packages.{edition, readme_value}
-use Rattle.pb_manifest_laws.specs.Profiles.{opt_levels, debug_infos, ltos, strips, panics}
+use Rattle.pb_manifest_laws.specs.Profiles.{name_of, forms}
 use Rattle.pb_manifest_laws.specs.Values.{texts, members_of}
-use Rattle.pb_manifest_laws.specs.Written.{Rows, with_key, members_with, table_with, list, entries, taken, inheritable, inherited_value, build_value, package_rows, library_rows, binary_rows, feature_items, dependency_rows, dependency_entry, shared_rows, shared_entry, first_form, profile_rows, settings_table, profile_entry, inherited_rows, workspace_rows, dependencies, document_rows, written}
+use Rattle.pb_manifest_laws.specs.Written.{Rows, with_key, members_with, table_with, list, entries, taken, inheritable, inherited_value, build_value, package_rows, library_rows, binary_rows, feature_items, dependency_rows, dependency_entry, shared_rows, shared_entry, first_form, key_row, with_row, profile_rows, settings_table, profile_entry, inherited_rows, workspace_rows, dependencies, document_rows, written}
 use Rattle.pb_manifest_laws.proofs.Documents.{manifests_read}
 use Rattle.pb_manifest_laws.proofs.Written.{document_written}
 
@@ -257,75 +259,46 @@ shared_plain d = by d.source
     ) refl
 
 -- the first form of what a profile sets
-FirstPlain : {A : Type 0} → (A → List Data) → Type 0
-FirstPlain {A} forms = (n : ℕ) (x : A) → PlainAt n (slice_get (forms x) 0)
-
-form_plain : {A : Type 0} (n : ℕ) (forms : A → List Data) → FirstPlain forms → (o : Option A) → PlainAt n (first_form forms o)
-unfolding FirstPlain
-form_plain n forms first None = tt
-form_plain n forms first (Some x) = first n x
-
 number_plain : (n k : ℕ) → Plain n (integer (pos k))
 number_plain n k = (omega arith, refl, refl)
 
-debug_plain : FirstPlain debug_infos
-unfolding FirstPlain
-debug_plain n debug.Nothing = truth_plain n false
-debug_plain n debug.Limited = number_plain n 1
-debug_plain n debug.Full = truth_plain n true
-debug_plain n debug.LineTablesOnly = text_plain n (codes "line-tables-only")
-debug_plain n debug.LineDirectivesOnly = text_plain n (codes "line-directives-only")
+data_plain : (n : ℕ) (x : Setting) → Plain n (data_of x)
+data_plain n (Truth b) = truth_plain n b
+data_plain n (Number k) = number_plain n k
+data_plain n (Word w) = text_plain n (spelled w)
 
-lto_plain : FirstPlain ltos
-unfolding FirstPlain
-lto_plain n lto.ThinLocal = truth_plain n false
-lto_plain n lto.Fat = truth_plain n true
-lto_plain n lto.Thin = text_plain n (codes "thin")
-lto_plain n lto.Off = text_plain n (codes "off")
+key_plain : (n : ℕ) (k : ProfileKey) (value : Option Setting) → PlainAt n (first_form (forms k) value)
+key_plain n k None = tt
+key_plain n k (Some x) = by (forms k x) (setting_back k x)
+  where
+    by : (ds : List Data) → AllByRecursion (λ d. setting_in k d ≡ Some x) ds → PlainAt n (slice_get ds 0)
+    by [] read = tt
+    by (d ∷ ds) read = let (w, is) = form_data k x d read.0 in subst (Plain n) (sym is) (data_plain n w)
 
-strip_plain : FirstPlain strips
-unfolding FirstPlain
-strip_plain n strip.Nothing = truth_plain n false
-strip_plain n strip.DebugInfo = text_plain n (codes "debuginfo")
-strip_plain n strip.Symbols = truth_plain n true
+-- a row more
+with_row_all : (P : List ℕ × Option Data → Type 0) (row : List ℕ × Option Data) (rows : Rows) → P row → AllByRecursion P rows → AllByRecursion P (with_row row rows)
+with_row_all P row [] here all = (here, tt)
+with_row_all P row (other ∷ rows) here all = by (is_lt (slice_cmp nat_cmp row.0 other.0)) (with_row_all P row rows here all.1)
+  where
+    by : (b : Bool) → AllByRecursion P (with_row row rows) → AllByRecursion P (if b then row ∷ other ∷ rows else other ∷ with_row row rows)
+    by true later = (here, all)
+    by false later = (all.0, later)
 
-panic_plain : FirstPlain panics
-unfolding FirstPlain
-panic_plain n Unwind = text_plain n (codes "unwind")
-panic_plain n Abort = text_plain n (codes "abort")
+keys_plain : (n : ℕ) (said : Said) (ks : List ProfileKey) → AllByRecursion (λ (row : List ℕ × Option Data). PlainAt n row.1) (map (key_row said) ks)
+keys_plain n said [] = tt
+keys_plain n said (k ∷ ks) = (key_plain n k (says said k), keys_plain n said ks)
 
-level_plain : FirstPlain opt_levels
-unfolding FirstPlain
-level_plain n Zero = number_plain n 0
-level_plain n One = number_plain n 1
-level_plain n Two = number_plain n 2
-level_plain n Three = number_plain n 3
-level_plain n Size = text_plain n (codes "s")
-level_plain n SmallestSize = text_plain n (codes "z")
-
-settings_plain : (n : ℕ) (override : Option Data) (inherits : Option (List ℕ)) (packages : Option Data) (keys : ProfileKeys) → PlainAt n override → PlainAt n packages → Plain (suc n) (table_with (profile_rows override inherits packages keys))
+settings_plain : (n : ℕ) (override : Option Data) (inherits : Option (List ℕ)) (packages : Option Data) (said : Said) → PlainAt n override → PlainAt n packages → Plain (suc n) (table_with (profile_rows override inherits packages said))
 unfolding are_behind rows_ascend
-settings_plain n override inherits packages keys override_is packages_are = table_plain n (profile_rows override inherits packages keys) (
-  override_is,
-  (
-    given n (λ k. integer (pos k)) (number_plain n) keys.codegen_units,
-    (
-      form_plain n debug_infos debug_plain keys.debug,
-      (
-        given n (λ b. boolean b) (truth_plain n) keys.debug_assertions,
-        (
-          given n (λ t. string t) (text_plain n) inherits,
-          (
-            form_plain n ltos lto_plain keys.lto,
-            (form_plain n opt_levels level_plain keys.opt_level, (given n (λ b. boolean b) (truth_plain n) keys.overflow_checks, (packages_are, (form_plain n panics panic_plain keys.panic, (given n (λ b. boolean b) (truth_plain n) keys.rpath, (form_plain n strips strip_plain keys.strip, tt)))))),
-          ),
-        ),
-      ),
-    ),
-  ),
-) refl
+settings_plain n override inherits packages said override_is packages_are =
+    let P = λ (row : List ℕ × Option Data). PlainAt n row.1 in
+    let key_rows = map (key_row said) keys in
+    table_plain n (profile_rows override inherits packages said)
+    (with_row_all P (codes "build-override", override) (with_row (codes "inherits", option_map (λ t. string t) inherits) (with_row (codes "package", packages) key_rows)) override_is
+    (with_row_all P (codes "inherits", option_map (λ t. string t) inherits) (with_row (codes "package", packages) key_rows) (given n (λ t. string t) (text_plain n) inherits)
+    (with_row_all P (codes "package", packages) key_rows packages_are (keys_plain n said keys)))) refl
 
-alone_plain : (keys : ProfileKeys) → Plain 1 (settings_table keys)
+alone_plain : (keys : Said) → Plain 1 (settings_table keys)
 alone_plain keys = settings_plain 0 None None None keys tt tt
 
 deeper : (m n : ℕ) (o : Option Data) → m ≤ n → PlainAt m o → PlainAt n o

@@ -1,160 +1,244 @@
 -- `[profile.*]` is read as what it says.
-use Rattle.std.proofs.Common.{inl, inr, ◌≡◌, ◌↔◌, ◌∙◌, ◌≤◌, ◌&&◌, ℕ, ℤ, pos, negsuc, Bool, true, false, if◌then◌else◌, nat_le, List, [], ◌∷◌, codes, Contains, Option, Some, None, Ok, Err, refl, sym, ap, subst, arith}
-use Rattle.std.proofs.lemmas.Bool.{and_parts}
+use Rattle.std.proofs.Common.{inl, inr, ◌≡◌, ◌↔◌, ◌∙◌, ◌&&◌, ◌||◌, ◌==◌, not, ℕ, pos, negsuc, Bool, true, false, if◌then◌else◌, nat_le, nat_lt, List, [], ◌∷◌, Contains, Option, Some, None, Ok, Err, length, map, drop, get_or, slice_get, zero, suc, ◌+◌, refl, sym, ap, subst, arith}
+use Rattle.std.proofs.lemmas.Bool.{and_parts, eqb-true, false≢true}
 use Rattle.std.proofs.lemmas.Bool.Decides.{Decides-int_eq, nat_tests}
 use Rattle.std.proofs.lemmas.Slice.Eq.{bytes_eq-Decides}
-use Rattle.std.specs.List.{AllByRecursion}
+use Rattle.std.specs.Prelude.{option_and_then}
+use Rattle.std.specs.List.{AllByRecursion, list_all, list_any}
+use Rattle.std.specs.Option.{option_map, option_or}
 use Rattle.std.specs.Ordering.{int_eq}
 use Rattle.std.specs.Str.{bytes_eq}
-use Rattle.pb_graph.proofs.Membership.{none, cases}
-use Rattle.toml.specs.Data.{Data, string, integer, boolean, table, Members, as_bool, as_str, as_table}
+use Rattle.pb_graph.proofs.Membership.{none, head, tail, cases}
+use Rattle.toml.specs.Data.{Data, string, integer, boolean, table, Members, get_member, as_str, as_table}
 use Rattle.pb_data.specs.UnlessOom.{◌>>=◌, some_or}
-use Rattle.pb_manifest_types.specs.Keys.{spelled}
-use Rattle.pb_manifest.specs.Profiles.{opt_level_in, debug_in, lto_in, strip_in, panic_in, codegen_units_in, profile_value, profile_keys, profile_table, override_of, overrides_at, build_override_in, build_override_at, may_be_profile, profile_of_table, profile_of}
+use Rattle.pb_profile_keys.specs.First.{first_some}
+use Rattle.pb_profile_keys.specs.Keys.{Said, says}
+use Rattle.pb_profile_keys.specs.Setting.{spelled, words, if_spelled, word_of, same, between, accepted, meaning}
+use Rattle.pb_profile_keys.specs.Table.{keys, row, place, choices, meaning_at}
+use Rattle.pb_profile_keys.specs.declared.key.ProfileKey.{ProfileKey}
+use Rattle.pb_profile_keys.specs.declared.key.ProfileKey.TheVariants as key
+use Rattle.pb_profile_keys.specs.declared.setting.Choice.{Choice}
+use Rattle.pb_profile_keys.specs.declared.setting.Choice.TheVariants.{Is, Means, Between}
+use Rattle.pb_profile_keys.specs.declared.setting.Setting.{Setting}
+use Rattle.pb_profile_keys.specs.declared.setting.Setting.TheVariants.{Truth, Number, Word}
+use Rattle.pb_profile_keys.specs.declared.setting.Word.{Word as AWord}
+use Rattle.pb_profile_keys.specs.declared.setting.Word.TheVariants as word
+use Rattle.pb_manifest_types.specs.Keys.{spelled as spelled_key}
+use Rattle.pb_manifest.specs.Profiles.{written, setting_in, settings_at, profile_value, profile_keys, profile_table, override_of, overrides_at, build_override_in, build_override_at, may_be_profile, profile_of_table, profile_of}
 use Rattle.pb_manifest.specs.Values.{optional, value_at}
 use Rattle.pb_manifest_types.specs.declared.fault.ManifestFault.TheVariants.{BadProfile}
-use Rattle.pb_manifest_types.specs.declared.key.Key.TheVariants as key
-use Rattle.pb_manifest_types.specs.declared.profile.OptLevel.{OptLevel}
-use Rattle.pb_manifest_types.specs.declared.profile.OptLevel.TheVariants.{Zero, One, Two, Three, Size, SmallestSize}
-use Rattle.pb_manifest_types.specs.declared.profile.DebugInfo.{DebugInfo}
-use Rattle.pb_manifest_types.specs.declared.profile.DebugInfo.TheVariants as debug
-use Rattle.pb_manifest_types.specs.declared.profile.Lto.{Lto}
-use Rattle.pb_manifest_types.specs.declared.profile.Lto.TheVariants as lto
-use Rattle.pb_manifest_types.specs.declared.profile.Panic.{Panic}
-use Rattle.pb_manifest_types.specs.declared.profile.Panic.TheVariants.{Unwind, Abort}
-use Rattle.pb_manifest_types.specs.declared.profile.Strip.{Strip}
-use Rattle.pb_manifest_types.specs.declared.profile.Strip.TheVariants as strip
-use Rattle.pb_manifest_types.specs.declared.profile.ProfileKeys.{ProfileKeys}
+use Rattle.pb_manifest_types.specs.declared.key.Key.TheVariants as key_name
 use Rattle.pb_manifest_types.specs.declared.profile.ProfileOverride.{ProfileOverride}
 use Rattle.pb_manifest_types.specs.declared.profile.Profile.{Profile}
+use Rattle.pb_profile_keys.proofs.Placed.{in_place}
 use Rattle.pb_manifest.proofs.Came.{came}
 use Rattle.pb_manifest_laws.specs.Laws.{ReadsSettings, ReadsProfiles}
-use Rattle.pb_manifest_laws.specs.Profiles.{opt_levels, debug_infos, ltos, strips, panics, HoldsOne, AreSettings, IsOverrideEntry, IsProfileEntry}
-use Rattle.pb_manifest_laws.specs.Values.{Holds, OfTable}
-use Rattle.pb_manifest_laws.proofs.Chains.{four_on, five}
+use Rattle.pb_manifest_laws.specs.Profiles.{name_of, forms, HoldsOne, AreSettings, IsOverrideEntry, IsProfileEntry}
+use Rattle.pb_manifest_laws.specs.Values.{OfTable}
+use Rattle.pb_manifest_laws.proofs.Chains.{four_on}
 use Rattle.pb_manifest_laws.proofs.Packages.{some_any}
 use Rattle.pb_manifest_laws.proofs.Reading.{IsWrittenAs, Any, table_is, optional_only, optional_back}
 use Rattle.pb_manifest_laws.proofs.Tables.{entries_at_only, entries_at_back, table_at_only, table_at_back}
 
--- a value is read just where one of its forms stands
-record HasForms {A : Type 0} (reads : Data → Option A) (forms : A → List Data) : Type 0 where
-  only : (d : Data) (x : A) → reads d ≡ Some x → Contains (forms x) d
-  back : (x : A) → AllByRecursion (λ d. reads d ≡ Some x) (forms x)
+-- what is written for a value
+abbrev pub data_of : Setting → Data
+data_of (Truth b) = boolean b
+data_of (Number n) = integer (pos n)
+data_of (Word w) = string (spelled w)
 
--- one of several
-one_of : {A : Type 0} (P : A → Type 0) (b : Bool) (x : A) (rest : Option A) (y : A) → (b ≡ true → P x) → (rest ≡ Some y → P y) → (if b then Some x else rest) ≡ Some y → P y
-one_of P true x rest y here later h = let same : x ≡ y = cc in subst P same (here refl)
-one_of P false x rest y here later h = later h
+spelled_is : (text : List ℕ) (ws : List AWord) (w : AWord) → first_some (if_spelled text) ws ≡ Some w → text ≡ spelled w
+spelled_is text [] w h = cc
+spelled_is text (v ∷ ws) w h = by (bytes_eq (spelled v) text) refl (spelled_is text ws w) h
+  where
+    by : (b : Bool) → bytes_eq (spelled v) text ≡ b → (first_some (if_spelled text) ws ≡ Some w → text ≡ spelled w) → option_or (if b then Some v else None) (first_some (if_spelled text) ws) ≡ Some w → text ≡ spelled w
+    by true same later at = let one : v ≡ w = cc in sym ((bytes_eq-Decides (spelled v) text).0 same) ∙ ap spelled one
+    by false other later at = later at
 
-module _ {A : Type 0} (forms : A → List Data) where
-  number : (n : ℤ) (k : ℤ) (x : A) → Contains (forms x) (integer k) → int_eq n k ≡ true → Contains (forms x) (integer n)
-  number n k x there is = subst (λ z. Contains (forms x) (integer z)) (sym ((Decides-int_eq n k).0 is)) there
+word_written : (text : List ℕ) (x : Setting) → option_map Word (word_of text) ≡ Some x → string text ≡ data_of x
+unfolding word_of
+word_written text x h = by (word_of text) refl h
+  where
+    by : (o : Option AWord) → word_of text ≡ o → option_map Word o ≡ Some x → string text ≡ data_of x
+    by None is at = cc
+    by (Some w) is at = let one : Word w ≡ x = cc in ap string (spelled_is text words w is) ∙ ap data_of one
 
-  word : (text w : List ℕ) (x : A) → Contains (forms x) (string w) → bytes_eq text w ≡ true → Contains (forms x) (string text)
-  word text w x there is = subst (λ t. Contains (forms x) (string t)) (sym ((bytes_eq-Decides text w).0 is)) there
+number_written : (n : ℕ) (x : Setting) (b : Bool) → (if b then Some (Number n) else None) ≡ Some x → integer (pos n) ≡ data_of x
+number_written n x true h = let one : Number n ≡ x = cc in ap data_of one
+number_written n x false h = cc
 
-opt_level_only : (d : Data) (x : OptLevel) → opt_level_in d ≡ Some x → Contains (opt_levels x) d
-unfolding opt_level_in
-opt_level_only (integer n) x h =
-    one_of (λ y. Contains (opt_levels y) (integer n)) (int_eq n (pos 0)) Zero _ x (number opt_levels n (pos 0) Zero (0, omega arith, refl))
-    (one_of (λ y. Contains (opt_levels y) (integer n)) (int_eq n (pos 1)) One _ x (number opt_levels n (pos 1) One (0, omega arith, refl))
-    (one_of (λ y. Contains (opt_levels y) (integer n)) (int_eq n (pos 2)) Two _ x (number opt_levels n (pos 2) Two (0, omega arith, refl))
-    (one_of (λ y. Contains (opt_levels y) (integer n)) (int_eq n (pos 3)) Three None x (number opt_levels n (pos 3) Three (0, omega arith, refl)) (λ off. cc)))) h
-opt_level_only (string t) x h =
-    one_of (λ y. Contains (opt_levels y) (string t)) (bytes_eq t (codes "s")) Size _ x (word opt_levels t (codes "s") Size (0, omega arith, refl))
-    (one_of (λ y. Contains (opt_levels y) (string t)) (bytes_eq t (codes "z")) SmallestSize None x (word opt_levels t (codes "z") SmallestSize (0, omega arith, refl)) (λ off. cc)) h
-opt_level_only _ x h = cc
+-- a written value is written so
+written_is : (d : Data) (x : Setting) → written d ≡ Some x → d ≡ data_of x
+unfolding written
+written_is (boolean b) x h = let one : Truth b ≡ x = cc in ap data_of one
+written_is (integer (pos n)) x h = number_written n x (nat_lt n 4294967296) h
+written_is (integer (negsuc n)) x h = cc
+written_is (string text) x h = word_written text x h
+written_is _ x h = cc
 
-opt_level_back : (x : OptLevel) → AllByRecursion (λ d. opt_level_in d ≡ Some x) (opt_levels x)
-unfolding opt_level_in
-opt_level_back Zero = (refl, tt)
-opt_level_back One = (refl, tt)
-opt_level_back Two = (refl, tt)
-opt_level_back Three = (refl, tt)
-opt_level_back Size = (refl, tt)
-opt_level_back SmallestSize = (refl, tt)
+same_data : (a b : Setting) → same a b ≡ true → data_of a ≡ data_of b
+same_data (Truth true) (Truth true) h = refl
+same_data (Truth false) (Truth false) h = refl
+same_data (Number a) (Number b) h = ap (λ n. integer (pos n)) (eqb-true a b h)
+same_data (Word a) (Word b) h = ap string ((bytes_eq-Decides (spelled a) (spelled b)).0 h)
+same_data _ _ h = absurd (false≢true h)
 
-opt_level_forms : HasForms opt_level_in opt_levels
-opt_level_forms = record { only = opt_level_only; back = opt_level_back }
+-- a form among others
+is_form : Data → Data → Bool
+is_form (boolean a) (boolean b) = if a then b else not b
+is_form (integer a) (integer b) = int_eq a b
+is_form (string a) (string b) = bytes_eq a b
+is_form _ _ = false
 
-debug_only : (d : Data) (x : DebugInfo) → debug_in d ≡ Some x → Contains (debug_infos x) d
-unfolding debug_in
-debug_only (boolean true) x h = let same : debug.Full ≡ x = cc in subst (λ y. Contains (debug_infos y) (boolean true)) same (0, omega arith, refl)
-debug_only (boolean false) x h = let same : debug.Nothing ≡ x = cc in subst (λ y. Contains (debug_infos y) (boolean false)) same (0, omega arith, refl)
-debug_only (integer n) x h =
-    one_of (λ y. Contains (debug_infos y) (integer n)) (int_eq n (pos 0)) debug.Nothing _ x (number debug_infos n (pos 0) debug.Nothing (1, omega arith, refl))
-    (one_of (λ y. Contains (debug_infos y) (integer n)) (int_eq n (pos 1)) debug.Limited _ x (number debug_infos n (pos 1) debug.Limited (0, omega arith, refl))
-    (one_of (λ y. Contains (debug_infos y) (integer n)) (int_eq n (pos 2)) debug.Full None x (number debug_infos n (pos 2) debug.Full (1, omega arith, refl)) (λ off. cc))) h
-debug_only (string t) x h =
-    one_of (λ y. Contains (debug_infos y) (string t)) (bytes_eq t (codes "none")) debug.Nothing _ x (word debug_infos t (codes "none") debug.Nothing (2, omega arith, refl))
-    (one_of (λ y. Contains (debug_infos y) (string t)) (bytes_eq t (codes "limited")) debug.Limited _ x (word debug_infos t (codes "limited") debug.Limited (1, omega arith, refl))
-    (one_of (λ y. Contains (debug_infos y) (string t)) (bytes_eq t (codes "full")) debug.Full _ x (word debug_infos t (codes "full") debug.Full (2, omega arith, refl))
-    (one_of (λ y. Contains (debug_infos y) (string t)) (bytes_eq t (codes "line-tables-only")) debug.LineTablesOnly _ x (word debug_infos t (codes "line-tables-only") debug.LineTablesOnly (0, omega arith, refl))
-    (one_of (λ y. Contains (debug_infos y) (string t)) (bytes_eq t (codes "line-directives-only")) debug.LineDirectivesOnly None x (word debug_infos t (codes "line-directives-only") debug.LineDirectivesOnly (0, omega arith, refl)) (λ off. cc))))) h
-debug_only _ x h = cc
+form_is : (a b : Data) → is_form a b ≡ true → a ≡ b
+unfolding is_form
+form_is (boolean true) (boolean true) h = refl
+form_is (boolean false) (boolean false) h = refl
+form_is (integer a) (integer b) h = ap integer ((Decides-int_eq a b).0 h)
+form_is (string a) (string b) h = ap string ((bytes_eq-Decides a b).0 h)
+form_is _ _ h = absurd (false≢true h)
 
-debug_back : (x : DebugInfo) → AllByRecursion (λ d. debug_in d ≡ Some x) (debug_infos x)
-unfolding debug_in
-debug_back debug.Nothing = (refl, (refl, (refl, tt)))
-debug_back debug.Limited = (refl, (refl, tt))
-debug_back debug.Full = (refl, (refl, (refl, tt)))
-debug_back debug.LineTablesOnly = (refl, tt)
-debug_back debug.LineDirectivesOnly = (refl, tt)
+among : (ds : List Data) (d : Data) → list_any (λ e. is_form e d) ds ≡ true → Contains ds d
+among [] d h = absurd (false≢true h)
+among (e ∷ ds) d h = by (is_form e d) refl (among ds d) h
+  where
+    by : (b : Bool) → is_form e d ≡ b → (list_any (λ e. is_form e d) ds ≡ true → Contains ds d) → (b || list_any (λ e. is_form e d) ds) ≡ true → Contains (e ∷ ds) d
+    by true same later at = subst (Contains (e ∷ ds)) (form_is e d same) (head e ds)
+    by false other later at = tail e ds d (later at)
 
-debug_forms : HasForms debug_in debug_infos
-debug_forms = record { only = debug_only; back = debug_back }
+-- each value of a choice is a form of what it means
+fits : ProfileKey → Choice → Bool
+fits k (Is v) = list_any (λ e. is_form e (data_of v)) (forms k v)
+fits k (Means v meant) = list_any (λ e. is_form e (data_of v)) (forms k meant)
+fits key.CodegenUnits (Between low high) = (low == 1) && (high == 65536)
+fits _ (Between low high) = false
 
-lto_only : (d : Data) (x : Lto) → lto_in d ≡ Some x → Contains (ltos x) d
-unfolding lto_in
-lto_only (boolean true) x h = let same : lto.Fat ≡ x = cc in subst (λ y. Contains (ltos y) (boolean true)) same (0, omega arith, refl)
-lto_only (boolean false) x h = let same : lto.ThinLocal ≡ x = cc in subst (λ y. Contains (ltos y) (boolean false)) same (0, omega arith, refl)
-lto_only (string t) x h =
-    one_of (λ y. Contains (ltos y) (string t)) (bytes_eq t (codes "fat")) lto.Fat _ x (word ltos t (codes "fat") lto.Fat (1, omega arith, refl))
-    (one_of (λ y. Contains (ltos y) (string t)) (bytes_eq t (codes "thin")) lto.Thin _ x (word ltos t (codes "thin") lto.Thin (0, omega arith, refl))
-    (one_of (λ y. Contains (ltos y) (string t)) (bytes_eq t (codes "off")) lto.Off None x (word ltos t (codes "off") lto.Off (0, omega arith, refl)) (λ off. cc))) h
-lto_only _ x h = cc
+all_fit : (k : ProfileKey) → list_all (fits k) (choices k) ≡ true
+unfolding choices fits is_form
+all_fit key.CodegenUnits = refl
+all_fit _ = refl
 
-lto_back : (x : Lto) → AllByRecursion (λ d. lto_in d ≡ Some x) (ltos x)
-unfolding lto_in
-lto_back lto.Fat = (refl, (refl, tt))
-lto_back _ = (refl, tt)
+units_allowed : (low high n : ℕ) (x : Setting) → low ≡ 1 → high ≡ 65536 → between low high (Number n) ≡ Some x → Contains (forms key.CodegenUnits x) (integer (pos n))
+units_allowed low high n x one most h = by (nat_le 1 n && nat_le n 65536) refl ((λ i. if nat_le (sym one i) n && nat_le n (sym most i) then Some (Number n) else None) ∙ h)
+  where
+    by : (b : Bool) → (nat_le 1 n && nat_le n 65536) ≡ b → (if b then Some (Number n) else None) ≡ Some x → Contains (forms key.CodegenUnits x) (integer (pos n))
+    by true is at =
+        let same : Number n ≡ x = cc in
+        subst (λ y. Contains (forms key.CodegenUnits y) (integer (pos n))) same (subst (λ b. Contains (if b then integer (pos n) ∷ [] else []) (integer (pos n))) (sym is) (head (integer (pos n)) []))
+    by false is at = cc
 
-lto_forms : HasForms lto_in ltos
-lto_forms = record { only = lto_only; back = lto_back }
+allowed : (k : ProfileKey) (c : Choice) (w x : Setting) → fits k c ≡ true → accepted w c ≡ Some x → Contains (forms k x) (data_of w)
+unfolding fits
+allowed k (Is v) w x fit h = by (same w v) refl h
+  where
+    by : (b : Bool) → same w v ≡ b → (if b then Some v else None) ≡ Some x → Contains (forms k x) (data_of w)
+    by true is at = let one : v ≡ x = cc in subst (λ y. Contains (forms k y) (data_of w)) one (subst (Contains (forms k v)) (sym (same_data w v is)) (among (forms k v) (data_of v) fit))
+    by false is at = cc
+allowed k (Means v meant) w x fit h = by (same w v) refl h
+  where
+    by : (b : Bool) → same w v ≡ b → (if b then Some meant else None) ≡ Some x → Contains (forms k x) (data_of w)
+    by true is at = let one : meant ≡ x = cc in subst (λ y. Contains (forms k y) (data_of w)) one (subst (Contains (forms k meant)) (sym (same_data w v is)) (among (forms k meant) (data_of v) fit))
+    by false is at = cc
+allowed key.CodegenUnits (Between low high) (Number n) x fit h =
+    let (one, most) = and_parts (low == 1) (high == 65536) fit in units_allowed low high n x (eqb-true low 1 one) (eqb-true high 65536 most) h
+allowed key.CodegenUnits (Between low high) _ x fit h = cc
+allowed _ (Between low high) w x fit h = absurd (false≢true fit)
 
-strip_only : (d : Data) (x : Strip) → strip_in d ≡ Some x → Contains (strips x) d
-unfolding strip_in
-strip_only (boolean true) x h = let same : strip.Symbols ≡ x = cc in subst (λ y. Contains (strips y) (boolean true)) same (0, omega arith, refl)
-strip_only (boolean false) x h = let same : strip.Nothing ≡ x = cc in subst (λ y. Contains (strips y) (boolean false)) same (0, omega arith, refl)
-strip_only (string t) x h =
-    one_of (λ y. Contains (strips y) (string t)) (bytes_eq t (codes "none")) strip.Nothing _ x (word strips t (codes "none") strip.Nothing (1, omega arith, refl))
-    (one_of (λ y. Contains (strips y) (string t)) (bytes_eq t (codes "debuginfo")) strip.DebugInfo _ x (word strips t (codes "debuginfo") strip.DebugInfo (0, omega arith, refl))
-    (one_of (λ y. Contains (strips y) (string t)) (bytes_eq t (codes "symbols")) strip.Symbols None x (word strips t (codes "symbols") strip.Symbols (1, omega arith, refl)) (λ off. cc))) h
-strip_only _ x h = cc
+meant_so : (k : ProfileKey) (cs : List Choice) (w x : Setting) → list_all (fits k) cs ≡ true → meaning cs w ≡ Some x → Contains (forms k x) (data_of w)
+meant_so k [] w x fit h = cc
+meant_so k (c ∷ cs) w x fit h = let (one, others) = and_parts (fits k c) (list_all (fits k) cs) fit in by one (meant_so k cs w x others) (accepted w c) refl h
+  where
+    by : fits k c ≡ true → (meaning cs w ≡ Some x → Contains (forms k x) (data_of w)) → (o : Option Setting) → accepted w c ≡ o → option_or o (first_some (accepted w) cs) ≡ Some x → Contains (forms k x) (data_of w)
+    by one later (Some y) is at = let same : y ≡ x = cc in allowed k c w x one (is ∙ ap (λ z. Some z) same)
+    by one later None is at = later at
 
-strip_back : (x : Strip) → AllByRecursion (λ d. strip_in d ≡ Some x) (strips x)
-unfolding strip_in
-strip_back strip.Nothing = (refl, (refl, tt))
-strip_back strip.DebugInfo = (refl, tt)
-strip_back strip.Symbols = (refl, (refl, tt))
+-- a value that is read is in one of its forms
+setting_only : (k : ProfileKey) (d : Data) (x : Setting) → setting_in k d ≡ Some x → Contains (forms k x) d
+unfolding setting_in
+setting_only k d x h = by (written d) refl h
+  where
+    by : (o : Option Setting) → written d ≡ o → option_and_then (meaning_at k) o ≡ Some x → Contains (forms k x) d
+    by None is at = cc
+    by (Some w) is at = subst (Contains (forms k x)) (sym (written_is d w is)) (meant_so k (choices k) w x (all_fit k) at)
 
-strip_forms : HasForms strip_in strips
-strip_forms = record { only = strip_only; back = strip_back }
+-- a test that stands each word stands all
+spelled_back : (w : AWord) → word_of (spelled w) ≡ Some w
+unfolding word_of
+spelled_back word.Abort = refl
+spelled_back _ = refl
 
-panic_only : (d : Data) (x : Panic) → panic_in d ≡ Some x → Contains (panics x) d
-unfolding panic_in
-panic_only (string t) x h =
-    one_of (λ y. Contains (panics y) (string t)) (bytes_eq t (codes "unwind")) Unwind _ x (word panics t (codes "unwind") Unwind (0, omega arith, refl))
-    (one_of (λ y. Contains (panics y) (string t)) (bytes_eq t (codes "abort")) Abort None x (word panics t (codes "abort") Abort (0, omega arith, refl)) (λ off. cc)) h
-panic_only _ x h = cc
+along_words : (test : AWord → Bool) (w : AWord) (ws : List AWord) → list_all test ws ≡ true → first_some (if_spelled (spelled w)) ws ≡ Some w → test w ≡ true
+along_words test w [] all at = cc
+along_words test w (v ∷ ws) all at = let (one, others) = and_parts (test v) (list_all test ws) all in by one (along_words test w ws others) (bytes_eq (spelled v) (spelled w)) at
+  where
+    by : test v ≡ true → (first_some (if_spelled (spelled w)) ws ≡ Some w → test w ≡ true) → (b : Bool) → option_or (if b then Some v else None) (first_some (if_spelled (spelled w)) ws) ≡ Some w → test w ≡ true
+    by one later true at = let same : v ≡ w = cc in subst (λ u. test u ≡ true) same one
+    by one later false at = later at
 
-panic_back : (x : Panic) → AllByRecursion (λ d. panic_in d ≡ Some x) (panics x)
-unfolding panic_in
-panic_back Unwind = (refl, tt)
-panic_back Abort = (refl, tt)
+each_word : (test : AWord → Bool) (w : AWord) → list_all test words ≡ true → test w ≡ true
+unfolding word_of
+each_word test w all = along_words test w words all (spelled_back w)
 
-panic_forms : HasForms panic_in panics
-panic_forms = record { only = panic_only; back = panic_back }
+same_is : (a b : Setting) → same a b ≡ true → a ≡ b
+same_is (Truth true) (Truth true) h = refl
+same_is (Truth false) (Truth false) h = refl
+same_is (Number a) (Number b) h = ap (λ n. Number n) (eqb-true a b h)
+same_is (Word a) (Word b) h =
+    let text : spelled a ≡ spelled b = (bytes_eq-Decides (spelled a) (spelled b)).0 h in
+    let found : Some a ≡ Some b = sym (spelled_back a) ∙ ap word_of text ∙ spelled_back b in
+    let one : a ≡ b = cc in ap (λ w. Word w) one
+same_is _ _ h = absurd (false≢true h)
+
+reads_same : Setting → Option Setting → Bool
+reads_same x None = false
+reads_same x (Some y) = same y x
+
+-- whether a form is read as the value
+is_read : ProfileKey → Setting → Data → Bool
+is_read k x d = reads_same x (setting_in k d)
+
+truths_read : (k : ProfileKey) (b : Bool) → list_all (is_read k (Truth b)) (forms k (Truth b)) ≡ true
+unfolding is_read reads_same setting_in written choices word_of
+truths_read key.CodegenUnits true = refl
+truths_read key.CodegenUnits false = refl
+truths_read _ true = refl
+truths_read _ false = refl
+
+words_read : (k : ProfileKey) → list_all (λ w. list_all (is_read k (Word w)) (forms k (Word w))) words ≡ true
+unfolding is_read reads_same setting_in written choices word_of
+words_read key.CodegenUnits = refl
+words_read _ = refl
+
+units_read : (n : ℕ) (b : Bool) → (nat_le 1 n && nat_le n 65536) ≡ b → AllByRecursion (λ d. setting_in key.CodegenUnits d ≡ Some (Number n)) (if b then integer (pos n) ∷ [] else [])
+unfolding setting_in written choices
+units_read n false is = tt
+units_read n true is =
+    let small : nat_lt n 4294967296 ≡ true = grind (arith, nat_tests, (and_parts (nat_le 1 n) (nat_le n 65536) is).1) in
+    (rw (small, is) refl, tt)
+
+all_read : (k : ProfileKey) (x : Setting) (ds : List Data) → list_all (is_read k x) ds ≡ true → AllByRecursion (λ d. setting_in k d ≡ Some x) ds
+unfolding is_read reads_same
+all_read k x [] all = tt
+all_read k x (d ∷ ds) all = let (one, others) = and_parts (is_read k x d) (list_all (is_read k x) ds) all in (by (setting_in k d) refl one, all_read k x ds others)
+  where
+    by : (o : Option Setting) → setting_in k d ≡ o → reads_same x o ≡ true → setting_in k d ≡ Some x
+    by None is h = absurd (false≢true h)
+    by (Some y) is h = is ∙ ap (λ z. Some z) (same_is y x h)
+
+-- each form of a value is read as it
+pub setting_back : (k : ProfileKey) (x : Setting) → AllByRecursion (λ d. setting_in k d ≡ Some x) (forms k x)
+setting_back k (Truth b) = all_read k (Truth b) (forms k (Truth b)) (truths_read k b)
+setting_back k (Word w) = all_read k (Word w) (forms k (Word w)) (each_word (λ w. list_all (is_read k (Word w)) (forms k (Word w))) w (words_read k))
+setting_back key.CodegenUnits (Number n) = units_read n (nat_le 1 n && nat_le n 65536) refl
+setting_back _ (Number n) = tt
+
+-- a form is a truth value, a number or a text
+pub form_data : (k : ProfileKey) (x : Setting) (d : Data) → setting_in k d ≡ Some x → (w : Setting) × (d ≡ data_of w)
+unfolding setting_in
+form_data k x d h = by (written d) refl h
+  where
+    by : (o : Option Setting) → written d ≡ o → option_and_then (meaning_at k) o ≡ Some x → (w : Setting) × (d ≡ data_of w)
+    by None is at = cc
+    by (Some w) is at = (w, written_is d w is)
 
 -- such a key
 all_at : {A : Type 0} (P : A → Type 0) (xs : List A) (x : A) → AllByRecursion P xs → Contains xs x → P x
@@ -165,27 +249,28 @@ some_ok : {A : Type 0} (found : Option A) (x : A) → some_or BadProfile found �
 some_ok None x h = cc
 some_ok (Some y) x h = let same : y ≡ x = cc in ap (λ z. Some z) same
 
-module _ {A : Type 0} (reads : Data → Option A) (forms : A → List Data) (f : HasForms reads forms) where
-  form_only : (found : Option Data) (o : Option A) → optional (λ d. some_or BadProfile (reads d)) found ≡ Ok o → HoldsOne forms found o
-  form_only None o h = let same : None ≡ o = cc in subst (HoldsOne forms None) same tt
+module _ (k : ProfileKey) where
+  form_only : (found : Option Data) (o : Option Setting) → optional (λ d. some_or BadProfile (setting_in k d)) found ≡ Ok o → HoldsOne (forms k) found o
+  form_only None o h = let same : None ≡ o = cc in subst (HoldsOne (forms k) None) same tt
   form_only (Some d) o h =
-      let c = came (some_or BadProfile (reads d)) (λ x. Ok (Some x)) o h in
+      let c = came (some_or BadProfile (setting_in k d)) (λ x. Ok (Some x)) o h in
       let same : Some c.value ≡ o = cc (c.more) in
-      subst (HoldsOne forms (Some d)) same (f.only d c.value (some_ok (reads d) c.value c.was), tt)
+      subst (HoldsOne (forms k) (Some d)) same (setting_only k d c.value (some_ok (setting_in k d) c.value c.was), tt)
 
-  form_back : (found : Option Data) (o : Option A) → HoldsOne forms found o → optional (λ d. some_or BadProfile (reads d)) found ≡ Ok o
+  form_back : (found : Option Data) (o : Option Setting) → HoldsOne (forms k) found o → optional (λ d. some_or BadProfile (setting_in k d)) found ≡ Ok o
   form_back None None is = refl
   form_back None (Some x) is = absurd is
   form_back (Some d) None is = absurd is
-  form_back (Some d) (Some x) is = ap (λ q. some_or BadProfile q >>= (λ y. Ok (Some y))) (all_at (λ e. reads e ≡ Some x) (forms x) d (f.back x) is.0)
+  form_back (Some d) (Some x) is = ap (λ q. some_or BadProfile q >>= (λ y. Ok (Some y))) (all_at (λ e. setting_in k e ≡ Some x) (forms k x) d (setting_back k x) is.0)
 
--- truth values, numbers, texts
-truth_form : IsWrittenAs (λ d. some_or BadProfile (as_bool d)) (λ b. boolean b) Any
-truth_form = record { only = only; back = λ x valid. refl; plain = λ x. refl }
-  where
-    only : (d : Data) (x : Bool) → some_or BadProfile (as_bool d) ≡ Ok x → (d ≡ boolean x) × Any x
-    only (boolean b) x h = let same : b ≡ x = cc in (ap (λ q. boolean q) same, tt)
-    only _ x h = cc
+-- the names of the table are those of the law
+named_so : (k : ProfileKey) → spelled_key (key_name.OfProfile k) ≡ name_of k
+unfolding spelled_key row
+named_so key.CodegenUnits = refl
+named_so _ = refl
+
+found_at : (k : ProfileKey) (ms : Members) → value_at (key_name.OfProfile k) ms ≡ get_member (name_of k) ms
+found_at k ms = ap (λ name. get_member name ms) (named_so k)
 
 text_form : IsWrittenAs (λ d. some_or BadProfile (as_str d)) (λ t. string t) Any
 text_form = record { only = only; back = λ x valid. refl; plain = λ x. refl }
@@ -194,70 +279,76 @@ text_form = record { only = only; back = λ x valid. refl; plain = λ x. refl }
     only (string t) x h = let same : t ≡ x = cc in (ap (λ q. string q) same, tt)
     only _ x h = cc
 
-abbrev InRange : ℕ → Type 0
-InRange n = (1 ≤ n) × (n ≤ 65536)
+-- the values that were read, key by key
+lengths_only : (ks : List ProfileKey) (ms : Members) (said : Said) → settings_at ks ms ≡ Ok said → length said ≡ length ks
+lengths_only [] ms said h = let same : [] ≡ said = cc in ap (λ (vs : Said). length vs) (sym same)
+lengths_only (k ∷ ks) ms said h =
+    let a = came (profile_value (setting_in k) (key_name.OfProfile k) ms) (λ value. settings_at ks ms >>= (λ values. Ok (value ∷ values))) said h in
+    let b = came (settings_at ks ms) (λ values. Ok (a.value ∷ values)) said a.more in
+    let same : a.value ∷ b.value ≡ said = cc (b.more) in
+    ap (λ (vs : Said). length vs) (sym same) ∙ ap suc (lengths_only ks ms b.value b.was)
 
-in_range : (n : ℕ) → (nat_le 1 n && nat_le n 65536) ≡ true → InRange n
-in_range n h = let p = and_parts (nat_le 1 n) (nat_le n 65536) h in (grind (arith, nat_tests, p.0), grind (arith, nat_tests, p.1))
-
-range_in : (n : ℕ) → InRange n → (nat_le 1 n && nat_le n 65536) ≡ true
-range_in n is = grind (arith, nat_tests, is.0, is.1)
-
-units_form : IsWrittenAs (λ d. some_or BadProfile (codegen_units_in d)) (λ n. integer (pos n)) InRange
-unfolding codegen_units_in
-units_form = record { only = only; back = back; plain = λ x. refl }
+keys_only : (ks : List ProfileKey) (ms : Members) (said : Said) → settings_at ks ms ≡ Ok said → (i : ℕ) (k : ProfileKey) → slice_get ks i ≡ Some k → profile_value (setting_in k) (key_name.OfProfile k) ms ≡ Ok (get_or said i None)
+keys_only [] ms said h i k at = cc
+keys_only (l ∷ ks) ms said h i k at =
+    let a = came (profile_value (setting_in l) (key_name.OfProfile l) ms) (λ value. settings_at ks ms >>= (λ values. Ok (value ∷ values))) said h in
+    let b = came (settings_at ks ms) (λ values. Ok (a.value ∷ values)) said a.more in
+    let same : a.value ∷ b.value ≡ said = cc (b.more) in
+    subst (λ (vs : Said). profile_value (setting_in k) (key_name.OfProfile k) ms ≡ Ok (get_or vs i None)) same (by a.value b.value a.was (λ n there. keys_only ks ms b.value b.was n k there) i at)
   where
-    some_units : (n x : ℕ) (b : Bool) → (nat_le 1 n && nat_le n 65536) ≡ b → some_or BadProfile (if b then Some n else None) ≡ Ok x → (integer (pos n) ≡ integer (pos x)) × InRange x
-    some_units n x true at h = let same : n ≡ x = cc in (ap (λ q. integer (pos q)) same, subst InRange same (in_range n at))
-    some_units n x false at h = cc
+    by : (value : Option Setting) (values : Said) → profile_value (setting_in l) (key_name.OfProfile l) ms ≡ Ok value
+        → ((n : ℕ) → slice_get ks n ≡ Some k → profile_value (setting_in k) (key_name.OfProfile k) ms ≡ Ok (get_or values n None))
+        → (i : ℕ) → slice_get (l ∷ ks) i ≡ Some k → profile_value (setting_in k) (key_name.OfProfile k) ms ≡ Ok (get_or (value ∷ values) i None)
+    by value values was later zero at = let same : l ≡ k = cc in subst (λ m. profile_value (setting_in m) (key_name.OfProfile m) ms ≡ Ok value) same was
+    by value values was later (suc n) at = later n at
 
-    only : (d : Data) (x : ℕ) → some_or BadProfile (codegen_units_in d) ≡ Ok x → (d ≡ integer (pos x)) × InRange x
-    only (integer (pos n)) x h = some_units n x (nat_le 1 n && nat_le n 65536) refl h
-    only (integer (negsuc n)) x h = cc
-    only _ x h = cc
+keys_back : (ks : List ProfileKey) (ms : Members) (said : Said) → length said ≡ length ks → ((i : ℕ) (k : ProfileKey) → slice_get ks i ≡ Some k → profile_value (setting_in k) (key_name.OfProfile k) ms ≡ Ok (get_or said i None)) → settings_at ks ms ≡ Ok said
+keys_back [] ms [] same each = refl
+keys_back [] ms (value ∷ said) same each = absurd (omega arith)
+keys_back (k ∷ ks) ms [] same each = absurd (omega arith)
+keys_back (k ∷ ks) ms (value ∷ said) same each =
+    let fewer : length said ≡ length ks = omega arith in
+    λ i. each 0 k refl i >>= (λ value. keys_back ks ms said fewer (λ n l at. each (suc n) l at) i >>= (λ values. Ok (value ∷ values)))
 
-    back : (x : ℕ) → InRange x → some_or BadProfile (codegen_units_in (integer (pos x))) ≡ Ok x
-    back x is = ap (λ b. some_or BadProfile (if b then Some x else None)) (range_in x is)
+-- the numbers from the first on
+up_from : ℕ → ℕ → List ℕ
+up_from n zero = []
+up_from n (suc m) = n ∷ up_from (suc n) m
 
-settings_only : (ms : Members) (k : ProfileKeys) → profile_keys ms ≡ Ok k → AreSettings ms k
-unfolding spelled
-settings_only ms k h =
-    let t = four_on k (profile_value codegen_units_in key.CodegenUnits ms) (profile_value debug_in key.Debug ms) (profile_value as_bool key.DebugAssertions ms) (profile_value lto_in key.Lto ms)
-    (λ codegen_units debug debug_assertions lto. profile_value opt_level_in key.OptLevel ms >>= (λ opt_level. profile_value as_bool key.OverflowChecks ms >>= (λ overflow_checks. profile_value panic_in key.Panic ms >>= (λ panic.
-    profile_value as_bool key.Rpath ms >>= (λ rpath. profile_value strip_in key.Strip ms >>= (λ strip.
-    Ok record { codegen_units = codegen_units; debug = debug; debug_assertions = debug_assertions; lto = lto; opt_level = opt_level; overflow_checks = overflow_checks; panic = panic; rpath = rpath; strip = strip })))))) h in
-    let u = five k (profile_value opt_level_in key.OptLevel ms) (profile_value as_bool key.OverflowChecks ms) (profile_value panic_in key.Panic ms) (profile_value as_bool key.Rpath ms) (profile_value strip_in key.Strip ms)
-    (λ opt_level overflow_checks panic rpath strip. record { codegen_units = t.0; debug = t.1; debug_assertions = t.2; lto = t.3; opt_level = opt_level; overflow_checks = overflow_checks; panic = panic; rpath = rpath; strip = strip }) t.8 in
-    let units = optional_only (λ d. some_or BadProfile (codegen_units_in d)) (λ n. integer (pos n)) InRange units_form (value_at key.CodegenUnits ms) t.0 t.4 in
-    subst (AreSettings ms) u.10 (record {
-      codegen_units = units;
-      debug_is = form_only debug_in debug_infos debug_forms (value_at key.Debug ms) t.1 t.5;
-      debug_assertions = (optional_only (λ d. some_or BadProfile (as_bool d)) (λ b. boolean b) Any truth_form (value_at key.DebugAssertions ms) t.2 t.6).0;
-      lto_is = form_only lto_in ltos lto_forms (value_at key.Lto ms) t.3 t.7;
-      opt_level = form_only opt_level_in opt_levels opt_level_forms (value_at key.OptLevel ms) u.0 u.5;
-      overflow_checks = (optional_only (λ d. some_or BadProfile (as_bool d)) (λ b. boolean b) Any truth_form (value_at key.OverflowChecks ms) u.1 u.6).0;
-      panic = form_only panic_in panics panic_forms (value_at key.Panic ms) u.2 u.7;
-      rpath = (optional_only (λ d. some_or BadProfile (as_bool d)) (λ b. boolean b) Any truth_form (value_at key.Rpath ms) u.3 u.8).0;
-      strip_is = form_only strip_in strips strip_forms (value_at key.Strip ms) u.4 u.9;
-    })
+counted : (n : ℕ) (ks : List ProfileKey) → map place ks ≡ up_from n (length ks) → (i : ℕ) (k : ProfileKey) → slice_get ks i ≡ Some k → place k ≡ n + i
+unfolding up_from
+counted n [] same i k at = cc
+counted n (l ∷ ks) same zero k at =
+    let one : l ≡ k = cc in
+    let first : place l ≡ n = ap (λ ns. get_or ns 0 0) same in
+    let none : n ≡ n + 0 = omega arith in
+    ap place (sym one) ∙ first ∙ none
+counted n (l ∷ ks) same (suc i) k at =
+    let rest : map place ks ≡ up_from (suc n) (length ks) = ap (λ ns. drop 1 ns) same in
+    let moved : suc n + i ≡ n + suc i = omega arith in
+    counted (suc n) ks rest i k at ∙ moved
 
-truth_back : (found : Option Data) (o : Option Bool) → Holds (λ b. boolean b) found o → optional (λ d. some_or BadProfile (as_bool d)) found ≡ Ok o
-truth_back found o is = optional_back (λ d. some_or BadProfile (as_bool d)) (λ b. boolean b) Any truth_form found o is (some_any o)
+-- a key at an index has it as its own
+placed : (i : ℕ) (k : ProfileKey) → slice_get keys i ≡ Some k → i ≡ place k
+unfolding up_from
+placed i k at = let none : i ≡ 0 + i = omega arith in none ∙ sym (counted 0 keys refl i k at)
 
-settings_back : (ms : Members) (k : ProfileKeys) → AreSettings ms k → profile_keys ms ≡ Ok k
-unfolding spelled
-settings_back ms k says =
-    let a : profile_value codegen_units_in key.CodegenUnits ms ≡ Ok k.codegen_units = optional_back (λ d. some_or BadProfile (codegen_units_in d)) (λ n. integer (pos n)) InRange units_form (value_at key.CodegenUnits ms) k.codegen_units says.codegen_units.0 says.codegen_units.1 in
-    let b : profile_value debug_in key.Debug ms ≡ Ok k.debug = form_back debug_in debug_infos debug_forms (value_at key.Debug ms) k.debug says.debug_is in
-    let c : profile_value as_bool key.DebugAssertions ms ≡ Ok k.debug_assertions = truth_back (value_at key.DebugAssertions ms) k.debug_assertions says.debug_assertions in
-    let d : profile_value lto_in key.Lto ms ≡ Ok k.lto = form_back lto_in ltos lto_forms (value_at key.Lto ms) k.lto says.lto_is in
-    let e : profile_value opt_level_in key.OptLevel ms ≡ Ok k.opt_level = form_back opt_level_in opt_levels opt_level_forms (value_at key.OptLevel ms) k.opt_level says.opt_level in
-    let f : profile_value as_bool key.OverflowChecks ms ≡ Ok k.overflow_checks = truth_back (value_at key.OverflowChecks ms) k.overflow_checks says.overflow_checks in
-    let g : profile_value panic_in key.Panic ms ≡ Ok k.panic = form_back panic_in panics panic_forms (value_at key.Panic ms) k.panic says.panic in
-    let h : profile_value as_bool key.Rpath ms ≡ Ok k.rpath = truth_back (value_at key.Rpath ms) k.rpath says.rpath in
-    let s : profile_value strip_in key.Strip ms ≡ Ok k.strip = form_back strip_in strips strip_forms (value_at key.Strip ms) k.strip says.strip_is in
-    λ i. a i >>= (λ a. b i >>= (λ b. c i >>= (λ c. d i >>= (λ d. e i >>= (λ e. f i >>= (λ f. g i >>= (λ g. h i >>= (λ h. s i >>= (λ s.
-    Ok record { codegen_units = a; debug = b; debug_assertions = c; lto = d; opt_level = e; overflow_checks = f; panic = g; rpath = h; strip = s })))))))))
+settings_only : (ms : Members) (said : Said) → profile_keys ms ≡ Ok said → AreSettings ms said
+unfolding profile_keys
+settings_only ms said h = record {
+  one_each = lengths_only keys ms said h;
+  each = λ k. subst (λ found. HoldsOne (forms k) found (says said k)) (found_at k ms) (form_only k (value_at (key_name.OfProfile k) ms) (says said k) (keys_only keys ms said h (place k) k (in_place k)));
+}
+
+settings_back : (ms : Members) (said : Said) → AreSettings ms said → profile_keys ms ≡ Ok said
+unfolding profile_keys
+settings_back ms said is = keys_back keys ms said is.one_each each
+  where
+    here : (i : ℕ) (k : ProfileKey) → i ≡ place k → profile_value (setting_in k) (key_name.OfProfile k) ms ≡ Ok (get_or said i None)
+    here i k at = subst (λ n. profile_value (setting_in k) (key_name.OfProfile k) ms ≡ Ok (get_or said n None)) (sym at) (form_back k (value_at (key_name.OfProfile k) ms) (says said k) (subst (λ found. HoldsOne (forms k) found (says said k)) (sym (found_at k ms)) (is.each k)))
+
+    each : (i : ℕ) (k : ProfileKey) → slice_get keys i ≡ Some k → profile_value (setting_in k) (key_name.OfProfile k) ms ≡ Ok (get_or said i None)
+    each i k at = here i k (placed i k at)
 
 pub settings_read : ReadsSettings
 settings_read ms k = (settings_only ms k, settings_back ms k)
@@ -291,15 +382,15 @@ build_some : (ms : Members) → build_override_in (Some ms) ≡ (profile_keys ms
 build_some ms = refl
 
 profile_only : (name : List ℕ) (d : Data) (p : Profile) → profile_of name d ≡ Ok p → OfTable (IsProfileEntry name) d p
-unfolding profile_of spelled
+unfolding profile_of spelled_key
 profile_only name d p h =
     let a = came (profile_table d) (profile_of_table name) p h in
-    let t = four_on p (build_override_at a.value) (profile_keys a.value) (profile_value as_str key.Inherits a.value) (overrides_at a.value)
+    let t = four_on p (build_override_at a.value) (profile_keys a.value) (profile_value as_str key_name.Inherits a.value) (overrides_at a.value)
     (λ build_override keys inherits packages. if may_be_profile name inherits then Ok record { name = name; keys = keys; inherits = inherits; packages = packages; build_override = build_override } else Err BadProfile) a.more in
     by a.value t.0 t.1 t.2 t.3 (table_ok d a.value a.was) t.4 t.5 t.6 t.7 (may_be_profile name t.2) refl t.8
   where
-    by : (ms : Members) (build_override : Option ProfileKeys) (keys : ProfileKeys) (inherits : Option (List ℕ)) (packages : List ProfileOverride) → d ≡ table ms → build_override_at ms ≡ Ok build_override → profile_keys ms ≡ Ok keys
-        → profile_value as_str key.Inherits ms ≡ Ok inherits → overrides_at ms ≡ Ok packages → (b : Bool) → may_be_profile name inherits ≡ b
+    by : (ms : Members) (build_override : Option Said) (keys : Said) (inherits : Option (List ℕ)) (packages : List ProfileOverride) → d ≡ table ms → build_override_at ms ≡ Ok build_override → profile_keys ms ≡ Ok keys
+        → profile_value as_str key_name.Inherits ms ≡ Ok inherits → overrides_at ms ≡ Ok packages → (b : Bool) → may_be_profile name inherits ≡ b
         → (if b then Ok record { name = name; keys = keys; inherits = inherits; packages = packages; build_override = build_override } else Err BadProfile) ≡ Ok p → OfTable (IsProfileEntry name) d p
     by ms build_override keys inherits packages is one two three four true may h =
         let made : Profile = record { name = name; keys = keys; inherits = inherits; packages = packages; build_override = build_override } in
@@ -310,22 +401,22 @@ profile_only name d p h =
           record {
             name_is = refl;
             keys = settings_only ms keys two;
-            inherits = (optional_only (λ d. some_or BadProfile (as_str d)) (λ t. string t) Any text_form (value_at key.Inherits ms) inherits three).0;
+            inherits = (optional_only (λ d. some_or BadProfile (as_str d)) (λ t. string t) Any text_form (value_at key_name.Inherits ms) inherits three).0;
             may_be = may;
-            packages = entries_at_only override_of (λ name. OfTable (IsOverrideEntry name)) override_reads BadProfile (value_at key.Package ms) packages four;
-            build_override = table_at_only profile_keys AreSettings settings_read build_override_in build_none build_some BadProfile (value_at key.BuildOverride ms) build_override one;
+            packages = entries_at_only override_of (λ name. OfTable (IsOverrideEntry name)) override_reads BadProfile (value_at key_name.Package ms) packages four;
+            build_override = table_at_only profile_keys AreSettings settings_read build_override_in build_none build_some BadProfile (value_at key_name.BuildOverride ms) build_override one;
           },
         )
     by ms build_override keys inherits packages is one two three four false may h = cc
 
 profile_back : (name : List ℕ) (d : Data) (p : Profile) → OfTable (IsProfileEntry name) d p → profile_of name d ≡ Ok p
-unfolding profile_of spelled
+unfolding profile_of spelled_key
 profile_back name d p says =
     let ms = says.0 in
-    let one : build_override_at ms ≡ Ok p.build_override = table_at_back profile_keys AreSettings settings_read build_override_in build_none build_some BadProfile (value_at key.BuildOverride ms) p.build_override says.2.build_override in
+    let one : build_override_at ms ≡ Ok p.build_override = table_at_back profile_keys AreSettings settings_read build_override_in build_none build_some BadProfile (value_at key_name.BuildOverride ms) p.build_override says.2.build_override in
     let two : profile_keys ms ≡ Ok p.keys = settings_back ms p.keys says.2.keys in
-    let three : profile_value as_str key.Inherits ms ≡ Ok p.inherits = optional_back (λ d. some_or BadProfile (as_str d)) (λ t. string t) Any text_form (value_at key.Inherits ms) p.inherits says.2.inherits (some_any p.inherits) in
-    let four : overrides_at ms ≡ Ok p.packages = entries_at_back override_of (λ name. OfTable (IsOverrideEntry name)) override_reads BadProfile (value_at key.Package ms) p.packages says.2.packages in
+    let three : profile_value as_str key_name.Inherits ms ≡ Ok p.inherits = optional_back (λ d. some_or BadProfile (as_str d)) (λ t. string t) Any text_form (value_at key_name.Inherits ms) p.inherits says.2.inherits (some_any p.inherits) in
+    let four : overrides_at ms ≡ Ok p.packages = entries_at_back override_of (λ name. OfTable (IsOverrideEntry name)) override_reads BadProfile (value_at key_name.Package ms) p.packages says.2.packages in
     (λ i. profile_table (says.1 i) >>= profile_of_table name)
     ∙ (λ i. one i >>= (λ build_override. two i >>= (λ keys. three i >>= (λ inherits. four i >>= (λ packages. if may_be_profile name inherits then Ok record { name = name; keys = keys; inherits = inherits; packages = packages; build_override = build_override } else Err BadProfile)))))
     ∙ (λ i. if says.2.may_be i then Ok record { name = sym says.2.name_is i; keys = p.keys; inherits = p.inherits; packages = p.packages; build_override = p.build_override } else Err BadProfile)

@@ -1,8 +1,12 @@
 -- What is written of a manifest that was read says that manifest.
 use Rattle.std.proofs.Common.{inl, inr, ◌≡◌, ◌∙◌, ℕ, Bool, pos, true, false, List, [], ◌∷◌, map, codes, Contains, Option, Some, None, is_some, refl, sym, ap, subst, arith}
-use Rattle.std.specs.List.{AllByRecursion, slice_get}
-use Rattle.std.specs.Option.{option_and_then, option_map, option_map_or}
+use Rattle.std.specs.List.{AllByRecursion, AllZip, slice_get}
+use Rattle.std.specs.Option.{option_and_then, option_map, option_map_or, option_or, option_to_list}
+use Rattle.pb_graph.proofs.Membership.{none, head}
 use Rattle.toml.specs.Data.{Data, string, integer, boolean, Members, get_member, as_table}
+use Rattle.pb_profile_keys.specs.Keys.{Said, says}
+use Rattle.pb_profile_keys.specs.declared.key.ProfileKey.{ProfileKey}
+use Rattle.pb_profile_keys.specs.declared.key.ProfileKey.TheVariants as key
 use Rattle.pb_manifest_types.specs.Letters.{is_name, is_feature_name}
 use Rattle.pb_manifest_types.specs.Library.{crate_type_text}
 use Rattle.pb_manifest_types.specs.declared.dependency.Dependency.{Dependency}
@@ -19,14 +23,8 @@ use Rattle.pb_manifest_types.specs.declared.package.Build.{Build}
 use Rattle.pb_manifest_types.specs.declared.package.Build.TheVariants as build
 use Rattle.pb_manifest_types.specs.declared.package.Edition.TheVariants.{E2015}
 use Rattle.pb_manifest_types.specs.declared.package.Package.{Package}
-use Rattle.pb_manifest_types.specs.declared.profile.OptLevel.TheVariants.{Zero, One, Two, Three, Size, SmallestSize}
-use Rattle.pb_manifest_types.specs.declared.profile.DebugInfo.TheVariants as debug
-use Rattle.pb_manifest_types.specs.declared.profile.Lto.TheVariants as lto
-use Rattle.pb_manifest_types.specs.declared.profile.Panic.TheVariants.{Unwind, Abort}
 use Rattle.pb_manifest_types.specs.declared.profile.Profile.{Profile}
-use Rattle.pb_manifest_types.specs.declared.profile.ProfileKeys.{ProfileKeys}
 use Rattle.pb_manifest_types.specs.declared.profile.ProfileOverride.{ProfileOverride}
-use Rattle.pb_manifest_types.specs.declared.profile.Strip.TheVariants as strip
 use Rattle.pb_manifest_types.specs.declared.target.Binary.{Binary}
 use Rattle.pb_manifest_types.specs.declared.target.Library.{Library}
 use Rattle.pb_manifest.specs.Profiles.{may_be_profile}
@@ -35,12 +33,12 @@ use Rattle.pb_manifest_laws.specs.Dependencies.{IsSource, IsDependencyEntry, IsS
 use Rattle.pb_manifest_laws.specs.Documents.{IsDocument}
 use Rattle.pb_manifest_laws.specs.Laws.{ReadsWhatIsWritten}
 use Rattle.pb_manifest_laws.specs.Packages.{edition, IsBuild, readme_value, IsResolver, IsPackageTable, IsLibraryTable, IsBinaryTable, IsFeatureEntry}
-use Rattle.pb_manifest_laws.specs.Profiles.{opt_levels, debug_infos, ltos, strips, panics, HoldsOne, AreSettings, IsOverrideEntry, IsProfileEntry}
+use Rattle.pb_manifest_laws.specs.Profiles.{name_of, forms, HoldsOne, AreSettings, IsOverrideEntry, IsProfileEntry}
 use Rattle.pb_manifest_laws.specs.Values.{texts, HoldsOr, Lists, OfTable, HoldsOrTakes, HasOrTakes, IsTableAt, AreTablesAt, AreEntriesAt, members_of}
 use Rattle.pb_manifest_laws.specs.Workspaces.{IsInheritedTable, IsWorkspaceTable}
 use Rattle.pb_manifest_laws.specs.Written.{members_with, table_with, list, entries, inheritable, inherited_value, build_value, package_rows, library_rows, binary_rows, feature_items, dependency_rows, dependency_entry, shared_rows, shared_entry, first_form, profile_rows, settings_table, profile_entry, inherited_rows, workspace_rows, dependencies, document_rows, written}
 use Rattle.pb_manifest_laws.proofs.Documents.{documents_read}
-use Rattle.pb_manifest_laws.proofs.Rows.{at, holds_at, text_at, text_taken, takes, has_or_takes, table_written, tables_written, entries_written}
+use Rattle.pb_manifest_laws.proofs.Rows.{in_rows, at, holds_at, text_at, text_taken, takes, has_or_takes, table_written, tables_written, entries_written}
 
 -- no resolver is written
 no_resolver : IsResolver None
@@ -219,63 +217,30 @@ shared_written name d x (inr says) =
     subst (λ y. IsSharedEntry y.key (shared_entry y) y) (sym says.2) (inl (members_with (shared_rows shared.Unsupported []), refl, shared_table name shared.Unsupported [] says.0 (no_source [])))
 
 -- profiles
-HasFirst : {A : Type 0} → (A → List Data) → Type 0
-HasFirst {A} forms = (x : A) → (d : Data) × (slice_get (forms x) 0 ≡ Some d) × Contains (forms x) d
+-- the first form of a value that has one is one of its forms
+form_written : {A : Type 0} (forms : A → List Data) (found : Option Data) (o : Option A) → HoldsOne forms found o → HoldsOne forms (first_form forms o) o
+form_written forms None None is = tt
+form_written forms None (Some x) is = absurd is
+form_written forms (Some d) None is = absurd is
+form_written forms (Some d) (Some x) is = by (forms x) refl is.0
+  where
+    by : (ds : List Data) → forms x ≡ ds → Contains ds d → AllZip (λ e y. Contains (forms y) e) (option_to_list (slice_get ds 0)) (x ∷ [])
+    by [] same is = absurd (none d is)
+    by (e ∷ ds) same is = (subst (λ es. Contains es e) (sym same) (head e ds), tt)
 
-form_written : {A : Type 0} (forms : A → List Data) → HasFirst forms → (o : Option A) → HoldsOne forms (first_form forms o) o
-unfolding HasFirst
-form_written forms has None = tt
-form_written {A} forms has (Some x) = subst (λ found. HoldsOne forms found (Some x)) (sym (has x).1) ((has x).2, tt)
+module _ (ms : Members) (override : Option Data) (inherits : Option (List ℕ)) (packages : Option Data) where
+  -- the keys one by one
+  row_written : (said : Said) (k : ProfileKey) → in_rows (name_of k) (profile_rows override inherits packages said) ≡ option_or (first_form (forms k) (says said k)) None
+  row_written said key.CodegenUnits = refl
+  row_written said _ = refl
 
-first_debug : HasFirst debug_infos
-unfolding HasFirst
-first_debug debug.Nothing = (boolean false, refl, (0, omega arith, refl))
-first_debug debug.Limited = (integer (pos 1), refl, (0, omega arith, refl))
-first_debug debug.Full = (boolean true, refl, (0, omega arith, refl))
-first_debug debug.LineTablesOnly = (string (codes "line-tables-only"), refl, (0, omega arith, refl))
-first_debug debug.LineDirectivesOnly = (string (codes "line-directives-only"), refl, (0, omega arith, refl))
+  each_written : (whole : Said) (k : ProfileKey) → HoldsOne (forms k) (get_member (name_of k) ms) (says whole k) → HoldsOne (forms k) (get_member (name_of k) (members_with (profile_rows override inherits packages whole))) (says whole k)
+  each_written whole k is =
+      holds_at (λ o. HoldsOne (forms k) o (says whole k)) (name_of k) (profile_rows override inherits packages whole) (first_form (forms k) (says whole k)) (row_written whole k)
+      (form_written (forms k) (get_member (name_of k) ms) (says whole k) is)
 
-first_lto : HasFirst ltos
-unfolding HasFirst
-first_lto lto.ThinLocal = (boolean false, refl, (0, omega arith, refl))
-first_lto lto.Fat = (boolean true, refl, (0, omega arith, refl))
-first_lto lto.Thin = (string (codes "thin"), refl, (0, omega arith, refl))
-first_lto lto.Off = (string (codes "off"), refl, (0, omega arith, refl))
-
-first_strip : HasFirst strips
-unfolding HasFirst
-first_strip strip.Nothing = (boolean false, refl, (0, omega arith, refl))
-first_strip strip.DebugInfo = (string (codes "debuginfo"), refl, (0, omega arith, refl))
-first_strip strip.Symbols = (boolean true, refl, (0, omega arith, refl))
-
-first_panic : HasFirst panics
-unfolding HasFirst
-first_panic Unwind = (string (codes "unwind"), refl, (0, omega arith, refl))
-first_panic Abort = (string (codes "abort"), refl, (0, omega arith, refl))
-
-first_level : HasFirst opt_levels
-unfolding HasFirst
-first_level Zero = (integer (pos 0), refl, (0, omega arith, refl))
-first_level One = (integer (pos 1), refl, (0, omega arith, refl))
-first_level Two = (integer (pos 2), refl, (0, omega arith, refl))
-first_level Three = (integer (pos 3), refl, (0, omega arith, refl))
-first_level Size = (string (codes "s"), refl, (0, omega arith, refl))
-first_level SmallestSize = (string (codes "z"), refl, (0, omega arith, refl))
-
-settings_written : (ms : Members) (override : Option Data) (inherits : Option (List ℕ)) (packages : Option Data) (keys : ProfileKeys) → AreSettings ms keys → AreSettings (members_with (profile_rows override inherits packages keys)) keys
-settings_written ms override inherits packages keys says =
-    let rows = profile_rows override inherits packages keys in
-    record {
-      codegen_units = (at (codes "codegen-units") rows (option_map (λ n. integer (pos n)) keys.codegen_units) refl, says.codegen_units.1);
-      debug_is = holds_at (λ o. HoldsOne debug_infos o keys.debug) (codes "debug") rows (first_form debug_infos keys.debug) refl (form_written debug_infos first_debug keys.debug);
-      debug_assertions = at (codes "debug-assertions") rows (option_map (λ b. boolean b) keys.debug_assertions) refl;
-      lto_is = holds_at (λ o. HoldsOne ltos o keys.lto) (codes "lto") rows (first_form ltos keys.lto) refl (form_written ltos first_lto keys.lto);
-      opt_level = holds_at (λ o. HoldsOne opt_levels o keys.opt_level) (codes "opt-level") rows (first_form opt_levels keys.opt_level) refl (form_written opt_levels first_level keys.opt_level);
-      overflow_checks = at (codes "overflow-checks") rows (option_map (λ b. boolean b) keys.overflow_checks) refl;
-      panic = holds_at (λ o. HoldsOne panics o keys.panic) (codes "panic") rows (first_form panics keys.panic) refl (form_written panics first_panic keys.panic);
-      rpath = at (codes "rpath") rows (option_map (λ b. boolean b) keys.rpath) refl;
-      strip_is = holds_at (λ o. HoldsOne strips o keys.strip) (codes "strip") rows (first_form strips keys.strip) refl (form_written strips first_strip keys.strip);
-    }
+  settings_written : (said : Said) → AreSettings ms said → AreSettings (members_with (profile_rows override inherits packages said)) said
+  settings_written said is = record { one_each = is.one_each; each = λ k. each_written said k (is.each k) }
 
 override_written : (name : List ℕ) (d : Data) (o : ProfileOverride) → OfTable (IsOverrideEntry name) d o → OfTable (IsOverrideEntry o.name) (settings_table o.keys) o
 override_written name d o says = (members_with (profile_rows None None None o.keys), refl, record { name_is = refl; keys = settings_written says.0 None None None o.keys says.2.keys })

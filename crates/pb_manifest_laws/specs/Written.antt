@@ -1,8 +1,10 @@
 -- The written form of a manifest, table by table: each key with its value, in byte order;
 -- keys that were left out stay left out.
-use Rattle.std.specs.Prelude.{ℕ, Bool, pos, true, false, List, [], ◌∷◌, map, codes, Option, Some, None}
+use Rattle.std.specs.Prelude.{ℕ, Bool, pos, true, false, if◌then◌else◌, List, [], ◌∷◌, map, codes, Option, Some, None}
+use Rattle.std.specs.Cmp.Lexicographic.{slice_cmp}
 use Rattle.std.specs.List.{slice_get}
 use Rattle.std.specs.Option.{option_and_then, option_map}
+use Rattle.std.specs.Ordering.{is_lt, nat_cmp}
 use Rattle.toml.specs.Data.{Data, string, integer, boolean, array, table, Members, no_members, member}
 use Rattle.toml.specs.View.{items_of}
 use Rattle.pb_manifest_types.specs.Library.{crate_type_text}
@@ -24,13 +26,15 @@ use Rattle.pb_manifest_types.specs.declared.package.Build.{Build}
 use Rattle.pb_manifest_types.specs.declared.package.Build.TheVariants as build
 use Rattle.pb_manifest_types.specs.declared.package.Package.{Package}
 use Rattle.pb_manifest_types.specs.declared.profile.Profile.{Profile}
-use Rattle.pb_manifest_types.specs.declared.profile.ProfileKeys.{ProfileKeys}
+use Rattle.pb_profile_keys.specs.Keys.{Said, says}
+use Rattle.pb_profile_keys.specs.Table.{keys}
+use Rattle.pb_profile_keys.specs.declared.key.ProfileKey.{ProfileKey}
 use Rattle.pb_manifest_types.specs.declared.profile.ProfileOverride.{ProfileOverride}
 use Rattle.pb_manifest_types.specs.declared.target.Binary.{Binary}
 use Rattle.pb_manifest_types.specs.declared.target.Library.{Library}
 use Rattle.pb_manifest.specs.Laws.{item_text}
 use Rattle.pb_manifest_laws.specs.Packages.{edition, readme_value}
-use Rattle.pb_manifest_laws.specs.Profiles.{opt_levels, debug_infos, ltos, strips, panics}
+use Rattle.pb_manifest_laws.specs.Profiles.{name_of, forms}
 use Rattle.pb_manifest_laws.specs.Values.{texts, members_of}
 
 -- the keys of a table, each with its value if it has one
@@ -114,16 +118,22 @@ shared_entry d = table_with (shared_rows d.source d.features)
 abbrev pub first_form : {A : Type 0} → (A → List Data) → Option A → Option Data
 first_form forms value = option_and_then (λ x. slice_get (forms x) 0) value
 
--- the rows of a profile's settings, merged with its other keys; the rows of an override are the settings only
-abbrev pub profile_rows : Option Data → Option (List ℕ) → Option Data → ProfileKeys → Rows
-profile_rows override inherits packages keys =
-    (codes "build-override", override) ∷ (codes "codegen-units", option_map (λ n. integer (pos n)) keys.codegen_units) ∷ (codes "debug", first_form debug_infos keys.debug)
-    ∷ (codes "debug-assertions", option_map boolean keys.debug_assertions) ∷ (codes "inherits", option_map string inherits) ∷ (codes "lto", first_form ltos keys.lto) ∷ (codes "opt-level", first_form opt_levels keys.opt_level)
-    ∷ (codes "overflow-checks", option_map boolean keys.overflow_checks) ∷ (codes "package", packages) ∷ (codes "panic", first_form panics keys.panic) ∷ (codes "rpath", option_map boolean keys.rpath)
-    ∷ (codes "strip", first_form strips keys.strip) ∷ []
+-- the row of a key, with the first form of its value
+abbrev pub key_row : Said → ProfileKey → List ℕ × Option Data
+key_row said k = (name_of k, first_form (forms k) (says said k))
 
-abbrev pub settings_table : ProfileKeys → Data
-settings_table keys = table_with (profile_rows None None None keys)
+-- rows in byte order of their keys, with one more in its place
+abbrev pub with_row : List ℕ × Option Data → Rows → Rows
+with_row row [] = row ∷ []
+with_row row (other ∷ rows) = if is_lt (slice_cmp nat_cmp row.0 other.0) then row ∷ other ∷ rows else other ∷ with_row row rows
+
+-- the rows of a profile's settings, with those of its other keys; the rows of an override are the settings only
+abbrev pub profile_rows : Option Data → Option (List ℕ) → Option Data → Said → Rows
+profile_rows override inherits packages said =
+    with_row (codes "build-override", override) (with_row (codes "inherits", option_map string inherits) (with_row (codes "package", packages) (map (key_row said) keys)))
+
+abbrev pub settings_table : Said → Data
+settings_table said = table_with (profile_rows None None None said)
 
 abbrev pub profile_entry : Profile → Data
 profile_entry p = table_with (profile_rows (option_map settings_table p.build_override) p.inherits (entries (λ (o : ProfileOverride). o.name) (λ o. settings_table o.keys) p.packages) p.keys)

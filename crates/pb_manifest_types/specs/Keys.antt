@@ -1,5 +1,6 @@
 -- The keys that the rules name, as a manifest spells them.
 use Rattle.std.specs.Prelude.{ℕ, List, codes}
+use Rattle.pb_profile_keys.specs.Table.{row}
 use Rattle.pb_manifest_types.specs.declared.key.Key.{Key}
 use Rattle.pb_manifest_types.specs.declared.key.Key.TheVariants as key
 
@@ -11,10 +12,7 @@ spelled key.Bin = codes "bin"
 spelled key.Build = codes "build"
 spelled key.BuildDependencies = codes "build-dependencies"
 spelled key.BuildOverride = codes "build-override"
-spelled key.CodegenUnits = codes "codegen-units"
 spelled key.CrateType = codes "crate-type"
-spelled key.Debug = codes "debug"
-spelled key.DebugAssertions = codes "debug-assertions"
 spelled key.DefaultFeatures = codes "default-features"
 spelled key.DefaultMembers = codes "default-members"
 spelled key.Dependencies = codes "dependencies"
@@ -30,14 +28,11 @@ spelled key.Lib = codes "lib"
 spelled key.License = codes "license"
 spelled key.LicenseFile = codes "license-file"
 spelled key.Links = codes "links"
-spelled key.Lto = codes "lto"
 spelled key.Members = codes "members"
 spelled key.Name = codes "name"
-spelled key.OptLevel = codes "opt-level"
+spelled (key.OfProfile k) = (row k).name
 spelled key.Optional = codes "optional"
-spelled key.OverflowChecks = codes "overflow-checks"
 spelled key.Package = codes "package"
-spelled key.Panic = codes "panic"
 spelled key.Patch = codes "patch"
 spelled key.Path = codes "path"
 spelled key.ProcMacro = codes "proc-macro"
@@ -48,9 +43,7 @@ spelled key.Replace = codes "replace"
 spelled key.Repository = codes "repository"
 spelled key.RequiredFeatures = codes "required-features"
 spelled key.Resolver = codes "resolver"
-spelled key.Rpath = codes "rpath"
 spelled key.RustVersion = codes "rust-version"
-spelled key.Strip = codes "strip"
 spelled key.Target = codes "target"
 spelled key.Version = codes "version"
 spelled key.Workspace = codes "workspace"

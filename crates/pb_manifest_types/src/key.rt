@@ -3,6 +3,8 @@
 ghost use Rattle.std.specs.Prelude.{◌≡◌};
 ghost use Rattle.pb_manifest_types.specs.Keys.{spelled};
 
+use pb_profile_keys::ProfileKey;
+
 /// A key that a rule of the reader names. No rule reads any other key.
 #[derive(Clone, Copy, Debug, PartialEq, Eq)]
 pub enum Key {
@@ -18,14 +20,8 @@ pub enum Key {
     BuildDependencies,
     /// `build-override`.
     BuildOverride,
-    /// `codegen-units`.
-    CodegenUnits,
     /// `crate-type`.
     CrateType,
-    /// `debug`.
-    Debug,
-    /// `debug-assertions`.
-    DebugAssertions,
     /// `default-features`.
     DefaultFeatures,
     /// `default-members`.
@@ -56,22 +52,16 @@ pub enum Key {
     LicenseFile,
     /// `links`.
     Links,
-    /// `lto`.
-    Lto,
     /// `members`.
     Members,
     /// `name`.
     Name,
-    /// `opt-level`.
-    OptLevel,
+    /// A key that a profile or an override sets.
+    OfProfile(ProfileKey),
     /// `optional`.
     Optional,
-    /// `overflow-checks`.
-    OverflowChecks,
     /// `package`.
     Package,
-    /// `panic`.
-    Panic,
     /// `patch`.
     Patch,
     /// `path`.
@@ -92,12 +82,8 @@ pub enum Key {
     RequiredFeatures,
     /// `resolver`.
     Resolver,
-    /// `rpath`.
-    Rpath,
     /// `rust-version`.
     RustVersion,
-    /// `strip`.
-    Strip,
     /// `target`.
     Target,
     /// `version`.
@@ -119,10 +105,7 @@ impl Key {
             Key::Build => "build",
             Key::BuildDependencies => "build-dependencies",
             Key::BuildOverride => "build-override",
-            Key::CodegenUnits => "codegen-units",
             Key::CrateType => "crate-type",
-            Key::Debug => "debug",
-            Key::DebugAssertions => "debug-assertions",
             Key::DefaultFeatures => "default-features",
             Key::DefaultMembers => "default-members",
             Key::Dependencies => "dependencies",
@@ -138,14 +121,11 @@ impl Key {
             Key::License => "license",
             Key::LicenseFile => "license-file",
             Key::Links => "links",
-            Key::Lto => "lto",
             Key::Members => "members",
             Key::Name => "name",
-            Key::OptLevel => "opt-level",
+            Key::OfProfile(key) => key.row().name,
             Key::Optional => "optional",
-            Key::OverflowChecks => "overflow-checks",
             Key::Package => "package",
-            Key::Panic => "panic",
             Key::Patch => "patch",
             Key::Path => "path",
             Key::ProcMacro => "proc-macro",
@@ -156,9 +136,7 @@ impl Key {
             Key::Repository => "repository",
             Key::RequiredFeatures => "required-features",
             Key::Resolver => "resolver",
-            Key::Rpath => "rpath",
             Key::RustVersion => "rust-version",
-            Key::Strip => "strip",
             Key::Target => "target",
             Key::Version => "version",
             Key::Workspace => "workspace",

@@ -4,10 +4,11 @@ use Rattle.std.specs.Prelude.{ℕ, Bool, true, false, if◌then◌else◌, codes
 use Rattle.std.specs.List.{ends_with, concat}
 use Rattle.pb_json.specs.Json.{json_string}
 use Rattle.pb_manifest_types.specs.Package.{edition_text}
-use Rattle.pb_manifest_types.specs.declared.profile.DebugInfo.{DebugInfo}
-use Rattle.pb_manifest_types.specs.declared.profile.DebugInfo.TheVariants.{Nothing, Limited, Full, LineTablesOnly, LineDirectivesOnly}
-use Rattle.pb_profile.specs.Words.{opt_level_text}
-use Rattle.pb_profile.specs.declared.settings.Settings.{Settings}
+use Rattle.pb_profile_keys.specs.Keys.{opt_level, debug, debug_assertions, overflow_checks}
+use Rattle.pb_profile_keys.specs.Setting.{spelled}
+use Rattle.pb_profile_keys.specs.declared.setting.Setting.{Setting}
+use Rattle.pb_profile_keys.specs.declared.setting.Word.{Word}
+use Rattle.pb_profile_keys.specs.declared.setting.Word.TheVariants as word
 use Rattle.pb_data.specs.Truth.{truth_text}
 use Rattle.pb_message.specs.Json.{json_texts, json_pairs}
 use Rattle.pb_message.specs.declared.subject.Subject.{Subject}
@@ -58,18 +59,17 @@ abbrev pub subject_text : Subject → List ℕ
 subject_text s = subject_object (id_text s) (json_string s.manifest) (target_text s.target)
 
 -- the debug information setting: a number, or a name as a string
-abbrev pub debug_info_json : DebugInfo → List ℕ
-debug_info_json Nothing = codes "0"
-debug_info_json Limited = codes "1"
-debug_info_json Full = codes "2"
-debug_info_json LineTablesOnly = codes "\"line-tables-only\""
-debug_info_json LineDirectivesOnly = codes "\"line-directives-only\""
+abbrev pub debug_info_json : Word → List ℕ
+debug_info_json word.Zero = codes "0"
+debug_info_json word.One = codes "1"
+debug_info_json word.Two = codes "2"
+debug_info_json w = json_string (spelled w)
 
 -- the object of a profile
-abbrev pub profile_text : Settings → List ℕ
+abbrev pub profile_text : List Setting → List ℕ
 profile_text s = concat (
-    codes "{\"opt_level\":\"" ∷ opt_level_text s.opt_level ∷ codes "\",\"debuginfo\":" ∷ debug_info_json s.debug ∷ codes ",\"debug_assertions\":" ∷ truth_text s.debug_assertions
-    ∷ codes ",\"overflow_checks\":" ∷ truth_text s.overflow_checks ∷ codes ",\"test\":false}" ∷ [])
+    codes "{\"opt_level\":" ∷ json_string (spelled (opt_level s)) ∷ codes ",\"debuginfo\":" ∷ debug_info_json (debug s) ∷ codes ",\"debug_assertions\":" ∷ truth_text (debug_assertions s)
+    ∷ codes ",\"overflow_checks\":" ∷ truth_text (overflow_checks s) ∷ codes ",\"test\":false}" ∷ [])
 
 -- the file if it is executable, else null
 abbrev pub executable_text : Bool → List ℕ → List ℕ

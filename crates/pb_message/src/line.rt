@@ -9,9 +9,9 @@ use crate::message::{Artifact, Executed, Level, Message};
 use crate::subject::{Subject, Target};
 use pb_data::{Text, truth_text};
 use pb_json::json_string;
-use pb_manifest_types::DebugInfo;
+use pb_manifest_types::Word;
 use pb_place_types::PathText;
-use pb_profile::{Settings, opt_level_text};
+use pb_profile::Settings;
 use std::alloc::{AllocError, Global};
 
 /// Returns whether a folder's path ends in a name.
@@ -148,15 +148,14 @@ fn subject_text(alloc: Global, subject: &Subject) -> Result<String, AllocError>
 }
 
 /// Returns the debug information setting in JSON: a number, or a name as a string.
-fn debug_info_json(debug: DebugInfo) -> &'static str
-    ensures { result.now ≡ debug_info_json debug }
+fn debug_info_json(alloc: Global, debug: Word) -> Result<String, AllocError>
+    ensures { IfOk result (λ text. string_bytes text ≡ debug_info_json debug) }
 {
     match debug {
-        DebugInfo::Nothing => "0",
-        DebugInfo::Limited => "1",
-        DebugInfo::Full => "2",
-        DebugInfo::LineTablesOnly => "\"line-tables-only\"",
-        DebugInfo::LineDirectivesOnly => "\"line-directives-only\"",
+        Word::Zero => String::from_str(alloc, "0"),
+        Word::One => String::from_str(alloc, "1"),
+        Word::Two => String::from_str(alloc, "2"),
+        word => json_string(alloc, word.spelled()),
     }
 }
 
@@ -164,17 +163,19 @@ fn debug_info_json(debug: DebugInfo) -> &'static str
 fn profile_text(alloc: Global, settings: &Settings) -> Result<String, AllocError>
     ensures { IfOk result (λ text. string_bytes text ≡ profile_text settings.now) }
 {
+    let level = json_string(alloc, settings.opt_level().spelled())?;
+    let debug = debug_info_json(alloc, settings.debug())?;
     joined(
         alloc,
         &[
-            "{\"opt_level\":\"",
-            opt_level_text(settings.opt_level),
-            "\",\"debuginfo\":",
-            debug_info_json(settings.debug),
+            "{\"opt_level\":",
+            level.as_str(),
+            ",\"debuginfo\":",
+            debug.as_str(),
             ",\"debug_assertions\":",
-            truth_text(settings.debug_assertions),
+            truth_text(settings.debug_assertions()),
             ",\"overflow_checks\":",
-            truth_text(settings.overflow_checks),
+            truth_text(settings.overflow_checks()),
             ",\"test\":false}",
         ],
     )

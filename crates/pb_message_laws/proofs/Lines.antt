@@ -10,12 +10,11 @@ use Rattle.json.specs.Print.{escape_letter, escape_byte, escape}
 use Rattle.pb_directive.specs.Lines.{has_byte}
 use Rattle.pb_json.specs.Json.{json_string}
 use Rattle.pb_manifest_types.specs.Package.{edition_text}
-use Rattle.pb_manifest_types.specs.declared.profile.DebugInfo.{DebugInfo}
-use Rattle.pb_manifest_types.specs.declared.profile.DebugInfo.TheVariants.{Nothing, Limited, Full, LineTablesOnly, LineDirectivesOnly}
-use Rattle.pb_manifest_types.specs.declared.profile.OptLevel.{OptLevel}
-use Rattle.pb_manifest_types.specs.declared.profile.OptLevel.TheVariants as opt
-use Rattle.pb_profile.specs.Words.{opt_level_text}
-use Rattle.pb_profile.specs.declared.settings.Settings.{Settings}
+use Rattle.pb_profile_keys.specs.Keys.{opt_level, debug, debug_assertions, overflow_checks}
+use Rattle.pb_profile_keys.specs.Setting.{spelled}
+use Rattle.pb_profile_keys.specs.declared.setting.Setting.{Setting}
+use Rattle.pb_profile_keys.specs.declared.setting.Word.{Word}
+use Rattle.pb_profile_keys.specs.declared.setting.Word.TheVariants as word
 use Rattle.pb_data.specs.Truth.{truth_text}
 use Rattle.pb_message.specs.Json.{after_commas, listed, json_texts, json_pair, json_pairs}
 use Rattle.pb_message.specs.Message.{package_id, required_list, required_text, target_object, target_text, id_text, subject_object, subject_text, debug_info_json, profile_text, executable_text, diagnostic_line, artifact_object, artifact_line, level_text, note_object, note_line, executed_object, executed_line}
@@ -164,26 +163,17 @@ subject_line : (s : Subject) → IsOfOneLine (subject_text s)
 unfolding subject_object
 subject_line s = concat_line (id_text s ∷ codes ",\"manifest_path\":" ∷ json_string s.manifest ∷ codes ",\"target\":" ∷ target_text s.target ∷ []) (id_line s, (refl, (string_line s.manifest, (refl, (target_line s.target, tt)))))
 
-level_line : (level : OptLevel) → IsOfOneLine (opt_level_text level)
-level_line opt.Zero = refl
-level_line opt.One = refl
-level_line opt.Two = refl
-level_line opt.Three = refl
-level_line opt.Size = refl
-level_line opt.SmallestSize = refl
+debug_line : (w : Word) → IsOfOneLine (debug_info_json w)
+debug_line word.Zero = refl
+debug_line word.One = refl
+debug_line word.Two = refl
+debug_line w = string_line (spelled w)
 
-debug_line : (debug : DebugInfo) → IsOfOneLine (debug_info_json debug)
-debug_line Nothing = refl
-debug_line Limited = refl
-debug_line Full = refl
-debug_line LineTablesOnly = refl
-debug_line LineDirectivesOnly = refl
-
-profile_line : (s : Settings) → IsOfOneLine (profile_text s)
+profile_line : (s : List Setting) → IsOfOneLine (profile_text s)
 profile_line s =
     concat_line
-    (codes "{\"opt_level\":\"" ∷ opt_level_text s.opt_level ∷ codes "\",\"debuginfo\":" ∷ debug_info_json s.debug ∷ codes ",\"debug_assertions\":" ∷ truth_text s.debug_assertions ∷ codes ",\"overflow_checks\":" ∷ truth_text s.overflow_checks ∷ codes ",\"test\":false}" ∷ [])
-    (refl, (level_line s.opt_level, (refl, (debug_line s.debug, (refl, (truth_line s.debug_assertions, (refl, (truth_line s.overflow_checks, (refl, tt)))))))))
+    (codes "{\"opt_level\":" ∷ json_string (spelled (opt_level s)) ∷ codes ",\"debuginfo\":" ∷ debug_info_json (debug s) ∷ codes ",\"debug_assertions\":" ∷ truth_text (debug_assertions s) ∷ codes ",\"overflow_checks\":" ∷ truth_text (overflow_checks s) ∷ codes ",\"test\":false}" ∷ [])
+    (refl, (string_line (spelled (opt_level s)), (refl, (debug_line (debug s), (refl, (truth_line (debug_assertions s), (refl, (truth_line (overflow_checks s), (refl, tt)))))))))
 
 executable_line : (is : Bool) (file : List ℕ) → IsOfOneLine (executable_text is file)
 executable_line true file = string_line file

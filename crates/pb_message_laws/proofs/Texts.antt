@@ -5,10 +5,6 @@ use Rattle.std.proofs.lemmas.List.{append-nil}
 use Rattle.json.specs.Print.{escape_byte, quoted}
 use Rattle.pb_json.specs.Json.{json_string}
 use Rattle.pb_manifest_types.specs.Package.{edition_text}
-use Rattle.pb_manifest_types.specs.declared.profile.DebugInfo.{DebugInfo}
-use Rattle.pb_manifest_types.specs.declared.profile.DebugInfo.TheVariants.{Nothing, Limited, Full, LineTablesOnly, LineDirectivesOnly}
-use Rattle.pb_manifest_types.specs.declared.profile.OptLevel.{OptLevel}
-use Rattle.pb_manifest_types.specs.declared.profile.OptLevel.TheVariants as opt
 use Rattle.pb_data.specs.Truth.{truth_text}
 use Rattle.pb_message.specs.Json.{after_commas, listed, json_texts, json_pair, json_pairs}
 use Rattle.pb_message.specs.Message.{package_id, required_list, required_text, target_object, target_text, id_text, subject_object, subject_text, debug_info_json, profile_text, executable_text, artifact_object, level_text, line_of, note_object, executed_object}
@@ -20,8 +16,11 @@ use Rattle.pb_message.specs.declared.message.Message.{Message}
 use Rattle.pb_message.specs.declared.message.Message.TheVariants.{CompilerMessage, CompilerArtifact, BuildScriptNote, BuildScriptExecuted}
 use Rattle.pb_message.specs.declared.subject.Subject.{Subject}
 use Rattle.pb_message.specs.declared.subject.Target.{Target}
-use Rattle.pb_profile.specs.Words.{opt_level_text}
-use Rattle.pb_profile.specs.declared.settings.Settings.{Settings}
+use Rattle.pb_profile_keys.specs.Keys.{opt_level, debug, debug_assertions, overflow_checks}
+use Rattle.pb_profile_keys.specs.Setting.{spelled}
+use Rattle.pb_profile_keys.specs.declared.setting.Setting.{Setting}
+use Rattle.pb_profile_keys.specs.declared.setting.Word.{Word}
+use Rattle.pb_profile_keys.specs.declared.setting.Word.TheVariants as word
 use Rattle.serde_json.specs.Data.{Data, boolean, string, array, object, Members, no_members, member}
 use Rattle.serde_json.specs.View.{items_of}
 use Rattle.serde_json.specs.Written.{comma_if, compact_text, items_text, members_text}
@@ -73,22 +72,12 @@ truth_is : (b : Bool) → truth_text b ≡ compact_text (boolean b)
 truth_is true = refl
 truth_is false = refl
 
-debug_is : (d : DebugInfo) → debug_info_json d ≡ compact_text (debug_info_of d)
+debug_is : (w : Word) → debug_info_json w ≡ compact_text (debug_info_of w)
 unfolding escape_byte
-debug_is Nothing = sym (decimal_digit 0 (omega arith))
-debug_is Limited = sym (decimal_digit 1 (omega arith))
-debug_is Full = sym (decimal_digit 2 (omega arith))
-debug_is LineTablesOnly = refl
-debug_is LineDirectivesOnly = refl
-
-opt_is : (o : OptLevel) (rest : List ℕ) → 34 ∷ (opt_level_text o ++ 34 ∷ rest) ≡ quoted (opt_level_text o) ++ rest
-unfolding escape_byte
-opt_is opt.Zero rest = refl
-opt_is opt.One rest = refl
-opt_is opt.Two rest = refl
-opt_is opt.Three rest = refl
-opt_is opt.Size rest = refl
-opt_is opt.SmallestSize rest = refl
+debug_is word.Zero = sym (decimal_digit 0 (omega arith))
+debug_is word.One = sym (decimal_digit 1 (omega arith))
+debug_is word.Two = sym (decimal_digit 2 (omega arith))
+debug_is _ = refl
 
 level_is : (l : Level) (rest : List ℕ) → 34 ∷ (level_text l ++ 34 ∷ rest) ≡ quoted (level_text l) ++ rest
 unfolding escape_byte
@@ -108,15 +97,11 @@ target_is t = λ i.
     codes "{\"kind\":" ++ (texts_are t.kinds i ++ (codes ",\"crate_types\":" ++ (texts_are t.crate_types i ++ (codes ",\"name\":" ++ (json_string t.name
     ++ (codes ",\"src_path\":" ++ (json_string t.source ++ (codes ",\"edition\":" ++ (json_string (edition_text t.edition) ++ required_are t.required_features i)))))))))
 
-profile_is : (s : Settings) → profile_text s ≡ compact_text (profile_of s)
+profile_is : (s : List Setting) → profile_text s ≡ compact_text (profile_of s)
 unfolding escape_byte
-profile_is s =
-    ap (λ t. codes "{\"opt_level\":" ++ t)
-    (opt_is s.opt_level
-    (codes ",\"debuginfo\":" ++ (debug_info_json s.debug ++ (codes ",\"debug_assertions\":" ++ (truth_text s.debug_assertions ++ (codes ",\"overflow_checks\":" ++ (truth_text s.overflow_checks ++ codes ",\"test\":false}")))))))
-    ∙ (λ i.
-    codes "{\"opt_level\":" ++ (quoted (opt_level_text s.opt_level)
-    ++ (codes ",\"debuginfo\":" ++ (debug_is s.debug i ++ (codes ",\"debug_assertions\":" ++ (truth_is s.debug_assertions i ++ (codes ",\"overflow_checks\":" ++ (truth_is s.overflow_checks i ++ codes ",\"test\":false}"))))))))
+profile_is s = λ i.
+    codes "{\"opt_level\":" ++ (json_string (spelled (opt_level s))
+    ++ (codes ",\"debuginfo\":" ++ (debug_is (debug s) i ++ (codes ",\"debug_assertions\":" ++ (truth_is (debug_assertions s) i ++ (codes ",\"overflow_checks\":" ++ (truth_is (overflow_checks s) i ++ codes ",\"test\":false}")))))))
 
 -- ---- what lines begin with
 

@@ -1,19 +1,21 @@
 -- The object of each message line:
 -- one JSON object for each reason, without spaces, followed by a line feed (The Cargo Book, External Tools).
-use Rattle.std.specs.Prelude.{◌≡◌, ℕ, Bool, false, if◌then◌else◌, codes, List, [], ◌∷◌, ◌++◌, map, Option, Some, None, IfSome}
+use Rattle.std.specs.Prelude.{◌≡◌, ℕ, Bool, true, false, if◌then◌else◌, codes, List, [], ◌∷◌, ◌++◌, map, Option, Some, None, IfSome}
 use Rattle.std.specs.List.{flat_map, position}
 use Rattle.std.specs.Option.{option_map_or}
 use Rattle.std.specs.Str.{bytes_eq}
-use Rattle.pb_command_arguments.specs.Words.{debug_info_text}
 use Rattle.pb_manifest_types.specs.Package.{edition_text}
-use Rattle.pb_manifest_types.specs.declared.profile.DebugInfo.{DebugInfo}
 use Rattle.pb_message.specs.Message.{package_id, level_text, line_of, lines_of, finish_line}
 use Rattle.pb_message.specs.declared.message.Message.{Message}
 use Rattle.pb_message.specs.declared.message.Message.TheVariants.{CompilerMessage, CompilerArtifact, BuildScriptNote, BuildScriptExecuted}
 use Rattle.pb_message.specs.declared.subject.Subject.{Subject}
 use Rattle.pb_message.specs.declared.subject.Target.{Target}
-use Rattle.pb_profile.specs.Words.{opt_level_text}
-use Rattle.pb_profile.specs.declared.settings.Settings.{Settings}
+use Rattle.pb_profile_keys.specs.Keys.{setting_at, word_in}
+use Rattle.pb_profile_keys.specs.Setting.{same, spelled}
+use Rattle.pb_profile_keys.specs.declared.key.ProfileKey.TheVariants as key
+use Rattle.pb_profile_keys.specs.declared.setting.Setting.{Setting}
+use Rattle.pb_profile_keys.specs.declared.setting.Setting.TheVariants.{Truth}
+use Rattle.pb_profile_keys.specs.declared.setting.Word.{Word}
 use Rattle.serde_json.specs.Data.{unsigned, Data, null, boolean, number, string, array, object, Members, no_members, member}
 use Rattle.serde_json.specs.View.{items_of}
 use Rattle.serde_json.specs.Written.{compact_text}
@@ -41,12 +43,13 @@ target_of t = of_members ((codes "kind", texts t.kinds) ∷ (codes "crate_types"
     ∷ (codes "edition", string (edition_text t.edition)) ∷ required t.required_features)
 
 -- the debug information setting: the compiler's own word for it, as a number if it is one
-abbrev pub debug_info_of : DebugInfo → Data
-debug_info_of d = option_map_or (λ n. number (unsigned n)) (position (bytes_eq (debug_info_text d)) (codes "0" ∷ codes "1" ∷ codes "2" ∷ [])) (string (debug_info_text d))
+abbrev pub debug_info_of : Word → Data
+debug_info_of w = option_map_or (λ n. number (unsigned n)) (position (bytes_eq (spelled w)) (codes "0" ∷ codes "1" ∷ codes "2" ∷ [])) (string (spelled w))
 
-abbrev pub profile_of : Settings → Data
-profile_of s = of_members ((codes "opt_level", string (opt_level_text s.opt_level)) ∷ (codes "debuginfo", debug_info_of s.debug) ∷ (codes "debug_assertions", boolean s.debug_assertions)
-    ∷ (codes "overflow_checks", boolean s.overflow_checks) ∷ (codes "test", boolean false) ∷ [])
+abbrev pub profile_of : List Setting → Data
+profile_of s = of_members ((codes "opt_level", string (spelled (word_in (setting_at s key.OptLevel)))) ∷ (codes "debuginfo", debug_info_of (word_in (setting_at s key.Debug)))
+    ∷ (codes "debug_assertions", boolean (same (setting_at s key.DebugAssertions) (Truth true)))
+    ∷ (codes "overflow_checks", boolean (same (setting_at s key.OverflowChecks) (Truth true))) ∷ (codes "test", boolean false) ∷ [])
 
 abbrev pub pairs : List (List ℕ × List ℕ) → Data
 pairs ps = array (items_of (map (λ (p : List ℕ × List ℕ). texts (p.0 ∷ p.1 ∷ [])) ps))

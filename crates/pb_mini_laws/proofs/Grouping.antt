@@ -1,5 +1,5 @@
 -- The words of a compile, group by group: the libraries among them are those of the unit.
-use Rattle.std.proofs.Common.{◌≡◌, ℕ, ◌&&◌, eqb, Bool, true, false, cond, codes, List, [], ◌∷◌, ◌++◌, Option, Some, None, refl, sym, ◌∙◌, ap, append_assoc}
+use Rattle.std.proofs.Common.{◌≡◌, ℕ, ◌&&◌, eqb, Bool, true, false, cond, if◌then◌else◌, codes, List, [], ◌∷◌, ◌++◌, Option, Some, None, refl, sym, ◌∙◌, ap, append_assoc}
 use Rattle.std.proofs.lemmas.Bool.Decides.{Decides-eqb}
 use Rattle.std.specs.List.{flat_map}
 use Rattle.std.specs.Str.{bytes_eq}
@@ -9,13 +9,12 @@ use Rattle.pb_feature_types.specs.Features.{features_at}
 use Rattle.pb_manifest_types.specs.Library.{crate_type_text}
 use Rattle.pb_manifest_types.specs.declared.package.Edition.{Edition}
 use Rattle.pb_manifest_types.specs.declared.package.Edition.TheVariants as edition
-use Rattle.pb_manifest_types.specs.declared.profile.Lto.{Lto}
-use Rattle.pb_manifest_types.specs.declared.profile.Lto.TheVariants as lto
-use Rattle.pb_manifest_types.specs.declared.profile.Strip.{Strip}
-use Rattle.pb_manifest_types.specs.declared.profile.Strip.TheVariants as strip
 use Rattle.pb_manifest_types.specs.declared.target.CrateType.{CrateType}
 use Rattle.pb_place_types.specs.Paths.{is_path, is_relative}
-use Rattle.pb_profile.specs.declared.settings.Settings.{Settings}
+use Rattle.pb_profile_keys.specs.Keys.{setting_at}
+use Rattle.pb_profile_keys.specs.Table.{row, told}
+use Rattle.pb_profile_keys.specs.declared.key.ProfileKey.{ProfileKey}
+use Rattle.pb_profile_keys.specs.declared.setting.Setting.{Setting}
 use Rattle.pb_unit.specs.declared.plan.Planned.{Planned}
 use Rattle.pb_unit.specs.declared.unit.What.{What}
 use Rattle.pb_unit.specs.declared.unit.What.TheVariants.{Lib, Bin, Script, Run}
@@ -28,7 +27,7 @@ use Rattle.pb_command_types.specs.NamedTexts.{in_order}
 use Rattle.pb_command_arguments.specs.Externs.{folder_words, folder_words_in, folder_words_at, dependency_words, externs, extern_word, extern_words, library_words}
 use Rattle.pb_command_arguments.specs.Said.{search_word, link_word, condition_word, check_word, argument_word, binaries_word, binary_word, searched_words, search_words, condition_words, argument_words, binary_link_words, own_words, said_words}
 use Rattle.pb_command_types.specs.Targets.{unit_at, crate_name_of, crate_types, source_by, is_library, said_at, own_said}
-use Rattle.pb_command_arguments.specs.Words.{option, name_words, edition_word, format_words, crate_words, type_word, type_words, emit_words, out_words, output_words, setting, rpath_words, strip_words, lto_text_words, lto_words, level_words, debug_words, assertion_words, overflow_words, codegen_words, panic_words, common_settings, settings_words, feature_text, feature_word, expected_text, active_words, expected_words, feature_words}
+use Rattle.pb_command_arguments.specs.Words.{option, name_words, edition_word, format_words, crate_words, type_word, type_words, emit_words, out_words, output_words, setting, value_text, is_untold, key_words, settings_words, feature_text, feature_word, expected_text, active_words, expected_words, feature_words}
 use Rattle.pb_mini.specs.CommandLine.{takes_value}
 use Rattle.pb_mini_laws.proofs.Parsing.{Brings, brings_none, brings_both, brings_each, brings_option, brings_alone}
 use Rattle.pb_mini_laws.proofs.Setting.{HoldValues}
@@ -85,35 +84,15 @@ module _ (P : List ℕ → Type 0) where
   unfolding setting option
   in_setting key value = brings_option P (codes "-C") (key ++ value) refl (λ e. cc)
 
-  in_common : (s : Settings) → B (common_settings s)
-  unfolding level_words debug_words assertion_words overflow_words codegen_words panic_words
-  in_common s =
-      brings_both P _ (panic_words s.panic) (brings_both P _ (codegen_words s.codegen_units) (brings_both P _ (overflow_words s.overflow_checks) (brings_both P _ (assertion_words s.debug_assertions)
-      (brings_both P (level_words s.opt_level) (debug_words s.debug) (in_setting _ _) (in_setting _ _)) (in_setting _ _)) (in_setting _ _)) (in_setting _ _)) (in_setting _ _)
+  in_key : (what : What) (s : List Setting) (k : ProfileKey) → B (key_words what s k)
+  in_key what s k = by (is_untold what k (setting_at s k))
+    where
+      by : (untold : Bool) → B (if untold then [] else setting (row k).option (value_text (row k).yes (setting_at s k)))
+      by true = brings_none P
+      by false = in_setting (row k).option (value_text (row k).yes (setting_at s k))
 
-  in_rpath : (b : Bool) → B (rpath_words b)
-  in_rpath true = in_setting (codes "rpath=") (codes "yes")
-  in_rpath false = brings_none P
-
-  in_strip : (s : Strip) → B (strip_words s)
-  in_strip strip.Nothing = brings_none P
-  in_strip strip.DebugInfo = in_setting (codes "strip=") (codes "debuginfo")
-  in_strip strip.Symbols = in_setting (codes "strip=") (codes "symbols")
-
-  in_lto_text : (l : Lto) → B (lto_text_words l)
-  in_lto_text lto.ThinLocal = brings_none P
-  in_lto_text lto.Fat = in_setting (codes "lto=") (codes "fat")
-  in_lto_text lto.Thin = in_setting (codes "lto=") (codes "thin")
-  in_lto_text lto.Off = in_setting (codes "lto=") (codes "off")
-
-  in_lto : (what : What) (l : Lto) → B (lto_words what l)
-  in_lto (Bin name) l = in_lto_text l
-  in_lto _ l = brings_none P
-
-  in_settings : (what : What) (s : Settings) → B (settings_words what s)
-  in_settings what s =
-      brings_both P (common_settings s ++ rpath_words s.rpath ++ strip_words s.strip) (lto_words what s.lto)
-      (brings_both P (common_settings s ++ rpath_words s.rpath) (strip_words s.strip) (brings_both P (common_settings s) (rpath_words s.rpath) (in_common s) (in_rpath s.rpath)) (in_strip s.strip)) (in_lto what s.lto)
+  in_settings : (what : What) (s : List Setting) → B (settings_words what s)
+  in_settings what s = brings_each P (key_words what s) told (in_key what s)
 
   -- ---- features
 

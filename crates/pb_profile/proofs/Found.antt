@@ -6,13 +6,15 @@ use Rattle.std.specs.Option.{option_or, option_map}
 use Rattle.std.proofs.lemmas.Bool.{false≢true}
 use Rattle.pb_data.specs.UnlessOom.{◌>>=◌}
 use Rattle.pb_manifest_types.specs.declared.profile.Profile.{Profile}
-use Rattle.pb_manifest_types.specs.declared.profile.ProfileKeys.{ProfileKeys}
+use Rattle.pb_profile_keys.specs.Table.{defaults}
+use Rattle.pb_profile_keys.specs.declared.key.ProfileKey.{ProfileKey}
+use Rattle.pb_profile_keys.specs.declared.setting.Setting.{Setting}
 use Rattle.pb_workspace_types.specs.declared.package.Package.{Package}
 use Rattle.pb_workspace_types.specs.declared.package.Side.{Side}
 use Rattle.pb_workspace_types.specs.declared.package.Side.TheVariants.{Target, Host}
 use Rattle.pb_profile.specs.declared.fault.ProfileFault.{ProfileFault}
 use Rattle.pb_profile.specs.Line.{Seen, seen_at, parent_of, custom_parent, inherited, is_either, above}
-use Rattle.pb_profile.specs.Settings.{Place, no_keys, in_build_override, of_hosts, own, built_in, dev_keys, release_keys, in_package, of_others, of_role, places_of, along, looked_up}
+use Rattle.pb_profile.specs.Settings.{Place, in_build_override, of_hosts, own, built_in, in_package, of_others, of_role, places_of, along, looked_up}
 use Rattle.pb_profile.specs.Laws.{IsLine, last, further, FindsValues}
 
 -- a value stands where one of two has one
@@ -48,39 +50,26 @@ bottom_shown ps s (Err f) is e = cc
 at_bottom : (ps : List Profile) (s : Seen) → above ps s ≡ Ok None → is_either (codes "dev") (codes "release") s.name ≡ true
 at_bottom ps s e = bottom_shown ps s (parent_of s) refl e
 
-module _ {A : Type 0} (key : ProfileKeys → Option A) (in_dev : IsSome (key dev_keys)) (in_release : IsSome (key release_keys)) where
-  choice_found : (a b : Bool) → (a || b) ≡ true → IsSome (key (if a then dev_keys else (if b then release_keys else no_keys)))
-  choice_found true b e = in_dev
-  choice_found false true e = in_release
-  choice_found false false e = absurd (false≢true e)
+module _ (k : ProfileKey) where
+  choice_found : (a b : Bool) (x y : Setting) → (a || b) ≡ true → IsSome (if a then Some x else (if b then Some y else None))
+  choice_found true b x y e = refl
+  choice_found false true x y e = refl
+  choice_found false false x y e = absurd (false≢true e)
 
-  along_found : (ps : List Profile) (s : Seen) (line : List Seen) → IsLine ps s line → IsSome (along key built_in line)
-  along_found ps s _ (last _ ends) = first (key (built_in s)) None (choice_found (bytes_eq s.name (codes "dev")) (bytes_eq s.name (codes "release")) (at_bottom ps s ends))
-  along_found ps s _ (further _ t line inherits rest) = second (key (built_in s)) (along key built_in line) (along_found ps t line rest)
+  along_found : (ps : List Profile) (s : Seen) (line : List Seen) → IsLine ps s line → IsSome (along k built_in line)
+  along_found ps s _ (last _ ends) = first (built_in s k) None (choice_found (bytes_eq s.name (codes "dev")) (bytes_eq s.name (codes "release")) (defaults k).dev (defaults k).release (at_bottom ps s ends))
+  along_found ps s _ (further _ t line inherits rest) = second (built_in s k) (along k built_in line) (along_found ps t line rest)
 
-  pub found : (places : List Place) (line : List Seen) → IsSome (along key built_in line) → IsSome (looked_up key (places ++ built_in ∷ []) line)
-  found [] line is = first (along key built_in line) None is
-  found (place ∷ places) line is = second (along key place line) (looked_up key (places ++ built_in ∷ []) line) (found places line is)
+  found : (places : List Place) (line : List Seen) → IsSome (along k built_in line) → IsSome (looked_up k (places ++ built_in ∷ []) line)
+  found [] line is = first (along k built_in line) None is
+  found (place ∷ places) line is = second (along k place line) (looked_up k (places ++ built_in ∷ []) line) (found places line is)
 
-  role_found : (p : Package) (role : Side) (is_member : Bool) (line : List Seen) → IsSome (along key built_in line)
-      → IsSome (looked_up key (in_package p.name ∷ of_others is_member ++ of_role role ++ own ∷ built_in ∷ []) line)
+  role_found : (p : Package) (role : Side) (is_member : Bool) (line : List Seen) → IsSome (along k built_in line)
+      → IsSome (looked_up k (in_package p.name ∷ of_others is_member ++ of_role role ++ own ∷ built_in ∷ []) line)
   role_found p Target true line is = found (in_package p.name ∷ own ∷ []) line is
   role_found p Target false line is = found (in_package p.name ∷ in_package (codes "*") ∷ own ∷ []) line is
   role_found p Host true line is = found (in_package p.name ∷ in_build_override ∷ of_hosts ∷ own ∷ []) line is
   role_found p Host false line is = found (in_package p.name ∷ in_package (codes "*") ∷ in_build_override ∷ of_hosts ∷ own ∷ []) line is
 
-  pub key_found : (ps : List Profile) (s : Seen) (line : List Seen) → IsLine ps s line → (p : Package) (role : Side) → IsSome (looked_up key (places_of p role) line)
-  key_found ps s line is p role = role_found p role p.is_member line (along_found ps s line is)
-
 pub all_found : FindsValues
-all_found ps s line is p role = record {
-  opt_level = key_found (λ k. k.opt_level) refl refl ps s line is p role;
-  debug = key_found (λ k. k.debug) refl refl ps s line is p role;
-  debug_assertions = key_found (λ k. k.debug_assertions) refl refl ps s line is p role;
-  overflow_checks = key_found (λ k. k.overflow_checks) refl refl ps s line is p role;
-  lto = key_found (λ k. k.lto) refl refl ps s line is p role;
-  panic = key_found (λ k. k.panic) refl refl ps s line is p role;
-  codegen_units = key_found (λ k. k.codegen_units) refl refl ps s line is p role;
-  rpath = key_found (λ k. k.rpath) refl refl ps s line is p role;
-  strip = key_found (λ k. k.strip) refl refl ps s line is p role;
-}
+all_found ps s line is p role k = role_found k p role p.is_member line (along_found k ps s line is)

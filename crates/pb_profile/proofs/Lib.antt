@@ -1,4 +1,4 @@
-pub mod Merged
+pub mod Located
 pub mod Walks
 pub mod Lines
 pub mod Rings

@@ -1,5 +1,6 @@
 -- The line of a profile in the terms of The Cargo Book: profiles each of which inherits from the next.
 use Rattle.std.specs.Prelude.{◌≡◌, ℕ, List, [], ◌∷◌, Some, None, Ok, Err, IsSome}
+use Rattle.pb_profile_keys.specs.declared.key.ProfileKey.{ProfileKey}
 use Rattle.pb_manifest_types.specs.declared.profile.Profile.{Profile}
 use Rattle.pb_workspace_types.specs.declared.package.Package.{Package}
 use Rattle.pb_workspace_types.specs.declared.package.Side.{Side}
@@ -47,17 +48,6 @@ pub record ComesBack (profiles : List Profile) (from : Seen) : Type 0 where
 abbrev pub TellsCycles : Type 0
 TellsCycles = (profiles : List Profile) (name : List ℕ) → line_of profiles name ≡ Err InheritsCycle → ComesBack profiles (seen_at profiles name)
 
--- each of the nine keys has a value at some location, whatever the profiles contain
-pub record AllAreFound (p : Package) (role : Side) (line : List Seen) : Type 0 where
-  pub opt_level : IsSome (looked_up (λ k. k.opt_level) (places_of p role) line)
-  pub debug : IsSome (looked_up (λ k. k.debug) (places_of p role) line)
-  pub debug_assertions : IsSome (looked_up (λ k. k.debug_assertions) (places_of p role) line)
-  pub overflow_checks : IsSome (looked_up (λ k. k.overflow_checks) (places_of p role) line)
-  pub lto : IsSome (looked_up (λ k. k.lto) (places_of p role) line)
-  pub panic : IsSome (looked_up (λ k. k.panic) (places_of p role) line)
-  pub codegen_units : IsSome (looked_up (λ k. k.codegen_units) (places_of p role) line)
-  pub rpath : IsSome (looked_up (λ k. k.rpath) (places_of p role) line)
-  pub strip : IsSome (looked_up (λ k. k.strip) (places_of p role) line)
-
+-- each key has a value at some location, whatever the profiles contain
 abbrev pub FindsValues : Type 0
-FindsValues = (profiles : List Profile) (s : Seen) (line : List Seen) → IsLine profiles s line → (p : Package) (role : Side) → AllAreFound p role line
+FindsValues = (profiles : List Profile) (s : Seen) (line : List Seen) → IsLine profiles s line → (p : Package) (role : Side) (k : ProfileKey) → IsSome (looked_up k (places_of p role) line)

@@ -3,8 +3,10 @@ use Rattle.std.specs.Prelude.{ℕ, zero, suc, ◌+◌, Bool, true, ◌&&◌, ◌
 use Rattle.std.specs.List.{list_all, find}
 use Rattle.std.specs.Str.{bytes_eq}
 use Rattle.pb_data.specs.UnlessOom.{◌>>=◌}
+use Rattle.pb_profile_keys.specs.Keys.{Said, says}
+use Rattle.pb_profile_keys.specs.Table.{keys, row}
+use Rattle.pb_profile_keys.specs.declared.setting.Setting.{Setting}
 use Rattle.pb_manifest_types.specs.declared.profile.Profile.{Profile}
-use Rattle.pb_manifest_types.specs.declared.profile.ProfileKeys.{ProfileKeys}
 use Rattle.pb_manifest_types.specs.declared.profile.ProfileOverride.{ProfileOverride}
 use Rattle.pb_profile.specs.declared.line.Ancestor.{Ancestor}
 use Rattle.pb_profile.specs.declared.fault.ProfileFault.{ProfileFault}
@@ -85,9 +87,9 @@ line_within (suc n) profiles s = above profiles s >>= then_above (line_within n 
 abbrev pub line_of : List Profile → List ℕ → Result (List Seen) ProfileFault
 line_of profiles name = line_within (length profiles + 2) profiles (seen_at profiles name)
 
--- an override may set all keys except `panic`, `lto` and `rpath`
-abbrev pub may_override : ProfileKeys → Bool
-may_override keys = is_none keys.panic && is_none keys.lto && is_none keys.rpath
+-- an override may set each of these keys that is set: all keys except `panic`, `lto` and `rpath`
+abbrev pub may_override : Said → Bool
+may_override values = list_all (λ k. (row k).in_override || is_none (says values k)) keys
 
 -- no override of a table sets a key that it may not set
 abbrev pub table_allows : Profile → Bool

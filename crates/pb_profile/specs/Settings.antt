@@ -1,67 +1,53 @@
 -- The value of a profile's key is that of the first location that has it.
 -- Each location is looked up along `inherits` before the next one (The Cargo Book, Profiles).
-use Rattle.std.specs.Prelude.{ℕ, Bool, true, false, if◌then◌else◌, codes, List, [], ◌∷◌, ◌++◌, Option, Some, None, Result, Ok, option_and_then, option_map, unwrap_or}
+use Rattle.std.specs.Prelude.{ℕ, Bool, if◌then◌else◌, codes, List, [], ◌∷◌, ◌++◌, map, Option, Some, None, Result, Ok, option_and_then, option_map, unwrap_or}
 use Rattle.std.specs.List.{find}
 use Rattle.std.specs.Option.{option_or}
 use Rattle.std.specs.Str.{bytes_eq}
 use Rattle.pb_data.specs.UnlessOom.{◌>>=◌}
+use Rattle.pb_profile_keys.specs.Keys.{Said, says}
+use Rattle.pb_profile_keys.specs.Table.{defaults, keys}
+use Rattle.pb_profile_keys.specs.declared.key.ProfileKey.{ProfileKey}
+use Rattle.pb_profile_keys.specs.declared.setting.Setting.{Setting}
 use Rattle.pb_manifest_types.specs.declared.profile.Profile.{Profile}
-use Rattle.pb_manifest_types.specs.declared.profile.ProfileKeys.{ProfileKeys}
 use Rattle.pb_manifest_types.specs.declared.profile.ProfileOverride.{ProfileOverride}
-use Rattle.pb_manifest_types.specs.declared.profile.Panic.{Panic}
-use Rattle.pb_manifest_types.specs.declared.profile.OptLevel.TheVariants.{Zero, Three}
-use Rattle.pb_manifest_types.specs.declared.profile.DebugInfo.TheVariants as debug
-use Rattle.pb_manifest_types.specs.declared.profile.Lto.TheVariants as lto
-use Rattle.pb_manifest_types.specs.declared.profile.Panic.TheVariants as panic
-use Rattle.pb_manifest_types.specs.declared.profile.Strip.TheVariants as strip
 use Rattle.pb_workspace_types.specs.declared.package.Package.{Package}
 use Rattle.pb_workspace_types.specs.declared.package.Side.{Side}
 use Rattle.pb_workspace_types.specs.declared.package.Side.TheVariants.{Target, Host}
 use Rattle.pb_workspace_types.specs.declared.workspace.Workspace.{Workspace}
 use Rattle.pb_profile.specs.declared.fault.ProfileFault.{ProfileFault}
-use Rattle.pb_profile.specs.declared.settings.Settings.{Settings}
 use Rattle.pb_profile.specs.Line.{Seen, checked_line}
 
--- no key is set
-abbrev pub no_keys : ProfileKeys
-no_keys = record { codegen_units = None; debug = None; debug_assertions = None; lto = None; opt_level = None; overflow_checks = None; panic = None; rpath = None; strip = None }
-
--- these keys, or no keys if there are none
-abbrev pub keys_or_none : Option ProfileKeys → ProfileKeys
-keys_or_none keys = unwrap_or keys no_keys
-
--- a location of values: the keys that a profile of the line has there
+-- a location of values: the value of a key that a profile of the line has there
 abbrev pub Place : Type 0
-Place = Seen → ProfileKeys
+Place = Seen → ProfileKey → Option Setting
+
+-- the value of a key among these, if there are any
+abbrev pub said_by : Option Said → ProfileKey → Option Setting
+said_by values k = option_and_then (λ set. says set k) values
 
 -- the profile's own keys
 abbrev pub own : Place
-own s = keys_or_none (option_map (λ (p : Profile). p.keys) s.table)
+own s k = said_by (option_map (λ (p : Profile). p.keys) s.table) k
 
 -- the keys that the override `package.NAME` of a profile sets
-abbrev pub override_named : List ℕ → Profile → Option ProfileKeys
+abbrev pub override_named : List ℕ → Profile → Option Said
 override_named name p = option_map (λ (o : ProfileOverride). o.keys) (find (λ (o : ProfileOverride). bytes_eq o.name name) p.packages)
 
 abbrev pub in_package : List ℕ → Place
-in_package name s = keys_or_none (option_and_then (override_named name) s.table)
+in_package name s k = said_by (option_and_then (override_named name) s.table) k
 
 -- the keys that the override `build-override` of a profile sets
 abbrev pub in_build_override : Place
-in_build_override s = keys_or_none (option_and_then (λ (p : Profile). p.build_override) s.table)
+in_build_override s k = said_by (option_and_then (λ (p : Profile). p.build_override) s.table) k
 
--- the keys of all host roles, unless an earlier location sets them: `package.NAME`, `package."*"` or `build-override`
+-- the values of all host roles, unless an earlier location sets them: `package.NAME`, `package."*"` or `build-override`
 abbrev pub of_hosts : Place
-of_hosts s = record no_keys { opt_level = Some Zero; codegen_units = Some 256; debug = Some debug.Nothing }
+of_hosts s k = (defaults k).beside_override
 
 -- the built-in values of `dev` and `release`
-abbrev pub dev_keys : ProfileKeys
-dev_keys = record { codegen_units = Some 256; debug = Some debug.Full; debug_assertions = Some true; lto = Some lto.ThinLocal; opt_level = Some Zero; overflow_checks = Some true; panic = Some panic.Unwind; rpath = Some false; strip = Some strip.Nothing }
-
-abbrev pub release_keys : ProfileKeys
-release_keys = record { codegen_units = Some 16; debug = Some debug.Nothing; debug_assertions = Some false; lto = Some lto.ThinLocal; opt_level = Some Three; overflow_checks = Some false; panic = Some panic.Unwind; rpath = Some false; strip = Some strip.Nothing }
-
 abbrev pub built_in : Place
-built_in s = if bytes_eq s.name (codes "dev") then dev_keys else (if bytes_eq s.name (codes "release") then release_keys else no_keys)
+built_in s k = if bytes_eq s.name (codes "dev") then Some (defaults k).dev else (if bytes_eq s.name (codes "release") then Some (defaults k).release else None)
 
 -- `package."*"` applies to packages that are no members
 abbrev pub of_others : Bool → List Place
@@ -77,34 +63,28 @@ abbrev pub places_of : Package → Side → List Place
 places_of p role = in_package p.name ∷ of_others p.is_member ++ of_role role ++ own ∷ built_in ∷ []
 
 -- the value of a key at one location, along the line
-abbrev pub along : {A : Type 0} → (ProfileKeys → Option A) → Place → List Seen → Option A
-along key place [] = None
-along key place (s ∷ line) = option_or (key (place s)) (along key place line)
+abbrev pub along : ProfileKey → Place → List Seen → Option Setting
+along k place [] = None
+along k place (s ∷ line) = option_or (place s k) (along k place line)
 
 -- the value of a key at the first location that has it
-abbrev pub looked_up : {A : Type 0} → (ProfileKeys → Option A) → List Place → List Seen → Option A
-looked_up key [] line = None
-looked_up key (place ∷ places) line = option_or (along key place line) (looked_up key places line)
+abbrev pub looked_up : ProfileKey → List Place → List Seen → Option Setting
+looked_up k [] line = None
+looked_up k (place ∷ places) line = option_or (along k place line) (looked_up k places line)
 
--- `panic` in a host role is `unwind`, whatever the profile contains
-abbrev pub panic_of : Side → Panic → Panic
-panic_of Target value = value
-panic_of Host value = panic.Unwind
+-- some keys have one value in host roles, whatever the profile contains
+abbrev pub fixed : Side → ProfileKey → Setting → Setting
+fixed Target k value = value
+fixed Host k value = unwrap_or (defaults k).in_hosts value
 
--- the nine settings; the defaults here are never used, since each line ends with a profile that has all built-in values
-abbrev pub settings_along : Package → Side → List Seen → Settings
-settings_along p role line = record {
-  opt_level = unwrap_or (looked_up (λ k. k.opt_level) (places_of p role) line) Zero;
-  debug = unwrap_or (looked_up (λ k. k.debug) (places_of p role) line) debug.Full;
-  debug_assertions = unwrap_or (looked_up (λ k. k.debug_assertions) (places_of p role) line) true;
-  overflow_checks = unwrap_or (looked_up (λ k. k.overflow_checks) (places_of p role) line) true;
-  lto = unwrap_or (looked_up (λ k. k.lto) (places_of p role) line) lto.ThinLocal;
-  panic = panic_of role (unwrap_or (looked_up (λ k. k.panic) (places_of p role) line) panic.Unwind);
-  codegen_units = unwrap_or (looked_up (λ k. k.codegen_units) (places_of p role) line) 256;
-  rpath = unwrap_or (looked_up (λ k. k.rpath) (places_of p role) line) false;
-  strip = unwrap_or (looked_up (λ k. k.strip) (places_of p role) line) strip.Nothing;
-}
+-- the setting of a key; the default is never used, since each line ends with a profile that has all built-in values
+abbrev pub setting_of : Package → Side → List Seen → ProfileKey → Setting
+setting_of p role line k = fixed role k (unwrap_or (looked_up k (places_of p role) line) (defaults k).dev)
+
+-- the settings, along the keys
+abbrev pub settings_along : Package → Side → List Seen → List Setting
+settings_along p role line = map (setting_of p role line) keys
 
 -- the settings of a package in a role, under a profile
-abbrev pub settings_of : Workspace → List ℕ → Package → Side → Result Settings ProfileFault
+abbrev pub settings_of : Workspace → List ℕ → Package → Side → Result (List Setting) ProfileFault
 settings_of ws profile p role = checked_line ws.profiles profile >>= (λ line. Ok (settings_along p role line))

@@ -7,7 +7,7 @@ ghost use Rattle.pb_profile.specs.Line.{folder_of, named, seen_at, parent_of, ab
 ghost use Rattle.pb_profile.specs.declared.fault.ProfileFault.TheVariants as profile_fault;
 
 use crate::fault::ProfileFault;
-use pb_manifest_types::{Profile, ProfileKeys, ProfileOverride};
+use pb_manifest_types::{Profile, ProfileKey, ProfileKeys, ProfileOverride};
 use std::alloc::Global;
 
 /// A profile in a line.
@@ -90,7 +90,7 @@ fn above<'a>(
 /// Errors: `NoSuchProfile`, if one of them is neither built in nor written; `InheritsCycle`, if the
 /// line has no end; `NotInOverride`, if an override of one of them sets `panic`, `lto` or `rpath`;
 /// `OutOfMemory`.
-#[tactic(auto, using(crate::proofs::Merged::each_seen))]
+#[tactic(auto, using(crate::proofs::Located::each_seen))]
 pub fn line_of<'a>(
     alloc: Global,
     profiles: &'a [Profile],
@@ -145,7 +145,9 @@ fn walked<'a>(
 fn may_override(keys: &ProfileKeys) -> bool
     ensures { result ≡ may_override keys.now }
 {
-    keys.panic.is_none() && keys.lto.is_none() && keys.rpath.is_none()
+    ProfileKey::ALL
+        .iter()
+        .all(|key| key.row().in_override || keys.get(*key).is_none())
 }
 
 /// Returns whether no override of a profile sets a key that it may not set.

@@ -1,41 +1,35 @@
 //! The settings of a package in a role under a profile.
 
-ghost use Rattle.std.specs.Prelude.{◌≡◌, map};
+ghost use Rattle.std.specs.Prelude.{◌≡◌, List, map};
 ghost use Rattle.pb_data.specs.UnlessOom.{UnlessOom};
 ghost use Rattle.pb_profile.specs.Line.{seen};
-ghost use Rattle.pb_profile.specs.Settings.{settings_along, settings_of};
-ghost use Rattle.pb_profile.specs.Merging.{settings_from};
+ghost use Rattle.pb_profile_keys.specs.Keys.{setting_at, opt_level, debug, debug_assertions, overflow_checks};
+ghost use Rattle.pb_profile_keys.specs.declared.setting.Setting.{Setting};
+ghost use Rattle.pb_profile.specs.Settings.{fixed, setting_of, settings_along, settings_of};
 ghost use Rattle.pb_profile.specs.declared.fault.ProfileFault.TheVariants as profile_fault;
 
 use crate::fault::ProfileFault;
-use crate::keys::keys_at;
 use crate::line::{Ancestor, line_of};
-use pb_manifest_types::{DebugInfo, Lto, OptLevel, Panic, ProfileKeys, Strip};
+use crate::places::looked_up;
+use pb_manifest_types::{ProfileKey, Setting, Word};
+use pb_profile_keys::COUNT;
 use pb_workspace_types::{Package, Side, Workspace};
 use std::alloc::Global;
+use std::marker::Model;
 
 /// The settings of a package in a role: one value for each key of a profile (The Cargo Book,
-/// Profiles).
-#[derive(Clone, Copy, PartialEq, Eq)]
+/// Profiles). Contracts see it as the list of values along the keys.
+#[derive(Clone, Copy)]
 pub struct Settings {
-    /// `opt-level`.
-    pub opt_level: OptLevel,
-    /// `debug`.
-    pub debug: DebugInfo,
-    /// `debug-assertions`.
-    pub debug_assertions: bool,
-    /// `overflow-checks`.
-    pub overflow_checks: bool,
-    /// `lto`.
-    pub lto: Lto,
-    /// `panic`.
-    pub panic: Panic,
-    /// `codegen-units`, from 1 to 65,536.
-    pub codegen_units: u32,
-    /// `rpath`.
-    pub rpath: bool,
-    /// `strip`.
-    pub strip: Strip,
+    values: [Setting; COUNT],
+}
+
+impl Model for Settings {
+    ghost Value = { List Setting };
+
+    ghost view = { λ s. s.values };
+
+    ghost inverse = { λ values. record { values = values } };
 }
 
 impl Settings {
@@ -72,34 +66,78 @@ impl Settings {
         let line = line_of(alloc, workspace.profiles.as_slice(), profile)?;
         Ok(settings_along(owner, role, line.as_slice()))
     }
+
+    /// Returns settings from their values along the keys.
+    pub fn along_keys(values: [Setting; COUNT]) -> Settings
+        ensures { result ≡ values }
+    {
+        Settings { values }
+    }
+
+    /// Returns the setting of a key.
+    pub fn get(&self, key: ProfileKey) -> Setting
+        ensures { result ≡ setting_at self.now key }
+    {
+        self.values[key.place()]
+    }
+
+    /// Returns `opt-level`.
+    pub fn opt_level(&self) -> Word
+        ensures { result ≡ opt_level self.now }
+    {
+        self.get(ProfileKey::OptLevel).word()
+    }
+
+    /// Returns `debug`.
+    pub fn debug(&self) -> Word
+        ensures { result ≡ debug self.now }
+    {
+        self.get(ProfileKey::Debug).word()
+    }
+
+    /// Returns `debug-assertions`.
+    pub fn debug_assertions(&self) -> bool
+        ensures { result ≡ debug_assertions self.now }
+    {
+        self.get(ProfileKey::DebugAssertions)
+            .is_same(Setting::Truth(true))
+    }
+
+    /// Returns `overflow-checks`.
+    pub fn overflow_checks(&self) -> bool
+        ensures { result ≡ overflow_checks self.now }
+    {
+        self.get(ProfileKey::OverflowChecks)
+            .is_same(Setting::Truth(true))
+    }
 }
 
-/// Returns the settings that merged keys determine.
-fn settings_from(role: Side, keys: &ProfileKeys) -> Settings
-    ensures { result ≡ settings_from role keys.now }
+/// Returns what a value is in a role.
+fn fixed(role: Side, key: ProfileKey, value: Setting) -> Setting
+    ensures { result ≡ fixed role key value }
 {
-    let panic = keys.panic.unwrap_or(Panic::Unwind);
-    Settings {
-        opt_level: keys.opt_level.unwrap_or(OptLevel::Zero),
-        debug: keys.debug.unwrap_or(DebugInfo::Full),
-        debug_assertions: keys.debug_assertions.unwrap_or(true),
-        overflow_checks: keys.overflow_checks.unwrap_or(true),
-        lto: keys.lto.unwrap_or(Lto::ThinLocal),
-        panic: match role {
-            Side::Target => panic,
-            Side::Host => Panic::Unwind,
-        },
-        codegen_units: keys.codegen_units.unwrap_or(256),
-        rpath: keys.rpath.unwrap_or(false),
-        strip: keys.strip.unwrap_or(Strip::Nothing),
+    match role {
+        Side::Target => value,
+        Side::Host => key.row().in_hosts.unwrap_or(value),
     }
+}
+
+/// Returns the setting of a key of a package in a role along a line.
+fn setting_of(owner: &Package, role: Side, line: &[Ancestor], key: ProfileKey) -> Setting
+    ensures { result ≡ setting_of owner.now role (map seen line.now) key }
+{
+    let found = looked_up(owner, role, line, key);
+    fixed(role, key, found.unwrap_or(key.row().dev))
 }
 
 /// Returns the settings of a package in a role along a line. It takes no memory, so a caller that
 /// needs many packages under one profile can make the line once.
-#[tactic(auto, using(crate::proofs::Merged::merged_settings))]
 pub fn settings_along(owner: &Package, role: Side, line: &[Ancestor]) -> Settings
     ensures { result ≡ settings_along owner.now role (map seen line.now) }
 {
-    settings_from(role, &keys_at(owner, role, line))
+    let mut values = [Setting::Truth(false); COUNT];
+    for i in 0..COUNT {
+        values[i] = setting_of(owner, role, line, ProfileKey::at(i));
+    }
+    Settings { values }
 }

@@ -1,6 +1,7 @@
 //! Texts that are put together.
 
 use pb_data::Text;
+use pb_profile_keys::{ProfileKey, Setting, Word};
 use std::alloc::{AllocError, Global};
 use std::fmt::{Debug, Display, Write};
 
@@ -50,6 +51,19 @@ impl Shown {
     pub fn put_value<T: Debug>(&mut self, value: &T) {
         if write!(self.text, "{value:?}").is_err() {
             self.lacks = true;
+        }
+    }
+
+    /// Puts a setting by the name of its meaning.
+    pub fn put_setting(&mut self, key: ProfileKey, setting: Setting) {
+        match (key, setting) {
+            (ProfileKey::Debug, Setting::Word(Word::Zero)) => self.put(&["Nothing"]),
+            (ProfileKey::Debug, Setting::Word(Word::One)) => self.put(&["Limited"]),
+            (ProfileKey::Debug, Setting::Word(Word::Two)) => self.put(&["Full"]),
+            (ProfileKey::Lto, Setting::Truth(false)) => self.put(&["ThinLocal"]),
+            (_, Setting::Truth(truth)) => self.put_value(&truth),
+            (_, Setting::Number(number)) => self.put_value(&number),
+            (_, Setting::Word(word)) => self.put_value(&word),
         }
     }
 

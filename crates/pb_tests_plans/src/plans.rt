@@ -228,7 +228,7 @@ fn has_folders(alloc: Global, plan: &Plan) -> bool {
     let mut shown = Shown::new(alloc);
     for planned in plan.units() {
         shown.put(&[planned.out.as_str(), " "]);
-        shown.put_value(&planned.settings.opt_level);
+        shown.put_value(&planned.settings.opt_level());
         shown.put(&["\n"]);
     }
     shown.says(FOLDERS_AND_LEVELS)

@@ -11,8 +11,8 @@ use pb_data::{Items, Text, TryCopy};
 use pb_manifest::read_manifest;
 use pb_manifest_types::letters::{has_zero, is_crate_name, is_feature_name, is_name};
 use pb_manifest_types::{
-    CrateType, Edition, Key, Library, ManifestFault, PathSource, Readme, Requirement, Version,
-    WrittenPath, crate_name, crate_type_texts, library_name,
+    CrateType, Edition, Key, Library, ManifestFault, PathSource, ProfileKey, Readme, Requirement,
+    Version, WrittenPath, crate_name, crate_type_texts, library_name,
 };
 use pb_tests_files::{Shown, holds, is_text};
 use show::put_manifest;
@@ -174,7 +174,7 @@ fn count_comparisons(alloc: Global, text: &str) -> Result<usize, ManifestFault> 
 static FAULTS_IN_WORDS: &[(ManifestFault, &str)] = &[
     (ManifestFault::NotToml, "the manifest is not TOML"),
     (
-        ManifestFault::BadKind(Key::CodegenUnits),
+        ManifestFault::BadKind(Key::OfProfile(ProfileKey::CodegenUnits)),
         "`codegen-units` has a value that it may not have",
     ),
     (

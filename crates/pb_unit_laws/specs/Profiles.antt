@@ -1,12 +1,13 @@
 -- The line of a profile: the profile, the one that it inherits from, and so on (The Cargo Book, Profiles).
-use Rattle.std.specs.Prelude.{◌≡◌, ◌↔◌, ℕ, true, false, ◌||◌, ◌++◌, if◌then◌else◌, codes, List, [], ◌∷◌, map, Some, Result, Ok, Err}
+use Rattle.std.specs.Prelude.{◌≡◌, ◌↔◌, ℕ, Bool, true, false, is_none, ◌&&◌, ◌||◌, ◌++◌, if◌then◌else◌, codes, List, [], ◌∷◌, map, Some, Result, Ok, Err}
 use Rattle.std.specs.List.{filter_map, flat_map, list_all}
 use Rattle.std.specs.Option.{option_to_list}
 use Rattle.pb_data.specs.UnlessOom.{◌>>=◌}
+use Rattle.pb_profile_keys.specs.Keys.{Said, says}
+use Rattle.pb_profile_keys.specs.declared.key.ProfileKey.TheVariants as key
 use Rattle.pb_manifest_types.specs.declared.profile.Profile.{Profile}
-use Rattle.pb_manifest_types.specs.declared.profile.ProfileKeys.{ProfileKeys}
 use Rattle.pb_manifest_types.specs.declared.profile.ProfileOverride.{ProfileOverride}
-use Rattle.pb_profile.specs.Line.{Seen, checked_line, is_either, line_of, may_override, named, seen_at}
+use Rattle.pb_profile.specs.Line.{Seen, checked_line, is_either, line_of, named, seen_at}
 use Rattle.pb_profile.specs.declared.fault.ProfileFault.{ProfileFault}
 use Rattle.pb_profile.specs.declared.fault.ProfileFault.TheVariants.{NoSuchProfile, InheritsCycle, NotInOverride}
 
@@ -34,10 +35,14 @@ abbrev pub LinesAreThese : Type 0
 LinesAreThese = (profiles : List Profile) (name : List ℕ) (answer : Result (List Seen) ProfileFault) → (line_of profiles name ≡ answer) ↔ IsLine profiles name answer
 
 -- the keys that the overrides of a line set
-abbrev pub overrides_of : List Seen → List ProfileKeys
+abbrev pub overrides_of : List Seen → List Said
 overrides_of line = flat_map (λ (p : Profile). option_to_list p.build_override ++ map (λ (o : ProfileOverride). o.keys) p.packages) (filter_map (λ (s : Seen). s.table) line)
+
+-- an override sets neither `panic` nor `lto` nor `rpath`
+abbrev pub sets_no_other : Said → Bool
+sets_no_other values = is_none (says values key.Panic) && is_none (says values key.Lto) && is_none (says values key.Rpath)
 
 -- A line is good if its overrides set only what they may.
 abbrev pub LinesAreChecked : Type 0
 LinesAreChecked = (profiles : List Profile) (name : List ℕ)
-    → checked_line profiles name ≡ line_of profiles name >>= (λ line. if list_all may_override (overrides_of line) then Ok line else Err NotInOverride)
+    → checked_line profiles name ≡ line_of profiles name >>= (λ line. if list_all sets_no_other (overrides_of line) then Ok line else Err NotInOverride)

@@ -4,7 +4,7 @@ use crate::workspaces::places::PLACES;
 use crate::workspaces::profiles::PROFILES;
 use pb_data::{Items, Text};
 use pb_manifest::read_manifest;
-use pb_manifest_types::{Edition, ManifestFault, Profile, Version};
+use pb_manifest_types::{Edition, ManifestFault, Profile, ProfileKey, Version};
 use pb_place_types::PathText;
 use pb_profile::{ProfileFault, Settings, folder_of, lines_follow_inherits, values_are_found};
 use pb_tests_files::Shown;
@@ -88,25 +88,27 @@ fn workspace_of(alloc: Global, manifest: &str) -> Result<Workspace, Fail> {
     })
 }
 
-/// Puts the settings in one line, in the order of their keys in the table of The Cargo Book.
+/// The keys in the order of the table of The Cargo Book.
+const ORDER: &[ProfileKey] = &[
+    ProfileKey::OptLevel,
+    ProfileKey::Debug,
+    ProfileKey::DebugAssertions,
+    ProfileKey::OverflowChecks,
+    ProfileKey::Lto,
+    ProfileKey::Panic,
+    ProfileKey::CodegenUnits,
+    ProfileKey::Rpath,
+    ProfileKey::Strip,
+];
+
+/// Puts the settings in one line.
 fn put_settings(out: &mut Shown, settings: &Settings) {
-    out.put_value(&settings.opt_level);
-    out.put(&[" "]);
-    out.put_value(&settings.debug);
-    out.put(&[" "]);
-    out.put_value(&settings.debug_assertions);
-    out.put(&[" "]);
-    out.put_value(&settings.overflow_checks);
-    out.put(&[" "]);
-    out.put_value(&settings.lto);
-    out.put(&[" "]);
-    out.put_value(&settings.panic);
-    out.put(&[" "]);
-    out.put_value(&settings.codegen_units);
-    out.put(&[" "]);
-    out.put_value(&settings.rpath);
-    out.put(&[" "]);
-    out.put_value(&settings.strip);
+    let mut before = "";
+    for key in ORDER {
+        out.put(&[before]);
+        out.put_setting(*key, settings.get(*key));
+        before = " ";
+    }
 }
 
 /// Whether the settings, or the fault, are shown as this.

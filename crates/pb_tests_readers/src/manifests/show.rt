@@ -3,7 +3,7 @@
 use pb_data::{Items, Text};
 use pb_manifest_types::{
     Binary, Build, Dependency, Feature, FeatureItem, Inheritable, Inherited, Library, Manifest,
-    Package, PathSource, Profile, ProfileKeys, Readme, Source, WorkspaceDependency,
+    Package, PathSource, Profile, ProfileKey, ProfileKeys, Readme, Source, WorkspaceDependency,
     WorkspacePackage, WorkspaceSource, WorkspaceTable, WrittenPath,
 };
 use pb_tests_files::Shown;
@@ -233,15 +233,12 @@ fn put_feature(out: &mut Shown, feature: &Feature) {
 }
 
 fn put_profile_keys(out: &mut Shown, keys: &ProfileKeys) {
-    put_value(out, "codegen-units", &keys.codegen_units);
-    put_value(out, "debug", &keys.debug);
-    put_value(out, "debug-assertions", &keys.debug_assertions);
-    put_value(out, "lto", &keys.lto);
-    put_value(out, "opt-level", &keys.opt_level);
-    put_value(out, "overflow-checks", &keys.overflow_checks);
-    put_value(out, "panic", &keys.panic);
-    put_value(out, "rpath", &keys.rpath);
-    put_value(out, "strip", &keys.strip)
+    for key in &ProfileKey::ALL {
+        if let Some(setting) = keys.get(*key) {
+            out.put(&[" ", key.row().name, "="]);
+            out.put_setting(*key, setting);
+        }
+    }
 }
 
 fn put_profile(out: &mut Shown, profile: &Profile) {

@@ -4,7 +4,7 @@ use crate::messages::made::{artifact, executed, library, settings, text};
 use crate::messages::wanted::WANTED;
 use crate::texts::texts_of;
 use pb_data::{Items, Text, with_next};
-use pb_manifest_types::{CrateType, DebugInfo, Edition, OptLevel};
+use pb_manifest_types::{CrateType, Edition, Word};
 use pb_message::{Level, Message, Subject, Target, finish_line, line_of, lines_of, write_lines};
 use pb_place_types::{Over, PathFault, PathText};
 use std::alloc::Global;
@@ -102,7 +102,7 @@ fn package(alloc: Global, about: About) -> Result<Subject, Fail> {
 #[derive(Clone, Copy)]
 enum Told {
     /// The level, what there is for debuggers, the features, the file, and whether it can be executed.
-    Artifact(OptLevel, DebugInfo, &'static str, &'static str, bool),
+    Artifact(Word, Word, &'static str, &'static str, bool),
     /// A diagnostic of the compiler.
     Diagnostic(&'static str),
     /// What a script gave: lists, and the value of a variable.
@@ -157,8 +157,8 @@ static LINES: &[(About, bool, Told)] = &[
         About::Own,
         false,
         Told::Artifact(
-            OptLevel::Zero,
-            DebugInfo::Full,
+            Word::Zero,
+            Word::Two,
             "",
             "/w/target/debug/a.target.lib/liba.rlib",
             false,
@@ -168,8 +168,8 @@ static LINES: &[(About, bool, Told)] = &[
         About::OfTwoTypes,
         true,
         Told::Artifact(
-            OptLevel::SmallestSize,
-            DebugInfo::LineTablesOnly,
+            Word::SmallestSize,
+            Word::LineTablesOnly,
             "f g",
             "/t/liba.rlib",
             false,
@@ -183,18 +183,12 @@ static LINES: &[(About, bool, Told)] = &[
     (
         About::Binary,
         false,
-        Told::Artifact(OptLevel::Three, DebugInfo::Limited, "", "/t/go_on", true),
+        Told::Artifact(Word::Three, Word::One, "", "/t/go_on", true),
     ),
     (
         About::Script,
         false,
-        Told::Artifact(
-            OptLevel::Size,
-            DebugInfo::Nothing,
-            "",
-            "/t/build_script_build",
-            false,
-        ),
+        Told::Artifact(Word::Size, Word::Zero, "", "/t/build_script_build", false),
     ),
     (About::Own, false, Told::Executed("", "")),
     (

@@ -2,10 +2,11 @@
 
 use crate::texts::{add_pair, texts_of};
 use pb_data::{Items, Text, with_next};
-use pb_manifest_types::{CrateType, DebugInfo, Edition, Lto, OptLevel, Panic, Strip};
+use pb_manifest_types::{CrateType, Edition, ProfileKey, Setting, Word};
 use pb_message::{Artifact, Executed, Message, Target};
 use pb_place_types::PathText;
 use pb_profile::Settings;
+use pb_profile_keys::COUNT;
 use std::alloc::{AllocError, Global};
 use std::test::Fail;
 
@@ -22,18 +23,14 @@ pub fn library(alloc: Global, types: &[CrateType]) -> Result<Target, Fail> {
 }
 
 /// The built-in settings of `dev`, with this level and this much for debuggers.
-pub fn settings(opt_level: OptLevel, debug: DebugInfo) -> Settings {
-    Settings {
-        opt_level,
-        debug,
-        debug_assertions: true,
-        overflow_checks: true,
-        lto: Lto::ThinLocal,
-        panic: Panic::Unwind,
-        codegen_units: 256,
-        rpath: false,
-        strip: Strip::Nothing,
+pub fn settings(opt_level: Word, debug: Word) -> Settings {
+    let mut values = [Setting::Truth(false); COUNT];
+    for key in &ProfileKey::ALL {
+        values[key.place()] = key.row().dev;
     }
+    values[ProfileKey::OptLevel.place()] = Setting::Word(opt_level);
+    values[ProfileKey::Debug.place()] = Setting::Word(debug);
+    Settings::along_keys(values)
 }
 
 /// A file that was made.

@@ -1,0 +1,123 @@
+//! The value of a key at several locations in order: the first location that has it determines it.
+
+ghost use Rattle.std.specs.Prelude.{◌≡◌, map, option_map};
+ghost use Rattle.pb_profile.specs.Line.{seen};
+ghost use Rattle.pb_profile.specs.Settings.{said_by, override_named, built_in, along, looked_up, places_of};
+ghost use Rattle.pb_profile.specs.Places.{sought, written_in};
+
+use crate::line::Ancestor;
+use pb_manifest_types::{Profile, ProfileKey, ProfileKeys, Setting};
+use pb_workspace_types::{Package, Side};
+
+/// A location of values.
+#[derive(Clone, Copy)]
+pub(crate) enum Source<'a> {
+    /// The override of a package with this name.
+    Package(&'a str),
+    /// `build-override`.
+    BuildOverride,
+    /// The built-in values for `build-override`.
+    OfHosts,
+    /// The profile itself.
+    Own,
+    /// The built-in values of `dev` and `release`.
+    BuiltIn,
+}
+
+/// Returns the value of a key among these, if there are any.
+fn said_by(keys: Option<ProfileKeys>, key: ProfileKey) -> Option<Setting>
+    ensures { result ≡ said_by keys key }
+{
+    match keys {
+        Some(keys) => keys.get(key),
+        None => None,
+    }
+}
+
+/// Returns the keys that the override with this name sets.
+fn override_named(name: &str, profile: &Profile) -> Option<ProfileKeys>
+    ensures { result ≡ override_named name.now profile.now }
+{
+    let found = profile
+        .packages
+        .as_slice()
+        .iter()
+        .find(|package| package.name.as_str() == name);
+    match found {
+        Some(package) => Some(package.keys),
+        None => None,
+    }
+}
+
+/// Returns the built-in value of a key of a profile.
+fn built_in(ancestor: &Ancestor, key: ProfileKey) -> Option<Setting>
+    ensures { result ≡ built_in (seen ancestor.now) key }
+{
+    match ancestor.name {
+        "dev" => Some(key.row().dev),
+        "release" => Some(key.row().release),
+        _ => None,
+    }
+}
+
+/// Returns the value of a key in a profile's table at a location; none for built-in values.
+fn written_in(source: Source, table: &Profile, key: ProfileKey) -> Option<Setting>
+    ensures { result ≡ written_in source.entry table.now key }
+{
+    match source {
+        Source::Package(name) => said_by(override_named(name, table), key),
+        Source::BuildOverride => said_by(table.build_override, key),
+        Source::Own => table.keys.get(key),
+        Source::OfHosts | Source::BuiltIn => None,
+    }
+}
+
+/// Returns the value of a key that a profile of a line has at a location.
+fn value_in(source: Source, ancestor: &Ancestor, key: ProfileKey) -> Option<Setting>
+    ensures { result ≡ sought source.entry (seen ancestor.now) key }
+{
+    match source {
+        Source::OfHosts => key.row().beside_override,
+        Source::BuiltIn => built_in(ancestor, key),
+        _ => match ancestor.table {
+            None => None,
+            Some(table) => written_in(source, table, key),
+        },
+    }
+}
+
+/// Returns the value of a key at a location along a line.
+fn along(source: Source, line: &[Ancestor], key: ProfileKey) -> Option<Setting>
+    ensures { result ≡ along key (sought source.entry) (map seen line.now) }
+{
+    let mut left = line;
+    while let [ancestor, after @ ..] = left {
+        match value_in(source, ancestor, key) {
+            Some(value) => return Some(value),
+            None => left = after,
+        }
+    }
+    None
+}
+
+/// Returns the value of a key of a package in a role, from its locations in order.
+#[tactic(auto, using(crate::proofs::Located::or_none))]
+pub(crate) fn looked_up(
+    owner: &Package,
+    role: Side,
+    line: &[Ancestor],
+    key: ProfileKey,
+) -> Option<Setting>
+    ensures { result ≡ looked_up key (places_of owner.now role) (map seen line.now) }
+{
+    let mut found = along(Source::BuiltIn, line, key);
+    found = along(Source::Own, line, key).or(found);
+    if role == Side::Host {
+        found = along(Source::OfHosts, line, key).or(found);
+        found = along(Source::BuildOverride, line, key).or(found);
+    }
+    if !owner.is_member {
+        found = along(Source::Package("*"), line, key).or(found);
+    }
+    along(Source::Package(owner.name.as_str()), line, key).or(found)
+}

@@ -1,0 +1,5 @@
+pub mod First
+pub mod Setting
+pub mod Table
+pub mod Keys
+pub mod Laws

@@ -1,0 +1,71 @@
+//! The nine keys of a profile.
+
+ghost use Rattle.std.specs.Prelude.{◌≡◌, ◌<◌, Some, length, slice_get};
+ghost use Rattle.pb_profile_keys.specs.Table.{keys, place};
+
+/// A key of a profile, in byte order of their names.
+#[derive(Clone, Copy, Debug, PartialEq, Eq)]
+pub enum ProfileKey {
+    /// `codegen-units`.
+    CodegenUnits,
+    /// `debug`.
+    Debug,
+    /// `debug-assertions`.
+    DebugAssertions,
+    /// `lto`.
+    Lto,
+    /// `opt-level`.
+    OptLevel,
+    /// `overflow-checks`.
+    OverflowChecks,
+    /// `panic`.
+    Panic,
+    /// `rpath`.
+    Rpath,
+    /// `strip`.
+    Strip,
+}
+
+/// How many keys there are.
+pub const COUNT: usize = ProfileKey::ALL.len();
+
+impl ProfileKey {
+    /// Each key, in byte order of their names.
+    pub const ALL: [ProfileKey; 9] = [
+        ProfileKey::CodegenUnits,
+        ProfileKey::Debug,
+        ProfileKey::DebugAssertions,
+        ProfileKey::Lto,
+        ProfileKey::OptLevel,
+        ProfileKey::OverflowChecks,
+        ProfileKey::Panic,
+        ProfileKey::Rpath,
+        ProfileKey::Strip,
+    ];
+
+    /// Returns the key at an index of all keys.
+    pub fn at(i: usize) -> ProfileKey
+        requires { i < length keys }
+        ensures { slice_get keys i ≡ Some result }
+    {
+        ProfileKey::ALL[i]
+    }
+
+    /// Returns its index among all keys.
+    pub fn place(self) -> usize
+        ensures is { result ≡ place self }
+        ensures within { place self < length keys }
+    {
+        match self {
+            ProfileKey::CodegenUnits => 0,
+            ProfileKey::Debug => 1,
+            ProfileKey::DebugAssertions => 2,
+            ProfileKey::Lto => 3,
+            ProfileKey::OptLevel => 4,
+            ProfileKey::OverflowChecks => 5,
+            ProfileKey::Panic => 6,
+            ProfileKey::Rpath => 7,
+            ProfileKey::Strip => 8,
+        }
+    }
+}
