@@ -20,6 +20,7 @@ pub data IsCall : Call → PlaceFault → List ℕ → Type 0 where
   remove : (path : List ℕ) → IsCall (call.Remove path) place.Remove path
   variable : (name : List ℕ) → IsCall (call.Variable name) place.Variable name
 
--- Each call has this fault and this argument; and counters have the argument of the last call that failed.
+-- Each call has this fault and this argument. The counters contain the argument of the last call
+-- that failed.
 abbrev pub CallsAreTold : Type 0
 CallsAreTold = ((c : Call) → IsCall c (own_fault c) (name_given c)) × ((counts : Counts) → named_in counts ≡ option_map_or name_given counts.failing [])

@@ -1,4 +1,5 @@
--- The request of a record against the command of a unit: part for part, and by the names of their variables.
+-- How the request in a record is compared with the command of a unit: part by part, and by the
+-- names of their variables.
 use Rattle.std.specs.Prelude.{◌≡◌, ◌↔◌, ℕ, List, Option, Some}
 use Rattle.pb_command.specs.Command as present
 use Rattle.pb_directive.specs.declared.directive.Directive.{Directive}
@@ -17,8 +18,8 @@ use Rattle.pb_unit.specs.declared.plan.Planned.{Planned}
 abbrev pub HasEachPart : RecordedCommand → Command → Type 0
 HasEachPart a c = (part : CommandPart) → SamePart a c part
 
--- A command requests the same, variables apart, if and only if each part is equal to the recorded one. It is the
--- recorded command if and only if its variables are equal too.
+-- Apart from its variables, a command requests the same if and only if each part is equal to the
+-- recorded one. It is the recorded command if and only if its variables are equal too.
 abbrev pub AskedPartForPart : Type 0
 AskedPartForPart = (a : RecordedCommand) (c : Command) → (AsksAs a c ↔ HasEachPart a c) × ((command_of a ≡ c) ↔ (HasEachPart a c × (a.pairs ≡ c.pairs)))
 

@@ -33,7 +33,8 @@ pub data Differs (folder : List ℕ) (at : RecordMap) (c : commands.Command) (w 
       (key : List ℕ) (first : IsFirstOf (HasFiles folder w.files) (λ copy. copy.0) copies key) → Differs folder at c w (Some r) (Some (Dependency key))
   nothing : (r : Record) (is : IsAsRecorded folder at c w r) → Differs folder at c w (Some r) None
 
--- This is the first difference of a unit, by the record that counts for it and those of the units that it needs.
+-- This is the first difference of a unit. The record that counts for it, and the records of the
+-- units that it needs, determine the difference.
 abbrev pub DifferencesAreThese : Type 0
 DifferencesAreThese = (folder key : List ℕ) (c : commands.Command) (w : World) (found : Option Difference)
     → FirstDifference folder key c w found ↔ Differs folder (records folder w) c w (records folder w key) found

@@ -25,8 +25,8 @@ abbrev pub StatesAreThese : Type 0
 StatesAreThese = (is_good_at {F = BadUnit} None ≡ false)
     × ((s : State BadUnit) → ((is_untouched s ≡ true) ↔ (s ≡ Untouched)) × ((is_bad s ≡ true) ↔ HasAnswered s true) × ((is_good_at (Some s) ≡ true) ↔ HasAnswered s false))
 
--- The units that count are those before the first that is not good, in plan order, and that one too if it is bad.
--- The build is finished if that unit is bad, or if each unit is good.
+-- The units that count are those before the first unit, in plan order, that is not good. If that
+-- unit is bad, it counts too. The build is finished if that unit is bad, or if each unit is good.
 abbrev pub EndsAreThese : Type 0
 EndsAreThese = (states : List (State BadUnit)) → let first = prefix_len (λ s. is_good_at (Some s)) states in
     (count_due states ≡ first + (if option_map_or is_bad (slice_get states first) false then 1 else 0)) × (is_finished states ≡ option_map_or is_bad (slice_get states first) true)

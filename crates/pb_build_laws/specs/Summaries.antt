@@ -16,7 +16,7 @@ use Rattle.pb_unit.specs.declared.plan.Planned.{Planned}
 abbrev pub first_bad_unit : List Row → Option (List ℕ × BadUnit)
 first_bad_unit rows = slice_get (filter_map (λ (row : Row). option_map (λ bad. (row.unit.key, bad)) (fault_in row.outcome)) rows) 0
 
--- the key of a unit that has begun and from whose record nothing differed
+-- the key of a unit that has begun, if nothing differed from its record
 abbrev pub kept_in : (Planned × Option (Option Difference)) → Option (List ℕ)
 kept_in (u, Some None) = Some u.key
 kept_in (u, reason) = None
@@ -33,7 +33,7 @@ pub record IsSummary (project : Project) (es : List (Event BadUnit)) (reasons : 
   pub started : summary.started ≡ map (λ (u : Planned). u.key) (filter_map (unit_at project) (started_by es))
   -- the first difference of each of them
   pub differences : summary.differences ≡ filter_map (λ index. option_flatten (option_flatten (slice_get reasons index))) (started_by es)
-  -- in plan order, the keys of the units that began and from whose records nothing differed
+  -- in plan order, the keys of the units that began, if nothing differed from the unit's record
   pub kept : summary.kept ≡ filter_map kept_in (zip project.plan.planned reasons)
   -- by key, the directives of the runs
   pub directives : summary.directives ≡ filter_map (λ (row : Row). option_map (λ directives. (row.unit.key, directives)) (directives_in row.outcome)) rows

@@ -68,10 +68,11 @@ abbrev pub told_well : Project → Planned → List ℕ → Option (List Directi
 told_well project u stderr None = map CompilerMessage (diagnostics_of stderr) ++ option_map_or (λ file. made_message project u file ∷ []) (made_file_of project u) []
 told_well project u stderr (Some directives) = filter_map note_in directives ++ executed u directives ∷ []
 
--- The messages of a bad unit, and what its child printed that none of them contains, by its standard output and error:
--- nothing, if a stream is too long;
--- the notes of a script that reported an error, in printed order, if they can be read; no messages for any other run;
--- the diagnostics of a compile.
+-- The messages of a bad unit, and what its child printed besides them, by its standard output and
+-- error.
+-- If a stream is too long, there is nothing of either.
+-- A script that reported an error has its notes in printed order, if they can be read.
+-- Any other run has no messages. A compile has its diagnostics.
 abbrev pub told_badly : What → UnitFault → List ℕ → List ℕ → List Message × List ℕ
 told_badly what fault.OutputTooLong stdout stderr = ([], [])
 told_badly what fault.ScriptError stdout stderr = (filter_map note_in (result_unwrap_or (directives_of stdout) []), stderr)

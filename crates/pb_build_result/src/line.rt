@@ -52,7 +52,7 @@ fn keys_text(alloc: Global, keys: &[Text]) -> Result<String, AllocError>
     Ok(text)
 }
 
-/// Returns the name of what is wrong with a line.
+/// Returns the name of a line's fault.
 fn line_fault_name(fault: LineFault) -> &'static str
     ensures { result.now ≡ line_fault_name fault }
 {
@@ -126,8 +126,8 @@ fn manifest_fault_name(fault: ManifestFault) -> &'static str
     }
 }
 
-/// Returns the name of why a workspace cannot be read; for a
-/// refused manifest, the name of the manifest's fault.
+/// Returns the name of the reason for which a workspace cannot be read. For a refused manifest, it
+/// is the name of the manifest's fault.
 fn load_fault_name(fault: &LoadFault) -> &'static str
     ensures { result.now ≡ load_fault_name fault.now }
 {
@@ -148,7 +148,7 @@ fn load_fault_name(fault: &LoadFault) -> &'static str
     }
 }
 
-/// Returns the name of why no features are resolved.
+/// Returns the name of the reason for which no features are resolved.
 fn feature_fault_name(fault: FeatureFault) -> &'static str
     ensures { result.now ≡ feature_fault_name fault }
 {
@@ -160,7 +160,7 @@ fn feature_fault_name(fault: FeatureFault) -> &'static str
     }
 }
 
-/// Returns the name of why a profile has no settings.
+/// Returns the name of the reason for which a profile has no settings.
 fn profile_fault_name(fault: ProfileFault) -> &'static str
     ensures { result.now ≡ profile_fault_name fault }
 {
@@ -172,8 +172,8 @@ fn profile_fault_name(fault: ProfileFault) -> &'static str
     }
 }
 
-/// Returns the name of why there is no plan; for a profile
-/// without settings, the name of the profile's fault.
+/// Returns the name of the reason for which there is no plan. For a profile without settings, it is
+/// the name of the profile's fault.
 fn plan_fault_name(fault: &PlanFault) -> &'static str
     ensures { result.now ≡ plan_fault_name fault.now }
 {
@@ -197,7 +197,7 @@ fn refusal_name(refusal: &Refusal) -> &'static str
     }
 }
 
-/// Returns the name of why a child gave no answer.
+/// Returns the name of the reason for which a child gave no answer.
 fn start_fault_name(fault: StartFault) -> &'static str
     ensures { result.now ≡ start_fault_name fault }
 {

@@ -1,4 +1,4 @@
-//! What people are told about a build that came to its end, beside its message lines.
+//! What is printed for people about a build that came to its end, besides its message lines.
 
 ghost use Rattle.std.specs.Prelude.{◌≡◌, ◌++◌, IfOk, OnOk};
 ghost use Rattle.pb_build_result.specs.Said.{ended, said_by_bad};

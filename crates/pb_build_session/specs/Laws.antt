@@ -17,8 +17,8 @@ both first second = first >>= (λ a. second >>= (λ b. Ok (a ++ b)))
 abbrev pub StepsJoin : Type 0
 StepsJoin = (ds es : List Data) → steps_of (items_of (ds ++ es)) ≡ both (steps_of (items_of ds)) (steps_of (items_of es))
 
--- a build without options has the manifest `/w/Cargo.toml` and the profile `dev`, and selects and narrows nothing; at
--- most one unit is in flight, and the first of the units that may begin does
+-- a build without options has the manifest `/w/Cargo.toml` and the profile `dev`, and selects and
+-- narrows nothing; at most one unit is in flight, and the first unit that may begin begins
 abbrev pub OptionsHaveDefaults : Type 0
 OptionsHaveDefaults = build_of (object no_members) ≡ Ok (Build (record {
   manifest = codes "/w/Cargo.toml";

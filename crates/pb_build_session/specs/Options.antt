@@ -105,7 +105,7 @@ options_of d = some_or BadForm (as_object d) >>= (λ ms. if are_known ms then op
 abbrev pub pick_of : Data → Read PickBy
 pick_of d = text_of d >>= pick_named
 
--- which of the units that may begin does: the first, unless another choice is requested
+-- which unit begins, of those that may begin: the first, unless another choice is requested
 abbrev pub pick_or_first : Option Data → Read PickBy
 pick_or_first None = Ok First
 pick_or_first (Some d) = pick_of d

@@ -1,4 +1,4 @@
--- Which of the units that may begin does (our own choice).
+-- Which unit begins, of those that may begin (our own choice).
 use Rattle.std.specs.Prelude.{ℕ, if◌then◌else◌, codes, List, Ok, Err}
 use Rattle.std.specs.Str.{bytes_eq}
 use Rattle.pb_build_session.specs.Faults.{Read}

@@ -308,7 +308,7 @@ fn pick_of(value: &Value) -> Result<PickBy, BadSession>
     }
 }
 
-/// Returns which of the units that may begin does: the first if the key `pick` is absent.
+/// Returns which unit begins, of those that may begin: the first if the key `pick` is absent.
 pub(crate) fn pick_in(value: &Value) -> Result<PickBy, BadSession>
     ensures { UnlessOom result (pick_or_first (get (codes "pick") (view value.now))) }
 {

@@ -1,11 +1,11 @@
-//! Which of the units that may begin does.
+//! Which unit begins, of those that may begin.
 
 ghost use Rattle.pb_build_session.specs.Faults.{UnlessOom};
 ghost use Rattle.pb_build_session.specs.Picks.{pick_named};
 
 use crate::fault::BadSession;
 
-/// Which of the units that may begin does (our own choice).
+/// Which unit begins, of those that may begin (our own choice).
 #[derive(Clone, Copy)]
 pub enum PickBy {
     /// The first of them in the order of the plan.

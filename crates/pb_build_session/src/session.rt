@@ -126,16 +126,16 @@ fn document_in(alloc: Global, bytes: &[u8]) -> Result<Value, BadSession>
 ///
 /// - `{"write":[PATH,TEXT]}` writes a file; `{"remove":PATH}` removes a file and all below it.
 /// - `{"set":[NAME,VALUE]}` sets a variable; `{"unset":NAME}` removes it.
-/// - `{"die":[KEY,KIND]}` lets the next start whose output folder has the name KEY fail in the way
-///   KIND: `CannotStart`, `Died` or `Capture`.
-/// - `{"fuse":N}` lets the Nth call fail that the next build makes to the outside world; 0 removes
-///   the fuse.
+/// - `{"die":[KEY,KIND]}` makes the next start fail whose output folder has the name KEY, in the
+///   way KIND: `CannotStart`, `Died` or `Capture`.
+/// - `{"fuse":N}` makes the Nth call of the next build to the outside world fail; 0 removes the
+///   fuse.
 /// - `{"build":OPTIONS}` builds. OPTIONS is an object with any of these keys: `manifest`, the path
 ///   of the root manifest (default `/w/Cargo.toml`); `profile`, a text (default `dev`); `packages`,
 ///   `features` and `bin`, lists of texts; `workspace`, `all_features`, `no_default_features`,
 ///   `lib` and `bins`, truth values; `jobs`, how many units may be in flight at a time (default 1);
-///   `pick`, which of the units that may begin does, `first` (the default) or `last`. The builder
-///   is called `cargo`, and build scripts are run by `mini --run`.
+///   `pick`, which unit begins, of those that may begin: `first` (the default) or `last`. The
+///   builder is called `cargo`, and build scripts are run by `mini --run`.
 ///
 /// A path is an absolute text without byte 0. A number consists of digits only, and is at most
 /// 18446744073709551615. If an object has a key twice, the last value counts, as `serde_json` reads

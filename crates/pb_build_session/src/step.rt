@@ -17,11 +17,11 @@ pub enum SessionStep {
     Set(Text, Text),
     /// The variable of this name is not set from now on.
     Unset(Text),
-    /// A build, and which of the units that may begin does.
+    /// A build, and which unit begins, of those that may begin.
     Build(Options, PickBy),
     /// The next start whose output folder has this name fails in this way. Any name is accepted.
     Die(Text, Death),
-    /// The call with this number, counted from 1, that the next build makes to the outside world
-    /// fails. 0: no call does.
+    /// Of the calls that the next build makes to the outside world, the one with this number,
+    /// counted from 1, fails. 0: no call fails.
     Fuse(u64),
 }

@@ -1,5 +1,5 @@
--- Which replies to a command are good, by the command alone: so the answer of
--- a unit that no plan knows any more is judged as it was when a plan knew it.
+-- Which replies to a command are good. Only the command decides that. So if a unit is in no plan
+-- any more, its answer is judged as it was when a plan had the unit.
 use Rattle.std.specs.Prelude.{◌≡◌, ℕ, Bool, if◌then◌else◌, codes, List, [], ◌∷◌, ◌++◌, Option, Some, None, Result, Ok, Err, slice_get}
 use Rattle.std.specs.FinMap as finite
 use Rattle.std.specs.Str.{bytes_eq}
@@ -39,8 +39,8 @@ file_at (Some path) files = finite.get files path
 abbrev pub is_of_run : List ℕ → Bool
 is_of_run out = bytes_eq (last_word out) (codes "run")
 
--- the name of the compiled crate: the second argument, whatever the
--- first one is; in each compile of a plan that is `--crate-name`
+-- the name of the compiled crate: the second argument. In each compile of a plan the first argument
+-- is `--crate-name`; here it does not matter.
 abbrev pub crate_in : List (List ℕ) → List ℕ
 crate_in [] = []
 crate_in (option ∷ []) = []

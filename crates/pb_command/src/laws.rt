@@ -24,8 +24,8 @@ pub fn commands_are_absolute()
     ensures { CommandsAreAbsolute }
 {}
 
-/// What is found in a reply to the command of a planned unit depends only
-/// on the command: so a record is judged whatever plan its unit was in.
+/// What is found in a reply to the command of a planned unit depends only on the command: so a
+/// record can be judged whichever plan its unit was in.
 pub fn judges_as_answered()
     ensures { JudgesAsAnswered }
 {}

@@ -10,8 +10,8 @@ use std::alloc::Global;
 
 /// Determines the path of a text relative to a folder.
 pub(crate) trait Meaning {
-    /// Whether it is the normalised path, that of `PathText::join`. On a machine with links it may
-    /// be another path, about which contracts promise nothing.
+    /// Whether it is the normalised path, as `PathText::join` returns it. On a machine with links
+    /// it may be another path. Contracts promise nothing about that path.
     ghost joins: { Bool };
 
     /// Returns the path of a text relative to a folder.

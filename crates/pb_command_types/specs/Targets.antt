@@ -131,7 +131,7 @@ abbrev pub is_one_of : (What → Bool) → ℕ → Option Planned → Bool
 is_one_of test owner None = false
 is_one_of test owner (Some unit) = test unit.unit.what && (unit.unit.owner == owner)
 
--- among the needs of a unit, the index of the one that passes this test and is of the package at this index
+-- the index of the needed unit that passes this test and is of the package at this index
 abbrev pub needed : (What → Bool) → Project → Planned → ℕ → Option ℕ
 needed test project unit owner = find (λ index. is_one_of test owner (unit_at project index)) unit.needs
 

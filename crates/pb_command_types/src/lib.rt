@@ -1,7 +1,7 @@
 //! What a build knows once it is planned: the project and its settings, what a unit produces and
 //! where, what it needs, the directives of build scripts, what a good answer contains, and why an
-//! answer is bad. The commands of units are built over this crate, and so is all that is about
-//! units but makes no commands.
+//! answer is bad. The crates that make the commands of units use this crate, as do the other crates
+//! about units.
 #![tactic(auto)]
 
 pub mod checked_reply;

@@ -35,6 +35,6 @@ pub struct Setup {
     pub toolchain: Bytes,
 }
 
-/// What the runs of build scripts have said, each by the index of its unit in the plan: the directives of a run that
-/// ended well, and nothing for any other unit.
+/// What the runs of build scripts have said, by the index of each unit in the plan. A run that
+/// succeeded has its directives, any other unit has none.
 pub type Done<'a> = &'a [Option<Directives>];

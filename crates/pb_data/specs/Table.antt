@@ -8,7 +8,8 @@ use Rattle.indexmap.specs.IndexMap.{insert_entry}
 abbrev pub value_at : {V : Type 0} → List ℕ → List (List ℕ × V) → Option V
 value_at name entries = lookup (bytes_eq name) entries
 
--- the entries with one more: a text that is there keeps its position and takes the value, a new one goes last
+-- the entries with one more: if its text is there already, that entry keeps its position and gets
+-- the new value; a new text goes last
 abbrev pub with_entry : {V : Type 0} → List (List ℕ × V) → List ℕ → V → List (List ℕ × V)
 with_entry entries name value = insert_entry bytes_eq entries name value
 

@@ -43,8 +43,8 @@ impl<V: Drop> Table<V> {
         }
     }
 
-    /// Adds an entry. A text that is there keeps its position and
-    /// takes the value; a new one goes last.
+    /// Adds an entry. If its text is there already, that entry keeps its position and gets the new
+    /// value. A new text goes last.
     ///
     /// Errors: out of memory; the entries stay as they were.
     pub fn insert(&mut self, name: Text, value: V) -> Result<(), AllocError>

@@ -27,7 +27,8 @@ joined a b = record { words = a.words ++ b.words; variables = a.variables ++ b.v
 
 -- ---- a rule
 
--- a colon before these bytes ends the outputs of a rule: a space follows it, or nothing
+-- a colon before these bytes ends the outputs of a rule if the bytes begin with a space, or if
+-- there are none
 abbrev pub ends_outputs : List ℕ → Bool
 ends_outputs [] = true
 ends_outputs (b ∷ bytes) = b == space

@@ -53,7 +53,7 @@ words_of text = filter (λ word. not (is_empty word)) (slice_split (λ b. b == s
 abbrev pub some_word : List ℕ → List (List ℕ) → List (List ℕ)
 some_word word words = if is_empty word then words else word ∷ words
 
--- the name after a flag's letter, which is not empty
+-- the name, which is not empty, after a flag's letter
 abbrev pub flag_name : Option (List ℕ) → Option (List ℕ)
 flag_name None = None
 flag_name (Some name) = if is_empty name then None else Some name

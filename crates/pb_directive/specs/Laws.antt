@@ -21,7 +21,8 @@ later_by lines fault.OutOfMemory = fault.OutOfMemory
 abbrev pub followed_by : List ℕ → List ℕ → List ℕ
 followed_by text more = text ++ line_feed ∷ more
 
--- the directives of the first text and then of the second, or the first fault, that of the second text further down
+-- the directives of the first text and then those of the second; or the first fault. The line
+-- number of a fault of the second text also counts the lines of the first.
 abbrev pub then_said : ℕ → Result (List Directive) LineFault → Result (List Directive) LineFault → Result (List Directive) LineFault
 then_said lines first second = first >>= (λ said. lifted (later_by lines) second >>= (λ more. Ok (said ++ more)))
 

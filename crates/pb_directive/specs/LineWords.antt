@@ -76,9 +76,8 @@ pub record IsSetting (line prefix key value : List ℕ) : Type 0 where
   pub whole : trimmed line ≡ prefix ++ key ++ equals ∷ value
   pub first : IsUncut key
 
--- what a line means: `cargo::KEY=VALUE` or `cargo:KEY=VALUE`
--- what its key means; a line with `cargo::` must have a value;
--- any other line means nothing
+-- what a line means: a line `cargo::KEY=VALUE` or `cargo:KEY=VALUE` means what its key means; a
+-- line with `cargo::` must have a value; any other line means nothing
 pub data IsLine (line : List ℕ) : Result (List Directive) Problem → Type 0 where
   new : (key value : List ℕ) (said : List Directive) (at : IsSetting line (codes "cargo::") key value) (is : IsSaidNew key value said) → IsLine line (Ok said)
   new_unknown : (key value : List ℕ) (at : IsSetting line (codes "cargo::") key value) (unknown : IsUnknown IsSaidNew key) → IsLine line (Err problem.UnknownKey)

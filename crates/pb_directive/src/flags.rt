@@ -13,7 +13,7 @@ use crate::words::Words;
 use pb_data::Text;
 use std::alloc::Global;
 
-/// Returns the name after a flag's letter, which is not empty.
+/// Returns the name after a flag's letter. The name is not empty.
 fn flag_name<'a>(letter: &str, word: &'a str) -> Option<&'a str>
     ensures { option_copied result ≡ flag_name (after_prefix letter.now word.now) }
 {

@@ -13,9 +13,9 @@ ghost use Rattle.pb_directive.specs.Metadata.{passed, dep_pairs};
 ghost use Rattle.pb_directive.specs.declared.directive.Directive.{Directive};
 ghost use Rattle.pb_directive.specs.declared.dep_info.DepInfo.{DepInfo};
 
-/// A text, a line feed and another text mean what the first means and
-/// then what the second means. The first fault counts: if the first text
-/// has none, that of the second, further down by the lines of the first.
+/// Two texts with a line feed between them mean what the first means and then what the second
+/// means. The first fault counts. If only the second text has a fault, its line number also counts
+/// the lines of the first text.
 pub fn directives_concatenate()
     ensures { (text more : List ℕ) → directives_of (followed_by text more)
         ≡ then_said (line_count text) (directives_of text) (directives_of more) }

@@ -76,7 +76,7 @@ fn first_part(alloc: Global, text: &str) -> Result<(String, Option<&str>), Alloc
     Ok((piece, None))
 }
 
-/// Mentions a part, unless it is empty.
+/// Adds a part to the mentioned texts, unless it is empty.
 fn add_part(part: String, words: &mut OrderedSet) -> Result<(), AllocError>
     ensures { OnOk result (words.new ≡ mentioned_all words.old (some_word (string_bytes part) [])) }
 {
@@ -87,7 +87,7 @@ fn add_part(part: String, words: &mut OrderedSet) -> Result<(), AllocError>
     Ok(())
 }
 
-/// Mentions the words of a rule, which follow its outputs.
+/// Adds the words of a rule to the mentioned texts. They follow its outputs.
 pub fn add_words(alloc: Global, text: &str, words: &mut OrderedSet) -> Result<(), AllocError>
     ensures { OnOk result (words.new ≡ mentioned_all words.old (rule_words text.now)) }
 {

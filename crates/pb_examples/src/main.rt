@@ -1,14 +1,15 @@
 //! Runs the examples: sessions in memory, and scripts that run the programs `pb_tool` and `pb_mini` over real folders
 //! and real children.
 //!
-//! This program is both of them: started under a name that ends in `pb_tool` or in `pb_mini`, it does what that one
-//! does. Under any other name it goes through the folder that it is started in, in byte order of the names. Each file
-//! `NAME.json` is a session, which it runs as `pb_tool session` does. Each file `NAME.sh` is a script, which the shell
-//! carries out in a new folder, over links of the two names to this program; in what a script prints `/w` stands for
-//! its folder. Before each it prints a line `== NAME`.
+//! This program is both of them. If it is started under a name that ends in `pb_tool` or in
+//! `pb_mini`, it does what that program does. Under any other name it goes through the files of the
+//! current folder, in byte order of the names. Each file `NAME.json` is a session, which it runs as
+//! `pb_tool session` does. Each file `NAME.sh` is a script. The shell carries it out in a new
+//! folder, which has links of the two names to this program. In what a script prints, `/w` replaces
+//! the path of that folder. Before each session or script, the program prints a line `== NAME`.
 //!
-//! The gate starts it in a copy of `data/` and compares what it prints with the file `stdout`. So a new example is
-//! its file in `data/` and its part of `stdout`.
+//! The gate starts it in a copy of `data/` and compares what it prints with the file `stdout`. So a
+//! new example needs its file in `data/` and its part of `stdout`.
 #![tactic(auto)]
 
 use pb_mini_program::compiler;
@@ -36,7 +37,7 @@ fn names(rt: &HostRuntime) -> io::Result<Vec<String>> {
     Ok(names)
 }
 
-/// The name under which this program was started; empty where it is not known.
+/// The name under which this program was started; empty if it is not known.
 fn own_name(rt: &HostRuntime) -> io::Result<String> {
     let mut bytes = [0u8; 4096];
     let Ok(length) = rt.arg(0, &mut bytes) else {
@@ -69,7 +70,7 @@ fn print_session(rt: &HostRuntime, name: &str) -> io::Result<()> {
     Ok(())
 }
 
-/// Has the shell carry out a script in a new folder, and prints what it printed.
+/// Lets the shell carry out a script in a new folder, and prints what the script printed.
 fn print_script(rt: &HostRuntime, here: &str, name: &str) -> io::Result<()> {
     let folder = format!(in rt.alloc(); "{here}/in/{name}")?;
     fs::create_dir_all(rt, folder.as_str())?;
@@ -85,7 +86,7 @@ fn print_script(rt: &HostRuntime, here: &str, name: &str) -> io::Result<()> {
     print!(rt; "== {name}\n{text}")
 }
 
-/// Carries out all sessions and scripts, where there are some.
+/// Carries out all sessions and scripts, if there are some.
 fn print_all(rt: &HostRuntime) -> io::Result<()> {
     let here = env::current_dir(rt)?;
     let names = names(rt)?;
@@ -104,7 +105,7 @@ fn print_all(rt: &HostRuntime) -> io::Result<()> {
     Ok(())
 }
 
-/// Does what the program of its name does, and gives the status to end with.
+/// Does what the program of its name does, and returns the status with which to end.
 fn status(rt: &HostRuntime) -> u8 {
     let Ok(name) = own_name(rt) else {
         return 1;

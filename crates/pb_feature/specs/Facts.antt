@@ -39,15 +39,16 @@ pub data Holds (ws : Workspace) (selection : Selection) : Fact → Type 0 where
   listed : (p : ℕ) (s : Side) (f g : List ℕ) (on : Holds ws selection (Has p s f)) (lists : ListsItem ws p f (Own g)) → Holds ws selection (Has p s g)
   -- `dep:N` enables the entries N; the implicit feature N lists it
   named : (p : ℕ) (s : Side) (f : List ℕ) (n : ℕ) (e : Entry) (on : Holds ws selection (Has p s f)) (lists : ListsItem ws p f (Dependency e.key)) (has : HasEntry ws p n e) → Holds ws selection (Enabled p s n)
-  -- `N/F` enables the entries N, requests F of them, and turns
-  -- on the feature N if it exists and one of them is optional
+  -- `N/F` enables the entries N and requests the feature F of them; it also turns on the feature N,
+  -- if there is one and an entry N is optional
   of_enables : (p : ℕ) (s : Side) (f g : List ℕ) (n : ℕ) (e : Entry) (on : Holds ws selection (Has p s f)) (lists : ListsItem ws p f (Of e.key g)) (has : HasEntry ws p n e) → Holds ws selection (Enabled p s n)
   of_asks : (p : ℕ) (s : Side) (f g : List ℕ) (n : ℕ) (e : Entry) (on : Holds ws selection (Has p s f)) (lists : ListsItem ws p f (Of e.key g)) (has : HasEntry ws p n e) → Holds ws selection (Asked p s n g)
   of_gives : (p : ℕ) (s : Side) (f g : List ℕ) (n : ℕ) (e : Entry) (on : Holds ws selection (Has p s f)) (lists : ListsItem ws p f (Of e.key g)) (has : HasEntry ws p n e) (is_optional : e.optional ≡ true) (there : HasFeature ws p e.key) → Holds ws selection (Has p s e.key)
   -- `N?/F` requests F of the entries N that are enabled
   of_enabled : (p : ℕ) (s : Side) (f g : List ℕ) (n : ℕ) (e : Entry) (on : Holds ws selection (Has p s f)) (lists : ListsItem ws p f (OfEnabled e.key g)) (has : HasEntry ws p n e) (enabled : Holds ws selection (Enabled p s n)) → Holds ws selection (Asked p s n g)
-  -- an enabled entry puts its package on, at this side or, for a build entry, at the host; the package gets
-  -- the listed and the requested features and, unless the entry says otherwise, `default` if it exists
+  -- an enabled entry turns its package on, at this side or, for a build entry, at the host; the
+  -- package gets the listed and the requested features and, unless the entry says otherwise,
+  -- `default` if it exists
   leads : (p : ℕ) (s : Side) (n : ℕ) (e : Entry) (enabled : Holds ws selection (Enabled p s n)) (has : HasEntry ws p n e) → Holds ws selection (On e.to (side_of e.kind s))
   with_listed : (p : ℕ) (s : Side) (n : ℕ) (e : Entry) (f : List ℕ) (enabled : Holds ws selection (Enabled p s n)) (has : HasEntry ws p n e) (is : Contains e.features f) → Holds ws selection (Has e.to (side_of e.kind s) f)
   with_asked : (p : ℕ) (s : Side) (n : ℕ) (e : Entry) (f : List ℕ) (enabled : Holds ws selection (Enabled p s n)) (asked : Holds ws selection (Asked p s n f)) (has : HasEntry ws p n e) → Holds ws selection (Has e.to (side_of e.kind s) f)

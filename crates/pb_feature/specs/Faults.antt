@@ -82,8 +82,8 @@ pub record IsMissing (ws : Workspace) (selection : Selection) : Type 0 where
   pub holds : Holds ws selection (Has place side feature)
   pub missing : HasFeature ws place feature → ⊥
 
--- why nothing is resolved: an item has a fault; else no selected package has a requested
--- feature; else a feature is requested of a package that has none of that name
+-- why nothing is resolved; the first of these counts: an item has a fault; no selected package has
+-- a requested feature; a feature is requested of a package that has no feature of that name
 pub data Refuses (ws : Workspace) (selection : Selection) : FeatureFault → Type 0 where
   by_item : (fault : FeatureFault) (first : IsFirstFault ws fault) → Refuses ws selection fault
   by_asked : (right : ItemsAreRight ws) (text : List ℕ) (asked : Contains selection.features text) (none : IsAnswered ws selection text → ⊥) → Refuses ws selection NoSuchFeature

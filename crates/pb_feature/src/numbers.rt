@@ -126,7 +126,7 @@ impl Ground<'_> {
         }
     }
 
-    /// Returns the number that means: the package is on.
+    /// Returns the number of the fact that the package is on.
     pub(crate) fn on(&self, place: usize, side: Side) -> Result<usize, AllocError>
         ensures { IfOk result (λ i. i ≡ on self.now.bases.now place side) }
     {
@@ -134,8 +134,8 @@ impl Ground<'_> {
         Ok(i)
     }
 
-    /// Returns the number that means: the package has the feature of this
-    /// slot, counted from 1; slot 0 is a feature that it does not have.
+    /// Returns the number of the fact that the package has the feature of this slot, counted from
+    /// 1. Slot 0 is a feature that the package does not have.
     pub(crate) fn has(&self, place: usize, side: Side, feature: usize) -> Result<usize, AllocError>
         ensures { IfOk result (λ i. i ≡ has self.now.bases.now place side feature) }
     {
@@ -146,8 +146,8 @@ impl Ground<'_> {
         Ok(i)
     }
 
-    /// Returns the number that means: the entry is enabled; the
-    /// entries' numbers come after those of the features.
+    /// Returns the number of the fact that the entry is enabled. The numbers of entries come after
+    /// those of features.
     pub(crate) fn enabled(
         &self,
         place: usize,
@@ -167,7 +167,7 @@ impl Ground<'_> {
         Ok(i)
     }
 
-    /// Returns the number that means: the package has the feature of this name.
+    /// Returns the number of the fact that the package has the feature of this name.
     pub(crate) fn given(&self, place: usize, side: Side, name: &[u8]) -> Result<usize, AllocError>
         ensures { IfOk result (λ i. i
             ≡ has self.now.bases.now place side (slot_at self.now.packages.now place name.now)) }

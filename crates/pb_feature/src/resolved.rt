@@ -102,7 +102,7 @@ fn entries_of(
     Ok(enabled)
 }
 
-/// Returns what is on of a package, on one side.
+/// Returns what is on in a package, on one side.
 fn part_of(
     alloc: Global,
     ground: &Ground<'_>,
@@ -126,7 +126,7 @@ fn part_of(
     })
 }
 
-/// Returns what is on of a package.
+/// Returns what is on in a package.
 fn sides_of(
     alloc: Global,
     ground: &Ground<'_>,
@@ -142,7 +142,7 @@ fn sides_of(
     Ok(Sides { target, host })
 }
 
-/// Returns what is on of each package.
+/// Returns what is on in each package.
 pub(crate) fn features_marked(
     alloc: Global,
     ground: &Ground<'_>,

@@ -1,5 +1,5 @@
--- The index of rules: for each thing, what the rules need beside it and
--- what they then yield. Only private functions need these definitions.
+-- The index of rules: for each thing, what else the rules need and what they then yield. Only
+-- private functions need these definitions.
 use Rattle.std.specs.Prelude.{◌≡◌, ◌⊎◌, ◌↔◌, ◌<◌, ◌≤◌, ◌+◌, ◌==◌, ℕ, zero, suc, Bool, IsTrue, List, [], ◌∷◌, ◌++◌, Option, Some, None, Contains, length, slice_get, slice_index_or, slice_set, if◌then◌else◌}
 use Rattle.pb_graph.specs.declared.table.Rule.{Rule}
 use Rattle.pb_graph.specs.declared.index.Link.{Link}
@@ -19,7 +19,7 @@ pub data IsRead (links : List Link) : ℕ → Link → Type 0 where
 abbrev pub head_at : List ℕ → ℕ → ℕ
 head_at heads x = slice_index_or heads x 0
 
--- one of a thing's links says that the thing yields `z` together with `y`
+-- a link of a thing says that this thing and `y` together yield `z`
 pub record HasLink (heads : List ℕ) (links : List Link) (x y z : ℕ) : Type 0 where
   pub next : ℕ
   pub read : IsRead links (head_at heads x) (record { with = y; gives = z; next = next })

@@ -64,7 +64,8 @@ pub record AreLevels (nodes : List Node) (list levels : List ℕ) : Type 0 where
   pub long : length levels ≡ length nodes
   pub each : (v : ℕ) → Contains list v → slice_index levels v ≡ above (map (slice_index levels) (needs_at nodes v))
 
--- Extents in order of their counts, of nodes that do not reach themselves and whose needs are among them.
+-- Extents in order of their counts. Their nodes do not reach themselves, and all needs of these
+-- nodes are among them.
 pub record AreRising (nodes : List Node) (extents : List Extent) : Type 0 where
   pub each : All (IsExtent nodes) extents
   pub rising : IsNonDecreasingBy (λ e. e.count) extents

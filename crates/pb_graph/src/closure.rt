@@ -1,4 +1,4 @@
-//! The least set that rules yield, computed with a list of what is still to be looked at.
+//! The least set that rules yield. A list has the things that are still to be looked at.
 
 ghost use Rattle.std.specs.Prelude.{◌≡◌, ℕ, ◌+◌, ◌<◌, IfOk, OnOk, All, Contains, IsTrue, length};
 ghost use Rattle.pb_graph.specs.Closure.{Least, IsGiven, IsLeast, is_on, with_mark, with_marks};
@@ -14,7 +14,7 @@ pub trait Rules {
     /// Two things yield a third together; a rule with one premise joins a thing with itself.
     ghost joins: { Self → ℕ → ℕ → ℕ → Type 0 };
 
-    /// The rules are well formed: what `put_given` requires besides.
+    /// The rules are well formed, as `put_given` requires.
     ghost is_fit: { Self → Type 0 };
 
     /// Returns the number of things.

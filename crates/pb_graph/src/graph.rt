@@ -21,9 +21,9 @@ pub struct Step {
     pub key: Text,
     /// 0 without needs, else one more than the greatest level of the nodes that it needs.
     pub level: usize,
-    /// The indices in the order of the nodes that it needs, ascending.
+    /// The indices, in the order, of the nodes that it needs, ascending.
     pub needs: Items<usize>,
-    /// The indices in the order of all nodes that it reaches, ascending.
+    /// The indices, in the order, of all nodes that it reaches, ascending.
     pub reaches: Items<usize>,
 }
 

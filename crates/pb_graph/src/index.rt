@@ -1,5 +1,5 @@
-//! The index of rules: for each thing, what the rules need
-//! beside it and what they then yield. Only this crate uses it.
+//! The index of rules: for each thing, what else the rules need and what they then yield. Only this
+//! crate uses it.
 
 ghost use Rattle.std.specs.Prelude.{◌≡◌, ◌<◌, IfOk, OnOk, All, length};
 ghost use Rattle.std.specs.List.{sum_by};
@@ -10,10 +10,10 @@ ghost use Rattle.pb_graph.specs.Index.{link_at, with_link, with_rule, either_way
 use crate::table::Rule;
 use std::alloc::{AllocError, Global};
 
-/// What a thing needs beside it, and what the two yield.
+/// What else a rule of a thing needs, and what the two yield.
 #[derive(Clone, Copy)]
 pub(crate) struct Link {
-    /// What it needs beside it.
+    /// What else the rule needs.
     pub with: usize,
     /// What the two yield.
     pub gives: usize,
@@ -38,8 +38,8 @@ fn link_at(links: &[Link], number: usize) -> Option<Link>
     links.get(place).copied()
 }
 
-/// Replaces the contents of a buffer by what the links from a
-/// number on yield, if they have what they need.
+/// Replaces the contents of a buffer by what the links from a number on yield, if what they need is
+/// there.
 pub(crate) fn put_linked(
     known: &[bool],
     links: &[Link],

@@ -120,7 +120,7 @@ fn extent_nodes(alloc: Global, extents: &[Extent]) -> Result<Vec<usize>, AllocEr
     extents.iter().map(|e| e.node).collect(alloc)
 }
 
-/// Returns how many nodes each node that the roots reach reaches itself, the least first.
+/// Returns, for each node that the roots reach, how many nodes it reaches, the least first.
 fn survey(
     alloc: Global,
     nodes: &[Node],
@@ -163,7 +163,7 @@ fn within(
     Ok(found)
 }
 
-/// Returns the order of nodes none of which reaches itself.
+/// Returns the order of some nodes. None of them reaches itself.
 fn ordered(
     alloc: Global,
     nodes: &[Node],

@@ -140,10 +140,10 @@ bad_messages w e ended =
     if is_script_error e then notes_in (directives_of ended.stdout)
     else (if gives_diagnostics w e then compiler_messages ended.stderr else [])
 
--- what a bad unit's child wrote that no message contains:
+-- what a bad unit's child wrote, without what messages contain:
 -- - nothing if a stream is too long
 -- - standard error of a script that reported an error, both streams of any other script
--- - the lines of a compile beside its diagnostics
+-- - the lines of a compile that are not diagnostics
 abbrev pub said_by : What → UnitFault → Ended → List ℕ
 said_by w fault.OutputTooLong ended = []
 said_by w fault.ScriptError ended = ended.stderr

@@ -128,7 +128,7 @@ fn libraries_in(alloc: Global, directives: &[Directive]) -> Result<Items<Text>, 
     Ok(made)
 }
 
-/// Returns the folder in a directive in which libraries are looked for.
+/// Returns the folder of a directive that names a folder for the search of libraries.
 fn search_in(alloc: Global, directive: &Directive) -> Result<Option<Text>, AllocError>
     ensures { IfOk result (λ made. made ≡ search_in directive.now) }
 {
@@ -313,9 +313,9 @@ fn both(alloc: Global, ended: &Ended) -> Result<Bytes, AllocError>
     Ok(Bytes::new(said))
 }
 
-/// Returns what the child of a bad unit wrote that no message contains (our own choice):
-/// nothing if a stream is too long; standard error of a script that reported an error;
-/// both streams of any other script; the lines of a compile beside its diagnostics.
+/// Returns what the child of a bad unit wrote, without what messages contain (our own choice):
+/// nothing if a stream is too long; standard error of a script that reported an error; both streams
+/// of any other script; the lines of a compile that are not diagnostics.
 ///
 /// Errors: out of memory.
 pub fn said_by(

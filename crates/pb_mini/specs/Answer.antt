@@ -38,6 +38,6 @@ abbrev pub replied_if : Result Request CommandLineFault → List (List ℕ × Li
 replied_if (Ok request) pairs w = replied_to request pairs w
 replied_if (Err e) pairs w = bad_command_line
 
--- the reply to arguments and an environment, of which the last value of a name counts
+-- the reply to arguments and an environment; if a name occurs twice, its last value counts
 abbrev pub answered : List (List ℕ) → List (List ℕ × List ℕ) → World → Reply
 answered words pairs w = replied_if (request_of words) (table_of pairs) w

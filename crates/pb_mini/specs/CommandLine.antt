@@ -67,7 +67,7 @@ joined a b = record {
 abbrev pub after : Arguments → Result Arguments CommandLineFault → Result Arguments CommandLineFault
 after said more = more >>= (λ rest. Ok (joined said rest))
 
--- the values of some arguments; the first argument is the value of an option if one waits for its value
+-- the values of some arguments; if an option waits for its value, the first argument is that value
 abbrev pub arguments_after : Option Role → List (List ℕ) → Result Arguments CommandLineFault
 arguments_after None [] = Ok no_arguments
 arguments_after (Some role) [] = Err Bad

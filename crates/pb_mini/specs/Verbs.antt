@@ -70,7 +70,8 @@ variable_at pairs w name = (name, value_of pairs w name)
 abbrev pub variable_of : List (List ℕ × List ℕ) → World → List ℕ → Option (List ℕ × Option (List ℕ))
 variable_of pairs w path = option_map (variable_at pairs w) (variable_in path)
 
--- the path with the value instead of its first part; a variable that is not set is empty
+-- the path, in which the value of the variable, if there is one, replaces the first part; the value
+-- is empty if the variable is not set
 abbrev pub expanded : List ℕ → Option (List ℕ × Option (List ℕ)) → List ℕ
 expanded path None = path
 expanded path (Some variable) = unwrap_or variable.1 [] ++ from_slash path

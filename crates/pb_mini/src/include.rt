@@ -79,8 +79,8 @@ fn with_first_part(alloc: Global, value: &str, path: &str) -> Result<String, All
     Ok(text)
 }
 
-/// Returns the path with the variable's value instead of its first part. A variable that is not set
-/// is empty.
+/// Returns the path, in which the variable's value replaces the first part. The value is empty if
+/// the variable is not set.
 fn expanded(
     alloc: Global,
     path: &str,

@@ -81,7 +81,7 @@ fn put_pair(alloc: Global, table: &mut Table<Text>, pair: &(Text, Text)) -> Resu
     table.insert(pair.0.copy(alloc)?, pair.1.copy(alloc)?)
 }
 
-/// Returns pairs as a table, in which the last of several with the same name counts.
+/// Returns pairs as a table. If several pairs have the same name, the last one counts.
 pub(crate) fn table_of(alloc: Global, pairs: &[(Text, Text)]) -> Result<Table<Text>, AllocError>
     ensures { IfOk result (λ table. table ≡ table_of pairs.now) }
 {

@@ -33,11 +33,13 @@ asks_run (word ∷ []) = false
 asks_run (word ∷ path ∷ []) = bytes_eq word (codes "--run")
 asks_run (word ∷ other ∷ next ∷ words) = false
 
--- the option whose value the next argument is, after an argument that is no value
+-- what the next argument is after this one, which is no value: the folder, the value of another
+-- option, or no value
 abbrev pub waiting_after : List ℕ → Option Waiting
 waiting_after word = if bytes_eq word (codes "--out-dir") then Some Folder else (if takes_value word then Some Other else None)
 
--- the first value of `--out-dir` among some arguments, of which the first is the value of the option that waits for one
+-- the first value of `--out-dir` among some arguments; if an option waits for a value, the first
+-- argument is that value
 abbrev pub first_out_dir : Option Waiting → List (List ℕ) → Option (List ℕ)
 first_out_dir waiting [] = None
 first_out_dir (Some Folder) (word ∷ words) = Some word

@@ -19,7 +19,7 @@ use Rattle.pb_mini_program.specs.OutFolder.{out_folder}
 abbrev pub Writes : List ℕ → SinkState → SinkState → Type 0
 Writes bytes old new = Appends old.taken new.taken bytes × (new.faults ≡ old.faults)
 
--- the sink failed at these bytes, of which it took the first n but not all
+-- the sink failed at these bytes: it took the first n of them but not all
 abbrev pub FailsAt : List ℕ → SinkState → SinkState → Type 0
 FailsAt bytes old new = TakesPart bytes old.taken new.taken × (new.faults ≡ up old.faults)
 
@@ -55,16 +55,16 @@ FailsToPut is_modelled folder files old new =
     (done : List (List ℕ × List ℕ)) × (file : List ℕ × List ℕ) × (left : List (List ℕ × List ℕ)) × (files ≡ done ++ file ∷ left)
     × (new.counts ≡ past_place_fault (call.Write (below folder file.0)) place.Write (past_calls (writes_in folder done) old.counts)) × (IsTrue is_modelled → PutsUpTo folder done file old.world new.world)
 
--- memory ran out at one of the files, before its write or in it, and no call failed;
--- the files before it were put in the folder
+-- memory ran out before or during the write of one of the files, and no call failed; the files
+-- before it were put in the folder
 abbrev pub StopsPutting : Bool → List ℕ → List (List ℕ × List ℕ) → Kept → Kept → Type 0
 StopsPutting is_modelled folder files old new =
     (done : List (List ℕ × List ℕ)) × (file : List ℕ × List ℕ) × (left : List (List ℕ × List ℕ)) × (files ≡ done ++ file ∷ left)
     × (PutsIn is_modelled (Some folder) done old new
     ⊎ ((new.counts ≡ past_calls (writes_in folder (done ++ file ∷ [])) old.counts) × (IsTrue is_modelled → PutsUpTo folder done file old.world new.world)))
 
--- What is reported of a reply over a view:
--- if the view reports what it shows, the reply is the small compiler's to these arguments.
+-- What is reported of a reply over a view: if the view reports what it shows, the reply is that of
+-- the small compiler to these arguments.
 
 abbrev pub IsReply : Bool → List (List ℕ) → World → Reply → Type 0
 IsReply shows words shown reply = IsTrue shows → reply ≡ answered words [] shown
@@ -94,8 +94,8 @@ outside at out err = record { kept = kept at; out = out; err = err }
 abbrev pub WritesAll : Bool → Bool → List (List ℕ) → World → Reply → Outside → Outside → Type 0
 WritesAll shows is_modelled words shown reply old new = Puts shows is_modelled words shown reply old.kept new.kept × Writes reply.stdout old.out new.out × Writes reply.stderr old.err new.err
 
--- a write failed: that of a file; that of the output, after all files;
--- or that of standard error, after the whole output
+-- a write failed: the write of a file; the write of the output, after all files; or the write of
+-- standard error, after the whole output
 abbrev pub WriteFails : Bool → Bool → List (List ℕ) → World → Reply → Outside → Outside → Type 0
 WriteFails shows is_modelled words shown reply old new =
     ((folder : List ℕ) × IsFolder shows words shown (Some folder) × FailsToPut is_modelled folder reply.files old.kept new.kept × (new.out ≡ old.out) × (new.err ≡ old.err))

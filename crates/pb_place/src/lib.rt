@@ -1,7 +1,8 @@
 //! The outside world: a place in memory, and the trait, paths and sinks that every place shares.
 //!
-//! `Memory` is a place of which contracts see every file, variable and child process. `Seen` counts the calls that a
-//! caller makes after one that failed. `Unfailing` is a place of which no call fails.
+//! `Memory` is a place. Contracts see all its files, variables and child processes. `Seen` counts
+//! the calls that a caller makes after one that failed. `Unfailing` is a place at which no call
+//! fails.
 #![tactic(auto)]
 
 pub mod in_flight;

@@ -22,10 +22,11 @@ use std::mem;
 
 /// A place of maps over a child. Contracts see its state: its world and its counters.
 ///
-/// A call fails only if memory runs out, or as `fuse` and `die` set it, which serve tests. The
-/// contract of each call describes when it fails, and what it leaves then. The functions below are
-/// no calls of a place. They are not counted, except that a counter has how often `fuse` and `die`
-/// set something. A read or a write takes time logarithmic in the number of files.
+/// A call fails only if memory runs out, or if `fuse` or `die` was called to make it fail. Both
+/// serve tests. The contract of each call describes when it fails, and what it leaves then. The
+/// functions below are no calls of a place. They are not counted. Only the calls of `fuse` and
+/// `die` that set something have a counter of their own. A read or a write takes time logarithmic
+/// in the number of files.
 #[derive(Drop)]
 pub struct Memory<C> {
     files: FileMap,
@@ -164,12 +165,12 @@ impl<C> Memory<C> {
         self.fuse = number;
     }
 
-    /// Sets that the next start whose folder has this name fails with this fault. Of two settings
-    /// for the same name, the earlier one is used first. A start that fails by the fuse, or runs
-    /// out of memory, leaves the setting for the next start.
+    /// Makes the next start whose folder has this name fail with this fault. If there are two
+    /// settings for the same name, the earlier one is used first. A start that fails by the fuse,
+    /// or runs out of memory, leaves the setting for the next start.
     ///
-    /// `CannotStart` occurs at the spawn, which changes nothing. Any other fault occurs at the end,
-    /// and leaves the first half of the reply's files in byte order, rounded down.
+    /// `CannotStart` occurs at the spawn, which changes nothing. Any other fault occurs at the end.
+    /// It leaves only the first half of the reply's files, rounded down and in byte order.
     ///
     /// Requires: the fault is one of the outside, and not `OutOfMemory`.
     ///

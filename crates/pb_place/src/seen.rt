@@ -60,7 +60,7 @@ impl<P> Seen<P> {
         }
     }
 
-    /// Counts a call, which failed or not.
+    /// Counts a call, whether or not it failed.
     fn note(&mut self, failed: bool)
         ensures seen { (self.new.faulted, self.new.after)
             ≡ seen failed (self.old.faulted, self.old.after) }
@@ -72,7 +72,7 @@ impl<P> Seen<P> {
         self.faulted = self.faulted || failed;
     }
 
-    /// Records a `finish`, which failed or not.
+    /// Records a `finish`, whether or not it failed.
     fn note_end(&mut self, failed: bool)
         ensures seen { (self.new.faulted, self.new.after)
             ≡ seen_end failed (self.old.faulted, self.old.after) }

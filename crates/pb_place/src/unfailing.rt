@@ -6,8 +6,8 @@ use pb_place_types::{Child, Command, Ended, Moved, PathText, Place, PlaceFault, 
 use std::alloc::Global;
 use std::marker::Model;
 
-/// A place in memory of which no call has failed, and none fails unless memory runs out. Therefore
-/// a build over it ends without a failing call. Contracts see the place in memory.
+/// A place in memory. None of its calls has failed, and none fails unless memory runs out.
+/// Therefore a build over it ends without a failing call. Contracts see the place in memory.
 #[derive(Drop)]
 pub struct Unfailing<C> {
     inside: Memory<C>,

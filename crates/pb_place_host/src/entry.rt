@@ -7,9 +7,9 @@ use std::alloc::Global;
 use std::rt::Files;
 use std::{fs, io};
 
-/// Returns what is at an entry whose links lead further than the system follows
-/// them. It is nothing if the entry's own link leads in a circle. Otherwise it
-/// is too deep: a link to a folder above it, followed again and again.
+/// Returns what is at an entry whose links lead further than the system follows them. There is
+/// nothing if the entry's own link leads in a circle. Otherwise the entry is too deep, by a link to
+/// a folder above it that is followed again and again.
 fn standing_in_circle<R: Files + AllocGlobal>(
     runtime: &R,
     alloc: Global,

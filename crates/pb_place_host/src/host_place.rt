@@ -28,7 +28,7 @@ use std::alloc::{AllocError, Global};
 use std::process::{Child, Processes};
 use std::rt::{Env, Files};
 
-/// A place of real files, variables and children, over a runtime. It does not tell its maps,
+/// A place of real files, variables and children, over a runtime. Contracts do not see its maps,
 /// since no contract can say what a disk contains. It counts its calls as every place does.
 ///
 /// It follows links. The rest is our own choice, as are the limits of the other formats:
@@ -43,17 +43,18 @@ use std::rt::{Env, Files};
 /// - A folder below a listed one counts as absent if it has the
 ///   tag that this builder writes in target folders.
 /// - A removal that is refused is tried once more, after the folders there were made writable.
-/// - A removal removes a link itself, and not what it leads to.
+/// - A removal removes a link itself, and not the file or folder to which the link leads.
 ///
-/// A child inherits the variables of this process, over which those of its command are set.
-/// It starts in the folder of the command, with an empty standard input. A program without
-/// a slash in its name is looked for by the `PATH` of this process. No contract says what a
-/// child changes on the disk. Children in flight run side by side; if one writes more than
-/// a pipe holds, it waits for its `finish`. They stay in the process group of this program.
-/// A child whose place is dropped before its `finish` is neither waited for nor ended.
+/// A child inherits the variables of this process. The variables of its command override them. It
+/// starts in the folder of the command, with an empty standard input. A program without a slash in
+/// its name is looked for in the folders of this process's `PATH`. No contract says what a child
+/// changes on the disk. Children in flight run side by side; if one writes more than a pipe holds,
+/// it waits for its `finish`. They stay in the process group of this program. A child whose place
+/// is dropped before its `finish` is neither waited for nor ended.
 ///
-/// What a child read has moved if it has changed since the child's output folder was made, just
-/// before the spawn: by the change times of files and folders (`ctime`), which no program can set.
+/// A path that a child read has moved if it has changed since the child's output folder was made,
+/// just before the spawn. The change times of files and folders (`ctime`) decide that; no program
+/// can set them.
 #[derive(Drop)]
 pub struct HostPlace<'a, R: Processes> {
     runtime: &'a R,
@@ -109,7 +110,7 @@ impl<'a, R: Files + Env + Processes + AllocGlobal> HostPlace<'a, R> {
         let Some(ticket) = free_ticket(self.flying.as_slice()) else {
             return Err(StartFault::OutOfMemory);
         };
-        // Space before the process: one that runs is always known.
+        // Space is reserved before the process starts, so a running process is always known.
         self.flying.reserve(1)?;
         let child = child_in_flight(alloc, command, ticket)?;
         let answer = begun(self.runtime, alloc, command);
@@ -144,8 +145,8 @@ impl<'a, R: Files + Env + Processes + AllocGlobal> HostPlace<'a, R> {
         answer
     }
 
-    /// Returns when the child of this output folder was spawned, if
-    /// it is the one that ended last and the time is known.
+    /// Returns when the child of this output folder was spawned, if this child was the last to end
+    /// and the time is known.
     fn since(&self, out: &PathText) -> Option<Moment> {
         match &self.ended {
             Some(spawned) if &spawned.out == out => spawned.since,
@@ -158,8 +159,8 @@ impl<'a, R: Files + Env + Processes + AllocGlobal> HostPlace<'a, R> {
         self.moved.iter().any(|moved| &moved.out == out)
     }
 
-    /// Remembers what has moved for the child of an output folder at or below
-    /// a path, if something has. If it cannot be found out, it has moved.
+    /// Remembers what has moved at or below a path, if something has, for the child of an output
+    /// folder. If that cannot be found out, the path counts as moved.
     fn look_for(
         &mut self,
         alloc: Global,

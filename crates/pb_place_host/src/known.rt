@@ -39,7 +39,7 @@ pub(crate) struct Known {
     children: Vec<FailedChild>,
     /// The answer of the last child without an output folder.
     query: Report,
-    /// The links that the last child left and that lead out of the target folder.
+    /// The links of the last child that lead out of the target folder.
     links: Report,
 }
 

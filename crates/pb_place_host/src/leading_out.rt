@@ -138,9 +138,9 @@ fn report_links<R: Files + AllocGlobal>(
     look_around(runtime, alloc, report, &mut left)
 }
 
-/// Returns a report on the links that the script of a command left in its output folder and that
-/// lead out of the target folder, to paths that it did not print. For a command of a compiler, and
-/// if memory runs out, the report may be empty.
+/// Returns a report on links that lead out of the target folder: those that the script of a command
+/// left in its output folder, if they lead to paths that it did not print. For a command of a
+/// compiler, and if memory runs out, the report may be empty.
 pub(crate) fn links_out<R: Files + AllocGlobal>(
     runtime: &R,
     alloc: Global,

@@ -260,8 +260,8 @@ fn has_no_text<R: Files + AllocGlobal>(entry: &io::Result<fs::DirEntry<&R>>) -> 
     }
 }
 
-/// Adds the entries of a folder that are not left out and whose names are
-/// UTF-8. If it is the one that is listed and does not exist, it has none.
+/// Adds those entries of a folder that are not left out and have names in UTF-8. If the folder is
+/// the listed one and does not exist, it has no entries.
 fn take_named<R: Files + AllocGlobal>(
     runtime: &R,
     alloc: Global,

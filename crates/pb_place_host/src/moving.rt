@@ -68,8 +68,8 @@ fn look_of(metadata: &fs::Metadata, since: Moment) -> Sight {
     Sight::Still
 }
 
-/// Looks at a path. A link has moved if it was changed itself, or if
-/// what it leads to was. If it cannot be found out, it has moved.
+/// Looks at a path. A link has moved if the link itself was changed, or the file or folder to which
+/// it leads. If that cannot be found out, the path counts as moved.
 fn look<R: Files>(runtime: &R, since: Moment, path: &str) -> Sight {
     let metadata = match fs::symlink_metadata(runtime, path) {
         Ok(metadata) => metadata,
@@ -82,8 +82,8 @@ fn look<R: Files>(runtime: &R, since: Moment, path: &str) -> Sight {
     }
 }
 
-/// Returns whether something may have been at a path that is absent
-/// now: whether the nearest existing folder above it has changed since.
+/// Returns whether there may have been something at a path that is absent now. That is so if the
+/// nearest existing folder above the path has changed since.
 fn is_gone<R: Files>(
     runtime: &R,
     alloc: Global,

@@ -93,9 +93,9 @@ fn read_first<F: Read>(file: &mut F, bytes: &mut [u8]) -> io::Result<usize> {
     }
 }
 
-/// Returns the bytes of a file that had this length a moment ago. One call
-/// requests these bytes and one more: if it returns exactly these, the file
-/// has ended there. Otherwise the rest is read until a call returns nothing.
+/// Returns the bytes of a file that had this length a moment ago. One call requests that many bytes
+/// and one more. If it returns exactly that many, the file ends there. Otherwise the rest is read
+/// until a call returns nothing.
 pub(crate) fn bytes_at<R: Files + AllocGlobal>(
     runtime: &R,
     path: &str,

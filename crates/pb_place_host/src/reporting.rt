@@ -31,8 +31,8 @@ pub trait Reporting {
         &[]
     }
 
-    /// Returns the links that the child which ended last left in its output folder and that lead
-    /// out of the target folder, if it was a script.
+    /// Returns links that lead out of the target folder: those that the last child left in its
+    /// output folder, if it was a script.
     fn links_out(&self) -> &[Text]
         ensures { AreReported result.now }
     {

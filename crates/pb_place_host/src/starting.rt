@@ -126,7 +126,7 @@ pub(crate) fn spawn<R: Files + Env + Processes + AllocGlobal>(
     alloc: Global,
     command: &Command,
 ) -> Result<(Child<R::Started>, Option<Moment>), Failed> {
-    // The folder before the child: a compiler does not make it.
+    // The folder is made before the child starts, because a compiler does not make it.
     let since = make_out(runtime, alloc, command)?;
     let program = program_of(runtime, alloc, command.program.as_str())?;
     let made = process_of(alloc, program.as_str(), command)?;

@@ -57,9 +57,9 @@ pub(crate) fn is_tagged<R: Files + AllocGlobal>(
     Ok(is_tag(runtime, path.as_str()))
 }
 
-/// Returns whether a link leads into a target folder of this builder that does not
-/// contain the link itself: whether the link's goal, or a folder above the goal,
-/// is such a folder, and `folder`, which contains the link, is not at or below it.
+/// Returns whether a link leads into a target folder of this builder that does not contain the link
+/// itself. That is so if two things are true: the link's goal, or a folder above the goal, is such
+/// a target folder; and `folder`, which contains the link, is not at or below that target folder.
 ///
 /// Errors: out of memory.
 pub(crate) fn leads_into_target<R: Files + AllocGlobal>(
@@ -75,7 +75,7 @@ pub(crate) fn leads_into_target<R: Files + AllocGlobal>(
         return Ok(false);
     };
     for _ in 0..u64::MAX {
-        // A folder that is also above the link ends the walk, and `/` is above all.
+        // A folder that is also above the link ends the walk. `/` is above all links.
         if own.starts_with(&here) {
             return Ok(false);
         }

@@ -60,7 +60,7 @@ pub record Spawns (child : Answers) (command : Command) (result : Result ℕ Sta
   pub still : StaysStill old.counts.starts.flying old.world new.world old.still new.still
   pub fault : IfErr result (λ e. e ≢ start.OutOfMemory → e ≡ start.CannotStart)
 
--- The ticket's child is waited for, and is no longer in flight, whatever the result is.
+-- The place waits for the ticket's child. For every result, the child is then no longer in flight.
 pub record Finishes (ticket : ℕ) (result : Result Ended StartFault) (old new : At) : Type 0 where
   pub only : IfSome (child_at ticket old.counts.starts.flying) (λ spawned. ChangesOnlyInSome spawned.command.out old.world new.world)
   pub counts : new.counts ≡ counted_finish ticket result old.counts

@@ -61,7 +61,8 @@ SeesStill spawned old new = (seen_by spawned.command new ≡ seen_by spawned.com
 abbrev pub StandsStill : ℕ → List ChildInFlight → World → World → Type 0
 StandsStill ticket flying old new = IfSome (child_at ticket flying) (λ spawned. SeesStill spawned old new)
 
--- a ticket that was still stays so if a call changed nothing of what it depends on
+-- a ticket that stood still before a call stands still after it, if the call changed nothing on
+-- which the ticket's child depends
 abbrev pub StaysStill : List ChildInFlight → World → World → (ℕ → Type 0) → (ℕ → Type 0) → Type 0
 StaysStill flying old new before after = (ticket : ℕ) → StandsStill ticket flying old new → before ticket → after ticket
 
@@ -69,10 +70,11 @@ StaysStill flying old new before after = (ticket : ℕ) → StandsStill ticket f
 abbrev pub StaysStillBut : ℕ → List ChildInFlight → World → World → (ℕ → Type 0) → (ℕ → Type 0) → Type 0
 StaysStillBut ended flying old new before after = (ticket : ℕ) → ticket ≢ ended → StandsStill ticket flying old new → before ticket → after ticket
 
--- each ticket that was still stays so
+-- each ticket that stood still before stands still afterwards, too
 abbrev pub KeepsStill : (ℕ → Type 0) → (ℕ → Type 0) → Type 0
 KeepsStill before after = (ticket : ℕ) → before ticket → after ticket
 
--- a ticket that was still stays so if no change of these paths can touch what it depends on
+-- a ticket that stood still before stands still afterwards, if no change at these paths can touch
+-- what the ticket's child depends on
 abbrev pub KeepsStillOutside : (List ℕ → Bool) → List ChildInFlight → (ℕ → Type 0) → (ℕ → Type 0) → Type 0
 KeepsStillOutside inside flying before after = (ticket : ℕ) → ((v w : World) → ChangesOnly inside v w → StandsStill ticket flying v w) → before ticket → after ticket

@@ -71,7 +71,7 @@ up_starts s = record s { count = up s.count }
 abbrev pub past_call : Counts → Counts
 past_call c = record c { calls = up c.calls; late = if c.failures == 0 then 0 else up c.late }
 
--- the counters after a fault of the outside, whatever call it came from
+-- the counters after a fault of the outside; it may have come from any call
 abbrev pub past_fault : Failure → Counts → Counts
 past_fault f c = record c { failures = up c.failures; late = 0; last = Some f }
 

@@ -102,6 +102,7 @@ is_below folder path = leads_below (stem folder) path
 unfoldable pub is_at_or_below : List ℕ → List ℕ → Bool
 is_at_or_below folder path = bytes_eq folder path || is_below folder path
 
--- the path inside a folder of a path strictly below it: all that follows the folder's stem and a slash
+-- for a path strictly below a folder, its path inside the folder: all that follows the folder's
+-- stem and a slash
 abbrev pub inside : List ℕ → List ℕ → Option (List ℕ)
 inside folder path = if is_below folder path then Some (drop (length (stem folder) + 1) path) else None

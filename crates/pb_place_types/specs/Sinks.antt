@@ -10,7 +10,7 @@ pub record SinkState : Type 0 where
   -- how many writes failed
   pub faults : ℕ
 
--- a write failed if it was refused, or took none of some bytes
+-- a write failed if it was refused, or if there were bytes and it took none
 abbrev pub is_refusal : Option ℕ → List ℕ → Bool
 is_refusal None bytes = true
 is_refusal (Some n) bytes = (n == 0) && not (length bytes == 0)

@@ -49,11 +49,11 @@ NamesLieApart = (folder name other : List ℕ) → name ≢ [] → list_any (λ 
 abbrev pub JoinsAgain : Type 0
 JoinsAgain = (folder path rest : List ℕ) → inside folder path ≡ Some rest → below folder rest ≡ path
 
--- the path inside a folder of what was joined to it is what was joined
+-- if a text is joined to a folder, the path inside that folder is the text again
 abbrev pub FoundInside : Type 0
 FoundInside = (folder rest : List ℕ) → rest ≢ [] → inside folder (below folder rest) ≡ Some rest
 
--- the path of a normalised path inside a normalised folder is a relative path
+-- if a path and a folder are normalised, the path inside the folder is a relative path
 abbrev pub InsideIsRelative : Type 0
 InsideIsRelative = (folder path rest : List ℕ) → is_path folder ≡ true → is_path path ≡ true → inside folder path ≡ Some rest → is_relative rest ≡ true
 

@@ -90,7 +90,8 @@ pub trait Child {
     /// The function.
     ghost answers: { Answers };
 
-    /// Returns the reply to a command. What it is we promise for a view that reports what it shows.
+    /// Returns the reply to a command. Only for a view that reports what it shows, we promise what
+    /// the reply is.
     ///
     /// Errors: `Failed`, only if the view fails; `OutOfMemory`.
     fn reply<V: View>(&self, alloc: Global, command: &Command, view: &V) -> Result<Reply, ViewFault>

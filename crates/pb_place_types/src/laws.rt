@@ -15,9 +15,10 @@ pub fn parsing_keeps_paths()
     ensures { (path : List ℕ) → is_path path ≡ true → parsed path ≡ Ok path }
 {}
 
-/// The paths below a folder are those that continue it, and the folder itself is also at it. What
-/// is below a folder is below each folder above. Two folders share no path if neither is at or
-/// below the other. Two names in one folder lead to paths that lie apart.
+/// The paths below a folder are those that continue the folder's path. A path is at or below a
+/// folder if it is the folder itself or is below it. What is below a folder is also below each
+/// folder above that one. Two folders share no path if neither is at or below the other. Two names
+/// in one folder lead to paths that lie apart.
 pub fn folders_nest()
     ensures goes_on { BelowGoesOn }
     ensures at { AtOrBelow }
@@ -44,8 +45,8 @@ pub fn paths_join_again()
 
 /// Two folders with different names in one folder lie apart. Changes at or below one folder leave
 /// each folder that lies apart from it as it was. If the folder is in the target folder, they leave
-/// the sources as they were. Two such changes are together one, and a change in a folder is one in
-/// each folder above it.
+/// the sources as they were. Two such changes are together one such change. A change in a folder is
+/// also a change in each folder above it.
 pub fn changes_stay_in_folders()
     ensures named { NamedFoldersLieApart }
     ensures folders { FolderStays }

@@ -298,9 +298,9 @@ pub trait Place {
         ensures fails { IfErr result (λ e. e ≢ StartFault.OutOfMemory → fails self.old) }
         ensures later { fails self.new → fails self.old };
 
-    /// Waits for the end of a child in flight, and ends its ticket, whatever the result. Suppose
-    /// that the child replies, and that what it sees and its folder have not changed since the
-    /// spawn. Then its reply and its folder are determined by the world at the spawn.
+    /// Waits for the end of a child in flight. Its ticket ends with every result. Suppose that the
+    /// child replies, and that what it sees and its folder have not changed since the spawn. Then
+    /// its reply and its folder are determined by the world at the spawn.
     ///
     /// Errors: `Died`; `Capture`; `OutOfMemory`.
     fn finish(&mut self, alloc: Global, ticket: u64) -> Result<Ended, StartFault>
@@ -355,9 +355,9 @@ pub trait Place {
         Ok(())
     }
 
-    /// Returns whether nothing that the child of this command read has moved, as far as `watch` has
-    /// looked. This covers children in whose output folders the child reads. It takes no memory,
-    /// and is not counted.
+    /// Returns true if nothing that the child of this command read has moved, as far as `watch` has
+    /// looked. The same must be true of the children in whose output folders this child reads. It
+    /// takes no memory, and is not counted.
     fn stood_still(&self, _command: &Command) -> bool
         ensures { IsTrue is_modelled → result ≡ true }
     {

@@ -11,8 +11,8 @@ pub trait Out {
     /// The bytes that it took, if it reports them, and how many writes failed.
     ghost heard: { Self → SinkState };
 
-    /// Takes the first n of some bytes, and returns n, or none if it fails. A write that takes 0 of
-    /// some bytes has failed too.
+    /// Takes the first n of some bytes, and returns n, or none if it fails. If there are bytes and
+    /// a write takes none of them, it has failed too.
     fn write(&mut self, bytes: &[u8]) -> Option<usize>
         ensures bound { MatchOption result
             (Keeps (heard self.old).taken (heard self.new).taken)

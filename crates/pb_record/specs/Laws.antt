@@ -31,7 +31,8 @@ OnlyRecordsAreSaid = (r s : Record) → Says (record_bytes r) s → IsRecord r
 abbrev pub PathsHaveNoByte0 : Type 0
 PathsHaveNoByte0 = (path : List ℕ) → IsPlace path → has_byte_0 path ≡ false
 
--- If a number begins with a 0, that 0 is the whole number; and a number has a digit, whatever bytes follow.
+-- If a number begins with a 0, that 0 is the whole number. A number has at least one digit. Both
+-- are true for any following bytes.
 abbrev pub NoZeroLeads : Type 0
 NoZeroLeads = (n d : ℕ) (rest more : List ℕ) → number n ++ rest ≡ 48 ∷ d ∷ more → (n ≡ 0) × (d ≡ 10)
 

@@ -19,7 +19,7 @@ numbers_of r = record { key = r.key; numbered = numbered_in r.needed }
 abbrev pub AreNumbersOf : List ℕ → Option Numbers → Type 0
 AreNumbersOf text found = (read : List ℕ → Option Record) → IsReading read → found ≡ option_map numbers_of (read text)
 
--- a text is that of a record with these numbers
+-- the text is the text of a record with these numbers
 pub record SaysNumbers (text : List ℕ) (numbers : Numbers) : Type 0 where
   pub kept : Record
   pub says : Says text kept

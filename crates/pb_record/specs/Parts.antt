@@ -65,7 +65,7 @@ pub record IsRecord (r : Record) : Type 0 where
   pub inputs : AllByRecursion IsInput r.inputs
   pub needed : AreNeeded r.needed
 
--- a text is that of a record
+-- the text is the text of a record
 pub record Says (text : List ℕ) (r : Record) : Type 0 where
   pub is : IsRecord r
   pub same : text ≡ record_bytes r

@@ -36,8 +36,8 @@ pub fn texts_have_one_reading()
     ensures { HasOneReading }
 {}
 
-/// There is a function that returns the reading of each text, so a statement about each such
-/// function is about one.
+/// There is a function that returns the reading of each text. So a statement about every such
+/// function is not empty.
 pub fn texts_have_a_reading()
     ensures { HasReading }
 {}

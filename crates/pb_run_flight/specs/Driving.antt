@@ -5,8 +5,8 @@ use Rattle.pb_run_flight.specs.Table.{Table, count_due}
 use Rattle.pb_run_flight.specs.Events.{Event, Anything, states_after, flying_after}
 use Rattle.pb_run_flight.specs.Steps.{Flies, Anyhow}
 
--- the table and the units in flight are those after these events, which the steps of a
--- turn produced along a chain of its states; all lines that are due have been handed out
+-- the steps of a turn, each from the state that the last one left, produced these events; the table
+-- and the units in flight are those after the events; all lines that are due have been handed out
 pub record IsFlown {F S : Type 0} (Turns : S → List ℕ → List ℕ → Step → S → Type 0) (needs : List (List ℕ)) (from : S) (es : List (Event F)) (now : S) (table : Table F) (flying : List ℕ) : Type 0 where
   pub flies : Flies Turns needs Anyhow Anything from es now
   pub needs_are : table.needs ≡ needs

@@ -37,12 +37,13 @@ HandsOutAllDue F = (needs : List (List ℕ)) (cs : List (Call F)) → IsLawful n
 abbrev pub EndsAs : {F : Type 0} → List (State F) → List (State F) → Type 0
 EndsAs {F} states end = (u : ℕ) (answer : Answer F) → slice_get states u ≡ Some (Answered answer) → slice_get end u ≡ Some (Answered answer)
 
--- what is due is the beginning of what is due at the end: the lines of the units that are due now
+-- the lines that are due now are those of the units that are due now, and the first of the lines
+-- that are due at the end
 abbrev pub DueIsStart : (F : Type 0) → Type 0
 DueIsStart F = (states end : List (State F)) → EndsAs states end → (due states ≡ due_first (count_due states) end) × ((rest : List ℕ) × (due end ≡ due states ++ rest))
 
--- once every unit up to the first bad one has answered, all is due
--- that is due at the end, and the first bad unit is that of the end
+-- once all units up to and including the first bad one have answered, no further lines will be due
+-- at the end, and the first bad unit will still be the first at the end
 abbrev pub FinishedIsAll : (F : Type 0) → Type 0
 FinishedIsAll F = (states end : List (State F)) → length states ≡ length end → is_finished states ≡ true → EndsAs states end → (due states ≡ due end) × (first_bad states ≡ first_bad end)
 
@@ -71,7 +72,7 @@ abbrev pub StartedDiffers : {S : Type 0} → (F : Type 0) → (S → List ℕ �
 StartedDiffers {S} F Turns = (needs : List (List ℕ)) (different : List ℕ) (from now : S) (es : List (Event F)) → Flies Turns needs (SpawnsAs (Contains different)) Anything from es now
     → (u : ℕ) → Contains (started_by es) u ↔ (Contains (begun_by es) u × Contains different u)
 
--- with a number of jobs, at no point are more units in flight
+-- at no point are more units in flight than there are jobs
 abbrev pub JobsBoundFlying : {S : Type 0} → (F : Type 0) → (S → List ℕ → ℕ → S → Type 0) → Type 0
 JobsBoundFlying {S} F Picks = (needs : List (List ℕ)) (from now : Jobs S) (es : List (Event F)) → Flies (TurnsOfJobs Picks) needs Anyhow Anything from es now → length (flying_after es) ≤ max from.jobs 1
 

@@ -13,9 +13,9 @@ abbrev pub IsWithin : ℕ → ℕ → Step → Type 0
 IsWithin ready flying (step.Begin i) = i < ready
 IsWithin ready flying (step.Answer i) = i < flying
 
--- a turn produced these events, along a chain of its states: as long as units
--- were missing, it chose among those that may begin and those in flight;
--- `Spawns` decides whether a unit has a child, and `Gives` which answer a unit may give
+-- a turn produced these events, step by step, each step from the state that the last one left: as
+-- long as units were missing, it chose among those that may begin and those in flight; `Spawns`
+-- decides whether a unit has a child, and `Gives` which answer a unit may give
 pub data Flies {F S : Type 0} (Turns : S → List ℕ → List ℕ → Step → S → Type 0) (needs : List (List ℕ)) (Spawns : ℕ → Bool → Type 0) (Gives : ℕ → Answer F → Type 0) (from : S) : List (Event F) → S → Type 0 where
   nothing : Flies Turns needs Spawns Gives from [] from
   begin : (es : List (Event F)) (now next : S) (i u : ℕ) (spawned : Bool) (before : Flies Turns needs Spawns Gives from es now) (missing : is_finished (states_after needs es) ≡ false)
@@ -25,9 +25,9 @@ pub data Flies {F S : Type 0} (Turns : S → List ℕ → List ℕ → Step → 
       (turned : Turns now (ready_of needs (states_after needs es)) (flying_after es) (step.Answer i) next) (unit : slice_get (flying_after es) i ≡ Some u) (gives : Gives u given)
       → Flies Turns needs Spawns Gives from (Gave u given ∷ es) next
 
--- the state that is returned after these events: that of the last step;
--- if the answer of this unit then ended in a fault, while units
--- were missing, it is the state after the step that chose it
+-- the state that is returned after these events: the state after the last event. If a fault then
+-- ended the answer of this unit while units were missing, it is the state after the step that chose
+-- this unit.
 abbrev pub HandsBack : {F S : Type 0} → (S → List ℕ → List ℕ → Step → S → Type 0) → List (List ℕ) → List (Event F) → S → Option ℕ → S → Type 0
 HandsBack Turns needs es last None back = back ≡ last
 HandsBack Turns needs es last (Some u) back = (i : ℕ) × (is_finished (states_after needs es) ≡ false) × (slice_get (flying_after es) i ≡ Some u) × Turns last (ready_of needs (states_after needs es)) (flying_after es) (step.Answer i) back
@@ -53,9 +53,8 @@ PicksLast ready place = place + 1 ≡ length ready
 abbrev pub PicksLent : {S : Type 0} → (S → List ℕ → ℕ → S → Type 0) → MutBor S → List ℕ → ℕ → MutBor S → Type 0
 PicksLent Picks old ready place new = Picks old.now ready place new.now × (new.ghost_name ≡ old.ghost_name)
 
--- if a unit may begin and fewer units than the jobs are in flight,
--- the picked one begins; else the one that began first answers;
--- no job counts as one, and the number of jobs does not change
+-- if a unit may begin and fewer units than the jobs are in flight, the picked one begins; else the
+-- one that began first answers; zero jobs count as one, and the number of jobs does not change
 abbrev pub JobsTurn : {S : Type 0} → (S → List ℕ → ℕ → S → Type 0) → ℕ → S → ℕ → List ℕ → List ℕ → Step → S → Type 0
 JobsTurn Picks jobs old after ready flying (step.Begin i) new = (after ≡ jobs) × (0 < length ready) × (length flying < max jobs 1) × Picks old ready i new
 JobsTurn Picks jobs old after ready flying (step.Answer i) new = (after ≡ jobs) × (i ≡ 0) × (new ≡ old) × ((length ready ≡ 0) ⊎ (max jobs 1 ≤ length flying))

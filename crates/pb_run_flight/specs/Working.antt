@@ -1,5 +1,5 @@
--- What the table keeps beside its states, so that no call looks at
--- all needs again. Only private functions need these definitions.
+-- What the table stores besides its states, so that no call has to go through all needs again. Only
+-- private functions need these definitions.
 use Rattle.std.specs.Prelude.{◌≡◌, ℕ, zero, suc, ◌<◌, ◌≤◌, ◌+◌, ◌⊎◌, Bool, false, if◌then◌else◌, List, [], ◌∷◌, map, length, Contains, slice_index, slice_index_or, slice_get, Option, Some, None}
 use Rattle.pb_run_flight.specs.declared.flight.State.{State}
 use Rattle.pb_run_flight.specs.declared.flight.State.TheVariants.{Untouched, Begun, Answered}

@@ -150,7 +150,7 @@ fn answer_one<P, O, F: Drop, E, C: Executor<P, O, F, E>>(
         Ok(answer) => answer,
         Err(fault) => return Err(fault),
     };
-    // Noted before lines are handed out: its own may be due.
+    // The answer is noted before lines are handed out: its own lines may be due.
     flight.answer(unit, answer);
     match tell(alloc, crew, place, out, flight) {
         Ok(()) => Ok(()),

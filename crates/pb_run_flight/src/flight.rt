@@ -30,9 +30,9 @@ pub enum State<F> {
     Answered(Answer<F>),
 }
 
-/// Which units of a plan have begun, what they answered, and whose lines have been
-/// handed out. A unit is known by its index in plan order. Contracts see what each unit
-/// needs, the state of each, and of how many units the lines have been handed out.
+/// Which units of a plan have begun, what they answered, and whose lines have been handed out. A
+/// unit is known by its index in plan order. Contracts see what each unit needs, the state of each,
+/// and for how many units the lines have been handed out.
 #[derive(Drop)]
 pub struct Flight<F> {
     needs: Items<Items<usize>>,
@@ -136,8 +136,8 @@ fn may_begin<F>(
     Some(is_open(states, met, unit, state, wanted.as_slice()))
 }
 
-/// Returns the units that may begin, if the first n are all due
-/// and none from an index on has all that it needs.
+/// Returns the units that may begin. The first n are known to be due, and no unit from an index on
+/// has all that it needs.
 fn ready_of<F>(
     alloc: Global,
     needs: &[Items<usize>],
@@ -205,8 +205,8 @@ fn due_of<F>(alloc: Global, states: &[State<F>]) -> Result<Due, AllocError>
     Ok(Due { lines, count })
 }
 
-/// Returns the lines that are due after the first `given` units,
-/// all of which are due, and how many units are due in all.
+/// Returns the lines that are due after the first `given` units, and how many units are due in all.
+/// The first `given` units are all due.
 fn due_after<F>(alloc: Global, states: &[State<F>], given: usize) -> Result<Due, AllocError>
     requires { given ≤ count_due states.now }
     ensures lines { IfOk result (λ made. made.lines.items ≡ due_after given states.now) }
@@ -244,7 +244,7 @@ fn are_finished<F>(states: &[State<F>]) -> bool
     true
 }
 
-/// Returns the same, if the first `given` units are all due.
+/// Returns the same. The first `given` units are known to be all due.
 fn are_finished_after<F>(states: &[State<F>], given: usize) -> bool
     requires { given ≤ count_due states.now }
     ensures { result ≡ is_finished states.now }
@@ -252,7 +252,7 @@ fn are_finished_after<F>(states: &[State<F>], given: usize) -> bool
     ends_badly(states, given) || are_finished(after(states, given))
 }
 
-/// Returns the first bad one of the units that have answered, from the start of plan order.
+/// Returns the first bad unit among those that have answered, from the start of plan order.
 fn first_bad<F>(states: &[State<F>]) -> Option<usize>
     ensures { result ≡ first_bad states.now }
 {
@@ -336,8 +336,8 @@ impl<F: Drop> Flight<F> {
         are_finished_after(self.states.as_slice(), self.given)
     }
 
-    /// Returns the bad unit that is reported for the build: the first in plan order of those that
-    /// have answered, as long as all before it have answered too, whatever answered first in time.
+    /// Returns the bad unit that is reported for the build: the first bad one in plan order, if all
+    /// units before it have answered. Which unit answered first in time does not matter.
     pub fn first_bad(&self) -> Option<usize>
         ensures { result ≡ first_bad self.now.states }
     {
@@ -362,7 +362,7 @@ impl<F: Drop> Flight<F> {
         )
     }
 
-    /// Notes that a unit has begun, one of those that may. This uses no memory.
+    /// Notes that a unit has begun. It is one of the units that may begin. This uses no memory.
     pub fn begin(&mut self, unit: usize)
         requires ready { Contains (ready_of self.old.needs self.old.states) unit }
         ensures { self.new ≡ begun unit self.old }
@@ -397,7 +397,7 @@ impl<F: Drop> Flight<F> {
         ensures given { OnOk result (self.new ≡ emitted self.old) }
         ensures same { OnErr result (self.new ≡ self.old) }
     {
-        // Lines before the count: if memory runs out, none are lost.
+        // The lines are made before the count changes: if memory runs out, no line is lost.
         let due = due_after(alloc, self.states.as_slice(), self.given)?;
         self.given = due.count;
         Ok(due.lines)

@@ -21,13 +21,13 @@ pub fn hands_out_all_due<F>()
     ensures { HandsOutAllDue F }
 {}
 
-/// What is due is the beginning of what is due at the end.
+/// The lines that are due now are the first of those that are due at the end.
 pub fn due_is_start<F>()
     ensures { DueIsStart F }
 {}
 
-/// Once every unit up to the first bad one has answered, all is due
-/// that is due at the end, and the first bad unit is that of the end.
+/// Once all units up to and including the first bad one have answered, no further lines will be due
+/// at the end. The first bad unit will still be the first at the end.
 pub fn finished_is_all<F>()
     ensures { FinishedIsAll F }
 {}
@@ -54,7 +54,7 @@ pub fn started_differs<F, T: Turn>()
     ensures { StartedDiffers F T.turns }
 {}
 
-/// With a number of jobs, at no point are more units in flight.
+/// At no point are more units in flight than there are jobs.
 pub fn jobs_bound_flying<F, P: Pick>()
     ensures { JobsBoundFlying F P.picks }
 {}

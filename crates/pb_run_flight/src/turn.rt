@@ -4,8 +4,8 @@ ghost use Rattle.std.specs.Prelude.{◌≡◌, ◌<◌, ◌+◌, ℕ, List, leng
 ghost use Rattle.pb_run_flight.specs.declared.turn.Step.{Step};
 ghost use Rattle.pb_run_flight.specs.Steps.{IsWithin, PicksFirst, PicksLast, PicksLent, TurnsOfJobs};
 
-/// A step of a build: the unit at an index of the list of those that may begin
-/// does begin, or the one at an index of the list of those in flight answers.
+/// A step of a build. A unit begins: the one at an index of the list of those that may begin. Or a
+/// unit answers: the one at an index of the list of those in flight.
 #[derive(Clone, Copy, Debug)]
 pub enum Step {
     /// The unit at this index of the first list begins.
@@ -33,8 +33,8 @@ pub trait Pick {
     /// How its state, the list, the answer and its new state are related.
     ghost picks: { Self → List ℕ → ℕ → Self → Type 0 };
 
-    /// Returns an index of a list that is not empty: that of the unit that
-    /// begins, among those that may, in plan order. This uses no memory.
+    /// Returns an index of a list that is not empty. The list has the units that may begin, in plan
+    /// order, and the unit at the index begins. This uses no memory.
     fn pick(&mut self, ready: &[usize]) -> usize
         requires some { 0 < length ready.now }
         ensures picked { picks self.old ready.now result self.new }
@@ -75,7 +75,8 @@ impl Pick for Last {
 }
 
 /// A turn by a number of jobs. If a unit may begin and fewer units than the jobs are in flight, the
-/// picked one begins; else the one that began first answers. No job counts as one (our own choice).
+/// picked one begins; else the one that began first answers. Zero jobs count as one (our own
+/// choice).
 #[derive(Drop)]
 pub struct Jobs<P> {
     /// Which unit begins.

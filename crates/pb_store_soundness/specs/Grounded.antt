@@ -7,8 +7,8 @@ use Rattle.pb_store_soundness.specs.Records.{number_of, needs_of}
 abbrev pub RecordMap : Type 0
 RecordMap = List ℕ → Option Record
 
--- a unit has a record with this number, and each unit that the record names is grounded with the number that it names,
--- which is less
+-- a unit has a record with this number; each unit that the record names is grounded with the number
+-- that the record names, and that number is less
 pub data Grounded (at : RecordMap) : List ℕ → ℕ → Type 0 where
   grounded : (key : List ℕ) (r : Record) (number : ℕ) (here : at key ≡ Some r) (numbered : number_of r ≡ Some number)
       (less : (need : List ℕ) (n : ℕ) → Contains (needs_of r) (need, n) → n < number)

@@ -21,7 +21,8 @@ pub data Became (read : RecordParser) (folder : List ℕ) (old new : Map) (Said 
   stays : record_at read folder new key ≡ record_at read folder old key → files_in (out_of folder key) new ≡ files_in (out_of folder key) old → Became read folder old new Said key
   renewed : (r : Record) (number : ℕ) → record_at read folder new key ≡ Some r → number_of r ≡ Some number → Unnamed (record_at read folder old) key number → Said key r → Became read folder old new Said key
 
--- A folder stays sound if each record is gone, is unchanged, or is a true one with a number of its own.
+-- A folder stays sound if each record is gone, is unchanged, or is a true record with a number of
+-- its own.
 abbrev pub StaysSound : Type 0
 StaysSound = (read : RecordParser) (judge : Judge) (child : Answers) (folder : List ℕ) (old new : Map)
     → ((key : List ℕ) → Became read folder old new (IsTrueRecord judge child folder (record_at read folder new) new) key) → Sound read judge child folder old → Sound read judge child folder new

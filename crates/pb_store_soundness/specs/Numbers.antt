@@ -8,8 +8,9 @@ use Rattle.pb_store_soundness.specs.Grounded.{RecordMap}
 abbrev pub NoneNames : RecordMap → ℕ → Type 0
 NoneNames at number = (other : List ℕ) (r : Record) → at other ≡ Some r → (number_of r ≢ Some number) × ((need : List ℕ) → Contains (needs_of r) (need, number) → ⊥)
 
--- A number that was taken and not yet used stays unused if the record of another unit is dropped. It also does if that
--- record is replaced by one that has another number and names only present records.
+-- A number that was taken and not yet used stays unused if the record of another unit is dropped.
+-- It also stays unused if that record is replaced by one that has another number and names only
+-- present records.
 abbrev pub NumberWaitsLaw : Type 0
 NumberWaitsLaw = (old new : RecordMap) (key : List ℕ) (number : ℕ) → ((l : List ℕ) → l ≢ key → new l ≡ old l)
     → NoneNames old number → ((r : Record) → new key ≡ Some r → (number_of r ≢ Some number) × ((need : List ℕ) (n : ℕ) → Contains (needs_of r) (need, n) → (s : Record) × (old need ≡ Some s) × (number_of s ≡ Some n))) → NoneNames new number

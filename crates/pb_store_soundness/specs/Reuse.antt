@@ -25,8 +25,8 @@ abbrev pub NeededNow : List ℕ → RecordMap → Map → Needed → Type 0
 NeededNow folder at files (Copies copies) = HoldsCopies folder copies files
 NeededNow folder at files (Numbers number needs) = (need : List ℕ) (n : ℕ) → Contains needs (need, n) → number_if (at need) ≡ Some n
 
--- nothing differs: a record counts, it is that of the command, its inputs have their present values, and the needed
--- units are as it names them
+-- nothing differs: a record counts, it is a record of the command, its inputs have their present
+-- values, and the needed units are as the record names them
 pub record IsSame (read : RecordParser) (folder key : List ℕ) (c : Command) (w : World) (r : Record) : Type 0 where
   pub stands : record_at read folder w.files key ≡ Some r
   pub asked : command_of r.asked ≡ c
@@ -43,7 +43,8 @@ abbrev pub GroundsLaw : Type 0
 GroundsLaw = (read : RecordParser) (judge : Judge) (child : Answers) (folder key : List ℕ) (c : Command) (w : World) (r : Record) (number : ℕ) → Sound read judge child folder w.files
     → IsSame read folder key c w r → AreGrounded (record_at read folder w.files) folder c.reads → number_of r ≡ Some number → Grounded (record_at read folder w.files) key number
 
--- And the child's reply in the present view is that of the record, with the files in the unit's folder.
+-- And the child's reply in the present view is the reply in the record, with the files in the
+-- unit's folder.
 abbrev pub ReuseLaw : Type 0
 ReuseLaw = (read : RecordParser) (judge : Judge) (child : Answers) (folder key : List ℕ) (c : Command) (w : World) (r : Record) → Sound read judge child folder w.files
     → IsSame read folder key c w r → AreGrounded (record_at read folder w.files) folder c.reads → Backs judge r (out_of folder key) (files_in (out_of folder key) w.files) (reply_in child c w)
@@ -53,8 +54,9 @@ pub data ReadByNeeds (at : RecordMap) (folder : List ℕ) (needs : List (List �
   own : (need : List ℕ) (n : ℕ) → Contains needs (need, n) → f ≡ out_of folder need → ReadByNeeds at folder needs f
   beyond : (need : List ℕ) (n : ℕ) (s : Record) → Contains needs (need, n) → at need ≡ Some s → Contains s.asked.reads f → ReadByNeeds at folder needs f
 
--- what a record names: units with the numbers of their records, which are less than its own; it reads their folders and
--- what their records read
+-- what a record names: units, each by the number of its record, which is less than the record's
+-- own; the record's command reads the folders of these units, and the folders that their records
+-- read
 pub record NamesNeeds (at : RecordMap) (folder : List ℕ) (r : Record) (number : ℕ) : Type 0 where
   pub stand : (need : List ℕ) (n : ℕ) → Contains (needs_of r) (need, n) → (s : Record) × (at need ≡ Some s) × (number_of s ≡ Some n)
   pub less : (need : List ℕ) (n : ℕ) → Contains (needs_of r) (need, n) → n < number

@@ -44,7 +44,7 @@ abbrev pub IsProfile : List Row → Text → Type 0
 IsProfile rows profile =
     (release : Bool) × IsFlag (codes "release") rows release × (release ≡ true → first_of (codes "profile") rows ≡ None) × (profile ≡ profile_of release rows)
 
--- the text is this number in digits alone, and the number is below 2 ^ 64
+-- the text has only digits, it is this number, and the number is below 2 ^ 64
 abbrev pub IsNumber : Text → ℕ → Type 0
 IsNumber text n = IsNumeral 10 text × (digits_value 10 text < 2 ^ 64) × (n ≡ digits_value 10 text)
 
@@ -87,23 +87,25 @@ pub record IsOptions (called : Text) (here : Here) (rows : List Row) (options : 
   pub tool : options.tool ≡ unwrap_or (first_of (codes "tool") rows) called
   pub jobs : IsJobs here.processors (first_of (codes "jobs") rows) options.jobs
 
--- a status line is shown where standard error is a terminal, and where `--progress` was given; never where `--quiet` was
+-- a status line is shown if standard error is a terminal or `--progress` was given, but not if
+-- `--quiet` was given
 abbrev pub ShowsProgress : Here → List Row → Bool → Type 0
 ShowsProgress here rows progress =
     (asked quiet : Bool) × IsFlag (codes "progress") rows asked × IsFlag (codes "quiet") rows quiet × (progress ≡ ((here.is_terminal || asked) && not quiet))
 
--- the counts come at the end where standard error is a terminal, and `--quiet` was not given
+-- the counts come at the end if standard error is a terminal and `--quiet` was not given
 abbrev pub ShowsCounts : Here → List Row → Bool → Type 0
 ShowsCounts here rows counts = (quiet : Bool) × IsFlag (codes "quiet") rows quiet × (counts ≡ (here.is_terminal && not quiet))
 
--- whether levels have colours, by the value of an option: always or never, or as they have them without it
+-- whether levels have colours, by the value of an option: always, never, or as they have them
+-- without the option
 abbrev pub IsColored : Bool → Option Text → Bool → Type 0
 IsColored shows None colors = colors ≡ shows
 IsColored shows (Some text) colors =
     (text ≡ codes "always" → colors ≡ true) × (text ≡ codes "never" → colors ≡ false)
     × (text ≢ codes "always" → text ≢ codes "never" → colors ≡ shows)
 
--- what is shown of a build beside its message lines
+-- what is shown of a build besides its message lines
 pub record IsShown (here : Here) (rows : List Row) (shown : Shown) : Type 0 where
   pub explain : IsFlag (codes "explain") rows shown.explain
   pub render : IsFlag (codes "render") rows shown.render
@@ -167,14 +169,15 @@ forms_told = codes "error: the argument '--json' cannot be used with '--dot'\n"
 abbrev pub command_told : Text
 command_told = codes "error: neither `build`, `session`, `explain`, `plan` nor `clean`\n"
 
--- why a build with these values requests nothing, and the text that is reported: the path of its
--- manifest has byte 0; else two profiles are given; or only one is, and the jobs are no number
+-- why a build with these values requests nothing, and the text that is reported. The first of these
+-- counts: the path of its manifest has byte 0; two profiles are given; the jobs are no number.
 pub data BuildsWrongly (folder : Text) (rows : List Row) (text : Text) : Type 0 where
   bad_manifest : (fault : PathFault) (bad : joined folder (manifest_of rows) ≡ Err fault) (told : text ≡ path_told) → BuildsWrongly folder rows text
   two_profiles : (path : Text) (good : joined folder (manifest_of rows) ≡ Ok path) (both : HasTwoProfiles rows) (told : text ≡ profiles_told) → BuildsWrongly folder rows text
   bad_jobs : (path profile : Text) (good : joined folder (manifest_of rows) ≡ Ok path) (one : IsProfile rows profile) (bad : HasBadJobs rows) (told : text ≡ jobs_told) → BuildsWrongly folder rows text
 
--- why a plan with these values requests nothing: two forms are given; or they are not, and its options are wrong
+-- why a plan with these values requests nothing. The first of these counts: two forms are given;
+-- its options are wrong.
 pub data PlansWrongly (folder : Text) (rows : List Row) (text : Text) : Type 0 where
   two_forms : (both : HasTwoForms rows) (told : text ≡ forms_told) → PlansWrongly folder rows text
   bad_options : (form : PlanForm) (one : IsForm rows form) (wrong : BuildsWrongly folder rows text) → PlansWrongly folder rows text

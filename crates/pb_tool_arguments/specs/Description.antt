@@ -18,7 +18,7 @@ option name = record (new_rule name) { long = Some name; value_names = 1 }
 abbrev pub options : Text → Rule
 options name = record (option name) { action = Some Append }
 
--- the options for what of the workspace is built
+-- the options that choose which part of the workspace is built
 abbrev pub selection : List Rule
 selection =
     record (options (codes "package")) { short = Some 112 }
@@ -35,7 +35,7 @@ features =
 abbrev pub at_one_time : List Rule
 at_one_time = record (option (codes "jobs")) { short = Some 106 } ∷ []
 
--- the options for what is shown beside the messages
+-- the options for what is shown besides the messages
 abbrev pub telling : ValueParser → List Rule
 telling colors =
     flag (codes "explain") ∷ flag (codes "dry-run") ∷ flag (codes "render") ∷ record (flag (codes "verbose")) { short = Some 118 }
@@ -92,7 +92,8 @@ forms = flag (codes "json") ∷ flag (codes "dot") ∷ []
 abbrev pub plan : App
 plan = with_rules forms (with_rules places (choosing (new_app (codes "plan"))))
 
--- the options for what is removed of a target folder: of which packages, under which profile
+-- the options that choose what is removed from a target folder: of which packages, under which
+-- profile
 abbrev pub removal : List Rule
 removal =
     record (options (codes "package")) { short = Some 112 }

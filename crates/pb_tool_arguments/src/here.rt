@@ -1,4 +1,4 @@
-//! What a command line is read with, beside its words.
+//! What is needed, besides its words, to read a command line.
 
 use pb_place_types::PathText;
 

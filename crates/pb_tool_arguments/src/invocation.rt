@@ -1,4 +1,4 @@
-//! What a command line requests, and why one requests nothing.
+//! What a command line requests, and why a command line requests nothing.
 
 ghost use Rattle.std.specs.Prelude.{◌≡◌, ◌≢◌};
 ghost use Rattle.clap.specs.Values.{kind_of};
@@ -20,7 +20,7 @@ use std::alloc::{AllocError, Global};
 pub enum Invocation {
     /// The session of the file at this path.
     Session(PathText),
-    /// A build, and what is shown of it beside its lines.
+    /// A build, and what is shown of it besides its lines.
     Build { options: Options, shown: Shown },
     /// What a build of these options would start. Nothing is built.
     Preview(Options),
@@ -28,8 +28,9 @@ pub enum Invocation {
     Explain(Text),
     /// The plan of a build of these options, in a form. Nothing is built.
     Plan { options: Options, form: PlanForm },
-    /// The removal of what builds with these options made: of their packages, or of all packages if
-    /// they name none; under their profile if one is named, else under all profiles.
+    /// The removal of what builds with these options made. It is of their packages, or of all
+    /// packages if they name none. It is under their profile if one is named, else under all
+    /// profiles.
     Clean { options: Options, one_profile: bool },
 }
 
@@ -44,7 +45,7 @@ pub enum PlanForm {
     Dot,
 }
 
-/// What is shown of a build beside its message lines.
+/// What is shown of a build besides its message lines.
 #[derive(Clone, Copy)]
 pub struct Shown {
     /// Why each child was started.
@@ -53,7 +54,7 @@ pub struct Shown {
     pub render: bool,
     /// The program and the arguments of each child, before it is started.
     pub verbose: bool,
-    /// Which unit begins, on one line that is written over itself.
+    /// Which unit begins, on one line; each new text overwrites the old one.
     pub progress: bool,
     /// At the end, how many units were built and kept, and how long that took.
     pub counts: bool,

@@ -8,7 +8,7 @@ pub(crate) struct Described {
     pub(crate) name: &'static str,
     /// What follows one hyphen, if the option has a letter.
     pub(crate) short: Option<char>,
-    /// What a use of it does, if that is more than to keep one value.
+    /// What each use of the option does, if it does more than store one value.
     pub(crate) action: Option<ArgAction>,
     /// What help calls its value; empty if it takes no value.
     pub(crate) value: &'static [&'static str],
@@ -18,7 +18,7 @@ pub(crate) struct Described {
     pub(crate) help: &'static str,
 }
 
-/// The options for what of the workspace is built.
+/// The options that choose which part of the workspace is built.
 pub(crate) static SELECTION: [Described; 5] = [
     Described {
         name: "package",
@@ -106,7 +106,7 @@ pub(crate) static FEATURES: [Described; 5] = [
     },
 ];
 
-/// The options for how many units are in flight at a time, and for what is shown beside the
+/// The options for how many units are in flight at a time, and for what is shown besides the
 /// messages.
 pub(crate) static TELLING: [Described; 8] = [
     Described {
@@ -268,7 +268,7 @@ pub(crate) static FORMS: [Described; 2] = [
     },
 ];
 
-/// The options for what is removed of a target folder.
+/// The options that choose what is removed from a target folder.
 pub(crate) static REMOVAL: [Described; 3] = [
     Described {
         name: "package",

@@ -41,8 +41,8 @@ struct Named {
     bin: Items<Text>,
 }
 
-/// Where all that is made goes, what runs the build scripts, and
-/// what children are told about which program the builder is.
+/// The target folder, the program that runs the build scripts, and the value that children see as
+/// `CARGO`.
 #[derive(Drop)]
 struct Tools {
     target_dir: Option<Text>,
@@ -50,7 +50,7 @@ struct Tools {
     tool: Text,
 }
 
-/// Which options without a value were given.
+/// Which of the options without a value were given.
 #[derive(Clone, Copy)]
 struct Flags {
     workspace: bool,
@@ -60,8 +60,8 @@ struct Flags {
     bins: bool,
 }
 
-/// Returns the options of a build that may be wrong. A relative
-/// path of the manifest starts at the folder.
+/// Returns those options of a build that may be wrong. A relative path of the manifest starts at
+/// the folder.
 fn judged_of(alloc: Global, here: &Here, matches: &ArgMatches<'_>) -> Result<Judged, ArgumentsError>
     ensures manifest { IfOk result (λ judged.
         joined here.now.folder (manifest_of (rows_of (found_of matches.now)))
@@ -107,8 +107,8 @@ fn named_of(alloc: Global, matches: &ArgMatches<'_>) -> Result<Named, AllocError
     })
 }
 
-/// Returns what children are told about which program the
-/// builder is: what was given for that, else how it was called.
+/// Returns the value that children see as `CARGO`: the text of `--tool`, else the builder as it was
+/// called.
 fn told_tool(alloc: Global, tool: &str, matches: &ArgMatches<'_>) -> Result<Text, AllocError>
     ensures { IfOk result (λ told. told
         ≡ unwrap_or (first_of (codes "tool") (rows_of (found_of matches.now))) tool.now) }
@@ -119,7 +119,7 @@ fn told_tool(alloc: Global, tool: &str, matches: &ArgMatches<'_>) -> Result<Text
     }
 }
 
-/// Returns where all that is made goes, and what a build starts.
+/// Returns the target folder and the programs that a build starts.
 fn tools_of(alloc: Global, tool: &str, matches: &ArgMatches<'_>) -> Result<Tools, AllocError>
     ensures target_dir { IfOk result (λ tools. tools.target_dir
         ≡ first_of (codes "target-dir") (rows_of (found_of matches.now))) }
@@ -138,7 +138,7 @@ fn tools_of(alloc: Global, tool: &str, matches: &ArgMatches<'_>) -> Result<Tools
     })
 }
 
-/// Returns which options without a value were given.
+/// Returns which of the options without a value were given.
 fn flags_of(matches: &ArgMatches<'_>) -> Flags
     ensures workspace { IsFlag (codes "workspace")
         (rows_of (found_of matches.now)) result.workspace }
@@ -232,7 +232,8 @@ fn counts_of(here: &Here, matches: &ArgMatches<'_>) -> bool
     here.is_terminal && !quiet
 }
 
-/// Returns whether levels have colours on standard error: as `--color` says, else as `here` does.
+/// Returns whether levels have colours on standard error. `--color` decides that; without it,
+/// `here` does.
 fn colors_of(here: &Here, matches: &ArgMatches<'_>) -> bool
     ensures { IsColored here.now.shows_colors
         (first_of (codes "color") (rows_of (found_of matches.now))) result }
@@ -244,7 +245,7 @@ fn colors_of(here: &Here, matches: &ArgMatches<'_>) -> bool
     }
 }
 
-/// Returns what is shown of a build beside its lines.
+/// Returns what is shown of a build besides its lines.
 fn shown_of(here: &Here, matches: &ArgMatches<'_>) -> Shown
     ensures { IsShown here.now (rows_of (found_of matches.now)) result }
 {

@@ -101,8 +101,8 @@ pub(crate) fn profile_of(alloc: Global, matches: &ArgMatches<'_>) -> Result<Text
     }
 }
 
-/// Returns the number that digits alone write; `None` if the
-/// text has anything else, or the number is too great.
+/// Returns the number of a text that consists of digits; `None` if the text has anything else, or
+/// if the number is too great.
 fn number_in(text: &str) -> Option<u64>
     ensures { MatchOption result ((n : ℕ) → ¬ IsNumber text.now n) (IsNumber text.now) }
 {

@@ -29,15 +29,16 @@ fault_of name fault = Call name fault
 abbrev pub NoneFailed : Counts → Counts → Type 0
 NoneFailed old new = new.failures ≡ old.failures
 
--- one call failed, and no call came after it: it was given the name that the fault has, and failed for its reason. If
--- memory ran out, no call failed.
+-- one call failed, and no call came after it. That call was given the name in the fault, and failed
+-- for the reason in the fault. If memory ran out, no call failed.
 abbrev pub NamesCall : Counts → Counts → CleanFault → Type 0
 NamesCall old new (Call name fault) = (named_in new ≡ name) × (new.last ≡ Some (Called fault)) × (new.failures ≡ up old.failures) × (new.late ≡ 0)
 NamesCall old new OutOfMemory = NoneFailed old new
 NamesCall old new (Nothing wanted folder) = ⊥
 NamesCall old new NoSuchProfile = ⊥
 
--- nothing has changed but the counters of calls and of failures: no file or variable, and no child was started
+-- only the counters of calls and of failures have changed: no file and no variable has, and no
+-- child was started
 pub record Looked (old new : Moment) : Type 0 where
   pub world : new.world ≡ old.world
   pub starts : new.counts.starts ≡ old.counts.starts
@@ -87,8 +88,8 @@ removed_each (path ∷ paths) w = removed_each paths (removed path w)
 abbrev pub Cut : List ℕ → World → World → Type 0
 Cut path w new = (new ≡ w) ⊎ PartlyRemoved path w new
 
--- removals in turn that ended early: what is at the paths before one of them is gone, the removal of that one failed,
--- and what is at the paths after it is as it was
+-- removals, one after another, that ended early: the removal at one path failed; what was at the
+-- paths before it is gone; what is at the paths after it is as it was
 abbrev pub CutsEach : List (List ℕ) → World → World → Type 0
 CutsEach [] w new = new ≡ w
 CutsEach (path ∷ paths) w new = Cut path w new ⊎ CutsEach paths (removed path w) new

@@ -34,7 +34,8 @@ abbrev pub told_or : List ℕ → List ℕ → Option (List ℕ) → List ℕ
 told_or root other None = other
 told_or root other (Some text) = path_or other (joined root text)
 
--- what `--target-dir` says, else what `CARGO_TARGET_DIR` says, else `target` in the folder of the manifest
+-- the folder of `--target-dir`, else that of `CARGO_TARGET_DIR`, else `target` in the folder of the
+-- manifest
 abbrev pub target_of : Options → Map → List ℕ
 target_of options variables =
     let root = folder_of options.manifest in
@@ -71,12 +72,14 @@ is_bare listed = are_none listed.files listed.folders
     are_none [] [] = true
     are_none files folders = false
 
--- Nothing is left of a target folder but its tag: nothing is in the folders of its profiles, and there is no other
--- file. On a machine a folder without files, and another target folder, show in the first list alone.
+-- Nothing but its tag is left in a target folder: nothing is in the folders of its profiles, and
+-- there is no other file. On a machine, a folder without files, or another target folder, is only
+-- in the first list.
 abbrev pub is_emptied : List ℕ → World → Bool
 is_emptied target w = is_bare (listed_in target w) && is_tag_alone (tag_in target) (listed target w)
 
--- a target folder of which nothing is left but its tag is removed whole; else nothing is removed
+-- if nothing but its tag is left in a target folder, the folder is removed whole; else nothing is
+-- removed
 pub record RemovesRest (is_modelled : Bool) (target : List ℕ) (result : Result (Unit {0}) CleanFault) (old new : Moment) : Type 0 where
   pub removes : Removes (is_at_or_below target) result old new
   pub kept : IsTrue is_modelled → is_emptied target old.world ≡ false → new.world ≡ old.world
@@ -96,14 +99,14 @@ GoesOn is_modelled true target (Ok done) result old new = RemovesRest is_modelle
 GoesOn is_modelled false target (Ok done) result old new = (result ≡ Ok done) × (new ≡ old)
 GoesOn is_modelled whole target (Err fault) result old new = (result ≡ Err fault) × (new ≡ old)
 
--- what was chosen of what was listed is removed, and then the rest if all was chosen
+-- the chosen part of what was listed is removed, and then the rest if all was chosen
 pub record Cleans (is_modelled : Bool) (choice : Choice) (listed : Listed) (result : Result (Unit {0}) CleanFault) (old new : Moment) : Type 0 where
   pub first : Result (Unit {0}) CleanFault
   pub mid : Moment
   pub removes : RemovesEach is_modelled (chosen_of choice listed) first old mid
   pub goes_on : GoesOn is_modelled (is_whole choice) choice.target first result mid new
 
--- what is chosen of what was listed is removed; a fault of the listing ends it
+-- the chosen part of what was listed is removed; a fault of the listing ends the removal
 abbrev pub CleansListed : Bool → Choice → Result Listed CleanFault → Result (Unit {0}) CleanFault → Moment → Moment → Type 0
 CleansListed is_modelled choice (Ok listed) result old new = Cleans is_modelled choice listed result old new
 CleansListed is_modelled choice (Err fault) result old new = (result ≡ Err fault) × (new ≡ old)
@@ -130,8 +133,9 @@ of_all_packages choice = record choice { packages = [] }
 abbrev pub looked_in : Choice → List ℕ
 looked_in choice = unwrap_or choice.profile choice.target
 
--- What is wanted of a choice and was not listed: any record or unit's folder; if there is one, one under the profile;
--- if there is one, one of the packages. Nothing is missing if something that is chosen was listed.
+-- What a choice needs and what was not listed: any record or unit's folder at all; if there is one,
+-- one under the profile; if there is one of these, one of the packages. Nothing is missing if
+-- something that is chosen was listed.
 abbrev pub IsMissing : Choice → Listed → Option Wanted → Type 0
 IsMissing choice listed (Some wanted.All) = chosen_of (all_of choice.target) listed ≡ []
 IsMissing choice listed (Some wanted.OfProfile) =
@@ -152,12 +156,13 @@ Judges choice listed (Err (Nothing some folder)) = IsMissing choice listed (Some
 Judges choice listed (Err OutOfMemory) = Unit {0}
 Judges choice listed (Err fault) = ⊥
 
--- the folder of a profile that is named, which has a name; or none, if all are chosen
+-- the folder of the profile that is named, if that folder has a name; no folder if all profiles are
+-- chosen
 abbrev pub IsProfile : List ℕ → List ℕ → Bool → Option (List ℕ) → Type 0
 IsProfile target name false profile = profile ≡ None
 IsProfile target name true profile = (is_relative (profile_folder name) ≡ true) × (profile ≡ Some (below target (profile_folder name)))
 
--- a profile is named whose folder has no name
+-- a profile is named, and its folder has no name
 abbrev pub HasNoFolder : Options → Bool → Type 0
 HasNoFolder options one_profile = (one_profile ≡ true) × (is_relative (profile_folder options.profile) ≡ false)
 

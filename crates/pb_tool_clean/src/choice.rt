@@ -90,7 +90,7 @@ fn push_folders(
     Ok(())
 }
 
-/// Returns what is chosen of what was listed: records first, then the folders of units.
+/// Returns the chosen part of what was listed: records first, then the folders of units.
 ///
 /// Errors: out of memory.
 pub fn chosen(

@@ -27,7 +27,8 @@ pub enum CleanFault {
     Nothing(Wanted, PathText),
     /// The folder of the profile has no name.
     NoSuchProfile,
-    /// A call of the place failed: the path or the name that it was given, and its reason.
+    /// A call of the place failed. It has the path or the name that was passed to the call, and the
+    /// reason.
     Call(Text, PlaceFault),
     /// Memory ran out.
     OutOfMemory,

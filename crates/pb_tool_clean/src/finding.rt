@@ -1,4 +1,4 @@
-//! What a removal is of: the target folder, and what is chosen of it.
+//! What a removal removes: the target folder, and what is chosen of it.
 
 ghost use Rattle.std.specs.Prelude.{◌≡◌, ◌⊎◌, [], IfOk, IfErr, true, false, Decides};
 ghost use Rattle.pb_place_types.specs.Paths.{below, is_relative};
@@ -66,7 +66,7 @@ fn has_nothing(alloc: Global, choice: &Choice, listed: &Listed) -> Result<bool, 
     Ok(chosen(alloc, choice, listed)?.is_empty())
 }
 
-/// Returns what is wanted of a choice and was not listed, if something was not.
+/// Returns what a choice needs and what was not listed, if there is something.
 fn missing_in(alloc: Global, choice: &Choice, listed: &Listed) -> Result<Option<Wanted>, AllocError>
     ensures { IfOk result (IsMissing choice.now listed.now) }
 {
@@ -82,7 +82,7 @@ fn missing_in(alloc: Global, choice: &Choice, listed: &Listed) -> Result<Option<
     Ok(None)
 }
 
-/// Returns a choice of which something was listed.
+/// Returns a choice, if something of it was listed.
 ///
 /// Errors: `Nothing`, with the folder in which it was looked for; `OutOfMemory`.
 fn judged(alloc: Global, choice: Choice, listed: &Listed) -> Result<Choice, CleanFault>

@@ -133,7 +133,7 @@ fn is_emptied<P: Place>(alloc: Global, place: &mut P, target: &PathText) -> Resu
     }
 }
 
-/// Removes a target folder of which nothing is left but its tag.
+/// Removes a target folder if nothing but its tag is left in it.
 fn remove_rest<P: Place>(alloc: Global, place: &mut P, target: &PathText) -> Result<(), CleanFault>
     ensures { RemovesRest P.is_modelled target.now result
         (moment_of (P.at place.old)) (moment_of (P.at place.new)) }
@@ -145,7 +145,7 @@ fn remove_rest<P: Place>(alloc: Global, place: &mut P, target: &PathText) -> Res
     }
 }
 
-/// Removes what is chosen of what was listed.
+/// Removes what is chosen among what was listed.
 #[tactic(auto, using(crate::proofs::Cuts::none_cut))]
 fn remove_chosen<P: Place>(
     alloc: Global,
@@ -184,7 +184,7 @@ fn go_on<P: Place>(
     }
 }
 
-/// Removes what is chosen of what was listed, and nothing else: records first, then the folders of
+/// Removes the chosen part of what was listed, and nothing else: records first, then the folders of
 /// units. If all is chosen and nothing is left of the target folder but its tag, it is removed
 /// whole.
 ///

@@ -1,4 +1,4 @@
-//! Who asks for which manifest.
+//! Why each manifest is read: what names it.
 
 use crate::page::{Page, text_at};
 use crate::rules::is_taken;
@@ -92,7 +92,8 @@ fn manifest_in(
     }
 }
 
-/// Returns what an entry asks for: by itself, or by the root's entry that it inherits.
+/// Returns the manifest that an entry asks for, by its own path or by that of the root's entry that
+/// it inherits.
 fn ask_of(
     alloc: Global,
     page: &Page,

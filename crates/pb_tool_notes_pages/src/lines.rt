@@ -9,8 +9,8 @@ struct Reading {
     header: String,
     /// How many headers `[[bin]]` have been read.
     binaries: usize,
-    /// The quotation marks that end the text of several lines in which the next line begins; empty
-    /// if it begins in none.
+    /// If the next line begins inside a text of several lines, the quotation marks that end this
+    /// text; else empty.
     quotes: &'static str,
 }
 
@@ -55,8 +55,8 @@ fn left_open(line: &str) -> &'static str {
     ""
 }
 
-/// Returns the key path of a line: for a header that of its table, for a key that of its value;
-/// else an empty text.
+/// Returns the key path that a line begins: the path of the table for a header, the path of the
+/// value for a key. For any other line it returns an empty text.
 fn way_of_line(alloc: Global, reading: &mut Reading, line: &str) -> Result<String, AllocError> {
     if !reading.quotes.is_empty() {
         if line.contains(reading.quotes) {
@@ -89,8 +89,9 @@ fn begins(short: &str, long: &str) -> bool {
     }
 }
 
-/// Returns the line, from 1, in which the value at a key path or a part of it is written, or else
-/// the line of what contains it, or 0 if there is none.
+/// Returns the line, counted from 1, in which the value at a key path, or a part of it, is written.
+/// If there is no such line, it returns the line of the table or list that contains the value, or
+/// 0.
 pub(crate) fn line_of(alloc: Global, text: &str, way: &str) -> Result<usize, AllocError> {
     let mut reading = Reading {
         header: String::new(alloc),

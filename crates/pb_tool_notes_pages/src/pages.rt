@@ -17,7 +17,7 @@ const MOST_PAGES: usize = MAX_PACKAGES + 1;
 /// The greatest number of asks that are followed.
 const MOST_ASKS: usize = 1024;
 
-/// The manifests that were read again, and who asks for which.
+/// The manifests that were read again, and why each is read.
 #[derive(Drop)]
 pub struct Pages {
     /// The manifests, the root's first.
@@ -101,7 +101,8 @@ fn path_of(alloc: Global, pages: &Pages, number: usize) -> Result<Option<PathTex
     }
 }
 
-/// Reads what is asked for, one after another, and what these ask for.
+/// Reads the manifests that are asked for, one after another, and those for which these manifests
+/// ask.
 fn read_all<P: Place>(alloc: Global, place: &mut P, pages: &mut Pages) -> Result<(), PlaceFault>
     ensures { LooksAgain (P.at place.old) (P.at place.new) }
 {

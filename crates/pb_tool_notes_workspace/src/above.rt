@@ -1,4 +1,4 @@
-//! A note on a workspace above that lists a package which is built alone.
+//! A note on a package that is built alone although a workspace in a folder above lists it.
 
 ghost use Rattle.pb_tool_notes_pages.specs.Looks.{LooksAgain};
 
@@ -54,7 +54,7 @@ fn manifest_in<P: Place>(
     }
 }
 
-/// Adds that a workspace above lists a package whose manifest has no `[workspace]`.
+/// Adds that a workspace above lists a package, if the package's manifest has no `[workspace]`.
 pub fn tell_above<P: Place>(
     alloc: Global,
     place: &mut P,

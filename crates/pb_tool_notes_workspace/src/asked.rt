@@ -1,4 +1,4 @@
-//! Notes on a missing manifest: who asks for it.
+//! Notes on a missing manifest: what names it.
 
 ghost use Rattle.pb_tool_notes_pages.specs.Looks.{LooksAgain};
 
@@ -7,7 +7,7 @@ use pb_place_types::{PathText, Place, PlaceFault};
 use pb_tool_notes_pages::{Ask, Notes, Pages, Role, folders_in, is_file, near, tell_key};
 use std::alloc::{AllocError, Global};
 
-/// Adds who asks for a manifest.
+/// Adds what names a manifest.
 fn tell_ask(
     alloc: Global,
     notes: &mut Notes,
@@ -50,7 +50,7 @@ fn near_among(alloc: Global, name: &str, folders: &[PathText]) -> Result<String,
     near(alloc, name, names.as_slice())
 }
 
-/// Returns the folders beside a folder.
+/// Returns the other folders in the folder that contains a folder.
 fn folders_beside<P: Place>(
     alloc: Global,
     place: &mut P,
@@ -62,7 +62,7 @@ fn folders_beside<P: Place>(
     folders_in(alloc, place, &above, folder)
 }
 
-/// Returns ` (near: NAME)` for a folder beside a missing one.
+/// Returns ` (near: NAME)` for another folder in the folder of a missing one.
 fn near_folder<P: Place>(
     alloc: Global,
     place: &mut P,
@@ -97,7 +97,7 @@ fn tell_folder<P: Place>(
     Ok(())
 }
 
-/// Adds who asks for a missing manifest.
+/// Adds what names a missing manifest.
 pub fn tell_missing<P: Place>(
     alloc: Global,
     place: &mut P,

@@ -84,7 +84,7 @@ fn tell_page(alloc: Global, notes: &mut Notes, root: &Page, page: &Page) -> Resu
     tell_entries(alloc, notes, root, page, "build-dependencies")
 }
 
-/// Adds each key that is inherited from the workspace and missing there.
+/// Adds each key that a package inherits from the workspace, if the workspace does not have it.
 pub fn tell_no_inherited(
     alloc: Global,
     notes: &mut Notes,
@@ -106,7 +106,8 @@ pub fn tell_no_inherited(
     Ok(())
 }
 
-/// Adds each entry that inherits one of the workspace whose source is not supported.
+/// Adds each entry that inherits an entry of the workspace, if the source of that entry is not
+/// supported.
 pub fn tell_taken_sources(
     alloc: Global,
     notes: &mut Notes,

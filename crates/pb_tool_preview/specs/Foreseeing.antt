@@ -53,18 +53,19 @@ ends_badly (Some Bad) = true
 ends_badly (Some (Waits index)) = false
 ends_badly (Some (Unreached index)) = true
 
--- a unit whose first reached unit that is not kept is at this index is not reached if that unit would be bad; else it
--- waits for it
+-- the fate of a unit that reaches a unit that is not kept; the first such unit is at this index. If
+-- that unit ends badly, this one is not reached; else it waits for that unit.
 abbrev pub waits_for : List Fate → ℕ → Fate
 waits_for fates index = if ends_badly (slice_get fates index) then Unreached index else Waits index
 
 -- Units that can be compared.
 
--- by what came of a unit, it is kept or bad, and these are its directives
+-- the result of a unit decides whether the unit is kept or bad, and has these directives
 abbrev pub Judges : Ran → Fate → Option (List Directive) → Type 0
 Judges ran fate said = (fate ≡ (if is_some ran.bad then Bad else Kept)) × (said ≡ ran.directives)
 
--- nothing differs from a unit's record for this command, and what the record replays is judged so
+-- nothing differs from a unit's record for this command, and this is the judgement of what the
+-- record replays
 pub record IsReplay (project : Project) (w : World) (u : Planned) (c : Command) (fate : Fate) (said : Option (List Directive)) : Type 0 where
   pub same : FirstDifference (records_folder project) u.key c w None
   pub again : Replayed

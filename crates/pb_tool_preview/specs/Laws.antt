@@ -1,4 +1,4 @@
--- What is foreseen of a unit is what the unit begins for.
+-- A unit begins for the difference that was foreseen.
 use Rattle.std.specs.Prelude.{◌≡◌, Bool, List, Option, Some, None, IsTrue}
 use Rattle.pb_command.specs.Command.{command_of}
 use Rattle.pb_command_types.specs.declared.project.Project.{Project}
@@ -23,7 +23,8 @@ foreseen Bad = None
 foreseen (Waits index) = None
 foreseen (Unreached index) = None
 
--- a unit that begins in the world that was looked at, for the same command, begins for the difference that was foreseen
+-- if a unit begins in the world that was looked at, with the same command, it begins for the
+-- difference that was foreseen
 abbrev pub BeginsAsForeseen : {P : Type 0} → (P → At) → Bool → Answers → Type 0
 BeginsAsForeseen {P} at is_modelled child =
     (setup : Setup) (project : Project) (u : Planned) (done : List (Option (List Directive))) (before now : Store) (old new : P) (begun : Begun) (fate : Fate) (said : Option (List Directive))

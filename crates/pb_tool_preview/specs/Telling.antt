@@ -52,7 +52,7 @@ abbrev pub row_at : List Planned → List ℕ → Option Fate → List Row
 row_at units key None = []
 row_at units key (Some fate) = row_of key (said_of units fate)
 
--- a row for each of these units of which something is said
+-- a row for each of these units about which something is said
 abbrev pub rows_of : List Planned → List Planned → List Fate → List Row
 rows_of units [] fates = []
 rows_of units (u ∷ us) fates = row_at units u.key (slice_get fates 0) ++ rows_of units us (drop 1 fates)

@@ -49,8 +49,8 @@ fn read_at<P: Place>(
     }
 }
 
-/// Returns the fate of a unit from whose record nothing differs, and its directives, by what came
-/// of it.
+/// Returns the fate of a unit, by its result, and its directives, if nothing differs from its
+/// record.
 fn fate_of(ran: Ran) -> (Fate, Option<Directives>)
     ensures { Judges ran result.0 result.1 }
 {

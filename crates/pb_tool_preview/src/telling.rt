@@ -53,7 +53,7 @@ fn three(alloc: Global, first: &str, second: &str, third: &str) -> Result<String
     Ok(text)
 }
 
-/// Returns what is said of a unit of this fate, if anything is.
+/// Returns the text about a unit of this fate, if there is one.
 fn said_of(alloc: Global, units: &[Planned], fate: &Fate) -> Result<Option<String>, AllocError>
     ensures { IfOk result (λ said. option_map string_bytes said ≡ said_of units.now fate.now) }
 {
@@ -86,7 +86,7 @@ fn said_of(alloc: Global, units: &[Planned], fate: &Fate) -> Result<Option<Strin
     }
 }
 
-/// Adds the row of a unit of this fate, if anything is said of it.
+/// Adds the row of a unit of this fate, if there is a text about it.
 fn push_row(
     alloc: Global,
     rows: &mut Items<Row>,
@@ -110,7 +110,7 @@ fn push_row(
     }
 }
 
-/// Returns the rows of all units of which something is said.
+/// Returns the rows of all units about which something is said.
 fn rows_of(alloc: Global, units: &[Planned], fates: &[Fate]) -> Result<Items<Row>, AllocError>
     ensures { IfOk result (λ rows. rows ≡ rows_of units.now units.now fates.now) }
 {
@@ -212,10 +212,10 @@ fn counts_line(alloc: Global, fates: &[Fate]) -> Result<String, AllocError>
     counts_text(alloc, started, kept, waiting, unreached)
 }
 
-/// Returns what a build would do with units of these fates: for each that is not kept its key and
-/// why, in plan order, or one line for five or more units of which the same is said; then how many
-/// would be started, kept, and so on. Each line ends with a line feed. The words are our own
-/// choice.
+/// Returns what a build would do with units of these fates: in plan order, for each unit that is
+/// not kept, its key and the reason, or one line for five or more units with the same text; then
+/// how many would be started, kept, and so on. Each line ends with a line feed. The words are our
+/// own choice.
 ///
 /// Errors: out of memory.
 pub fn preview_lines(alloc: Global, units: &[Planned], fates: &[Fate]) -> Result<String, AllocError>

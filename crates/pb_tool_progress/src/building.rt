@@ -87,9 +87,9 @@ fn build_shown<P: Place, O: Out, S: Out>(
     build_plan_turns(alloc, place, out, options, plan, &mut watched)
 }
 
-/// Builds what was planned, as `build_plan` does. If the status line is on, it shows each unit that
-/// begins, if there is memory for all keys, and is erased at the end. It notes how many units were
-/// built and kept, if the build ends without a fault.
+/// Builds what was planned, as `build_plan` does. If the status line is on, and there is memory for
+/// all keys, the line shows each unit that begins. It is erased at the end. It notes how many units
+/// were built and kept, if the build ends without a fault.
 ///
 /// Its contract is that of `build_plan`: a status line changes nothing else.
 ///

@@ -9,7 +9,7 @@ use pb_place_types::Out;
 use pb_run_flight::{First, Jobs, Step, Turn};
 use pb_tool_screen::StatusLine;
 
-/// A turn that decides as another one does, and shows each unit that it lets begin.
+/// A turn that decides as another turn does, and shows each unit that begins.
 #[derive(Drop)]
 pub(crate) struct Watched<'a, S> {
     /// What decides.
@@ -21,7 +21,8 @@ pub(crate) struct Watched<'a, S> {
 }
 
 impl<'a, S: Out> Watched<'a, S> {
-    /// Shows that the unit at an index begins, if there is a key for it. The decider stays as it is.
+    /// Shows that the unit at an index begins, if there is a key for it. The other turn stays as it
+    /// is.
     fn show(&mut self, index: usize)
         ensures { self.new.jobs ≡ self.old.jobs }
     {

@@ -16,7 +16,8 @@ const CYAN: &[u8] = b"\x1b[1;36m";
 
 /// A sink for people that can also show levels in colours.
 pub trait Coloring: Out {
-    /// How it is set to show colours: the sink before, whether it shows them, and the sink after.
+    /// How colours are switched: the sink before, whether it shows colours from then on, and the
+    /// sink after.
     ghost colors: { Self → Bool → Self → Type 0 };
 
     /// Sets whether levels have colours from now on. What the sink has received stays.
@@ -25,8 +26,8 @@ pub trait Coloring: Out {
         ensures heard { Self.heard self.new ≡ Self.heard self.old };
 }
 
-/// A sink over another one. If it is set to do so, the level at the start of a line, as `warning`
-/// in `warning: ..`, has a colour on the other sink. Each write starts a line.
+/// A sink over another sink. If colours are on, the level at the start of a line, as `warning` in
+/// `warning: ..`, has a colour on the other sink. Each write starts a line.
 #[derive(Drop)]
 pub struct Colored<S> {
     inside: S,

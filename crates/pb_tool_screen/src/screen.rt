@@ -12,8 +12,8 @@ use std::alloc::{AllocError, Global};
 
 /// A sink of message lines that can also show them as text.
 pub trait Screen: Out {
-    /// How it is set to show lines: the sink before, whether it shows lines, whether it erases a
-    /// status line, whether levels have colours, and the sink after.
+    /// How the showing of lines is switched: the sink before, whether it shows lines, whether it
+    /// erases a status line, whether levels have colours, and the sink after.
     ghost shows: { Self → Bool → Bool → Bool → Self → Type 0 };
 
     /// Sets whether lines are shown from now on, whether a status line is erased before each write,
@@ -23,9 +23,10 @@ pub trait Screen: Out {
         ensures heard { Self.heard self.new ≡ Self.heard self.old };
 }
 
-/// A sink over another one, which receives all that this one receives. If it is set to do so, it
-/// shows each whole line on a third sink, as soon as the other sink has taken it. If memory runs
-/// out for a line, it reports that the line is lost. The third sink may fail in any way.
+/// A sink over another sink, and passes on all that it receives. If lines are to be shown, it
+/// writes the text of each whole line to a third sink, as soon as the other sink has taken the
+/// line. If memory runs out for a line, it reports that the line is lost. The third sink may fail
+/// in any way.
 #[derive(Drop)]
 pub struct Rendered<O, S> {
     /// The sink that receives the lines.

@@ -18,7 +18,7 @@ const NO_MEMORY: &[u8] = b"note: out of memory for a note on a long record\n";
 
 /// A place that can also name the children that it starts, and report what failed.
 pub trait Speaking: Place + Reporting {
-    /// How it is set to say so: the place before, whether it names children, whether it erases a
+    /// How naming is switched: the place before, whether it names children, whether it erases a
     /// status line, and the place after.
     ghost speaks: { Self → Bool → Bool → Self → Type 0 };
 
@@ -29,9 +29,9 @@ pub trait Speaking: Place + Reporting {
         ensures at { IsUnchanged (Self.at self.old) (Self.at self.new) };
 }
 
-/// A place that does what another one does. If it is set to do so, it writes a line to a sink
-/// before each child is started: the program and its arguments, as a shell takes them. That sink
-/// may fail in any way.
+/// A place that does what another place does. If children are to be named, it writes a line to a
+/// sink before each child is started: the program and its arguments, as a shell takes them. That
+/// sink may fail in any way.
 #[derive(Drop)]
 pub struct Spoken<P, S> {
     /// The place that makes the calls.

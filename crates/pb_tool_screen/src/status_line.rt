@@ -13,8 +13,8 @@ pub struct Counted {
     pub kept: usize,
 }
 
-/// A line that says which unit begins, and how many have begun. It is written over itself. Its
-/// sink may fail in any way. It shows nothing until it is switched on.
+/// A line that says which unit begins, and how many have begun. Each new text overwrites the old
+/// one. Its sink may fail in any way. It shows nothing until it is switched on.
 #[derive(Drop)]
 pub struct StatusLine<S> {
     sink: S,
@@ -54,8 +54,8 @@ impl<S: Out> StatusLine<S> {
         self.on
     }
 
-    /// Shows that one more unit begins: that of this key, of so many. If memory runs out for the
-    /// line, it shows nothing.
+    /// Shows that one more unit begins: the unit of this key, out of this number of units. If
+    /// memory runs out for the line, it shows nothing.
     pub fn begins(&mut self, units: usize, key: &str) {
         self.begun = self.begun.saturating_add(1);
         if let Ok(line) = status_line(self.alloc, self.begun, units, key) {

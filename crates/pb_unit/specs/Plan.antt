@@ -63,8 +63,8 @@ pub record ArePlaces (units : List Planned) (Wanted : Unit → Type 0) (places :
 
 -- Profiles.
 
--- the line of the requested profile;
--- a profile whose output folder would have no name does not exist; no manifest has one
+-- the line of the requested profile. A profile whose output folder would have no name counts as
+-- missing; no manifest has such a profile.
 abbrev pub profile_line : Workspace → List ℕ → Result (List Seen) ProfileFault
 profile_line ws profile = checked_line ws.profiles profile >>= (λ line. if is_relative (folder_of profile) then Ok line else Err NoSuchProfile)
 

@@ -116,11 +116,10 @@ own_library ws p s = if has_library (slice_get ws.packages p) then unit p s Lib 
 abbrev pub own_run : Workspace → ℕ → Side → List Unit
 own_run ws p s = if has_script (slice_get ws.packages p) then unit p s Run ∷ [] else []
 
--- What a unit needs, by what it makes:
--- a library needs those of its dependencies, and its own run;
--- a binary needs its own library, and what that would need;
--- a script needs the host's libraries of its build dependencies;
--- a run needs its script, and the runs of its dependencies with a library and `links`.
+-- What a unit needs, by what it makes: a library needs the libraries of its dependencies, and its
+-- own run; a binary needs its own library, and what such a library would need; a script needs the
+-- host's libraries of its build dependencies; a run needs its script, and the runs of its
+-- dependencies with a library and `links`.
 abbrev pub needs_of : Workspace → Features → ℕ → Side → What → List Unit
 needs_of ws features p s Lib = libraries ws features p s ++ own_run ws p s
 needs_of ws features p s (Bin name) = own_library ws p s ++ (libraries ws features p s ++ own_run ws p s)

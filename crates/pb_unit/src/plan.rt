@@ -40,10 +40,10 @@ pub struct Planned {
     pub out: PathText,
     /// 0 if it needs nothing, else one more than the greatest level of what it needs.
     pub level: usize,
-    /// The indices in the plan of what it needs, ascending, each once.
+    /// The indices, in the plan, of what it needs, ascending, each once.
     pub needs: Items<usize>,
-    /// The indices in the plan of what it needs, of what that
-    /// needs, and so on, ascending, each once.
+    /// The indices, in the plan, of what it needs, of what that needs, and so on, ascending, each
+    /// once.
     pub reaches: Items<usize>,
     /// The settings of its package in the unit's role.
     pub settings: Settings,
@@ -347,8 +347,8 @@ impl Plan {
         }
     }
 
-    /// Returns the names of the packages without a library to which enabled dependencies
-    /// lead, in byte order, each once; nothing of them is planned. It uses no memory.
+    /// Returns the names of the packages without a library to which enabled dependencies lead, in
+    /// byte order, each once. The plan has no unit of these packages. It uses no memory.
     pub fn without_library(&self) -> &[Text]
         ensures { result.now ≡ self.now.without_library }
     {

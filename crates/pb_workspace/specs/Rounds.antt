@@ -60,7 +60,8 @@ standing_in f folder = record { root = f.root; folder = folder; manifest = below
 unfoldable pub draft_in_file : World → WorkspaceRoot → Bool → PackageLocation → Result UnresolvedPackage LoadFault
 draft_in_file sources f member at = parts_at sources at.manifest >>= (λ parts. draft_if sources f member at parts.tables parts.found)
 
--- the package of a folder; the root's manifest is not read again, since its package was read first if it has one
+-- the package of a folder; the root's manifest is not read again: if it has a package, that was
+-- read first
 unfoldable pub draft_at : World → WorkspaceRoot → List (List ℕ × Unit {0}) → List ℕ → Result UnresolvedPackage LoadFault
 draft_at sources f meant folder =
     if bytes_eq folder f.root then Err (no_package f.manifest)

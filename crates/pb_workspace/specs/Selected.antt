@@ -48,7 +48,8 @@ abbrev pub root_or_members : Option ℕ → List Package → List ℕ
 root_or_members (Some index) packages = index ∷ []
 root_or_members None packages = members_of packages
 
--- the indices that `default-members` selects; a folder in it that is no member is refused only here, when it decides
+-- the indices that `default-members` selects; a folder in it that is no member is refused, but only
+-- if `default-members` decides the selection
 abbrev pub by_default : DefaultMembers → Option ℕ → List Package → Result (List ℕ) LoadFault
 by_default Unwritten root packages = Ok (root_or_members root packages)
 by_default (Named places) root packages = Ok places

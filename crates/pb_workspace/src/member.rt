@@ -74,8 +74,8 @@ fn is_absolute(text: &str) -> bool
     }
 }
 
-/// Returns the parts at which a text starts: those of the root folder, or none for an absolute
-/// text.
+/// Returns the parts that come before those of a text: those of the root folder, or none for an
+/// absolute text.
 fn start_of(alloc: Global, root: &PathText, text: &str) -> Result<Vec<Part>, AllocError>
     ensures { IfOk result (λ parts. parts.items ≡ start_of root.now text.now) }
 {

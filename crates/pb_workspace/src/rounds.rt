@@ -102,7 +102,8 @@ fn manifest_at<P: Place>(
     Ok(manifest)
 }
 
-/// Returns what a package may inherit from its workspace: nothing if it is no member.
+/// Returns what a package may inherit from its workspace. A package that is no member may inherit
+/// nothing.
 fn given_to<'a>(frame: &'a WorkspaceRoot, none: &'a Given, is_member: bool) -> &'a Given
     requires { none.now ≡ nothing }
     ensures { result.now ≡ given_to frame.now is_member }

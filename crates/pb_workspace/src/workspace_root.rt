@@ -105,9 +105,10 @@ pub fn frame_of(
     }
 }
 
-/// Returns whether the package of a folder is a member: the root package is. In a workspace so are
-/// the folders that `members` means, and those inside the root folder that are not excluded (The
-/// Cargo Book, Workspaces). Whose path dependency leads there does not matter: our own choice.
+/// Returns whether the package of a folder is a member. The root package is one. In a workspace,
+/// the folders that `members` means are members, too, and so are those inside the root folder that
+/// are not excluded (The Cargo Book, Workspaces). It does not matter which package has the path
+/// dependency that leads there (our own choice).
 ///
 /// Errors: out of memory only.
 pub fn is_member(

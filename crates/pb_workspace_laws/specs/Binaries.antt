@@ -28,7 +28,8 @@ places package_name name = if bytes_eq name package_name then codes "src/main.rs
 abbrev pub source_of : World → List ℕ → List (List ℕ) → Option (List ℕ) → List ℕ
 source_of sources folder names path = option_map_or (resolved folder) path (below folder (unwrap_or (first_file sources folder names) (get_or names 0 [])))
 
--- a binary of a `[[bin]]`; or, unless `autobins = false`, one whose file is found and whose name no `[[bin]]` has
+-- a binary of a `[[bin]]`; or, unless `autobins = false`, a found binary, if no `[[bin]]` has its
+-- name
 pub data IsBinary (sources : World) (folder : List ℕ) (m : Manifest) (w : Written) (b : Binary) : Type 0 where
   written : (t : WrittenBinary) (table : Contains m.binaries t) (name : b.name ≡ t.name) (source : b.source ≡ source_of sources folder (places w.name t.name) t.path) (features : b.required_features ≡ t.required_features)
       → IsBinary sources folder m w b

@@ -19,8 +19,9 @@ pub data IsMember (sources : World) (f : WorkspaceRoot) (folder : List ℕ) : Ty
   meant : (written : f.is_workspace ≡ true) (text : List ℕ) (listed : Contains f.members text) (means : Contains (folders_meant sources f text) folder) → IsMember sources f folder
   inside : (written : f.is_workspace ≡ true) (below : is_at_or_below f.root folder ≡ true) (kept : is_excluded f.root f.exclude folder ≡ false) → IsMember sources f folder
 
--- A text of `members` without `*` or `?` means one folder, whether or not it exists.
--- A text with one of these means each folder that it matches, that has a manifest, and that `exclude` does not list.
+-- A text of `members` without `*` or `?` means one folder, whether or not it exists. A text with
+-- one of these means each folder that it matches, if the folder has a manifest and `exclude` does
+-- not list it.
 pub data IsMeant (sources : World) (f : WorkspaceRoot) (text folder : List ℕ) : Type 0 where
   written : (plain : is_glob text ≡ false) (is : folder ≡ resolved f.root text) → IsMeant sources f text folder
   matched : (globs : is_glob text ≡ true) (path : is_path folder ≡ true) (file : is_file sources folder (codes "Cargo.toml") ≡ true)

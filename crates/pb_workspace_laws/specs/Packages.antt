@@ -85,8 +85,8 @@ abbrev pub kinds_or_lib : List CrateType → List CrateType
 kinds_or_lib [] = Lib ∷ []
 kinds_or_lib (kind ∷ kinds) = kind ∷ kinds
 
--- the library: that of `[lib]`, in `src/lib.rs` unless a path is written;
--- without `[lib]`, that of `src/lib.rs` if there is such a file
+-- the library: with `[lib]`, the library of that table, in `src/lib.rs` unless a path is written;
+-- without `[lib]`, the library in `src/lib.rs`, if there is such a file
 abbrev pub library : World → List ℕ → List ℕ → Option WrittenLibrary → Option Library
 library sources folder name (Some l) = Some record { name = unwrap_or l.name (underscored name); crate_types = kinds_or_lib l.crate_types; source = option_map_or (resolved folder) l.path (below folder (codes "src/lib.rs")) }
 library sources folder name None = option_map (λ path. record { name = underscored name; crate_types = Lib ∷ []; source = path }) (first_path sources folder (codes "src/lib.rs" ∷ []))
@@ -125,9 +125,9 @@ pub record IsEntry (root folder : List ℕ) (entries : List WorkspaceDependency)
   pub renamed : e.renamed ≡ not (bytes_eq found.name e.key)
   pub version : IfSome s.version (λ requirement. matches requirement found.version ≡ true)
 
--- A package of a workspace with this root folder and these entries,
--- with the manifest `m` and its `[package]` table `w`.
--- The package's entries are those of the two tables, one for one and in order.
+-- A package of a workspace with this root folder and these entries, with the manifest `m` and its
+-- `[package]` table `w`. The package has exactly one entry for each entry of the two tables, in
+-- order.
 pub record IsPackageOf (sources : World) (root : List ℕ) (given : Given) (ws : Workspace) (m : Manifest) (w : Written) (p : Package) : Type 0 where
   pub name : p.name ≡ w.name
   pub version : IsOwnOrTaken w.version given.package.version p.version

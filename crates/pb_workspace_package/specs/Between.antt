@@ -17,8 +17,9 @@ names_in path = filter is_word (slice_split (λ b. b == slash) path)
 abbrev pub upward : List (List ℕ) → List (List ℕ)
 upward names = replicate (length names) (codes "..")
 
--- the steps from the end of the first names to the end of the others: their common beginning
--- is left out, then `..` for each name that is left of the first, then the rest of the others
+-- the steps from the end of the first names to the end of the others: without their common
+-- beginning, a `..` for each remaining name of the first, and then the remaining names of the
+-- others
 abbrev pub steps_between : List (List ℕ) → List (List ℕ) → List (List ℕ)
 steps_between [] others = others
 steps_between (name ∷ names) [] = upward (name ∷ names)

@@ -48,7 +48,8 @@ written_binary folder sources package_name b = record {
   required_features = b.required_features;
 }
 
--- the entries with these binaries added in turn, in byte order of the names; a later one replaces one of the same name
+-- the entries with these binaries added in turn, in byte order of the names; a later binary
+-- replaces an earlier one of the same name
 abbrev pub with_binaries : List (List ℕ × Binary) → List Binary → List (List ℕ × Binary)
 with_binaries entries [] = entries
 with_binaries entries (b ∷ bs) = with_binaries (with_entry entries b.name b) bs
@@ -57,7 +58,7 @@ with_binaries entries (b ∷ bs) = with_binaries (with_entry entries b.name b) b
 abbrev pub binary_of : List ℕ × Binary → Binary
 binary_of entry = record { name = entry.0; source = entry.1.source; required_features = entry.1.required_features }
 
--- the binaries of a package: the found ones, of which the last
--- of a name counts, and the written ones, which replace them
+-- the binaries of a package: the found ones and the written ones. If several found ones have one
+-- name, the last counts. A written one replaces the found one of its name.
 abbrev pub binaries_of : List Binary → List Binary → List Binary
 binaries_of found written = map binary_of (with_binaries (with_binaries [] found) written)

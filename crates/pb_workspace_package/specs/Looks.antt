@@ -24,8 +24,8 @@ FailsOn e calls old new = ⊥
 abbrev pub LooksUntil : LoadFault → List Call → Counts → Counts → Type 0
 LooksUntil e calls old new = (is_outside e ≡ false → new ≡ past_calls calls old) × (is_failure e ≡ false → MakesSome calls old new) × (is_failure e ≡ true → FailsOn e calls old new)
 
--- exactly these calls were made, or those up to an error;
--- each call is counted, and the one that failed is kept, so the counters also say their order
+-- exactly these calls were made, or the first of them up to an error; each call is counted and the
+-- failed call is recorded, so the counters also determine the order of the calls
 abbrev pub Looks : {T : Type 0} → Result T LoadFault → List Call → Counts → Counts → Type 0
 Looks result calls old new = MatchResult result (λ _. new ≡ past_calls calls old) (λ e. LooksUntil e calls old new)
 

@@ -41,8 +41,8 @@ wanted_at base kind key optional default features source = record {
 abbrev pub shared_at : List ℕ → List WorkspaceDependency → Option WorkspaceDependency
 shared_at key dependencies = find (λ d. bytes_eq key d.key) dependencies
 
--- what an entry requests that takes a workspace entry: the workspace's
--- features and then its own, and `default` if one of the two requests it
+-- what an entry requests if it takes a workspace entry: the workspace's features and then its own,
+-- and `default` if one of the two requests it
 abbrev pub taken_from : List ℕ → List ℕ → DependencyKind → Dependency → Bool → WorkspaceDependency → WorkspaceSource → Result Wanted LoadFault
 taken_from root manifest kind d default w (shared.Path source) = Ok (wanted_at root kind d.key d.optional (source.default_features || default) (w.features ++ d.features) source)
 taken_from root manifest kind d default w shared.Unsupported = Err (Manifest manifest UnsupportedSource)

@@ -98,9 +98,9 @@ fn looked_for_main(
 /// Returns the source of a `[[bin]]` of a package (The Cargo
 /// Book, Cargo Targets): the path that it writes, as it is.
 ///
-/// If it writes none, this is the first file of `src/main.rs`, if it is
-/// named as its package, `src/bin/NAME.rs` and `src/bin/NAME/main.rs`.
-/// If none of them is a file, it is the first of these paths.
+/// If it writes none, the source is the first of these paths that is a file: `src/main.rs` (only if
+/// the binary is named as its package), `src/bin/NAME.rs`, `src/bin/NAME/main.rs`. If none is a
+/// file, the source is the first of these paths.
 ///
 /// Errors: out of memory.
 pub fn binary_source(
@@ -203,9 +203,9 @@ fn values_of(alloc: Global, entries: Items<(Text, Binary)>) -> Result<Items<Bina
     Ok(binaries)
 }
 
-/// Returns the binaries of a package, in byte order of their names, each
-/// once: the found ones, of which the later of two with one name counts,
-/// and the written ones, which replace found ones of their name.
+/// Returns the binaries of a package, in byte order of their names, each once: the found ones and
+/// the written ones. If two found ones have one name, the later counts. A written one replaces a
+/// found one of its name.
 ///
 /// Errors: out of memory.
 pub fn binaries_of(

@@ -16,7 +16,7 @@ use pb_manifest_types::{Dependency, Feature, FeatureItem};
 use pb_workspace_types::FeaturesByName;
 use std::alloc::{AllocError, Global};
 
-/// Mentions the name N of an item `dep:N`.
+/// Adds the name N of an item `dep:N` to the mentioned names.
 fn mention_named(
     alloc: Global,
     names: &mut OrderedSet,
@@ -33,7 +33,7 @@ fn mention_named(
     }
 }
 
-/// Mentions the names N of the items `dep:N`.
+/// Adds the names N of the items `dep:N` to the mentioned names.
 fn mention_items(
     alloc: Global,
     names: &mut OrderedSet,
@@ -47,7 +47,7 @@ fn mention_items(
     Ok(())
 }
 
-/// Mentions the names N of the items `dep:N` of features.
+/// Adds the names N of the items `dep:N` of features to the mentioned names.
 fn mention_features(
     alloc: Global,
     names: &mut OrderedSet,
@@ -123,7 +123,7 @@ fn add_made(
     Ok(())
 }
 
-/// Adds the written features, which replace made ones of their name.
+/// Adds the written features. Each replaces a made one of the same name.
 fn add_written(
     made: &mut Sorted<Items<FeatureItem>>,
     written: Items<Feature>,

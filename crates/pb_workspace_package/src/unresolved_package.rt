@@ -25,7 +25,7 @@ use pb_place_types::{PathText, Place};
 use pb_workspace_types::{About, BinariesByName, FeaturesByName, Library, LoadFault};
 use std::alloc::Global;
 
-/// The tables of a manifest, beside `[package]`, that describe its package.
+/// The tables of a manifest, besides `[package]`, that describe its package.
 #[derive(Drop)]
 pub struct Tables {
     /// `[lib]`.

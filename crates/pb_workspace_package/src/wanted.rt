@@ -72,7 +72,7 @@ fn name_of(alloc: Global, key: &Text, name: &Option<Text>) -> Result<Text, Alloc
     }
 }
 
-/// Returns what an entry requests whose path starts at `base`.
+/// Returns what an entry requests. Its path starts at `base`.
 fn wanted_at(
     alloc: Global,
     base: &PathText,
@@ -136,7 +136,7 @@ fn unsupported(alloc: Global, manifest: &PathText) -> Result<LoadFault, AllocErr
     Ok(LoadFault::Manifest(manifest, ManifestFault::UnsupportedSource))
 }
 
-/// Returns what an entry requests that takes one of the workspace's.
+/// Returns what an entry requests if it takes an entry of the workspace.
 fn taken_from(
     alloc: Global,
     at: &PackageLocation,

@@ -1,6 +1,6 @@
--- What is true of every workspace that was read, whatever its files contain:
--- packages are in order of folders and differ in name.
--- Entries lead to packages and have names as keys, and features and binaries are in order of their names.
+-- What is true of every workspace that was read, whatever its files contain. Packages are in order
+-- of their folders and have different names. Entries lead to packages and have names as keys, and
+-- features and binaries are in order of their names.
 use Rattle.std.specs.Prelude.{◌≡◌, ℕ, ◌<◌, ◌≤◌, ◌||◌, true, List, map, All, IfSome, length}
 use Rattle.std.specs.Ordering.{nat_cmp}
 use Rattle.std.specs.Cmp.Lexicographic.{slice_cmp}

@@ -293,7 +293,7 @@ impl<C: Child> Place for Memory<C> {
             ≡ counted_spawn (child_spawned (C.answers command.now) command.now self.old.world)
             result (counts_in self.old) }
 
-        // Only a place whose calls can fail fails, now or later.
+        // If the start fails, or a later call can fail, then calls could fail before.
         ensures fails { IfErr result (λ e. e ≢ StartFault.OutOfMemory → may_fail self.old ≡ true) }
         ensures later { may_fail self.new ≡ true → may_fail self.old ≡ true }
     {
