@@ -1,4 +1,4 @@
-//! The parts of a case, workspaces of tests, and what is asked of them.
+//! Workspaces of tests, and what is asked of them.
 
 use pb_data::Text;
 use pb_place::Memory;
@@ -6,12 +6,6 @@ use pb_tests_files::{Silent, no_options, put_files, workspace_in};
 use pb_workspace_types::{Options, SettledWorkspace};
 use std::alloc::{AllocError, Global};
 use std::test::Fail;
-
-/// The files and the questions of a case, which is a name, files, and after a line `---` the questions.
-pub fn parts_of(case: &str) -> Option<(&str, &str)> {
-    let (_, rest) = case.split_once('\n')?;
-    rest.split_once("---\n")
-}
 
 /// The workspace of files that are put at a place, behind those of a first text.
 fn workspace_at(

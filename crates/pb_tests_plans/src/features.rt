@@ -1,113 +1,81 @@
 //! Features, by a table of manifests with what is asked for and what is on.
 
-use crate::asking::{options_of, parts_of, workspace_of};
+use crate::asking::{options_of, workspace_of};
 use crate::enabled::put_enabled;
 use crate::refused_features::REFUSED;
 use crate::resolutions::RESOLUTIONS;
-use pb_feature::{FeatureFault, Features, resolve};
-use pb_tests_files::Shown;
+use pb_feature::resolve;
+use pb_tests_files::{Answers, Case, Shown, Trial, put_answers, try_cases};
 use pb_workspace::selected;
 use pb_workspace_types::{Options, SelectedWorkspace, SettledWorkspace, Workspace};
 use std::alloc::Global;
-use std::process::Abort;
 use std::test::Fail;
 
-/// Whether an answer is shown as this.
-fn says(
+/// Writes what is on of what is selected, or the refusal.
+fn put_resolved(
     alloc: Global,
     workspace: &Workspace,
-    answer: &Result<Features, FeatureFault>,
-    want: &str,
-) -> bool {
-    let mut out = Shown::new(alloc);
-    match answer {
-        Ok(features) => put_enabled(&mut out, features, workspace.packages.as_slice()),
+    chosen: &SelectedWorkspace<'_>,
+    out: &mut Shown,
+) {
+    let answer = resolve(alloc, chosen);
+    match &answer {
+        Ok(features) => put_enabled(out, features, workspace.packages.as_slice()),
         Err(fault) => out.put_value(fault),
     }
-    out.says(want)
-}
-
-/// Whether this is on of what is selected, or this is the refusal.
-fn is_on(
-    alloc: Global,
-    workspace: &SettledWorkspace,
-    chosen: &SelectedWorkspace<'_>,
-    want: &str,
-) -> bool {
-    let answer = resolve(alloc, chosen);
-    let says = says(alloc, workspace.get(), &answer, want);
     drop(answer);
-    says
 }
 
-/// The same of what options select.
-fn is_on_with(
+/// Writes the same of what options select.
+fn put_resolved_with(
     alloc: Global,
     workspace: &SettledWorkspace,
     options: &Options,
-    want: &str,
-) -> Result<bool, Fail> {
+    out: &mut Shown,
+) -> Result<(), Fail> {
     let chosen = selected(alloc, workspace, options)?;
-    let is_on = is_on(alloc, workspace, &chosen, want);
+    put_resolved(alloc, workspace.get(), &chosen, out);
     drop(chosen);
-    Ok(is_on)
+    Ok(())
 }
 
-/// The same of what words ask for.
-fn is_resolved(
-    alloc: Global,
-    workspace: &SettledWorkspace,
-    words: &str,
-    want: &str,
-) -> Result<bool, Fail> {
-    let options = options_of(alloc, words, "; ")?;
-    let is_on = is_on_with(alloc, workspace, &options, want);
-    drop(options);
-    is_on
+/// The features of a workspace, by words for options.
+#[derive(Drop)]
+struct FeaturesOf<'a> {
+    workspace: &'a SettledWorkspace,
 }
 
-/// Asks the questions about a workspace, one a line, each with its answer behind ` = `. How many there were.
-fn ask_all(
-    rt: &impl Abort,
-    alloc: Global,
-    workspace: &SettledWorkspace,
-    questions: &str,
-) -> Result<usize, Fail> {
-    let mut count = 0usize;
-    for line in questions.lines() {
-        if let Some((words, want)) = line.split_once(" = ") {
-            assert!(rt; is_resolved(alloc, workspace, words, want)?, "{line}");
-            count = count.saturating_add(1);
-        }
+impl Answers for FeaturesOf<'_> {
+    fn put_answer(&self, alloc: Global, question: &str, out: &mut Shown) -> Result<(), Fail> {
+        let options = options_of(alloc, question, "; ")?;
+        let put = put_resolved_with(alloc, self.workspace, &options, out);
+        drop(options);
+        put
     }
-    Ok(count)
 }
 
-/// Tries one case. How many questions it has.
-fn try_case(rt: &impl Abort, alloc: Global, case: &str) -> Result<usize, Fail> {
-    let Some((files, questions)) = parts_of(case) else {
-        return Ok(0);
-    };
-    let workspace = workspace_of(alloc, "", files)?;
-    let count = ask_all(rt, alloc, &workspace, questions);
-    drop(workspace);
-    count
-}
+/// Cases of workspaces, with questions about their features.
+struct FeatureCases {}
 
-/// Tries the cases of a table. How many questions they have.
-fn try_cases(rt: &impl Abort, alloc: Global, table: &str) -> Result<usize, Fail> {
-    let mut count = 0usize;
-    for case in table.split("=== ") {
-        count = count.saturating_add(try_case(rt, alloc, case)?);
+impl Trial for FeatureCases {
+    fn put_result(&self, alloc: Global, case: &Case<'_>, out: &mut Shown) -> Result<(), Fail> {
+        let workspace = workspace_of(alloc, "", case.given)?;
+        let answers = FeaturesOf {
+            workspace: &workspace,
+        };
+        let put = put_answers(alloc, &answers, case.wanted, out);
+        drop(workspace);
+        put
     }
-    Ok(count)
 }
 
 /// Rules: `resolve.selected`.
 #[test]
 fn features(rt: HostRuntime) -> Result<(), Fail> {
-    let on = try_cases(&rt, rt.alloc(), RESOLUTIONS)?;
-    let refused = try_cases(&rt, rt.alloc(), REFUSED)?;
-    assert_eq!(rt; on.saturating_add(refused), 112);
+    assert_eq!(rt;
+        try_cases(&rt, rt.alloc(), RESOLUTIONS, &FeatureCases {})?,
+        26
+    );
+    assert_eq!(rt; try_cases(&rt, rt.alloc(), REFUSED, &FeatureCases {})?, 15);
     Ok(())
 }

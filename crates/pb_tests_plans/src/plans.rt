@@ -1,17 +1,16 @@
 //! Plans, against a table of plans written by hand.
 
-use crate::asking::{options_of, parts_of, workspace_of};
+use crate::asking::{options_of, workspace_of};
 use crate::cases::CASES;
 use crate::script_cases::SCRIPT_CASES;
 use crate::show::{put_fault, put_plan, put_texts};
 use pb_data::Text;
 use pb_feature::resolve;
-use pb_tests_files::Shown;
+use pb_tests_files::{Answers, Case, Shown, Trial, put_answers, try_cases};
 use pb_unit::{Plan, PlanFault, Unit, What};
 use pb_workspace::selected;
 use pb_workspace_types::{Options, SelectedWorkspace, SettledWorkspace, Side, Workspace};
 use std::alloc::{AllocError, Global};
-use std::process::Abort;
 use std::test::Fail;
 
 /// The profile that the words ask for, at their end.
@@ -76,55 +75,34 @@ fn put_answer(out: &mut Shown, answer: &Result<Plan, PlanFault>, words: &str) {
     }
 }
 
-/// Whether the plan of a workspace is shown as this.
-fn is_answered(
-    alloc: Global,
-    workspace: &SettledWorkspace,
-    words: &str,
-    want: &str,
-) -> Result<bool, Fail> {
-    let answer = plan_of(alloc, workspace, words)?;
-    let mut out = Shown::new(alloc);
-    put_answer(&mut out, &answer, words);
-    drop(answer);
-    Ok(out.says(want))
+/// The plans of a workspace, by words for options.
+#[derive(Drop)]
+struct PlansOf<'a> {
+    workspace: &'a SettledWorkspace,
 }
 
-/// Asks the questions about a workspace, one a line, each with its answer behind ` = `. How many there were.
-fn ask_all(
-    rt: &impl Abort,
-    alloc: Global,
-    workspace: &SettledWorkspace,
-    questions: &str,
-) -> Result<usize, Fail> {
-    let mut count = 0usize;
-    for line in questions.lines() {
-        if let Some((words, want)) = line.split_once(" = ") {
-            assert!(rt; is_answered(alloc, workspace, words, want)?, "{line}");
-            count = count.saturating_add(1);
-        }
+impl Answers for PlansOf<'_> {
+    fn put_answer(&self, alloc: Global, question: &str, out: &mut Shown) -> Result<(), Fail> {
+        let answer = plan_of(alloc, self.workspace, question)?;
+        put_answer(out, &answer, question);
+        drop(answer);
+        Ok(())
     }
-    Ok(count)
 }
 
-/// Tries one case. How many questions it has.
-fn try_case(rt: &impl Abort, alloc: Global, case: &str) -> Result<usize, Fail> {
-    let Some((files, questions)) = parts_of(case) else {
-        return Ok(0);
-    };
-    let workspace = workspace_of(alloc, ROOT, files)?;
-    let count = ask_all(rt, alloc, &workspace, questions);
-    drop(workspace);
-    count
-}
+/// Cases of workspaces, with questions about their plans.
+struct PlanCases {}
 
-/// Tries the cases of a table. How many questions there were.
-fn try_cases(rt: &impl Abort, alloc: Global, cases: &str) -> Result<usize, Fail> {
-    let mut count = 0usize;
-    for case in cases.split("=== ") {
-        count = count.saturating_add(try_case(rt, alloc, case)?);
+impl Trial for PlanCases {
+    fn put_result(&self, alloc: Global, case: &Case<'_>, out: &mut Shown) -> Result<(), Fail> {
+        let workspace = workspace_of(alloc, ROOT, case.given)?;
+        let answers = PlansOf {
+            workspace: &workspace,
+        };
+        let put = put_answers(alloc, &answers, case.wanted, out);
+        drop(workspace);
+        put
     }
-    Ok(count)
 }
 
 /// The files of the package `a` with so many binaries, behind these files.
@@ -192,13 +170,18 @@ const CIRCLE_QUESTIONS: &str = r#"a = TooManyUnits
 a f:circle = Cycle a b
 "#;
 
-/// Asks this of them with so many binaries. How many questions there were.
-fn try_circle(rt: &impl Abort, alloc: Global, count: u64) -> Result<usize, Fail> {
+/// Whether the plans of the circle, with so many binaries, are these.
+fn are_circles_found(alloc: Global, count: u64) -> Result<bool, Fail> {
     let files = many_binaries(alloc, CIRCLE, count)?;
     let workspace = workspace_of(alloc, ROOT, files.as_str())?;
-    let count = ask_all(rt, alloc, &workspace, CIRCLE_QUESTIONS);
+    let answers = PlansOf {
+        workspace: &workspace,
+    };
+    let mut out = Shown::new(alloc);
+    let put = put_answers(alloc, &answers, CIRCLE_QUESTIONS, &mut out);
     drop(workspace);
-    count
+    put?;
+    Ok(out.says(CIRCLE_QUESTIONS))
 }
 
 /// A package with a script, and one that it needs on both sides.
@@ -301,11 +284,14 @@ fn are_both_right(alloc: Global) -> Result<bool, Fail> {
 /// Rules: `plan.key`, `plan.settings`, `plan.refused`.
 #[test]
 fn plans(rt: HostRuntime) -> Result<(), Fail> {
-    assert_eq!(rt; try_cases(&rt, rt.alloc(), CASES)?, 53);
-    assert_eq!(rt; try_cases(&rt, rt.alloc(), SCRIPT_CASES)?, 25);
+    assert_eq!(rt; try_cases(&rt, rt.alloc(), CASES, &PlanCases {})?, 20);
+    assert_eq!(rt;
+        try_cases(&rt, rt.alloc(), SCRIPT_CASES, &PlanCases {})?,
+        15
+    );
     assert!(rt; binaries_give(rt.alloc(), 4096, Some(4096))?);
     assert!(rt; binaries_give(rt.alloc(), 4097, None)?);
-    assert_eq!(rt; try_circle(&rt, rt.alloc(), 4096)?, 2);
+    assert!(rt; are_circles_found(rt.alloc(), 4096)?);
     assert!(rt; are_both_right(rt.alloc())?);
     Ok(())
 }

@@ -14,10 +14,11 @@ use pb_manifest_types::{
     CrateType, Edition, Key, Library, ManifestFault, PathSource, ProfileKey, Readme, Requirement,
     Version, WrittenPath, crate_name, crate_type_texts, library_name,
 };
-use pb_tests_files::{Shown, holds, is_text};
+use pb_tests_files::{Case, Shown, Trial, holds, is_text, try_cases};
 use show::put_manifest;
 use std::alloc::{AllocError, Global};
 use std::process::Abort;
+use std::test::Fail;
 
 /// The answer to a manifest, in one line.
 fn answer_to(alloc: Global, manifest: &[u8]) -> Shown {
@@ -36,31 +37,16 @@ fn says(alloc: Global, manifest: &[u8], wanted: &str) -> bool {
     answer_to(alloc, manifest).says(wanted)
 }
 
-/// Asserts the answer of a case: a line `[RULE] NAME`, a manifest, and a line `--- ANSWER`. Whether the text is a case.
-fn assert_case(rt: &impl Abort, alloc: Global, case: &str) -> bool {
-    let Some((name, rest)) = case.split_once('\n') else {
-        return false;
-    };
-    let Some((manifest, wanted)) = rest.split_once("--- ") else {
-        return false;
-    };
-    let wanted = wanted.trim();
-    let came = answer_to(alloc, manifest.as_bytes());
-    assert!(rt;
-        came.says(wanted),
-        "{name}: wanted {wanted}, came {}",
-        came.as_str()
-    );
-    true
-}
+/// Cases of manifests, each with its answer in one line.
+struct ManifestCases {}
 
-/// Asserts the answers to the manifests of a table. How many there are.
-fn assert_answers(rt: &impl Abort, alloc: Global, cases: &str) -> usize {
-    let mut count = 0usize;
-    for case in cases.split("=== ") {
-        count = count.saturating_add(usize::from(assert_case(rt, alloc, case)));
+impl Trial for ManifestCases {
+    fn put_result(&self, alloc: Global, case: &Case<'_>, out: &mut Shown) -> Result<(), Fail> {
+        let answer = answer_to(alloc, case.given.as_bytes());
+        out.put(&[answer.as_str(), "\n"]);
+        drop(answer);
+        Ok(())
     }
-    count
 }
 
 /// Whether the answer to as many line feeds is this.
@@ -72,22 +58,25 @@ fn blank_says(alloc: Global, length: usize, wanted: &str) -> Result<bool, AllocE
 /// Bytes that are no TOML.
 static NO_TOML: &[&[u8]] = &[b"name = \"\xff\"", b"\x00", b"\xef\xbb"];
 
-/// Asserts the answers of each table.
-fn assert_cases(rt: &impl Abort, alloc: Global) {
-    for case in CASES {
-        assert!(rt; assert_answers(rt, alloc, *case) >= 25);
+/// Tries the cases of each table. Returns how many there are.
+fn try_tables(rt: &impl Abort, alloc: Global) -> Result<usize, Fail> {
+    let mut count = 0usize;
+    for table in CASES {
+        count = count.saturating_add(try_cases(rt, alloc, *table, &ManifestCases {})?);
     }
+    Ok(count)
 }
 
 /// Rules: `manifest.order`.
 #[test]
-fn manifests(rt: HostRuntime) {
-    assert_cases(&rt, rt.alloc());
-    assert!(rt; holds(blank_says(rt.alloc(), 1_048_576, "BadKind(Package)")));
-    assert!(rt; holds(blank_says(rt.alloc(), 1_048_577, "TooLarge")));
+fn manifests(rt: HostRuntime) -> Result<(), Fail> {
+    assert_eq!(rt; try_tables(&rt, rt.alloc())?, 308);
+    assert!(rt; blank_says(rt.alloc(), 1_048_576, "BadKind(Package)")?);
+    assert!(rt; blank_says(rt.alloc(), 1_048_577, "TooLarge")?);
     for bytes in NO_TOML {
         assert!(rt; says(rt.alloc(), *bytes, "NotToml"));
     }
+    Ok(())
 }
 
 /// Whether it is told of a text as wanted whether it has the letters of a package's, of a crate's and of a feature's name,

@@ -10,10 +10,9 @@ ghost use Rattle.std.specs.Prelude.{◌≡◌, [], IfOk};
 use pb_mini::Mini;
 use pb_place::Memory;
 use pb_place_types::{Out, Over, PathText, Place};
-use pb_tests_files::put_files;
+use pb_tests_files::{Case, Shown, Trial, put_files, try_cases};
 use pb_tool_program::{Colored, Guard, Here, Rendered, Spoken, StatusLine, page_of_errors, run};
 use std::alloc::{AllocError, Global};
-use std::process::Abort;
 use std::test::Fail;
 
 /// A guard that holds no folder.
@@ -99,56 +98,56 @@ fn said_alone(alloc: Global, words: &str, files: &str) -> Result<Vec<u8>, Fail> 
     said_at(alloc, memory, words)
 }
 
-/// Tries one case: a name and words, files, and after a line `---` standard error. Whether it is one.
-fn try_case(rt: &impl Abort, alloc: Global, case: &str) -> Result<bool, Fail> {
-    let Some((head, rest)) = case.split_once('\n') else {
-        return Ok(false);
-    };
-    let Some((files, want)) = rest.split_once("---\n") else {
-        return Ok(false);
-    };
-    let (name, words) = head.split_once(": ").unwrap_or((head, ""));
-    let said = said_alone(alloc, words, files)?;
-    let said = str::from_utf8(said.as_slice()).unwrap_or("");
-    assert!(rt; said == want, "{name}: {said}");
-    Ok(true)
-}
+/// Cases of files, with the words of a command line after their names, and what standard error then is.
+struct MistakeCases {}
 
-/// Tries each case of a table. How many there are.
-fn try_all(rt: &impl Abort, alloc: Global, cases: &str) -> Result<usize, Fail> {
-    let mut count = 0usize;
-    for case in cases.split("=== ") {
-        let is_case = try_case(rt, alloc, case)?;
-        count = count.saturating_add(usize::from(is_case));
+impl Trial for MistakeCases {
+    fn put_result(&self, alloc: Global, case: &Case<'_>, out: &mut Shown) -> Result<(), Fail> {
+        let (_, words) = case.name.split_once(": ").unwrap_or((case.name, ""));
+        let said = said_alone(alloc, words, case.given)?;
+        out.put(&[str::from_utf8(said.as_slice()).unwrap_or("no text")]);
+        drop(said);
+        Ok(())
     }
-    Ok(count)
 }
 
 /// Rules: `tool.notes`.
 #[test]
 fn mistakes_in_a_manifest(rt: HostRuntime) -> Result<(), Fail> {
-    assert_eq!(rt; try_all(&rt, rt.alloc(), manifests::CASES)?, 18);
+    assert_eq!(rt;
+        try_cases(&rt, rt.alloc(), manifests::CASES, &MistakeCases {})?,
+        18
+    );
     Ok(())
 }
 
 /// Rules: `tool.notes`.
 #[test]
 fn mistakes_in_a_workspace(rt: HostRuntime) -> Result<(), Fail> {
-    assert_eq!(rt; try_all(&rt, rt.alloc(), workspaces::CASES)?, 14);
+    assert_eq!(rt;
+        try_cases(&rt, rt.alloc(), workspaces::CASES, &MistakeCases {})?,
+        14
+    );
     Ok(())
 }
 
 /// Rules: `tool.notes`.
 #[test]
 fn mistakes_in_a_plan(rt: HostRuntime) -> Result<(), Fail> {
-    assert_eq!(rt; try_all(&rt, rt.alloc(), plans::CASES)?, 15);
+    assert_eq!(rt;
+        try_cases(&rt, rt.alloc(), plans::CASES, &MistakeCases {})?,
+        15
+    );
     Ok(())
 }
 
 /// Rules: `tool.notes`, `manifest.ignored`.
 #[test]
 fn keys_that_nothing_reads(rt: HostRuntime) -> Result<(), Fail> {
-    assert_eq!(rt; try_all(&rt, rt.alloc(), unused::CASES)?, 5);
+    assert_eq!(rt;
+        try_cases(&rt, rt.alloc(), unused::CASES, &MistakeCases {})?,
+        5
+    );
     Ok(())
 }
 

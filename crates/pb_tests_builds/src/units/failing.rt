@@ -4,13 +4,13 @@ ghost use Rattle.std.specs.Prelude.{◌≡◌};
 ghost use Rattle.pb_run.specs.Invariants.{records_folder};
 
 use crate::units::ready::{Bench, bench_of, project_in};
-use crate::units::steps::{call, make_steps, parts_of, reopen, words_of};
+use crate::units::steps::{call, make_steps, reopen, words_of};
 use crate::units::trials::FILES;
 use pb_mini::Mini;
 use pb_place::Memory;
 use pb_place_types::Place;
 use pb_run::OrderedProject;
-use pb_tests_files::{Shown, Untold, put_files};
+use pb_tests_files::{Case, Shown, Trial, Untold, put_files, try_cases};
 use std::alloc::Global;
 use std::test::Fail;
 
@@ -167,26 +167,21 @@ fault b.target.run Device: nothing is kept of it
 fault b.target.run Device: nothing is kept of it
 "#;
 
-/// Adds a case of which something else is told to `wrong`, and what is told; and one that has no steps.
-fn try_case(alloc: Global, case: &str, wrong: &mut Shown) -> Result<(), Fail> {
-    let Some((name, steps, told)) = parts_of(case) else {
-        wrong.put(&[case]);
-        return Ok(());
-    };
-    let said = each_fails(alloc, steps)?;
-    if said.as_str() != told {
-        wrong.put(&[name, ": wanted\n", told, "came\n", said.as_str()]);
+/// Cases of steps whose last one fails at each call in turn, and what is told after each.
+struct FailingCases {}
+
+impl Trial for FailingCases {
+    fn put_result(&self, alloc: Global, case: &Case<'_>, out: &mut Shown) -> Result<(), Fail> {
+        let told = each_fails(alloc, case.given.trim_end())?;
+        out.put(&[told.as_str()]);
+        drop(told);
+        Ok(())
     }
-    Ok(())
 }
 
 /// Rules: `build.units`, `build.faults`.
 #[test]
 fn calls_of_units_fail(rt: HostRuntime) -> Result<(), Fail> {
-    let mut wrong = Shown::new(rt.alloc());
-    for case in TRIALS.split("=== ") {
-        try_case(rt.alloc(), case, &mut wrong)?;
-    }
-    assert!(rt; wrong.says(""), "{}", wrong.as_str());
+    assert_eq!(rt; try_cases(&rt, rt.alloc(), TRIALS, &FailingCases {})?, 4);
     Ok(())
 }

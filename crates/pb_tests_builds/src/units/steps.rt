@@ -16,13 +16,6 @@ use pb_tests_files::Untold;
 use std::alloc::Global;
 use std::test::Fail;
 
-/// The name of a case, its steps, and what they tell.
-pub fn parts_of(case: &str) -> Option<(&str, &str, &str)> {
-    let (name, rest) = case.split_once('\n')?;
-    let (steps, told) = rest.split_once("\n---\n")?;
-    Some((name, steps, told))
-}
-
 /// The words of a step: its verb, the next, and all behind that.
 pub fn words_of(line: &str) -> (&str, &str, &str) {
     let (verb, words) = line.split_once(' ').unwrap_or((line, ""));

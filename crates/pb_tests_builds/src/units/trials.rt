@@ -1,11 +1,11 @@
 //! Trials: steps on a project, and what they tell.
 
 use crate::units::ready::{bench_of, project_in};
-use crate::units::steps::{make_steps, parts_of};
+use crate::units::steps::make_steps;
 use pb_mini::Mini;
 use pb_place::Memory;
 use pb_run::OrderedProject;
-use pb_tests_files::{Shown, Untold, put_files};
+use pb_tests_files::{Case, Shown, Trial, Untold, put_files, try_cases};
 use std::alloc::Global;
 use std::test::Fail;
 
@@ -340,26 +340,21 @@ run 9
 no unit
 "#;
 
-/// Adds a case of which something else is told to `wrong`, and what is told; and one that has no steps.
-fn try_case(alloc: Global, case: &str, wrong: &mut Shown) -> Result<(), Fail> {
-    let Some((name, steps, told)) = parts_of(case) else {
-        wrong.put(&[case]);
-        return Ok(());
-    };
-    let said = tried(alloc, steps)?;
-    if said.as_str() != told {
-        wrong.put(&[name, ": wanted\n", told, "came\n", said.as_str()]);
+/// Cases of steps, and what each tells.
+struct StepCases {}
+
+impl Trial for StepCases {
+    fn put_result(&self, alloc: Global, case: &Case<'_>, out: &mut Shown) -> Result<(), Fail> {
+        let told = tried(alloc, case.given)?;
+        out.put(&[told.as_str()]);
+        drop(told);
+        Ok(())
     }
-    Ok(())
 }
 
 /// Rules: `build.units`, `records.differs`.
 #[test]
 fn units_tell(rt: HostRuntime) -> Result<(), Fail> {
-    let mut wrong = Shown::new(rt.alloc());
-    for case in TRIALS.split("=== ") {
-        try_case(rt.alloc(), case, &mut wrong)?;
-    }
-    assert!(rt; wrong.says(""), "{}", wrong.as_str());
+    assert_eq!(rt; try_cases(&rt, rt.alloc(), TRIALS, &StepCases {})?, 24);
     Ok(())
 }

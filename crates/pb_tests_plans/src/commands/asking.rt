@@ -13,9 +13,9 @@ use pb_unit::Planned;
 use std::alloc::{AllocError, Global};
 use std::test::Fail;
 
-/// What a case has.
+/// What a case has besides its questions.
 #[derive(Drop)]
-pub struct Case<'a> {
+pub struct ProjectCase<'a> {
     /// What its words ask for.
     pub setup: &'a Setup,
     /// The project.
@@ -60,12 +60,12 @@ pub fn setup_of(alloc: Global, words: &str) -> Result<Setup, AllocError> {
 }
 
 /// The command of a unit.
-fn command_in(alloc: Global, case: &Case, unit: &Planned) -> Result<Command, AllocError> {
+fn command_in(alloc: Global, case: &ProjectCase, unit: &Planned) -> Result<Command, AllocError> {
     command(alloc, case.setup, case.project, unit, case.done)
 }
 
 /// What a unit has printed, by its file in `/said`.
-fn output_of(alloc: Global, case: &Case, unit: &Planned) -> Result<Bytes, Fail> {
+fn output_of(alloc: Global, case: &ProjectCase, unit: &Planned) -> Result<Bytes, Fail> {
     match file_of(alloc, case.memory, "/said", unit)? {
         Some(bytes) => Ok(bytes),
         None => Ok(Bytes::from_slice(alloc, b"")?),
@@ -73,7 +73,7 @@ fn output_of(alloc: Global, case: &Case, unit: &Planned) -> Result<Bytes, Fail> 
 }
 
 /// The end of a unit's child with this status and its output.
-fn end_of(alloc: Global, case: &Case, unit: &Planned, status: i32) -> Result<Ended, Fail> {
+fn end_of(alloc: Global, case: &ProjectCase, unit: &Planned, status: i32) -> Result<Ended, Fail> {
     let stdout = output_of(alloc, case, unit)?;
     let stderr = Bytes::from_slice(alloc, b"")?;
     Ok(Ended {
@@ -86,7 +86,7 @@ fn end_of(alloc: Global, case: &Case, unit: &Planned, status: i32) -> Result<End
 /// Puts what such an end gives, with this dep-info.
 fn put_judged(
     alloc: Global,
-    case: &Case,
+    case: &ProjectCase,
     unit: &Planned,
     end: &Ended,
     info: Option<&Bytes>,
@@ -103,7 +103,7 @@ fn put_judged(
 /// Puts what an answer of this status gives. The dep-info is the unit's file in `/info`.
 fn put_end(
     alloc: Global,
-    case: &Case,
+    case: &ProjectCase,
     unit: &Planned,
     status: i32,
     out: &mut Shown,
@@ -118,7 +118,7 @@ fn put_end(
 /// Puts a part of the command of a unit.
 fn put_part_of(
     alloc: Global,
-    case: &Case,
+    case: &ProjectCase,
     unit: &Planned,
     what: &str,
     out: &mut Shown,
@@ -132,7 +132,7 @@ fn put_part_of(
 /// Puts the answer to a question about a unit: also the file that it makes, its dep-info, and the name of its crate.
 pub fn put_asked(
     alloc: Global,
-    case: &Case,
+    case: &ProjectCase,
     unit: &Planned,
     what: &str,
     out: &mut Shown,

@@ -1,15 +1,14 @@
 //! Workspaces, by a table of files with the packages that are loaded or the refusal.
 
-use crate::asking::{options_of, parts_of};
+use crate::asking::options_of;
 use crate::workspaces::cases::CASES;
 use crate::workspaces::show::{put_answer, put_places};
 use pb_place::Memory;
 use pb_place_types::{PathFault, PathText, Place};
-use pb_tests_files::{Shown, Silent, put_files, workspace_in};
+use pb_tests_files::{Case, Shown, Silent, Trial, put_files, try_cases, workspace_in};
 use pb_workspace::{load, selected};
 use pb_workspace_types::{LoadFault, SelectedWorkspace, SettledWorkspace};
 use std::alloc::Global;
-use std::process::Abort;
 use std::test::Fail;
 
 /// Puts what is selected: the places, or the refusal.
@@ -55,63 +54,45 @@ fn put_selections(
     Ok(())
 }
 
-/// Whether an answer, with a line for each word that stands for a selection in it, is shown as this.
-fn says(
+/// Puts an answer, with a line for each word that stands for a selection in it.
+fn put_loaded(
     alloc: Global,
     answer: &Result<SettledWorkspace, LoadFault>,
     words: &str,
-    want: &str,
-) -> Result<bool, Fail> {
-    let mut out = Shown::new(alloc);
-    put_answer(&mut out, answer);
-    if let Ok(workspace) = answer {
-        put_selections(alloc, workspace, words, &mut out)?;
+    out: &mut Shown,
+) -> Result<(), Fail> {
+    put_answer(out, answer);
+    match answer {
+        Ok(workspace) => put_selections(alloc, workspace, words, out),
+        Err(_) => Ok(()),
     }
-    Ok(out.says(want))
 }
 
-/// Whether files that are put at a place answer this.
-fn is_answered_at(
+/// Puts the answer to files that are put at a place.
+fn put_loaded_at(
     alloc: Global,
     memory: &mut Memory<Silent>,
-    files: &str,
-    words: &str,
-    want: &str,
-) -> Result<bool, Fail> {
-    put_files(alloc, memory, files)?;
+    case: &Case<'_>,
+    out: &mut Shown,
+) -> Result<(), Fail> {
+    put_files(alloc, memory, case.given)?;
     let answer = workspace_in(alloc, memory)?;
-    let says = says(alloc, &answer, words, want);
+    let (_, words) = case.name.split_once(": ").unwrap_or((case.name, ""));
+    let put = put_loaded(alloc, &answer, words, out);
     drop(answer);
-    says
+    put
 }
 
-/// Whether files answer this at a place of their own.
-fn is_answered(alloc: Global, files: &str, words: &str, want: &str) -> Result<bool, Fail> {
-    let mut memory = Memory::new(alloc, Silent);
-    let is_answered = is_answered_at(alloc, &mut memory, files, words, want);
-    drop(memory);
-    is_answered
-}
+/// Cases of files, with words of selections after their names.
+struct WorkspaceCases {}
 
-/// Tries one case: a name and words of selections, files, and after a line `---` the answer. Whether it is one.
-fn try_case(rt: &impl Abort, alloc: Global, case: &str) -> Result<bool, Fail> {
-    let Some((files, want)) = parts_of(case) else {
-        return Ok(false);
-    };
-    let head = case.lines().next().unwrap_or("");
-    let (_, words) = head.split_once(": ").unwrap_or((head, ""));
-    assert!(rt; is_answered(alloc, files, words, want)?, "{case}");
-    Ok(true)
-}
-
-/// Tries the cases of a table. How many there are.
-fn try_table(rt: &impl Abort, alloc: Global, table: &str) -> Result<usize, Fail> {
-    let mut count = 0usize;
-    for case in table.split("=== ") {
-        let is_case = try_case(rt, alloc, case)?;
-        count = count.saturating_add(usize::from(is_case));
+impl Trial for WorkspaceCases {
+    fn put_result(&self, alloc: Global, case: &Case<'_>, out: &mut Shown) -> Result<(), Fail> {
+        let mut memory = Memory::new(alloc, Silent);
+        let put = put_loaded_at(alloc, &mut memory, case, out);
+        drop(memory);
+        put
     }
-    Ok(count)
 }
 
 /// Puts the shortest manifest of a member.
@@ -220,7 +201,7 @@ fn count_own_roots(alloc: Global) -> Result<usize, PathFault> {
 fn workspaces(rt: HostRuntime) -> Result<(), Fail> {
     let mut count = 0usize;
     for table in CASES {
-        count = count.saturating_add(try_table(&rt, rt.alloc(), *table)?);
+        count = count.saturating_add(try_cases(&rt, rt.alloc(), *table, &WorkspaceCases {})?);
     }
     assert_eq!(rt; count, 95);
     assert!(rt; count_loaded(rt.alloc(), 256)? == (256, 0, 0));

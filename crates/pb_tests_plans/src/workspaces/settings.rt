@@ -6,14 +6,13 @@ use pb_data::{Items, Text};
 use pb_manifest::read_manifest;
 use pb_manifest_types::{Edition, ManifestFault, Profile, ProfileKey, Version};
 use pb_place_types::PathText;
-use pb_profile::{ProfileFault, Settings, folder_of, lines_follow_inherits, values_are_found};
-use pb_tests_files::Shown;
+use pb_profile::{Settings, folder_of, lines_follow_inherits, values_are_found};
+use pb_tests_files::{Answers, Case, Shown, Trial, put_answers, try_cases};
 use pb_workspace_types::{
     About, BinariesByName, DefaultMembers, EntriesByKey, FeaturesByName, Package, Side, Workspace,
 };
 use std::alloc::Global;
 use std::mem;
-use std::process::Abort;
 use std::test::Fail;
 
 /// Nothing that is told to people alone.
@@ -111,16 +110,6 @@ fn put_settings(out: &mut Shown, settings: &Settings) {
     }
 }
 
-/// Whether the settings, or the fault, are shown as this.
-fn says(alloc: Global, answer: Result<Settings, ProfileFault>, wanted: &str) -> bool {
-    let mut out = Shown::new(alloc);
-    match &answer {
-        Ok(settings) => put_settings(&mut out, settings),
-        Err(fault) => out.put_value(fault),
-    }
-    out.says(wanted)
-}
-
 /// The side of a word.
 fn side_of(word: &str) -> Side {
     if word == "host" {
@@ -130,83 +119,60 @@ fn side_of(word: &str) -> Side {
     }
 }
 
-/// Whether the settings of a package that has a name and nothing more are these.
-fn are_settings_of(
+/// Writes the settings of a package that has a name and nothing more, or the fault.
+fn put_settings_of(
     alloc: Global,
     workspace: &Workspace,
     profile: &str,
-    name: &str,
-    is_member: bool,
+    owner: &Package,
     side: Side,
-    wanted: &str,
-) -> Result<bool, Fail> {
-    let owner = package_named(alloc, name, is_member)?;
-    let answer = Settings::settings(alloc, workspace, profile, &owner, side);
-    drop(owner);
-    Ok(says(alloc, answer, wanted))
-}
-
-/// Whether a question `PROFILE NAME member|other target|host` has this answer.
-fn is_answer(
-    alloc: Global,
-    workspace: &Workspace,
-    question: &str,
-    wanted: &str,
-) -> Result<bool, Fail> {
-    let Some((profile, rest)) = question.split_once(' ') else {
-        return Ok(false);
-    };
-    let Some((name, rest)) = rest.split_once(' ') else {
-        return Ok(false);
-    };
-    let Some((kind, side)) = rest.split_once(' ') else {
-        return Ok(false);
-    };
-    let is_member = kind == "member";
-    let side = side_of(side);
-    are_settings_of(alloc, workspace, profile, name, is_member, side, wanted)
-}
-
-/// Asserts the answers to questions, one a line, each with its answer behind ` = `. How many there were.
-fn assert_answers(
-    rt: &impl Abort,
-    alloc: Global,
-    workspace: &Workspace,
-    questions: &str,
-) -> Result<usize, Fail> {
-    let mut count = 0usize;
-    for line in questions.lines() {
-        if let Some((question, wanted)) = line.split_once(" = ") {
-            assert!(rt; is_answer(alloc, workspace, question, wanted)?, "{line}");
-            count = count.saturating_add(1);
-        }
+    out: &mut Shown,
+) {
+    let answer = Settings::settings(alloc, workspace, profile, owner, side);
+    match &answer {
+        Ok(settings) => put_settings(out, settings),
+        Err(fault) => out.put_value(fault),
     }
-    Ok(count)
+    drop(answer);
 }
 
-/// The same of the questions that stand below a manifest.
-fn assert_case(
-    rt: &impl Abort,
-    alloc: Global,
-    manifest: &str,
-    questions: &str,
-) -> Result<usize, Fail> {
-    let workspace = workspace_of(alloc, manifest)?;
-    let count = assert_answers(rt, alloc, &workspace, questions);
-    drop(workspace);
-    count
+/// The settings under profiles, by questions `PROFILE NAME member|other target|host`.
+#[derive(Drop)]
+struct SettingsOf<'a> {
+    workspace: &'a Workspace,
 }
 
-/// The same of all questions of a table.
-fn assert_table(rt: &impl Abort, alloc: Global, table: &str) -> Result<usize, Fail> {
-    let mut count = 0usize;
-    for case in table.split("=== ") {
-        if let Some((head, questions)) = case.split_once("---\n") {
-            let (_name, manifest) = head.split_once('\n').unwrap_or(("", head));
-            count = count.saturating_add(assert_case(rt, alloc, manifest, questions)?);
-        }
+impl Answers for SettingsOf<'_> {
+    fn put_answer(&self, alloc: Global, question: &str, out: &mut Shown) -> Result<(), Fail> {
+        let Some((profile, rest)) = question.split_once(' ') else {
+            return Err(Fail::from("no profile"));
+        };
+        let Some((name, rest)) = rest.split_once(' ') else {
+            return Err(Fail::from("no name"));
+        };
+        let Some((kind, side)) = rest.split_once(' ') else {
+            return Err(Fail::from("no side"));
+        };
+        let owner = package_named(alloc, name, kind == "member")?;
+        put_settings_of(alloc, self.workspace, profile, &owner, side_of(side), out);
+        drop(owner);
+        Ok(())
     }
-    Ok(count)
+}
+
+/// Cases of manifests, with questions about the settings under their profiles.
+struct SettingCases {}
+
+impl Trial for SettingCases {
+    fn put_result(&self, alloc: Global, case: &Case<'_>, out: &mut Shown) -> Result<(), Fail> {
+        let workspace = workspace_of(alloc, case.given)?;
+        let answers = SettingsOf {
+            workspace: &workspace,
+        };
+        let put = put_answers(alloc, &answers, case.wanted, out);
+        drop(workspace);
+        put
+    }
 }
 
 /// Profiles, and the folder of each.
@@ -222,8 +188,8 @@ static FOLDERS: &[(&str, &str)] = &[
 /// Rules: `settings.folder`, `settings.line`.
 #[test]
 fn settings_and_folders(rt: HostRuntime) -> Result<(), Fail> {
-    assert_eq!(rt; assert_table(&rt, rt.alloc(), PROFILES)?, 71);
-    assert_eq!(rt; assert_table(&rt, rt.alloc(), PLACES)?, 58);
+    assert_eq!(rt; try_cases(&rt, rt.alloc(), PROFILES, &SettingCases {})?, 14);
+    assert_eq!(rt; try_cases(&rt, rt.alloc(), PLACES, &SettingCases {})?, 8);
     for case in FOLDERS {
         let (profile, wanted) = *case;
         assert!(rt; folder_of(profile) == wanted, "of {profile}");

@@ -1,21 +1,26 @@
-//! Whole documents and `[package]` (The Cargo Book, Manifest Format). A case is a line `=== [RULE] NAME`, a manifest, and a line `--- ANSWER`.
+//! Whole documents and `[package]` (The Cargo Book, Manifest Format). A case is a line `=== [RULE] NAME`, a manifest, and after a line `---` the answer.
 
 /// The cases.
 pub const PACKAGE: &str = r#"=== [package.name] a name alone
 package.name = "a"
---- a 0.0.0 E2015
+---
+a 0.0.0 E2015
 === [package.version] a name, a version and an edition
 package = { name = "a", version = "0.1.0", edition = "2021" }
---- a 0.1.0 E2021
+---
+a 0.1.0 E2021
 === [package.version] a version with every part, and a long name
 package = { name = "A-b_9", version = "1.2.3-alpha.1+build", edition = "2024" }
---- A-b_9 1.2.3-alpha.1+build E2024
+---
+A-b_9 1.2.3-alpha.1+build E2024
 === [package.edition] 2018
 package = { name = "a", edition = "2018" }
---- a 0.0.0 E2018
+---
+a 0.0.0 E2018
 === [package.edition] 2015
 package = { name = "a", edition = "2015" }
---- a 0.0.0 E2015
+---
+a 0.0.0 E2015
 === [package.texts] every text
 [package]
 name = "a"
@@ -28,7 +33,8 @@ links = "k"
 readme = "r"
 repository = "p"
 rust-version = "1.7"
---- a 0.0.0 E2015 authors=x+y description=d homepage=h license=l license-file=f links=k readme=r repository=p rust-version=1.7
+---
+a 0.0.0 E2015 authors=x+y description=d homepage=h license=l license-file=f links=k readme=r repository=p rust-version=1.7
 === [package.inherited] every key that may be inherited
 [package]
 name = "a"
@@ -42,37 +48,48 @@ readme.workspace = true
 repository.workspace = true
 rust-version.workspace = true
 version = { workspace = true, more = 1 }
---- a ^ ^ authors=^ description=^ homepage=^ license=^ license-file=^ readme=^ repository=^ rust-version=^
+---
+a ^ ^ authors=^ description=^ homepage=^ license=^ license-file=^ readme=^ repository=^ rust-version=^
 === [package.links] empty
 package = { name = "a", links = "" }
---- a 0.0.0 E2015 links=
+---
+a 0.0.0 E2015 links=
 === [package.build] true
 package = { name = "a", build = true }
---- a 0.0.0 E2015 build=true
+---
+a 0.0.0 E2015 build=true
 === [package.build] false
 package = { name = "a", build = false }
---- a 0.0.0 E2015 build=false
+---
+a 0.0.0 E2015 build=false
 === [package.build] a path
 package = { name = "a", build = "b/s.rs" }
---- a 0.0.0 E2015 build=b/s.rs
+---
+a 0.0.0 E2015 build=b/s.rs
 === [package.autobins] false
 package = { name = "a", autobins = false }
---- a 0.0.0 E2015 autobins=false
+---
+a 0.0.0 E2015 autobins=false
 === [package.autobins] true
 package = { name = "a", autobins = true }
---- a 0.0.0 E2015
+---
+a 0.0.0 E2015
 === [package.readme] true
 package = { name = "a", readme = true }
---- a 0.0.0 E2015 readme=true
+---
+a 0.0.0 E2015 readme=true
 === [package.readme] false
 package = { name = "a", readme = false }
---- a 0.0.0 E2015 readme=false
+---
+a 0.0.0 E2015 readme=false
 === [package.resolver] 2
 package = { name = "a", resolver = "2" }
---- a 0.0.0 E2015
+---
+a 0.0.0 E2015
 === [package.resolver] 3
 package = { name = "a", resolver = "3" }
---- a 0.0.0 E2015
+---
+a 0.0.0 E2015
 === [manifest.ignored] keys that no rule names
 cargo-features = 1
 dev-dependencies = 1
@@ -83,239 +100,216 @@ lints = 1
 badges = 1
 unknown = 1
 package = { name = "a", metadata = 1, include = 1, exclude = 1, keywords = 1, categories = 1, documentation = 1, publish = 1, default-run = 1, workspace = 1, unknown = 1 }
---- a 0.0.0 E2015
+---
+a 0.0.0 E2015
 === [manifest.order] no TOML
 package.name = a
---- NotToml
+---
+NotToml
 === [manifest.order] no TOML: a key twice
 package.name = "a"
 package.name = "a"
---- NotToml
+---
+NotToml
 === [package.present] an empty manifest
 
---- BadKind(Package)
+---
+BadKind(Package)
 === [package.present] a key at the top alone
 name = "a"
---- BadKind(Package)
+---
+BadKind(Package)
 === [package.present] a number
 package = 1
---- BadKind(Package)
+---
+BadKind(Package)
 === [package.present] a list
 package = ["a"]
---- BadKind(Package)
+---
+BadKind(Package)
 === [package.present] a number beside `[workspace]`
 package = 1
 [workspace]
---- BadKind(Package)
+---
+BadKind(Package)
 === [package.name] absent
 [package]
---- BadName
+---
+BadName
 === [package.name] empty
 package.name = ""
---- BadName
+---
+BadName
 === [package.name] with a dot
 package.name = "a.b"
---- BadName
+---
+BadName
 === [package.name] with a blank
 package.name = "a b"
---- BadName
+---
+BadName
 === [package.name] not ASCII
 package.name = "ä"
---- BadName
+---
+BadName
 === [package.name] a number
 package.name = 1
---- BadKind(Name)
+---
+BadKind(Name)
 === [package.name] cannot be inherited
 package.name = { workspace = true }
---- BadKind(Name)
+---
+BadKind(Name)
 === [package.version] one number
 package = { name = "a", version = "1" }
---- BadVersion
+---
+BadVersion
 === [package.version] empty
 package = { name = "a", version = "" }
---- BadVersion
+---
+BadVersion
 === [package.version] a leading zero
 package = { name = "a", version = "01.0.0" }
---- BadVersion
+---
+BadVersion
 === [package.version] a blank before
 package = { name = "a", version = " 1.2.3" }
---- BadVersion
+---
+BadVersion
 === [package.version] a blank after
 package = { name = "a", version = "1.2.3 " }
---- BadVersion
+---
+BadVersion
 === [package.version] nothing after the dash
 package = { name = "a", version = "1.2.3-" }
---- BadVersion
+---
+BadVersion
 === [package.version] a leading zero at the end
 package = { name = "a", version = "1.2.03" }
---- BadVersion
+---
+BadVersion
 === [package.version] a number
 package = { name = "a", version = 1 }
---- BadKind(Version)
+---
+BadKind(Version)
 === [package.inherited] `workspace = false`
 package = { name = "a", version = { workspace = false } }
---- BadKind(Version)
+---
+BadKind(Version)
 === [package.inherited] an empty table
 package = { name = "a", version = {} }
---- BadKind(Version)
+---
+BadKind(Version)
 === [package.edition] a year that is none
 package = { name = "a", edition = "2020" }
---- BadKind(Edition)
+---
+BadKind(Edition)
 === [package.edition] a number
 package = { name = "a", edition = 2021 }
---- BadKind(Edition)
+---
+BadKind(Edition)
 === [package.authors] a text
 package = { name = "a", authors = "x" }
---- BadKind(Authors)
+---
+BadKind(Authors)
 === [package.authors] a number in the list
 package = { name = "a", authors = ["x", 1] }
---- BadKind(Authors)
+---
+BadKind(Authors)
 === [package.autobins] a text
 package = { name = "a", autobins = "true" }
---- BadKind(Autobins)
+---
+BadKind(Autobins)
 === [package.autobins] cannot be inherited
 package = { name = "a", autobins.workspace = true }
---- BadKind(Autobins)
+---
+BadKind(Autobins)
 === [package.build] a number
 package = { name = "a", build = 1 }
---- BadKind(Build)
+---
+BadKind(Build)
 === [package.build] byte 0
 package = { name = "a", build = "b\u0000" }
---- BadKind(Build)
+---
+BadKind(Build)
 === [package.build] cannot be inherited
 package = { name = "a", build.workspace = true }
---- BadKind(Build)
+---
+BadKind(Build)
 === [package.texts] a description that is a number
 package = { name = "a", description = 1 }
---- BadKind(Description)
+---
+BadKind(Description)
 === [package.texts] a homepage that is a truth value
 package = { name = "a", homepage = false }
---- BadKind(Homepage)
+---
+BadKind(Homepage)
 === [package.texts] a license that is a list
 package = { name = "a", license = [] }
---- BadKind(License)
+---
+BadKind(License)
 === [package.inherited] `workspace` as a text
 package = { name = "a", license-file.workspace = "true" }
---- BadKind(LicenseFile)
+---
+BadKind(LicenseFile)
 === [package.links] cannot be inherited
 package = { name = "a", links.workspace = true }
---- BadKind(Links)
+---
+BadKind(Links)
 === [package.readme] a number
 package = { name = "a", readme = 1 }
---- BadKind(Readme)
+---
+BadKind(Readme)
 === [package.texts] a repository that is a date
 package = { name = "a", repository = 1979-05-27 }
---- BadKind(Repository)
+---
+BadKind(Repository)
 === [package.texts] a Rust version that is a number
 package = { name = "a", rust-version = 1.7 }
---- BadKind(RustVersion)
+---
+BadKind(RustVersion)
 === [package.resolver] 4
 package = { name = "a", resolver = "4" }
---- BadKind(Resolver)
+---
+BadKind(Resolver)
 === [package.resolver] a number
 package = { name = "a", resolver = 1 }
---- BadKind(Resolver)
+---
+BadKind(Resolver)
 === [package.resolver] 1 in the package
 package = { name = "a", resolver = "1" }
---- OldResolver
+---
+OldResolver
 === [package.resolver] 1 in the workspace
 workspace.resolver = "1"
---- OldResolver
-=== [manifest.order] an old resolver comes before all tables
-package = { name = 1, resolver = "1" }
-lib = 1
---- OldResolver
-=== [manifest.order] a refused table comes before an old resolver
-package = { name = "a", resolver = "1" }
-target = 1
---- UnsupportedTable
-=== [manifest.order] `[patch]`, with any value
-patch = {}
---- UnsupportedTable
-=== [manifest.order] `replace`, with any value
-replace = []
-package.name = "a"
---- UnsupportedTable
-=== [manifest.order] `authors` comes before `name`
-package = { authors = 1, name = 1 }
---- BadKind(Authors)
-=== [manifest.order] `edition` comes before `name`
-package = { edition = "x", version = "x" }
---- BadKind(Edition)
-=== [manifest.order] an absent `name` comes before `version`
-package = { version = "x" }
---- BadName
-=== [manifest.order] `links` comes before an absent `name`
-package = { links = 1 }
---- BadKind(Links)
-=== [manifest.order] an absent `name` comes before `readme`
-package = { readme = 1 }
---- BadName
-=== [manifest.order] `[package]` comes before `[lib]`
-package = {}
-lib = 1
---- BadName
-=== [manifest.order] `authors` comes before `autobins`
-package = { name = "a", autobins = 1, authors = 1 }
---- BadKind(Authors)
-=== [manifest.order] `autobins` comes before `build`
-package = { name = "a", build = 1, autobins = 1 }
---- BadKind(Autobins)
-=== [manifest.order] `build` comes before `description`
-package = { name = "a", description = 1, build = 1 }
---- BadKind(Build)
-=== [manifest.order] `description` comes before `edition`
-package = { name = "a", edition = 1, description = 1 }
---- BadKind(Description)
-=== [manifest.order] `edition` comes before `homepage`
-package = { name = "a", homepage = 1, edition = 1 }
---- BadKind(Edition)
-=== [manifest.order] `homepage` comes before `license`
-package = { name = "a", license = 1, homepage = 1 }
---- BadKind(Homepage)
-=== [manifest.order] `license` comes before `license-file`
-package = { name = "a", license-file = 1, license = 1 }
---- BadKind(License)
-=== [manifest.order] `license-file` comes before `links`
-package = { name = "a", links = 1, license-file = 1 }
---- BadKind(LicenseFile)
-=== [manifest.order] `links` comes before `name`
-package = { name = 1, links = 1 }
---- BadKind(Links)
-=== [manifest.order] `name` comes before `readme`
-package = { readme = 1, name = 1 }
---- BadKind(Name)
-=== [manifest.order] `readme` comes before `repository`
-package = { name = "a", repository = 1, readme = 1 }
---- BadKind(Readme)
-=== [manifest.order] `repository` comes before `resolver`
-package = { name = "a", resolver = 1, repository = 1 }
---- BadKind(Repository)
-=== [manifest.order] `resolver` comes before `rust-version`
-package = { name = "a", rust-version = 1, resolver = 1 }
---- BadKind(Resolver)
-=== [manifest.order] `rust-version` comes before `version`
-package = { name = "a", version = 1, rust-version = 1 }
---- BadKind(RustVersion)
+---
+OldResolver
 === [manifest.letters] every letter of a name
 package.name = "aAzZ09-_"
---- aAzZ09-_ 0.0.0 E2015
+---
+aAzZ09-_ 0.0.0 E2015
 === [manifest.letters] a dash alone
 package.name = "-"
---- - 0.0.0 E2015
+---
+- 0.0.0 E2015
 === [package.name] with a slash
 package.name = "a/b"
---- BadName
+---
+BadName
 === [package.inherited] `edition.workspace = false`
 package = { name = "a", edition.workspace = false }
---- BadKind(Edition)
+---
+BadKind(Edition)
 === [package.readme] an empty table
 package = { name = "a", readme = {} }
---- BadKind(Readme)
+---
+BadKind(Readme)
 === [package.readme] an empty text
 package = { name = "a", readme = "" }
---- a 0.0.0 E2015 readme=
+---
+a 0.0.0 E2015 readme=
 === [package.authors] an empty list
 package = { name = "a", authors = [] }
---- a 0.0.0 E2015 authors=
+---
+a 0.0.0 E2015 authors=
 "#;
