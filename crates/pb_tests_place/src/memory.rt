@@ -1,6 +1,6 @@
 //! A place in memory, by each of its calls.
 
-ghost use Rattle.std.specs.Prelude.{◌≢◌};
+ghost use Rattle.std.specs.Prelude.{◌≢◌, IfOk};
 ghost use Rattle.pb_place_types.specs.declared.place.StartFault.{StartFault};
 
 use crate::calls::CHANGES;
@@ -11,20 +11,32 @@ use crate::told::{
 };
 use pb_place::{Memory, Seen};
 use pb_place_types::{PathText, Place, StartFault};
-use std::alloc::{AllocError, Global};
+use std::alloc::Global;
 use std::test::Fail;
 
 /// A place in memory whose calls are seen.
 type Tried = Seen<Memory<Echo>>;
 
-/// The fault of this name, `Capture` for all other words.
-fn death_of(name: &str) -> StartFault
-    ensures { result ≢ StartFault.OutOfMemory }
+/// The fault of this name.
+fn death_of(name: &str) -> Result<StartFault, Fail>
+    ensures { IfOk result (λ death. death ≢ StartFault.OutOfMemory) }
 {
     match name {
-        "CannotStart" => StartFault::CannotStart,
-        "Died" => StartFault::Died,
-        _ => StartFault::Capture,
+        "CannotStart" => Ok(StartFault::CannotStart),
+        "Died" => Ok(StartFault::Died),
+        "Capture" => Ok(StartFault::Capture),
+        _ => Err(Fail::from("no such death")),
+    }
+}
+
+/// Sets how many calls succeed before one fails.
+fn fuse(memory: &mut Memory<Echo>, word: &str) -> Result<(), Fail> {
+    match word.parse::<u64>() {
+        Ok(calls) => {
+            memory.fuse(calls);
+            Ok(())
+        }
+        Err(_) => Err(Fail::from("no number of calls")),
     }
 }
 
@@ -34,17 +46,15 @@ fn edit(
     memory: &mut Memory<Echo>,
     step: &Step,
     path: &PathText,
-) -> Result<(), AllocError> {
+) -> Result<(), Fail> {
     match step.call {
-        "put" => memory.put(alloc, path, step.text.as_bytes()),
-        "forget" => memory.remove(alloc, path),
-        "set" => memory.set(alloc, step.name, step.text),
-        "unset" => memory.unset(alloc, step.name),
-        "die" => memory.die(alloc, step.name, death_of(step.text)),
-        _ => {
-            memory.fuse(step.name.parse::<u64>().unwrap_or(0));
-            Ok(())
-        }
+        "put" => Ok(memory.put(alloc, path, step.text.as_bytes())?),
+        "forget" => Ok(memory.remove(alloc, path)?),
+        "set" => Ok(memory.set(alloc, step.name, step.text)?),
+        "unset" => Ok(memory.unset(alloc, step.name)?),
+        "die" => Ok(memory.die(alloc, step.name, death_of(step.text)?)?),
+        "fuse" => fuse(memory, step.name),
+        _ => Err(Fail::from("no such edit")),
     }
 }
 

@@ -1,6 +1,6 @@
 //! Steps in words: what changes, which units run, and what they tell.
 
-ghost use Rattle.std.specs.Prelude.{◌≡◌, ◌≢◌};
+ghost use Rattle.std.specs.Prelude.{◌≡◌, ◌≢◌, IfOk};
 ghost use Rattle.pb_place_types.specs.declared.place.StartFault.TheVariants as StartFault;
 ghost use Rattle.pb_run.specs.Invariants.{records_folder};
 
@@ -24,13 +24,25 @@ pub fn words_of(line: &str) -> (&str, &str, &str) {
 }
 
 /// The kind of a death.
-fn kind_of(word: &str) -> StartFault
-    ensures { result ≢ StartFault.OutOfMemory }
+fn kind_of(word: &str) -> Result<StartFault, Fail>
+    ensures { IfOk result (λ kind. kind ≢ StartFault.OutOfMemory) }
 {
     match word {
-        "CannotStart" => StartFault::CannotStart,
-        "Died" => StartFault::Died,
-        _ => StartFault::Capture,
+        "CannotStart" => Ok(StartFault::CannotStart),
+        "Died" => Ok(StartFault::Died),
+        "Capture" => Ok(StartFault::Capture),
+        _ => Err(Fail::from("no such death")),
+    }
+}
+
+/// Sets how many calls succeed before one fails.
+fn fuse(place: &mut Memory<Mini>, word: &str) -> Result<(), Fail> {
+    match word.parse::<u64>() {
+        Ok(calls) => {
+            place.fuse(calls);
+            Ok(())
+        }
+        Err(_) => Err(Fail::from("no number of calls")),
     }
 }
 
@@ -40,7 +52,7 @@ fn take_away(alloc: Global, place: &mut Memory<Mini>, path: &str) -> Result<(), 
     Ok(place.remove(alloc, &path)?)
 }
 
-/// Changes the files, the variables, or what will fail, in words; an unknown word changes nothing.
+/// Changes the files, the variables, or what will fail, in words; another step changes nothing.
 fn change(
     alloc: Global,
     place: &mut Memory<Mini>,
@@ -53,16 +65,13 @@ fn change(
         "gone" => take_away(alloc, place, first),
         "set" => Ok(place.set(alloc, first, rest)?),
         "unset" => Ok(place.unset(alloc, first)?),
-        "die" => Ok(place.die(alloc, first, kind_of(rest))?),
-        "fuse" => {
-            place.fuse(first.parse::<u64>().unwrap_or(0));
-            Ok(())
-        }
+        "die" => Ok(place.die(alloc, first, kind_of(rest)?)?),
+        "fuse" => fuse(place, first),
         _ => Ok(()),
     }
 }
 
-/// Changes how things are compiled, in words; an unknown word changes nothing.
+/// Changes how things are compiled, in words; another step changes nothing.
 fn set_up(alloc: Global, setup: &mut Setup, verb: &str, first: &str) -> Result<(), Fail> {
     match verb {
         "tool" => setup.tool = Text::from_str(alloc, first)?,
@@ -74,12 +83,15 @@ fn set_up(alloc: Global, setup: &mut Setup, verb: &str, first: &str) -> Result<(
     Ok(())
 }
 
-/// The number of a word, 0 where it is none.
-fn number_of(word: &str) -> usize {
-    word.parse::<usize>().unwrap_or(0)
+/// The index of a unit in a word.
+fn index_of(word: &str) -> Result<usize, Fail> {
+    match word.parse::<usize>() {
+        Ok(index) => Ok(index),
+        Err(_) => Err(Fail::from("no index of a unit")),
+    }
 }
 
-/// Runs units, in words; nothing where the word is none of a run.
+/// Runs units, in words; another step does nothing here.
 pub fn call(
     alloc: Global,
     place: &mut Untold<Mini>,
@@ -91,10 +103,9 @@ pub fn call(
     requires folder { bench.old.store.folder ≡ records_folder project.now }
     ensures folder { bench.new.store.folder ≡ records_folder project.now }
 {
-    let index = number_of(first);
     match verb {
-        "run" => Ok(run(alloc, place, project, bench, index)?),
-        "drop" => Ok(begin_and_drop(alloc, place, project, bench, index)?),
+        "run" => Ok(run(alloc, place, project, bench, index_of(first)?)?),
+        "drop" => Ok(begin_and_drop(alloc, place, project, bench, index_of(first)?)?),
         _ => Ok(String::new(alloc)),
     }
 }
@@ -107,7 +118,7 @@ fn tell_file(alloc: Global, place: &Memory<Mini>, path: &str) -> Result<String, 
     Ok(String::from_str(alloc, said)?)
 }
 
-/// What is seen of the place and of what units told, in words; nothing where the word is none of a look.
+/// What is seen of the place and of what units told, in words; nothing for another step.
 fn look(
     alloc: Global,
     place: &Memory<Mini>,
@@ -148,7 +159,13 @@ fn add(told: &mut String, said: &str) -> Result<(), Fail> {
     Ok(())
 }
 
-/// One step.
+/// The words with which a step begins.
+const VERBS: &[&str] = &[
+    "open", "file", "gone", "set", "unset", "die", "fuse", "tool", "compiler", "version", "flag",
+    "run", "drop", "there", "starts", "late", "lines",
+];
+
+/// One step. A word that is none of these fails.
 fn step(
     alloc: Global,
     place: &mut Untold<Mini>,
@@ -161,6 +178,9 @@ fn step(
     ensures folder { bench.new.store.folder ≡ records_folder project.now }
 {
     let (verb, first, rest) = words_of(line);
+    if !VERBS.iter().any(|known| *known == verb) {
+        return Err(Fail::from("no such step"));
+    }
     if verb == "open" {
         return reopen(alloc, place, project, bench);
     }
