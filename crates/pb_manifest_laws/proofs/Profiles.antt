@@ -14,7 +14,7 @@ use Rattle.pb_data.specs.UnlessOom.{◌>>=◌, some_or}
 use Rattle.pb_profile_keys.specs.First.{first_some}
 use Rattle.pb_profile_keys.specs.Keys.{Said, says}
 use Rattle.pb_profile_keys.specs.Setting.{spelled, words, if_spelled, word_of, same, between, accepted, meaning}
-use Rattle.pb_profile_keys.specs.Table.{keys, row, place, choices, meaning_at}
+use Rattle.pb_profile_keys.specs.Table.{keys, row, index, choices, meaning_at}
 use Rattle.pb_profile_keys.specs.declared.key.ProfileKey.{ProfileKey}
 use Rattle.pb_profile_keys.specs.declared.key.ProfileKey.TheVariants as key
 use Rattle.pb_profile_keys.specs.declared.setting.Choice.{Choice}
@@ -30,7 +30,7 @@ use Rattle.pb_manifest_types.specs.declared.fault.ManifestFault.TheVariants.{Bad
 use Rattle.pb_manifest_types.specs.declared.key.Key.TheVariants as key_name
 use Rattle.pb_manifest_types.specs.declared.profile.ProfileOverride.{ProfileOverride}
 use Rattle.pb_manifest_types.specs.declared.profile.Profile.{Profile}
-use Rattle.pb_profile_keys.proofs.Placed.{in_place}
+use Rattle.pb_profile_keys.proofs.Indexed.{at_index}
 use Rattle.pb_manifest.proofs.Came.{came}
 use Rattle.pb_manifest_laws.specs.Laws.{ReadsSettings, ReadsProfiles}
 use Rattle.pb_manifest_laws.specs.Profiles.{name_of, forms, HoldsOne, AreSettings, IsOverrideEntry, IsProfileEntry}
@@ -315,21 +315,21 @@ up_from : ℕ → ℕ → List ℕ
 up_from n zero = []
 up_from n (suc m) = n ∷ up_from (suc n) m
 
-counted : (n : ℕ) (ks : List ProfileKey) → map place ks ≡ up_from n (length ks) → (i : ℕ) (k : ProfileKey) → slice_get ks i ≡ Some k → place k ≡ n + i
+counted : (n : ℕ) (ks : List ProfileKey) → map index ks ≡ up_from n (length ks) → (i : ℕ) (k : ProfileKey) → slice_get ks i ≡ Some k → index k ≡ n + i
 unfolding up_from
 counted n [] same i k at = cc
 counted n (l ∷ ks) same zero k at =
     let one : l ≡ k = cc in
-    let first : place l ≡ n = ap (λ ns. get_or ns 0 0) same in
+    let first : index l ≡ n = ap (λ ns. get_or ns 0 0) same in
     let none : n ≡ n + 0 = omega arith in
-    ap place (sym one) ∙ first ∙ none
+    ap index (sym one) ∙ first ∙ none
 counted n (l ∷ ks) same (suc i) k at =
-    let rest : map place ks ≡ up_from (suc n) (length ks) = ap (λ ns. drop 1 ns) same in
+    let rest : map index ks ≡ up_from (suc n) (length ks) = ap (λ ns. drop 1 ns) same in
     let moved : suc n + i ≡ n + suc i = omega arith in
     counted (suc n) ks rest i k at ∙ moved
 
 -- a key at an index has it as its own
-placed : (i : ℕ) (k : ProfileKey) → slice_get keys i ≡ Some k → i ≡ place k
+placed : (i : ℕ) (k : ProfileKey) → slice_get keys i ≡ Some k → i ≡ index k
 unfolding up_from
 placed i k at = let none : i ≡ 0 + i = omega arith in none ∙ sym (counted 0 keys refl i k at)
 
@@ -337,14 +337,14 @@ settings_only : (ms : Members) (said : Said) → profile_keys ms ≡ Ok said →
 unfolding profile_keys
 settings_only ms said h = record {
   one_each = lengths_only keys ms said h;
-  each = λ k. subst (λ found. HoldsOne (forms k) found (says said k)) (found_at k ms) (form_only k (value_at (key_name.OfProfile k) ms) (says said k) (keys_only keys ms said h (place k) k (in_place k)));
+  each = λ k. subst (λ found. HoldsOne (forms k) found (says said k)) (found_at k ms) (form_only k (value_at (key_name.OfProfile k) ms) (says said k) (keys_only keys ms said h (index k) k (at_index k)));
 }
 
 settings_back : (ms : Members) (said : Said) → AreSettings ms said → profile_keys ms ≡ Ok said
 unfolding profile_keys
 settings_back ms said is = keys_back keys ms said is.one_each each
   where
-    here : (i : ℕ) (k : ProfileKey) → i ≡ place k → profile_value (setting_in k) (key_name.OfProfile k) ms ≡ Ok (get_or said i None)
+    here : (i : ℕ) (k : ProfileKey) → i ≡ index k → profile_value (setting_in k) (key_name.OfProfile k) ms ≡ Ok (get_or said i None)
     here i k at = subst (λ n. profile_value (setting_in k) (key_name.OfProfile k) ms ≡ Ok (get_or said n None)) (sym at) (form_back k (value_at (key_name.OfProfile k) ms) (says said k) (subst (λ found. HoldsOne (forms k) found (says said k)) (sym (found_at k ms)) (is.each k)))
 
     each : (i : ℕ) (k : ProfileKey) → slice_get keys i ≡ Some k → profile_value (setting_in k) (key_name.OfProfile k) ms ≡ Ok (get_or said i None)

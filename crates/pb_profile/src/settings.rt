@@ -78,7 +78,7 @@ impl Settings {
     pub fn get(&self, key: ProfileKey) -> Setting
         ensures { result ≡ setting_at self.now key }
     {
-        self.values[key.place()]
+        self.values[key.index()]
     }
 
     /// Returns `opt-level`.

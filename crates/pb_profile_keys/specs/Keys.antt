@@ -1,7 +1,7 @@
 -- What a profile or an override sets, and settings, both as lists along the keys.
 use Rattle.std.specs.Prelude.{Bool, true, false, List, Option, None, get_or, map}
 use Rattle.pb_profile_keys.specs.Setting.{same}
-use Rattle.pb_profile_keys.specs.Table.{keys, place}
+use Rattle.pb_profile_keys.specs.Table.{keys, index}
 use Rattle.pb_profile_keys.specs.declared.key.ProfileKey.{ProfileKey}
 use Rattle.pb_profile_keys.specs.declared.key.ProfileKey.TheVariants as key
 use Rattle.pb_profile_keys.specs.declared.setting.Setting.{Setting}
@@ -15,7 +15,7 @@ Said = List (Option Setting)
 
 -- the value that is set at a key, if there is one
 abbrev pub says : Said → ProfileKey → Option Setting
-says values k = get_or values (place k) None
+says values k = get_or values (index k) None
 
 -- no key is set
 abbrev pub no_keys : Said
@@ -23,7 +23,7 @@ no_keys = map (λ (k : ProfileKey). None) keys
 
 -- the setting of a key
 abbrev pub setting_at : List Setting → ProfileKey → Setting
-setting_at settings k = get_or settings (place k) (setting.Truth false)
+setting_at settings k = get_or settings (index k) (setting.Truth false)
 
 -- the word of a setting; other settings have none, and count as `0`
 abbrev pub word_in : Setting → Word

@@ -88,16 +88,16 @@ abbrev pub keys : List ProfileKey
 keys = key.CodegenUnits ∷ key.Debug ∷ key.DebugAssertions ∷ key.Lto ∷ key.OptLevel ∷ key.OverflowChecks ∷ key.Panic ∷ key.Rpath ∷ key.Strip ∷ []
 
 -- the index of a key among them
-abbrev pub place : ProfileKey → ℕ
-place key.CodegenUnits = 0
-place key.Debug = 1
-place key.DebugAssertions = 2
-place key.Lto = 3
-place key.OptLevel = 4
-place key.OverflowChecks = 5
-place key.Panic = 6
-place key.Rpath = 7
-place key.Strip = 8
+abbrev pub index : ProfileKey → ℕ
+index key.CodegenUnits = 0
+index key.Debug = 1
+index key.DebugAssertions = 2
+index key.Lto = 3
+index key.OptLevel = 4
+index key.OverflowChecks = 5
+index key.Panic = 6
+index key.Rpath = 7
+index key.Strip = 8
 
 -- the keys in the order of the compiler's options
 abbrev pub told : List ProfileKey

@@ -1,7 +1,7 @@
 //! The nine keys of a profile.
 
 ghost use Rattle.std.specs.Prelude.{◌≡◌, ◌<◌, Some, length, slice_get};
-ghost use Rattle.pb_profile_keys.specs.Table.{keys, place};
+ghost use Rattle.pb_profile_keys.specs.Table.{keys, index};
 
 /// A key of a profile, in byte order of their names.
 #[derive(Clone, Copy, Debug, PartialEq, Eq)]
@@ -52,9 +52,9 @@ impl ProfileKey {
     }
 
     /// Returns its index among all keys.
-    pub fn place(self) -> usize
-        ensures is { result ≡ place self }
-        ensures within { place self < length keys }
+    pub fn index(self) -> usize
+        ensures is { result ≡ index self }
+        ensures within { index self < length keys }
     {
         match self {
             ProfileKey::CodegenUnits => 0,

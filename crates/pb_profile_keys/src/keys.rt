@@ -37,7 +37,7 @@ impl ProfileKeys {
     pub fn get(&self, key: ProfileKey) -> Option<Setting>
         ensures { result ≡ says self.now key }
     {
-        self.values[key.place()]
+        self.values[key.index()]
     }
 
     /// Sets the value of the key at an index.

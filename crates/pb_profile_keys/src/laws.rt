@@ -1,10 +1,10 @@
 //! Laws of the table. Each function does nothing; its contract is the law.
 
-ghost use Rattle.pb_profile_keys.specs.Laws.{KeysAreInPlace, KeysAreToldOnce};
+ghost use Rattle.pb_profile_keys.specs.Laws.{KeysAreAtTheirIndex, KeysAreToldOnce};
 
 /// Each key is at its index.
-pub fn keys_are_in_place()
-    ensures { KeysAreInPlace }
+pub fn keys_are_at_their_index()
+    ensures { KeysAreAtTheirIndex }
 {}
 
 /// The compiler is told of each key exactly once.

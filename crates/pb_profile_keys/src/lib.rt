@@ -10,6 +10,6 @@ mod table;
 
 pub use key::{COUNT, ProfileKey};
 pub use keys::ProfileKeys;
-pub use laws::{keys_are_in_place, keys_are_told_once};
+pub use laws::{keys_are_at_their_index, keys_are_told_once};
 pub use setting::{Choice, Setting, Word, meaning};
 pub use table::{Row, told};

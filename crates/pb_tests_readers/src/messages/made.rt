@@ -26,10 +26,10 @@ pub fn library(alloc: Global, types: &[CrateType]) -> Result<Target, Fail> {
 pub fn settings(opt_level: Word, debug: Word) -> Settings {
     let mut values = [Setting::Truth(false); COUNT];
     for key in &ProfileKey::ALL {
-        values[key.place()] = key.row().dev;
+        values[key.index()] = key.row().dev;
     }
-    values[ProfileKey::OptLevel.place()] = Setting::Word(opt_level);
-    values[ProfileKey::Debug.place()] = Setting::Word(debug);
+    values[ProfileKey::OptLevel.index()] = Setting::Word(opt_level);
+    values[ProfileKey::Debug.index()] = Setting::Word(debug);
     Settings::along_keys(values)
 }
 

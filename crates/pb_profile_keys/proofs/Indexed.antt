@@ -1,11 +1,11 @@
 -- Each key has one index, and is told once.
 use Rattle.std.proofs.Common.{refl}
-use Rattle.pb_profile_keys.specs.Laws.{KeysAreInPlace, KeysAreToldOnce}
+use Rattle.pb_profile_keys.specs.Laws.{KeysAreAtTheirIndex, KeysAreToldOnce}
 use Rattle.pb_profile_keys.specs.declared.key.ProfileKey.TheVariants as key
 
-pub in_place : KeysAreInPlace
-in_place key.CodegenUnits = refl
-in_place _ = refl
+pub at_index : KeysAreAtTheirIndex
+at_index key.CodegenUnits = refl
+at_index _ = refl
 
 pub told_once : KeysAreToldOnce
 told_once key.CodegenUnits = refl
