@@ -9,8 +9,8 @@ use Rattle.pb_build_turns.specs.Executor.{BuildState}
 use Rattle.pb_build.specs.Ending.{Builds}
 use Rattle.pb_build.specs.Headline.{RestsOn}
 
--- A build over true records with an honest child succeeded. In the world that it left,
--- the same build reports no unit as started, by whatever turn, unless a fault ends it.
+-- A build over true records with an honest child succeeded. In the world that it left, the same
+-- build reports no unit as started, whichever turn it uses, unless a fault ends it.
 abbrev pub SameBuildStartsNone : {S T : Type 0} → (S → List ℕ → List ℕ → Step → S → Type 0) → (T → List ℕ → List ℕ → Step → T → Type 0) → Type 0
 SameBuildStartsNone {S} {T} Turns OtherTurns = (child : Answers) (options : Options) (from last : S) (again end : T) (summary other : Summary) (first second third fourth : BuildState)
     → RestsOn TrustedRecords child options first.world → Builds true child Turns options from last (Ok summary) first second → summary.success ≡ true

@@ -1,4 +1,5 @@
--- A build of a given plan, whatever its moment and options are: it need not be a plan of this world.
+-- A build of a given plan, whatever the plan's moment and options are. The plan need not be a plan
+-- of this world.
 use Rattle.std.specs.Prelude.{◌≡◌, ◌⊎◌, ℕ, Bool, max, List, Some, None, IsTrue, Result, Ok, Err}
 use Rattle.pb_build_result.specs.declared.fault.BuildFault.{BuildFault}
 use Rattle.pb_build_result.specs.declared.fault.BuildFault.TheVariants.{Toolchain}
@@ -25,8 +26,9 @@ use Rattle.pb_build.specs.declared.builder.BuildPlan.{BuildPlan}
 use Rattle.pb_build.specs.declared.builder.Prepared.{Prepared}
 use Rattle.pb_build.specs.declared.environment.Environment.{Environment}
 
--- what the units of this project start from: the project; its setup by these options, this environment and the
--- compiler's version in this world; and the next run number, one above the greatest that its records contain or name
+-- what the units of this project start from: the project; its setup by these options, this
+-- environment and the compiler's version in this world; and the next run number, one above the
+-- greatest number that the project's records have or name
 pub record IsReadyFor (child : Answers) (options : Options) (environment : Environment) (project : Project) (w : World) (prepared : Prepared) : Type 0 where
   pub toolchain : List ℕ
   pub says : toolchain_of child environment project (from_nothing project.workspace.target w) ≡ Some toolchain
@@ -34,13 +36,13 @@ pub record IsReadyFor (child : Answers) (options : Options) (environment : Envir
   pub project_is : prepared.project ≡ project
   pub next : prepared.store.next ≡ next_in (records_folder project) w
 
--- the fault that the compiler does not report its version comes only if that is so
+-- the fault is `Toolchain` only if the compiler does not report its version
 abbrev pub IsSilentFault : Answers → Environment → Project → World → BuildFault → Type 0
 IsSilentFault child environment project w Toolchain = toolchain_of child environment project (from_nothing project.workspace.target w) ≡ None
 IsSilentFault child environment project w _ = Unit {0}
 
--- a plan's units were prepared, over the plan's own environment and project:
--- the compiler answered the query, the project's records were opened, and nothing was changed or written
+-- the units of a plan were prepared, with the plan's own environment and project: the compiler
+-- answered the query, the project's records were opened, and nothing was changed or written
 pub record IsReadied (is_modelled : Bool) (child : Answers) (options : Options) (plan : BuildPlan) (prepared : Prepared) (old new : BuildState) : Type 0 where
   pub ready : IsTrue is_modelled → IsReadyFor child options plan.environment plan.project old.world prepared
   pub project : prepared.project ≡ plan.project
@@ -52,7 +54,8 @@ pub record IsReadied (is_modelled : Bool) (child : Answers) (options : Options) 
   pub most : new.most ≡ max old.most 1
   pub heard : new.heard ≡ old.heard
 
--- a fault of the query, or of opening the records, ended the preparation; nothing was changed or written
+-- the preparation ended with a fault of the query or of opening the records; nothing was changed or
+-- written
 pub record IsUnready (is_modelled : Bool) (child : Answers) (plan : BuildPlan) (fault : BuildFault) (old new : BuildState) : Type 0 where
   pub silent : IsTrue is_modelled → IsSilentFault child plan.environment plan.project old.world fault
   pub may : MayReady fault old.counts.starts new.counts.starts
@@ -63,7 +66,8 @@ pub record IsUnready (is_modelled : Bool) (child : Answers) (plan : BuildPlan) (
   pub most : (new.most ≡ old.most) ⊎ (new.most ≡ max old.most 1)
   pub heard : new.heard ≡ old.heard
 
--- if there is no plan, its fault is returned and nothing is done; else the plan's units are prepared, or that fails
+-- if the planning failed, its fault is returned and nothing is done; else the plan's units are
+-- prepared, or the preparation fails
 abbrev pub Readies : Bool → Answers → Options → Result BuildPlan BuildFault → Result Prepared BuildFault → BuildState → BuildState → Type 0
 Readies is_modelled child options (Err fault) result old new = (result ≡ Err fault) × (new ≡ old)
 Readies is_modelled child options (Ok plan) (Err fault) old new = IsUnready is_modelled child plan fault old new
@@ -82,8 +86,8 @@ pub record BuildsOn {S : Type 0} (is_modelled : Bool) (child : Answers) (Turns :
   pub works : WorksOn is_modelled child Turns options plan from last inner old record new { heard = heard }
   pub closes : Closes inner result heard new.heard
 
--- a build of a plan with the options' number of units in flight,
--- in which the first in plan order of those that may begin does so
+-- a build of a plan with the options' number of units in flight, in which the first unit in plan
+-- order that may begin does so
 abbrev pub BuildsOnFirst : Bool → Answers → Options → Result BuildPlan BuildFault → Result Summary BuildFault → BuildState → BuildState → Type 0
 BuildsOnFirst is_modelled child options plan result old new =
     (from : Jobs First) × (from.jobs ≡ options.jobs) × (last : Jobs First) × BuildsOn is_modelled child (TurnsOfJobs PicksFirstOf) options plan from last result old new

@@ -21,7 +21,7 @@ use Rattle.pb_build_result.specs.declared.fault.BuildFault.TheVariants.{Plan, To
 use Rattle.pb_place_types.specs.declared.place.StartFault.{StartFault}
 use Rattle.pb_place_types.specs.declared.place.StartFault.TheVariants as start
 
--- the faults that may end what comes before the query
+-- the faults that may end the planning, which comes before the query
 abbrev pub MayPlan : BuildFault → Starts → Starts → Type 0
 MayPlan (Plan why) old new = new ≡ old
 MayPlan Toolchain old new = ⊥
@@ -38,7 +38,7 @@ MayAsk (Child unit fault) old new = (unit ≡ codes "-vV") × (new ≡ up_starts
 MayAsk OutOfMemory old new = (new ≡ old) ⊎ (new ≡ up_starts old)
 MayAsk _ old new = ⊥
 
--- the faults that may end the query, or what comes after it, in which the folder of the records is looked at
+-- the faults that may end the query, or the calls after it that look at the folder of the records
 abbrev pub MayReady : BuildFault → Starts → Starts → Type 0
 MayReady (Plan why) old new = ⊥
 MayReady Toolchain old new = new ≡ up_starts old
@@ -48,7 +48,7 @@ MayReady (Device unit device.NumbersSpent) old new = ⊥
 MayReady Sink old new = ⊥
 MayReady OutOfMemory old new = (new ≡ old) ⊎ (new ≡ up_starts old)
 
--- a fault of a call on this path or variable names it
+-- a fault of a call on this path or variable contains its name
 abbrev pub Names : BuildFault → Counts → Type 0
 Names (Device name fault) new = named_in new ≡ name
 Names _ new = Unit {0}
@@ -81,7 +81,8 @@ MayStart name _ old new = ⊥
 abbrev pub RunsOnce : {T : Type 0} → T → Counts → Counts → Type 0
 RunsOnce x old new = new ≡ past_call (one_start old)
 
--- the one call, which spawns a child, failed, or the end of that child failed; out of memory: the call was made or not
+-- the one call, which spawns a child, failed, or the end of this child failed; if memory ran out,
+-- the call may or may not have been made
 abbrev pub SpawnEnds : BuildFault → Counts → Counts → Type 0
 SpawnEnds (Child unit fault) old new = new ≡ past_start_fault fault (one_start old)
 SpawnEnds OutOfMemory old new = (new ≡ old) ⊎ (new ≡ past_call (one_start old))
@@ -89,7 +90,8 @@ SpawnEnds e old new = ⊥
 
 -- What the work before the units does to the place.
 
--- it only looks: only the counters change, a failed call is the last one, and the fault names what that call was given
+-- it only looks: only the counters change, a failed call is the last one, and the fault contains
+-- the path or variable of this call
 pub record OnlyLooks {T : Type 0} (May : BuildFault → Starts → Starts → Type 0) (result : Result T BuildFault) (old new : At) : Type 0 where
   pub world : new.world ≡ old.world
   pub most : new.most ≡ old.most
@@ -105,24 +107,26 @@ pub record OnlyAsks {T : Type 0} (May : BuildFault → Starts → Starts → Typ
 
 -- Which calls are made before the units.
 
--- the variables that a build requests
+-- the variables that a build reads
 abbrev pub variables_asked : List Call
 variables_asked = call.Variable (codes "RUSTC") ∷ call.Variable (codes "RUSTFLAGS") ∷ call.Variable (codes "CARGO_TARGET_DIR") ∷ []
 
--- the calls that plan a build: it requests its variables, then reads the workspace
+-- the calls that plan a build: first those that read its variables, then those that read the
+-- workspace
 abbrev pub plan_called : Options → World → List Call
 plan_called options w = variables_asked ++ looked_at options.manifest (environment_of options w.variables).target w
 
--- if the plan is refused, all of these calls were made; else they stopped at one of them
+-- if the plan is refused, all of these calls were made; else the calls stopped at one of them
 abbrev pub PlanStopsAt : BuildFault → List Call → Counts → Counts → Type 0
 PlanStopsAt (Plan why) calls old new = new ≡ past_calls calls old
 PlanStopsAt e calls old new = StopsAt e calls old new
 
--- if there is a plan, exactly these calls were made, in this order; else they stopped as `PlanStopsAt` says
+-- if there is a plan, exactly these calls were made, in this order; else the calls stopped as
+-- `PlanStopsAt` requires
 abbrev pub PlansInTurn : {T : Type 0} → Result T BuildFault → List Call → Counts → Counts → Type 0
 PlansInTurn result calls old new = MatchResult result (λ x. new ≡ past_calls calls old) (λ e. PlanStopsAt e calls old new)
 
--- the query starts a child by one call, even if the compiler names no host
+-- the query starts a child by one call, even if the compiler reports no host
 abbrev pub AskEnds : BuildFault → Counts → Counts → Type 0
 AskEnds Toolchain old new = new ≡ past_call (one_start old)
 AskEnds e old new = SpawnEnds e old new
@@ -135,7 +139,8 @@ ready_called calls old = past_calls calls (past_call (one_start old))
 abbrev pub ReadyStopsAt : BuildFault → List Call → Counts → Counts → Type 0
 ReadyStopsAt e calls old new = AskEnds e old new ⊎ StopsAt e calls (past_call (one_start old)) new
 
--- if all is ready, exactly these calls were made, in this order; else they stopped as `ReadyStopsAt` says
+-- if all is ready, exactly these calls were made, in this order; else the calls stopped as
+-- `ReadyStopsAt` requires
 abbrev pub ReadiesInTurn : {T : Type 0} → Result T BuildFault → List Call → Counts → Counts → Type 0
 ReadiesInTurn result calls old new = MatchResult result (λ x. new ≡ ready_called calls old) (λ e. ReadyStopsAt e calls old new)
 

@@ -1,4 +1,4 @@
--- How a build ends: a table over its answer.
+-- How a build ends, by its answer.
 use Rattle.std.specs.Prelude.{◌≡◌, ◌⊎◌, ℕ, Bool, false, max, codes, List, [], Some, None, IsTrue, IfOk, IfErr, Result, Ok, Err}
 use Rattle.std.specs.Io.KnownBytes.{Appends}
 use Rattle.pb_build_result.specs.declared.fault.BuildFault.{BuildFault}
@@ -38,7 +38,8 @@ use Rattle.pb_store.specs.Calls.{FailedLast}
 abbrev pub Stays : Bool → World → World → Type 0
 Stays is_modelled old new = IsTrue is_modelled → new ≡ old
 
--- the plan of a build of this world: the environment that its variables and options say, and its project
+-- the plan of a build of this world: the environment from its variables and options, and its
+-- project
 abbrev pub IsPlanOf : Options → World → BuildPlan → Type 0
 IsPlanOf options w plan = (plan.environment ≡ environment_of options w.variables) × IsProject options (environment_of options w.variables).target w plan.project
 
@@ -59,8 +60,9 @@ abbrev pub IsSilent : Answers → Options → World → Type 0
 IsSilent child options w =
     (project : Project) × IsProject options (environment_of options w.variables).target w project × (toolchain_of child (environment_of options w.variables) project (from_nothing (environment_of options w.variables).target w) ≡ None)
 
--- why no unit began: a refusal; a compiler that does not report its version, or does not answer; out of memory; or a
--- call on this path or variable that failed, before the query or after it, when the folder of the records is looked at
+-- why no unit began: a refusal; a compiler that does not report its version, or does not answer;
+-- out of memory; or a call on this path or variable that failed, before the query, or after it as
+-- the build looked at the folder of the records
 abbrev pub FailsBefore : Bool → Answers → Options → BuildFault → World → Counts → Counts → Type 0
 FailsBefore is_modelled child options (Plan why) w old new = (IsTrue is_modelled → IsRefused options (environment_of options w.variables).target w why) × (new.starts ≡ old.starts) × (new.failures ≡ old.failures)
 FailsBefore is_modelled child options Toolchain w old new = (IsTrue is_modelled → IsSilent child options w) × (new.starts ≡ up_starts old.starts) × (new.failures ≡ old.failures)
@@ -70,8 +72,8 @@ FailsBefore is_modelled child options (Device name device.NumbersSpent) w old ne
 FailsBefore is_modelled child options Sink w old new = ⊥
 FailsBefore is_modelled child options OutOfMemory w old new = ((new.starts ≡ old.starts) ⊎ (new.starts ≡ up_starts old.starts)) × (new.failures ≡ old.failures)
 
--- what a build's units start from: the project of this world; its setup; and
--- the next run number, one above the greatest that its records contain or name
+-- what a build's units start from: the project of this world; its setup; and the next run number,
+-- one above the greatest number that its records have or name
 pub record IsPrepared (child : Answers) (options : Options) (w : World) (prepared : Prepared) : Type 0 where
   pub toolchain : List ℕ
   pub says : toolchain_of child (environment_of options w.variables) prepared.project (from_nothing (environment_of options w.variables).target w) ≡ Some toolchain
@@ -116,14 +118,14 @@ pub record StopsEarly {S : Type 0} (is_modelled : Bool) (child : Answers) (optio
   pub unasked : last ≡ from
   pub calls : IsTrue is_modelled → StopsBefore options old.world none_began.fault old.counts new.counts
 
--- a build's work up to its finish line: it stops before its units, or its units end
+-- a build's work up to its finish line: the build stops before its units, or its units end
 abbrev pub Works : {S : Type 0} → Bool → Answers → (S → List ℕ → List ℕ → Step → S → Type 0) → Options → S → S → Result Summary BuildFault → BuildState → BuildState → Type 0
 Works is_modelled child Turns options from last result old new = StopsEarly is_modelled child options from last result old new ⊎ UnitsEnd is_modelled child Turns options from last result old new
 
 -- The finish line.
 
--- these bytes are written and this answer is returned; or the sink
--- takes only the first of them and fails, and the answer is that fault
+-- these bytes are written and this answer is returned; or the sink takes only the first of these
+-- bytes and fails, and the answer is `Sink`
 abbrev pub Finishes : List ℕ → Result Summary BuildFault → Result Summary BuildFault → SinkState → SinkState → Type 0
 Finishes bytes inner result old new =
     ((result ≡ inner) × Appends old.taken new.taken bytes × (new.faults ≡ old.faults)) ⊎ ((result ≡ Err Sink) × TakesPart bytes old.taken new.taken × (new.faults ≡ up old.faults))

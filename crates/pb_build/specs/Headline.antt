@@ -63,7 +63,8 @@ context_of premise child options w units = build_context premise child (setup_of
 abbrev pub IsHonestBuild : Answers → Options → World → Type 0
 IsHonestBuild child options w = (units : UnitsOf child options w) → IsHonestOnUnits (context_of TrustedRecords child options w units)
 
--- the records in its folder are true and its child is honest; or no text there counts as a record
+-- either the records in its folder are true and its child is honest, or no text in this folder
+-- counts as a record
 abbrev pub RestsOn : Premise → Answers → Options → World → Type 0
 RestsOn TrustedRecords child options w = Sound reading judge child (records_of options w.variables) w.files × IsHonestBuild child options w
 RestsOn NoRecords child options w = (key : List ℕ) → records (records_of options w.variables) w key ≡ None
@@ -96,13 +97,14 @@ outcomes_for child options w units = outcomes child (setup_of options (environme
 abbrev pub rows_for : (child : Answers) (options : Options) (w : World) → UnitsOf child options w → List Row
 rows_for child options w units = rows_of child (setup_of options (environment_of options w.variables) units.toolchain) units.project (from_nothing (environment_of options w.variables).target w)
 
--- each unit that has answered is good or bad as it is by these outcomes, with the same fault
+-- each unit that has answered is good or bad as in these outcomes, with the same fault
 abbrev pub AnswersAs : List Outcome → Project → List (Event BadUnit) → Type 0
 AnswersAs given project es =
     (index : ℕ) (answer : Answer BadUnit) → slice_get (states_in project es) index ≡ Some (Answered answer) → (outcome : Outcome) × (slice_get given index ≡ Some outcome) × (answer.fault ≡ fault_in outcome)
 
--- the units began and answered in such events, by the schedule, each good or bad as in a clean build;
--- one child was started for the query and one for each unit that began with a child; what differed for each is noted
+-- the units began and answered in events that the schedule allows, each good or bad as in a clean
+-- build; one child was started for the query, and one for each unit that began with a child; the
+-- first difference of each of these units is noted
 pub record UnitsFly (child : Answers) (Schedule : Project → List (Event BadUnit) → Type 0) (options : Options) (old new : BuildState) : Type 0 where
   pub units : UnitsOf child options old.world
   pub es : List (Event BadUnit)
@@ -111,7 +113,8 @@ pub record UnitsFly (child : Answers) (Schedule : Project → List (Event BadUni
   pub starts : new.counts.starts.count ≡ upped (length (started_by es)) (up old.counts.starts.count)
   pub reasons : Reasons
 
--- all units have answered, or all up to and including the first bad one; later ones may have been in flight too
+-- all units have answered, or all up to and including the first bad one; later units may also have
+-- been in flight
 pub record GivesAll (premise : Premise) (child : Answers) (Schedule : Project → List (Event BadUnit) → Type 0) (options : Options) (summary : Summary) (old new : BuildState) : Type 0 where
   pub flown : UnitsFly child Schedule options old new
   pub finished : is_finished (states_in flown.units.project flown.es) ≡ true
@@ -135,8 +138,8 @@ pub record FailsAt (project : Project) (es : List (Event BadUnit)) (rows : List 
   pub missing : is_finished (states_in project es) ≡ false
   pub lines : Appends old new (said_from project es 0 (take (count_due (states_in project es)) rows))
 
--- the lines that were written before a fault: those of the units that are due;
--- if the sink failed, only the first of their bytes; if memory ran out, the lines of the first n of these units
+-- the lines that were written before a fault: the lines of the units that are due; if the sink
+-- failed, only the first of their bytes; if memory ran out, the lines of the first n of these units
 abbrev pub LinesBefore : BuildFault → Project → List (Event BadUnit) → List Row → Option (List ℕ) → Option (List ℕ) → Type 0
 LinesBefore (Child key fault) project es rows old new = FailsAt project es rows key old new
 LinesBefore (Device key fault) project es rows old new = FailsAt project es rows key old new
@@ -145,8 +148,8 @@ LinesBefore OutOfMemory project es rows old new = (n : ℕ) × Appends old new (
 LinesBefore fault project es rows old new = ⊥
 
 -- a fault came at a unit, at the sink, because memory ran out, or because no run number was left;
--- in the last case, all numbers from the next one of the records on were given
--- (what differed for a unit that could not begin is said of the build's units, `StandsCut`)
+-- in the last case, all numbers from the next one of the records on were given (`StandsCut` states
+-- what differed for a unit that could not begin)
 pub record GivesFirst (premise : Premise) (child : Answers) (Schedule : Project → List (Event BadUnit) → Type 0) (options : Options) (fault : BuildFault) (old new : BuildState) : Type 0 where
   pub flown : UnitsFly child Schedule options old new
   pub spent : Spends (LacksNumber flown.units.project old.world) fault (next_in (records_of options old.world.variables) old.world) flown.es
@@ -161,13 +164,13 @@ abbrev pub NamesOpened : List ℕ → World → BuildFault → Starts → Starts
 NamesOpened folder w (Device name (device.Place fault)) old new = (new ≡ old) ⊎ ((call : Call) × Contains (opened_looked folder w) call × (own_fault call ≡ fault) × (name_given call ≡ name))
 NamesOpened folder w e old new = Unit {0}
 
--- what was produced when the finish line was due
+-- what the build had produced when the finish line was due
 abbrev pub GivesUnits : Premise → Answers → (Project → List (Event BadUnit) → Type 0) → Options → Result Summary BuildFault → BuildState → BuildState → Type 0
 GivesUnits premise child Schedule options (Ok summary) old new = GivesAll premise child Schedule options summary old new
 GivesUnits premise child Schedule options (Err fault) old new =
     (NoneBegan true child options (Err fault) old new × NamesOpened (records_of options old.world.variables) old.world fault old.counts.starts new.counts.starts) ⊎ GivesFirst premise child Schedule options fault old new
 
--- if the build rests on records, they are true again
+-- if the build rests on records, they are true after it
 abbrev pub LeavesRecords : Premise → Answers → Options → World → World → Type 0
 LeavesRecords TrustedRecords child options old new = Sound reading judge child (records_of options old.variables) new.files
 LeavesRecords NoRecords child options old new = Unit {0}

@@ -19,8 +19,9 @@ abbrev pub ShareNoPath : List ℕ → List ℕ → Type 0
 ShareNoPath folder other = (q : List ℕ) → is_at_or_below folder q ≡ true → is_at_or_below other q ≡ false
 
 -- a step spares the records of a folder in these cases:
--- - an edit: it is outside of the folder, or removes the folder whole
--- - a build: it has no units, or keeps its records there with an honest child, or keeps them apart
+-- - an edit: it changes nothing in the folder, or removes the whole folder
+-- - a build: it has no units, or it keeps its records there with an honest child, or it keeps its
+--   records apart from the folder
 abbrev pub Spares : Answers → List ℕ → SessionStep → World → Type 0
 Spares child folder (Write path text) w = is_at_or_below folder path ≡ false
 Spares child folder (Remove path) w = (is_at_or_below path folder ≡ true) ⊎ ShareNoPath folder path
@@ -36,8 +37,8 @@ SparingCourse child folder (step ∷ steps) before after = Spares child folder s
 abbrev pub NothingIsSound : Type 0
 NothingIsSound = (child : Answers) (folder : List ℕ) (files : Map) → ((key : List ℕ) → record_at reading folder files key ≡ None) → Sound reading judge child folder files
 
--- If each step of a session spares the records of a folder, and they were
--- true at first, they are true at the end, however the builds ended.
+-- If the records of a folder were true at first, and each step of a session spares them, they are
+-- true at the end, however the builds ended.
 abbrev pub RecordsStayTrue : Type 0
 RecordsStayTrue = (child : Answers) (folder : List ℕ) (steps : List SessionStep) (before after : Point) → SparingCourse child folder steps before after
     → Sound reading judge child folder before.moment.world.files → Sound reading judge child folder after.moment.world.files

@@ -20,8 +20,8 @@ LooksAtSources = (child : Answers) (options : Options) (v w : World) (r : BuildR
 abbrev pub GivesFromNothing : Type 0
 GivesFromNothing = (child : Answers) (options : Options) (w : World) (r : BuildResult) → IsResult child options (from_nothing (environment_of options w.variables).target w) r → IsResult child options w r
 
--- two results are the same if both are one refusal; or both have no version of the
--- compiler; or both have the same units of the same plan, with the same outcomes
+-- two results are the same in these cases: both are the same refusal; in both, the compiler does
+-- not report its version; or both have the same units of the same plan, with the same outcomes
 abbrev pub IsSame : BuildResult → BuildResult → Type 0
 IsSame (Refused why) (Refused other) = why ≡ other
 IsSame NoToolchain NoToolchain = Unit {0}
@@ -32,16 +32,16 @@ IsSame _ _ = ⊥
 abbrev pub HasOneResult : Type 0
 HasOneResult = (child : Answers) (options : Options) (w : World) (r s : BuildResult) → IsResult child options w r → IsResult child options w s → IsSame r s
 
--- the units that a build has produced are those of the result of its world
+-- the units that a build has produced are the units of its world's result
 abbrev pub UnitsAreOfResult : Type 0
 UnitsAreOfResult = (child : Answers) (options : Options) (w : World) (units : UnitsOf child options w) → IsResult child options w (Finished units.project (rows_for child options w units))
 
--- a build by turns, known only by how its work ended and what was written after it, keeps
--- the headline; so a build that promises only that keeps it too, as the program's does
+-- if we know of a build by turns only how its work ended and what was written after it, the
+-- headline is still true; so it is true for the program's build, which promises only this
 abbrev pub BuildsKeepHeadline : {S : Type 0} → (S → List ℕ → List ℕ → Step → S → Type 0) → Type 0
 BuildsKeepHeadline {S} Turns = (is_modelled : Bool) (child : Answers) (options : Options) (from last : S) (result : Result Summary BuildFault) (old new : BuildState) → Builds is_modelled child Turns options from last result old new
     → Headline is_modelled child (ByTurns Turns from) options result old new
 
--- a build in plan order keeps it too
+-- the headline is also true for a build in plan order
 abbrev pub FirstBuildsKeepHeadline : Type 0
 FirstBuildsKeepHeadline = (is_modelled : Bool) (child : Answers) (options : Options) (result : Result Summary BuildFault) (old new : BuildState) → BuildsFirst is_modelled child options result old new → Headline is_modelled child (ByFirst options) options result old new

@@ -1,5 +1,5 @@
--- What a build is about: the workspace that it reads, the selected
--- packages, their features and the plan; or why it is refused.
+-- What a build is about: the workspace that it reads, the selected packages, their features and the
+-- plan. If there is no plan: why the build is refused.
 use Rattle.std.specs.Prelude.{◌≡◌, ℕ, List, Ok, Err}
 use Rattle.pb_place_types.specs.World.{World}
 use Rattle.pb_workspace.specs.Loaded.{workspace_of}
@@ -47,7 +47,7 @@ pub data IsRefused (options : Options) (target : List ℕ) (w : World) : Refusal
   by_plan : (fault : PlanFault) (ws : Workspace) (selection : Selection) (features : Features) (is : IsSelected options target w ws selection) (featured : IsFeatured ws selection features)
       (told : plan.Refuses ws features selection options.profile fault) → IsRefused options target w (Plan fault)
 
--- a reported refusal is one of this world
+-- if a build reports a refusal, it is refused for this reason in this world
 abbrev pub IsToldRefusal : Options → List ℕ → World → BuildFault → Type 0
 IsToldRefusal options target w (told.Plan why) = IsRefused options target w why
 IsToldRefusal options target w _ = Unit {0}

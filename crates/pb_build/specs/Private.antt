@@ -1,4 +1,5 @@
--- What private functions of the build promise to one another. Nothing here is needed to read what a build produces.
+-- What private functions of the build promise to one another. A reader who wants to know what a
+-- build produces does not need this file.
 use Rattle.std.specs.Prelude.{◌≡◌, Ok, Err}
 use Rattle.pb_build_result.specs.declared.fault.BuildFault.{BuildFault}
 use Rattle.pb_build_result.specs.declared.fault.BuildFault.TheVariants.{Plan, Device, OutOfMemory}
@@ -32,7 +33,7 @@ unread (load.Place path fault) = Device path (device.Place fault)
 unread load.OutOfMemory = OutOfMemory
 unread refused = Plan (refusal.Load refused)
 
--- why a workspace that was read has no project
+-- why there is no project for a workspace that was read
 pub data HasNoProject (options : Options) (ws : Workspace) : Refusal → Type 0 where
   by_selection : (fault : LoadFault) (told : selected ws options ≡ Err fault) → HasNoProject options ws (refusal.Load fault)
   by_feature : (fault : FeatureFault) (selection : Selection) (chosen : selected ws options ≡ Ok selection) (told : feature.Refuses ws selection fault) → HasNoProject options ws (refusal.Feature fault)

@@ -18,15 +18,16 @@ use Rattle.pb_build.specs.declared.environment.Environment.{Environment}
 
 -- The compiler's version.
 
--- a line that names the host: `host: ` and something after it
+-- a line that reports the host: it is `host: ` and something after it
 abbrev pub is_host : List ℕ → Bool
 is_host line = nat_lt 6 (length line) && starts_with nat_eq line (codes "host: ")
 
--- an output that names the host: it is UTF-8, and one of its lines names it
+-- an output that reports the host: it is UTF-8, and one of its lines reports the host
 abbrev pub says_host : List ℕ → Bool
 says_host stdout = is_some (text_of stdout) && list_any is_host (lines_of stdout)
 
--- the compiler's version by an answer to the query: status 0, no stream too long, and the host named
+-- the compiler's version, from an answer to the query: the status is 0, no stream is too long, and
+-- the output reports the host
 abbrev pub toolchain_in : Ended → Option (List ℕ)
 toolchain_in e = if is_none (ended_fault e) && says_host e.stdout then Some e.stdout else None
 
@@ -40,14 +41,15 @@ setup_of options environment toolchain = record { tool = options.tool; rustc = e
 
 -- The result.
 
--- what a build produces: it is refused; the compiler does not
--- report its version; or these units of a project have ended
+-- what a build produces: a refusal; or the compiler does not report its version; or these units of
+-- a project have ended
 pub data BuildResult : Type 0 where
   Refused : (why : Refusal) → BuildResult
   NoToolchain : BuildResult
   Finished : (project : Project) (rows : List Row) → BuildResult
 
--- a build with this environment produces this in this world; of the world's files it looks only at the sources
+-- a build with this environment produces this in this world; it looks at no files of the world
+-- except the sources
 pub data Comes (child : Answers) (options : Options) (environment : Environment) (w : World) : BuildResult → Type 0 where
   refused : (why : Refusal) (is : IsRefused options environment.target w why) → Comes child options environment w (Refused why)
   no_toolchain : (project : Project) (is : IsProject options environment.target w project) (silent : toolchain_of child environment project (from_nothing environment.target w) ≡ None) → Comes child options environment w NoToolchain

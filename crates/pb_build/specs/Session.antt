@@ -1,4 +1,5 @@
--- A session: edits and builds, one after another. Each build's end and its cause are passed on.
+-- A session: edits and builds, one after another. A session passes on how each build ended, and the
+-- cause.
 use Rattle.std.specs.Prelude.{◌≡◌, ◌↔◌, ⊤, ℕ, true, List, [], ◌∷◌, ◌++◌, Result}
 use Rattle.pb_place_types.specs.Sinks.{SinkState}
 use Rattle.pb_place_types.specs.World.{World, Answers, FilesHavePaths, written, removed}
@@ -24,8 +25,8 @@ use Rattle.pb_build.specs.Kept.{SourcesStay}
 use Rattle.pb_build.specs.Result.{BuildResult, IsResult}
 use Rattle.pb_workspace_types.specs.declared.options.Options.{Options}
 
--- a moment of a session: the answers of the builds so far, the number of
--- the call that is to fail (0 for none), and the starts that are to fail
+-- a moment of a session: the answers of the builds so far, the number of the call that will fail (0
+-- for none), and the starts that will fail
 pub record Point : Type 0 where
   pub moment : BuildState
   pub answers : List BuildOutcome
@@ -36,11 +37,11 @@ pub record Point : Type 0 where
 abbrev pub point : Held → SinkState → List BuildOutcome → Point
 point memory heard answers = record { moment = moment (at_in memory) heard; answers = answers; fuse = memory.fuse; deaths = memory.deaths }
 
--- an edit makes this of the world, and nothing else happens
+-- an edit turns the world into this one, and nothing else happens
 abbrev pub Edits : World → Point → Point → Type 0
 Edits w before after = after ≡ record before { moment = record before.moment { world = w } }
 
--- a build in which the units begin that the session picks
+-- a build in which the session picks the units that begin
 abbrev pub Picked : Answers → Options → PickBy → Result Summary BuildFault → BuildState → BuildState → Type 0
 Picked child options First result old new = BuildsFirst true child options result old new
 Picked child options Last result old new = BuildsLast true child options result old new
@@ -59,19 +60,20 @@ pub record CarriesBuild (child : Answers) (options : Options) (pick : PickBy) (b
   pub answer : BuildOutcome
   pub ended : BuildState
   pub picked : Picked child options pick answer.result before.moment ended
-  -- it changed no source and kept the headline
+  -- the build changed no source, and the headline is true for it
   pub kept : SourcesStay (environment_of options before.moment.world.variables).target before.moment.world ended.world
   pub headline : Headline true child (ByPicked pick options) options answer.result before.moment ended
-  -- whatever it wrote, each file has a normalised absolute path
+  -- whatever the build wrote, each file has a normalised absolute path
   pub paths : FilesHavePaths ended.world
-  -- if nothing was set to fail, and nothing had failed before, none of its calls failed
+  -- if nothing was set to fail, and nothing had failed before, no call of the build failed
   pub unfailing : before.fuse ≡ 0 → before.deaths ≡ [] → before.moment.counts.failures ≡ 0 → ended.counts.failures ≡ 0
-  -- its answer is added; no call is to fail any more, and the starts count this as one setting
+  -- the build's answer is added; no call is set to fail any more, and the starts count this as one
+  -- setting
   pub behind : after.moment ≡ set_anew ended
   pub answers : after.answers ≡ before.answers ++ answer ∷ []
   pub fuse : after.fuse ≡ 0
 
--- a step: an edit; a prepared failure, of which so far only the setting is seen; or a build
+-- a step: an edit; or a prepared failure, which so far changes only the settings; or a build
 abbrev pub Carries : Answers → SessionStep → Point → Point → Type 0
 Carries child (Write path text) before after = Edits (written path text before.moment.world) before after
 Carries child (Remove path) before after = Edits (removed path before.moment.world) before after
@@ -86,18 +88,17 @@ abbrev pub Course : Answers → List SessionStep → Point → Point → Type 0
 Course child [] before after = after ≡ before
 Course child (step ∷ steps) before after = (mid : Point) × Carries child step before mid × Course child steps mid after
 
--- memory ran out at a step: if it is a build, it is carried
--- out, but its answer is not noted; any other step does nothing
+-- memory ran out at a step: a build ran, but its answer was not noted; any other step did nothing
 abbrev pub Loses : Answers → SessionStep → Point → Point → Type 0
 Loses child (Build options pick) before left = (ended : Point) × CarriesBuild child options pick before ended × (left ≡ record ended { answers = before.answers })
 Loses child _ before left = left ≡ before
 
--- memory ran out at one of the steps; those before it were taken in turn
+-- memory ran out at one of the steps; the steps before it were taken in turn
 abbrev pub Breaks : Answers → List SessionStep → Point → Point → Type 0
 Breaks child steps before left =
     (done : List SessionStep) × (step : SessionStep) × (rest : List SessionStep) × (steps ≡ done ++ step ∷ rest) × (mid : Point) × Course child done before mid × Loses child step mid left
 
--- what an edit makes of the world; other steps change nothing
+-- the world after an edit; any other step leaves the world unchanged
 abbrev pub edit : SessionStep → World → World
 edit (Write path text) w = written path text w
 edit (Remove path) w = removed path w
@@ -105,7 +106,7 @@ edit (Set name value) w = set name value w
 edit (Unset name) w = unset name w
 edit _ w = w
 
--- the present workspace: what the edits among some steps have made of the world
+-- the present workspace: the world after the edits among some steps
 abbrev pub edited : List SessionStep → World → World
 edited [] w = w
 edited (step ∷ steps) w = edited steps (edit step w)

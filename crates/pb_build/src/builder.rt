@@ -275,8 +275,8 @@ pub fn prepare<P: Place>(
     }
 }
 
-/// Works through a planned build up to its finish line. The contract is
-/// about the moment before planning, if only the planning came between.
+/// Works through a planned build up to its finish line. If only the planning came between, the
+/// contract is about the moment before it.
 fn work<P: Place, O: Out, T: Turn>(
     alloc: Global,
     place: &mut P,
@@ -336,13 +336,13 @@ fn close<O: Out>(out: &mut O, inner: Result<Summary, BuildFault>) -> Result<Summ
     }
 }
 
-/// Builds what was planned, by the steps that a turn chooses: what `build_turns` does
-/// after the plan. If the plan failed, the build ends as it would have ended there.
+/// Builds what was planned, by the steps that a turn chooses. It does what `build_turns` does after
+/// the plan. If the plan failed, it ends as `build_turns` ends after a failed plan.
 ///
 /// If only the planning came between, with no other call of the place and nothing written, the
-/// build ends as `build_turns` promises (`builds`), from the moment before planning. A plan of
-/// another moment or of other options is built as it is: its own project's units are run in
-/// its own environment, with these options, over the records of its own profile's folder.
+/// build ends as `build_turns` promises (`builds`), from the moment before planning. It also builds
+/// a plan of another moment or of other options: it runs the units of the plan's own project in the
+/// plan's own environment, with these options, over the records of the plan's own profile folder.
 pub fn build_plan_turns<P: Place, O: Out, T: Turn>(
     alloc: Global,
     place: &mut P,
@@ -370,7 +370,8 @@ pub fn build_plan_turns<P: Place, O: Out, T: Turn>(
     close(out, inner)
 }
 
-/// Builds what was planned, and begins the units in plan order: what `build` does after the plan.
+/// Builds what was planned, and begins the units in plan order. It does what `build` does after the
+/// plan.
 pub fn build_plan<P: Place, O: Out>(
     alloc: Global,
     place: &mut P,
@@ -405,18 +406,18 @@ pub fn build_plan<P: Place, O: Out>(
 ///
 /// The order is: the variables `RUSTC`, `RUSTFLAGS` and `CARGO_TARGET_DIR`; the workspace; its
 /// selected packages; their features; the plan; the query `-vV`; the records of the profile's
-/// folder; the units of the plan; the finish line. The turn chooses which unit begins or
-/// answers next, until all units have answered, or all up to and including the first bad one.
-/// A unit's child is started only if something differs from the unit's record. Message lines
-/// are written in plan order, as units answer. At the end, or after a fault, the children in
-/// flight are waited for in the order in which they began, and their answers are dropped.
+/// folder; the units of the plan; the finish line. The turn chooses which unit begins or answers
+/// next, until all units have answered, or all up to and including the first bad one. A unit's
+/// child is started only if something differs from the unit's record. It writes message lines in
+/// plan order, as units answer. At the end, or after a fault, it waits for the children in flight,
+/// in the order in which they began, and drops their answers.
 ///
-/// Errors: `Plan`, before a child is started, a line is written or a file is
-/// changed; `Toolchain`, if the compiler does not report its host; `Child`, if a
-/// child gives no answer; `Device`, if a call on files or variables fails, or no
-/// run number is left; `Sink`; `OutOfMemory`. After a failed call no further call
-/// is made, except to wait for children in flight. All errors but `Plan` and `Sink`
-/// write the failing finish line. A bad unit is not an error: the summary names it.
+/// Errors: `Plan`, before a child is started, a line is written or a file is changed; `Toolchain`,
+/// if the compiler does not report its host; `Child`, if a child gives no answer; `Device`, if a
+/// call on files or variables fails, or no run number is left; `Sink`; `OutOfMemory`. After a
+/// failed call it makes no further call, except to wait for children in flight. After any error but
+/// `Plan` and `Sink` it writes the failing finish line. A bad unit is not an error: the summary
+/// names it.
 ///
 /// However the build ends, the files outside the target folder and
 /// the variables stay as they were, and no child is in flight.

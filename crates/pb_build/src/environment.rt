@@ -106,8 +106,8 @@ fn standard_target(alloc: Global, root: &PathText) -> Result<PathText, AllocErro
     root.below(alloc, &name)
 }
 
-/// Returns the path that a text names, starting at the root if it is
-/// relative; or the other path, if there is no text or it contains byte 0.
+/// Returns the path that a text names, starting at the root if it is relative; or the other path,
+/// if there is no text or the text contains byte 0.
 fn told_or(
     alloc: Global,
     root: &PathText,

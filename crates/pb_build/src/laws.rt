@@ -7,9 +7,9 @@ ghost use Rattle.pb_build.specs.Session.{Unaffected};
 
 use pb_run_flight::Turn;
 
-/// A build does not see what exists in the target folder: two worlds with
-/// the same variables and the same files outside it give the same
-/// results. So a build produces what it produces if nothing exists there.
+/// A build does not see what exists in the target folder. Two worlds with the same variables and
+/// the same files outside this folder give the same results. So a build produces what it would
+/// produce over an empty target folder.
 pub fn builds_look_at_sources()
     ensures sources { LooksAtSources }
     ensures nothing { GivesFromNothing }
@@ -21,20 +21,21 @@ pub fn earlier_builds_change_nothing()
     ensures { Unaffected }
 {}
 
-/// A world has only one result: it is refused for one reason, or the compiler does not
-/// report its version, or the same units of the same plan have ended with the same outcomes.
+/// A world has only one result. Either the build is refused for one reason, or the compiler does
+/// not report its version, or the same units of the same plan have ended with the same outcomes.
 pub fn worlds_have_one_result()
     ensures { HasOneResult }
 {}
 
-/// The units that a build has produced are those of the result of its world.
+/// The units that a build has produced are the units of its world's result.
 pub fn units_are_of_the_result()
     ensures { UnitsAreOfResult }
 {}
 
-/// Whatever edits and builds of a session came, and however the builds ended: if the records of a
-/// folder were true at first, or there were none, they are true afterwards. The edits must stay out
-/// of the folder; the builds must keep their records in it, with an honest child, or apart from it.
+/// If the records of a folder were true at first, or there were none, they are true after any edits
+/// and builds of a session, however the builds ended. Each edit must stay out of the folder or
+/// remove it as a whole. Each build must keep its records in the folder, with an honest child, or
+/// apart from it.
 pub fn records_stay_true()
     ensures empty { NothingIsSound }
     ensures stay { RecordsStayTrue }
@@ -46,8 +47,8 @@ pub fn any_build_gives()
     ensures { AnyBuildGives }
 {}
 
-/// After a successful build over true records with an honest child,
-/// the same build reports no unit as started, by whatever turn.
+/// After a successful build over true records with an honest child, the same build reports no unit
+/// as started, whichever turn it uses.
 pub fn same_build_starts_none<T: Turn, U: Turn>()
     ensures { SameBuildStartsNone T.turns U.turns }
 {}

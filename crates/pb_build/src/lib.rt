@@ -1,5 +1,5 @@
-//! A build of a workspace: what it is about, its units in order, its message
-//! lines and its summary; and sessions of edits and builds in memory.
+//! A build of a workspace: what the build is about, its units in order, its message lines and its
+//! summary. The crate also runs sessions of edits and builds in memory.
 #![tactic(auto)]
 
 pub mod builder;

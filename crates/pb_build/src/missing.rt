@@ -23,9 +23,9 @@ fn without_library(plan: BuildPlan) -> Items<Text>
     plan.without_library
 }
 
-/// Returns the names of the packages without a library to which enabled
-/// dependencies lead, in byte order, each once. It goes as far as the
-/// plan: it starts no child, writes no line and changes no file.
+/// Returns the names of the packages without a library to which enabled dependencies lead, in byte
+/// order, each once. It stops after the plan: it starts no child, writes no line and changes no
+/// file.
 ///
 /// Errors: those of `plan_build`.
 pub fn missing_libraries<P: Place>(

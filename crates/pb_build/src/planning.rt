@@ -1,4 +1,4 @@
-//! What a build is about: the workspace that is read, its features and its plan.
+//! What a build is about: the workspace that it reads, its features and its plan.
 
 ghost use Rattle.std.specs.Prelude.{◌≡◌, ◌⊎◌, AllPairs, IfOk, IfErr, IsTrue, Ok, Err};
 ghost use Rattle.pb_build.specs.Causes.{MayPlan, PlansInTurn, OnlyLooks};
@@ -64,7 +64,7 @@ fn read<P: Place>(
     }
 }
 
-/// Returns the selected packages, and what is requested of them.
+/// Returns the selected packages, and the features that are requested of them.
 fn select<'a>(
     alloc: Global,
     workspace: &'a SettledWorkspace,

@@ -58,7 +58,7 @@ fn built_unfailing<C: Child + Copy, O: Out>(
     result
 }
 
-/// Builds over a place on which no call fails, and begins the units that are picked.
+/// Builds over a place on which no call fails, and begins the units that the pick chooses.
 fn build_picked<C: Child, O: Out>(
     alloc: Global,
     unfailing: &mut Unfailing<C>,
@@ -140,8 +140,8 @@ fn built<C: Child + Copy, O: Out>(
     }
 }
 
-/// Builds, and adds the answer to those of earlier builds. A
-/// fuse that the build did not reach is removed.
+/// Builds, and adds the answer to those of earlier builds. If the build did not reach a fuse, this
+/// removes the fuse.
 fn add_build<C: Child + Copy, O: Out>(
     alloc: Global,
     memory: &mut Memory<C>,
@@ -209,13 +209,13 @@ fn light<C: Child>(memory: &mut Memory<C>, number: u64) -> Result<(), AllocError
 /// Takes steps in turn over a place in memory with no child in flight, and returns
 /// an answer for each build. All builds write their message lines to one sink.
 ///
-/// Each build ends as `build` promises, in the world that the earlier steps
-/// left, and its cause is reported with it. If nothing was set to fail, and
-/// nothing has failed, no call of a build fails, except if memory runs out.
+/// Each build ends as `build` promises, in the world that the earlier steps left. The session
+/// reports the cause with the end. If nothing was set to fail, and nothing has failed, no call of a
+/// build fails, except if memory runs out.
 ///
-/// Errors: out of memory, outside of a build; within a build this is the build's
-/// answer. If memory runs out at a step, the steps before it were taken. If the
-/// step is a build, it has ended; any other step has done nothing.
+/// Errors: only out of memory, and only outside of a build; within a build, out of memory is the
+/// build's answer. If memory runs out at a step, the steps before it were taken. If the step is a
+/// build, it has ended; any other step has done nothing.
 pub fn session<C: Child + Copy, O: Out>(
     alloc: Global,
     memory: &mut Memory<C>,

@@ -19,14 +19,14 @@ use pb_directive::texts::text_of;
 use pb_place_types::{Command, Ended, Place, StartFault};
 use std::alloc::Global;
 
-/// Returns whether a line names the host: `host: ` and something after it.
+/// Returns whether a line reports the host: it is `host: ` and something after it.
 fn is_host(line: &[u8]) -> bool
     ensures { result ≡ is_host line.now }
 {
     line.len() > 6 && line.starts_with(b"host: ")
 }
 
-/// Returns whether one of the lines of a text names the host.
+/// Returns whether one of the lines of a text reports the host.
 fn has_host(text: &[u8]) -> bool
     ensures { result ≡ list_any is_host (lines_of text.now) }
 {
@@ -38,15 +38,15 @@ fn has_host(text: &[u8]) -> bool
     false
 }
 
-/// Returns whether an output is a text with a line that names the host.
+/// Returns whether an output is a text with a line that reports the host.
 fn says_host(stdout: &[u8]) -> bool
     ensures { result ≡ says_host stdout.now }
 {
     text_of(stdout).is_some() && has_host(stdout)
 }
 
-/// Returns the compiler's version by an answer to the query; nothing
-/// if the status is not 0, a stream is too long, or no host is named.
+/// Returns the compiler's version from an answer to the query. Returns none if the status is not 0,
+/// if a stream is too long, or if no line reports the host.
 fn toolchain_in(ended: Ended) -> Option<Bytes>
     ensures { result ≡ toolchain_in ended }
 {
@@ -57,7 +57,8 @@ fn toolchain_in(ended: Ended) -> Option<Bytes>
     }
 }
 
-/// Returns the fault of a child that gave no answer, with its name. Out of memory has none.
+/// Returns the fault of a child that did not answer, with the child's name. Out of memory has no
+/// name.
 fn childless(unit: Text, fault: StartFault) -> BuildFault
     ensures { result ≡ child_fault unit fault }
 {

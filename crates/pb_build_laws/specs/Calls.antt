@@ -1,4 +1,4 @@
--- What is reported of a call on files or variables that failed.
+-- What a build reports about a failed call on files or variables.
 use Rattle.std.specs.Prelude.{◌≡◌, ℕ, List, []}
 use Rattle.std.specs.Option.{option_map_or}
 use Rattle.pb_place_types.specs.CallsInTurn.{own_fault}

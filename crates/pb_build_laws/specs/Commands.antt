@@ -19,12 +19,12 @@ abbrev pub HasEachPart : RecordedCommand → Command → Type 0
 HasEachPart a c = (part : CommandPart) → SamePart a c part
 
 -- Apart from its variables, a command requests the same if and only if each part is equal to the
--- recorded one. It is the recorded command if and only if its variables are equal too.
+-- recorded one. It is the recorded command if and only if, in addition, its variables are equal.
 abbrev pub AskedPartForPart : Type 0
 AskedPartForPart = (a : RecordedCommand) (c : Command) → (AsksAs a c ↔ HasEachPart a c) × ((command_of a ≡ c) ↔ (HasEachPart a c × (a.pairs ≡ c.pairs)))
 
--- The first name at which the variables of a record and those of a unit's command differ is the least such name, in
--- byte order: the texts of this name differ, or only one of them has it.
+-- The first name at which the variables of a record and those of a unit's command differ is the
+-- least such name, in byte order: the texts of this name differ, or only one side has the name.
 abbrev pub FirstNameIsLeast : Type 0
 FirstNameIsLeast = (text : List ℕ) (r : Record) (setup : Setup) (project : Project) (u : Planned) (done : List (Option (List Directive))) (name : List ℕ) → reading text ≡ Some r
     → IsFirstName r.asked.pairs (present.command_of setup project u done).pairs name ↔ IsLeastName r.asked.pairs (present.command_of setup project u done).pairs name

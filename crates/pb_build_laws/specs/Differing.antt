@@ -1,4 +1,4 @@
--- The first difference between a unit and its record: the first of all that is compared, in this order.
+-- The first difference between a unit and its record, in the order in which they are compared.
 use Rattle.std.specs.Prelude.{◌≡◌, ◌↔◌, ℕ, List, Option, Some, None, slice_get, take}
 use Rattle.std.specs.List.{AllByRecursion}
 use Rattle.pb_place_types.specs.World.{World}
@@ -16,7 +16,7 @@ use Rattle.pb_store.specs.declared.difference.CommandPart.{CommandPart}
 use Rattle.pb_store.specs.declared.difference.Difference.{Difference}
 use Rattle.pb_store.specs.declared.difference.Difference.TheVariants.{NoRecord, Command, Pair, Input, Dependency}
 
--- this is the first item of a row for which `Holds` is false, as it is reported
+-- this is the report on the first item of a row for which `Holds` is false
 abbrev pub IsFirstOf : {A B : Type 0} → (A → Type 0) → (A → B) → List A → B → Type 0
 IsFirstOf {A} Holds told row b = (n : ℕ) × (here : A) × (slice_get row n ≡ Some here) × (Holds here → ⊥) × AllByRecursion Holds (take n row) × (b ≡ told here)
 

@@ -39,7 +39,7 @@ EnvironmentsAreThese = (options : Options) (variables : Map) → environment_of 
 abbrev pub IsToolchain : Reply → List ℕ → Type 0
 IsToolchain r toolchain = EndedWell (ended_by r) × (is_utf8 r.stdout ≡ true) × (list_any is_host (lines_of r.stdout) ≡ true) × (toolchain ≡ r.stdout)
 
--- The compiler's version is the one in the reply.
+-- The compiler's version is the version in the reply to the query.
 abbrev pub ToolchainsAreSaid : Type 0
 ToolchainsAreSaid = (child : Answers) (environment : Environment) (project : Project) (sources : World) (toolchain : List ℕ)
     → (toolchain_of child environment project sources ≡ Some toolchain) ↔ IsToolchain (child (query_of environment.rustc project.workspace.root project.workspace.target) sources) toolchain
@@ -48,6 +48,7 @@ ToolchainsAreSaid = (child : Answers) (environment : Environment) (project : Pro
 abbrev pub host_in : List ℕ → Option (List ℕ)
 host_in line = if is_utf8 line && is_host line then Some (drop 6 line) else None
 
--- The compiler's host triple is the first host that a line names; it is empty if no line does.
+-- The compiler's host triple is the first host that a line names; it is empty if no line names a
+-- host.
 abbrev pub HostsComeFirst : Type 0
 HostsComeFirst = (toolchain : List ℕ) → triple_of toolchain ≡ unwrap_or (slice_get (filter_map host_in (lines_of toolchain)) 0) []

@@ -17,7 +17,8 @@ abbrev pub numbers_in : Needed → List ℕ
 numbers_in (Copies copies) = []
 numbers_in (Numbers number needs) = number ∷ map (λ (need : List ℕ × ℕ). need.1) needs
 
--- The number of a record is the first of these, if there is one; a unit lacks a number if it has a record without one.
+-- The number of a record is the first of these numbers, if there is one. A unit lacks a number if
+-- it has a record without a number.
 abbrev pub RecordsAreNumbered : Type 0
 RecordsAreNumbered = ((r : Record) → number_of r ≡ slice_get (numbers_in r.needed) 0)
     × ((o : Option Record) → (number_if o ≡ option_and_then number_of o) × (lacks_number o ≡ option_map_or (λ r. is_none (number_of r)) o false))
@@ -26,8 +27,8 @@ RecordsAreNumbered = ((r : Record) → number_of r ≡ slice_get (numbers_in r.n
 abbrev pub numbers_at : Map → List ℕ → List ℕ
 numbers_at files path = if ends_as_record path then option_map_or (λ (r : Record). numbers_in r.needed) (option_and_then reading (finite.get files path)) [] else []
 
--- The next number is the one after the greatest that the records directly in a folder have or name, so 1 if there is
--- none.
+-- The next number is one above the greatest number that the records directly in a folder have or
+-- name, so 1 if there is no such number.
 abbrev pub NextIsAbove : Type 0
 NextIsAbove = (folder : List ℕ) (w : World) → next_in folder w ≡ after (fold max 0 (flat_map (numbers_at w.files) (listed_directly folder w)))
 

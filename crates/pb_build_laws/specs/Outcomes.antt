@@ -23,8 +23,8 @@ use Rattle.pb_build_laws.specs.Telling.{told_badly, told_well}
 use Rattle.pb_unit.specs.Plan.{IsPlan}
 use Rattle.pb_unit.specs.declared.plan.Planned.{Planned}
 
--- the answer in a child's reply to a unit's command: it depends on how the child ended, and on the dep-info that it
--- left
+-- the answer in a child's reply to a unit's command: it depends on how the child ended and on the
+-- dep-info that the child left
 abbrev pub answer_in : Project → Planned → Command → Reply → Result CheckedReply UnitFault
 answer_in project u c r = answered_of project u c (ended_by r) (option_and_then (finite.get (replied_files u.out r)) (dep_info_of project u))
 
@@ -43,19 +43,20 @@ abbrev pub has_given : Option Outcome → Bool
 has_given (Some (Good files directives messages)) = true
 has_given _ = false
 
--- the outcome of a unit after these outcomes: none yet if a unit that it needs is not good; else the outcome of the
--- child's reply to its command in its view
+-- the outcome of a unit after these outcomes: none yet if a unit that it needs is not good, else
+-- the outcome of the child's reply to the unit's command in the unit's view
 abbrev pub outcome_after : Answers → Setup → Project → World → List Outcome → Planned → Outcome
 outcome_after child setup project sources done u =
     if list_all (λ index. has_given (slice_get done index)) u.needs then given_to project u (command_after setup project done u) (child (command_after setup project done u) (view_of done sources u)) else Waiting
 
--- Outcomes are those of a build if and only if there is one for each unit of the plan, and each follows from those
--- before it.
+-- Outcomes are the outcomes of a build if and only if there is one for each unit of the plan, and
+-- each follows from the outcomes before it.
 abbrev pub OutcomesAreThese : Type 0
 OutcomesAreThese = (child : Answers) (setup : Setup) (project : Project) (sources : World) (os : List Outcome) → (os ≡ outcomes child setup project sources)
     ↔ ((length os ≡ length project.plan.planned) × ((index : ℕ) (u : Planned) → slice_get project.plan.planned index ≡ Some u → slice_get os index ≡ Some (outcome_after child setup project sources (take index os) u)))
 
--- Inputs are found in a reply to the command of a unit of a plan if and only if they are those of a good answer in it.
+-- Inputs are found in a reply to the command of a planned unit if and only if they are the inputs
+-- of a good answer in this reply.
 abbrev pub InputsAreJudged : Type 0
 InputsAreJudged = (setup : Setup) (project : Project) (u : Planned) (done : List (Option (List Directive))) (selection : Selection) (index : ℕ) (r : Reply) (names : List InputName)
     → IsSettled project.workspace → IsPlan project.workspace project.features selection project.profile project.plan → slice_get project.plan.planned index ≡ Some u

@@ -19,8 +19,9 @@ use Rattle.pb_unit.specs.declared.plan.Planned.{Planned}
 abbrev pub HasAnswered : State BadUnit → Bool → Type 0
 HasAnswered s bad = (answer : Answer BadUnit) × (s ≡ Answered answer) × (is_some answer.fault ≡ bad)
 
--- A unit has not begun if and only if it is untouched. It is bad or good if and only if it has answered so. An index
--- without a unit is not good.
+-- A unit has not begun if and only if it is untouched. It is bad if and only if it has answered and
+-- is bad; it is good if and only if it has answered and is good. An index without a unit is not
+-- good.
 abbrev pub StatesAreThese : Type 0
 StatesAreThese = (is_good_at {F = BadUnit} None ≡ false)
     × ((s : State BadUnit) → ((is_untouched s ≡ true) ↔ (s ≡ Untouched)) × ((is_bad s ≡ true) ↔ HasAnswered s true) × ((is_good_at (Some s) ≡ true) ↔ HasAnswered s false))
@@ -31,6 +32,7 @@ abbrev pub EndsAreThese : Type 0
 EndsAreThese = (states : List (State BadUnit)) → let first = prefix_len (λ s. is_good_at (Some s)) states in
     (count_due states ≡ first + (if option_map_or is_bad (slice_get states first) false then 1 else 0)) × (is_finished states ≡ option_map_or is_bad (slice_get states first) true)
 
--- The key at an index is that of its unit, if there is one; and an outcome is bad if and only if it has a fault.
+-- The key at an index is the key of its unit, if there is one. An outcome is bad if and only if it
+-- has a fault.
 abbrev pub RowsAreThese : Type 0
 RowsAreThese = ((project : Project) (index : ℕ) → key_at project index ≡ map (λ (u : Planned). u.key) (option_to_list (unit_at project index))) × ((o : Outcome) → rows.is_bad o ≡ is_some (fault_in o))

@@ -1,4 +1,4 @@
--- What a build reports of its units when they have ended.
+-- What a build reports about its units after they have ended.
 use Rattle.std.specs.Prelude.{◌≡◌, ◌↔◌, ℕ, List, [], Option, Some, None, filter_map, is_none, map, option_map, slice_get}
 use Rattle.std.specs.List.{zip}
 use Rattle.std.specs.Option.{option_flatten, option_map_or}

@@ -68,19 +68,17 @@ abbrev pub told_well : Project → Planned → List ℕ → Option (List Directi
 told_well project u stderr None = map CompilerMessage (diagnostics_of stderr) ++ option_map_or (λ file. made_message project u file ∷ []) (made_file_of project u) []
 told_well project u stderr (Some directives) = filter_map note_in directives ++ executed u directives ∷ []
 
--- The messages of a bad unit, and what its child printed besides them, by its standard output and
--- error.
--- If a stream is too long, there is nothing of either.
--- A script that reported an error has its notes in printed order, if they can be read.
--- Any other run has no messages. A compile has its diagnostics.
+-- The messages of a bad unit, and what else its child printed, from its standard output and error.
+-- If a stream is too long, both are empty. A script that reported an error has its notes in printed
+-- order, if they can be read. Any other run has no messages. A compile has its diagnostics.
 abbrev pub told_badly : What → UnitFault → List ℕ → List ℕ → List Message × List ℕ
 told_badly what fault.OutputTooLong stdout stderr = ([], [])
 told_badly what fault.ScriptError stdout stderr = (filter_map note_in (result_unwrap_or (directives_of stdout) []), stderr)
 told_badly Run _ stdout stderr = ([], stdout ++ stderr)
 told_badly what _ stdout stderr = (map CompilerMessage (diagnostics_of stderr), plain_lines_of stderr)
 
--- The lines of a unit are those of its messages, if its package and its target exist; `started` says whether a child
--- was started.
+-- The lines of a unit are the lines of its messages, if its package and its target exist. `started`
+-- says whether a child was started.
 abbrev pub LinesAreTold : Type 0
 LinesAreTold = (project : Project) (u : Planned) (started : Bool) (messages : List Message) → unit_lines project u started messages ≡ option_map_or (λ s. lines_of s (not started) messages) (subject_at project u) []
 

@@ -19,8 +19,8 @@ pub fn asked_part_for_part()
     ensures { AskedPartForPart }
 {}
 
-/// A law: between a record that was read and a unit's command, the variable that is reported to
-/// differ first is the least name, in byte order, that has another text, is missing, or is new.
+/// A law: the first variable that is reported to differ between a record that was read and a unit's
+/// command. It is the least name, in byte order, that has another text, is missing, or is new.
 pub fn first_name_is_least()
     ensures { FirstNameIsLeast }
 {}
@@ -30,28 +30,28 @@ pub fn summaries_say()
     ensures { SummariesSay }
 {}
 
-/// A law: the events of a build. While fewer units than the jobs are in flight, the first unit in
-/// plan order that may begin begins; else the one that began first answers.
+/// A law: the events of a build. While fewer units are in flight than there are jobs, the first
+/// unit in plan order that may begin begins; else the unit that began first answers.
 pub fn builds_go_in_turn()
     ensures { BuildsGoInTurn }
 {}
 
-/// A law: what a unit reports. Its lines, by its package and target; the messages of a good unit;
-/// those of a bad unit, and what its child printed besides.
+/// A law: what a unit reports. This is its lines, by its package and target; the messages of a good
+/// unit; and the messages of a bad unit, with what else its child printed.
 pub fn units_tell()
     ensures lines { LinesAreTold }
     ensures good { GoodUnitsTell }
     ensures bad { BadUnitsTell }
 {}
 
-/// A law: outcomes are those of a build if and only if there is one for each unit, and each follows
-/// from the units before it.
+/// A law: outcomes are the outcomes of a build if and only if there is one for each unit, and each
+/// follows from the units before it.
 pub fn outcomes_are_these()
     ensures { OutcomesAreThese }
 {}
 
-/// A law: the inputs that are found in a reply to the command of a unit of a plan are those of a
-/// good answer in it.
+/// A law: the inputs that are found in a reply to the command of a planned unit are the inputs of a
+/// good answer in this reply.
 pub fn inputs_are_judged()
     ensures { InputsAreJudged }
 {}
@@ -72,7 +72,7 @@ pub fn states_are_these()
     ensures rows { RowsAreThese }
 {}
 
-/// A law: what is reported of a call on files or variables that failed.
+/// A law: what a build reports about a failed call on files or variables.
 pub fn calls_are_told()
     ensures { CallsAreTold }
 {}

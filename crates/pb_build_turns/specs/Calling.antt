@@ -43,13 +43,13 @@ use Rattle.pb_build_turns.specs.declared.executor.RunningUnit.{RunningUnit}
 use Rattle.pb_unit.specs.declared.plan.Planned.{Planned}
 use Rattle.pb_message_units.specs.Telling.{unit_lines}
 
--- what comes of a unit by a record, without a child: the judgement of the answer that the record replays to its own
--- command, with these files
+-- what comes of a unit without a child: the judgement of the answer that this record replays to its
+-- own command, with these files
 abbrev pub ran_again : Project → Planned → Record → Map → Ran
 ran_again project u r files = unstarted (ran_of project u (asked_command r.asked) (replayed r).ended files)
 
--- the unit at an index answered by the record that it had at first: its fault, its lines and its directives follow from
--- that record, from its command, and from the files of that time
+-- the unit at an index answered by the record that it had at first: its fault, its lines and its
+-- directives follow from this record, the record's command, and the files that existed at first
 pub record AnswersAgain (setup : Setup) (project : Project) (done : List (Option (List Directive))) (first : World) (index : ℕ) (answer : Answer BadUnit) : Type 0 where
   pub unit : Planned
   pub there : unit_at project index ≡ Some unit
@@ -61,10 +61,10 @@ pub record AnswersAgain (setup : Setup) (project : Project) (done : List (Option
   pub lines : answer.lines ≡ unit_lines project unit false (ran_again project unit kept first.files).messages
   pub noted : slice_get done index ≡ Some (ran_again project unit kept first.files).directives
 
--- A unit in flight that waits for such an answer.
+-- Units in flight that wait for such an answer.
 
--- the unit carries what its first record replays to its command; the inputs of that record had their values then; and
--- the unit's folder and record are unchanged
+-- the unit carries what its first record replays to its command; the inputs of this record had
+-- their recorded values at first; and the unit's folder and record are unchanged
 pub record WaitsAgain (setup : Setup) (project : Project) (done : List (Option (List Directive))) (first now : World) (u : Planned) (c : Command) (again : Replayed) : Type 0 where
   pub kept : Record
   pub here : records (records_folder project) first u.key ≡ Some kept
@@ -74,12 +74,12 @@ pub record WaitsAgain (setup : Setup) (project : Project) (done : List (Option (
   pub gives : again ≡ replayed kept
   pub stays : (q : List ℕ) → is_of (records_folder project) u.key q ≡ true → finite.get now.files q ≡ finite.get first.files q
 
--- a unit without a child waits in this way; for a unit with a child there is no condition
+-- a unit without a child waits in this way (`WaitsAgain`); a unit with a child has no condition
 abbrev pub CarriesAgain : Setup → Project → List (Option (List Directive)) → World → World → Planned → Command → Awaited → Type 0
 CarriesAgain setup project done first now u c (awaited.Child launched) = Unit {0}
 CarriesAgain setup project done first now u c (awaited.Record again) = WaitsAgain setup project done first now u c again
 
--- the same for a unit in flight
+-- if a unit in flight has no child, it waits in this way
 abbrev pub FliesAgain : Setup → Project → List (Option (List Directive)) → World → World → RunningUnit → Type 0
 FliesAgain setup project done first now a = (u : Planned) → unit_at project a.unit ≡ Some u → CarriesAgain setup project done first now u a.begun.command a.begun.awaited
 
@@ -87,8 +87,9 @@ FliesAgain setup project done first now a = (u : Planned) → unit_at project a.
 abbrev pub ran_anew : Project → Planned → Command → Reply → Ran
 ran_anew project u c reply = ran_of project u c (ended_by reply) (replied_files u.out reply)
 
--- the unit at an index answered what its child returns for what it sees of this world: its folder contains exactly the
--- files of that reply, and its fault, its lines and its directives follow from the reply
+-- the unit at an index answered with its child's reply to what the child sees of this world: its
+-- folder contains exactly the files of this reply, and its fault, its lines and its directives
+-- follow from the reply
 pub record AnswersAnew (child : Answers) (setup : Setup) (project : Project) (done : List (Option (List Directive))) (now : World) (index : ℕ) (answer : Answer BadUnit) : Type 0 where
   pub unit : Planned
   pub there : unit_at project index ≡ Some unit
@@ -99,10 +100,10 @@ pub record AnswersAnew (child : Answers) (setup : Setup) (project : Project) (do
   pub lines : answer.lines ≡ unit_lines project unit true (ran_anew project unit (command_of setup project unit done) reply).messages
   pub noted : slice_get done index ≡ Some (ran_anew project unit (command_of setup project unit done) reply).directives
 
--- A unit in flight that waits for such an answer.
+-- Units in flight that wait for such an answer.
 
--- the unit's child is in flight, and sees what it saw when it was spawned; for a unit without a child there is no
--- condition
+-- the unit's child is in flight, and sees what it saw when it was spawned; a unit without a child
+-- has no condition
 abbrev pub CarriesAnew : Answers → Setup → Project → List (Option (List Directive)) → World → List ChildInFlight → (ℕ → Type 0) → Planned → Command → Awaited → Type 0
 CarriesAnew child setup project done now flying still u c (awaited.Child launched) = (c ≡ command_of setup project u done) × IsInFlight child c (seen_by c now) launched.ticket flying still
 CarriesAnew child setup project done now flying still u c (awaited.Record again) = Unit {0}
@@ -110,8 +111,8 @@ CarriesAnew child setup project done now flying still u c (awaited.Record again)
 abbrev pub FliesAnew : Answers → Setup → Project → List (Option (List Directive)) → World → List ChildInFlight → (ℕ → Type 0) → RunningUnit → Type 0
 FliesAnew child setup project done now flying still a = (u : Planned) → unit_at project a.unit ≡ Some u → CarriesAnew child setup project done now flying still u a.begun.command a.begun.awaited
 
--- what determines the calls of a build: the child, the project, the command of each unit, and what its child sees of a
--- world
+-- what determines the calls of a build: the child, the project, the command of each unit, and what
+-- the unit's child sees of a world
 pub record CallBasis : Type 0 where
   pub child : Answers
   pub project : Project
@@ -134,7 +135,8 @@ call_basis_on_any child setup project done = record {
 
 -- A unit begins.
 
--- if nothing differed, no further call was made and nothing changed; else the unit's child was launched
+-- if no child was started, no call came after the comparison, and nothing changed; else the unit's
+-- child was launched
 abbrev pub CallsToBegin : Answers → Project → Planned → Command → Bool → World → Counts → World → Counts → Type 0
 CallsToBegin child project u c false before old after new = (after ≡ before) × (new ≡ past_look project u c before old)
 CallsToBegin child project u c true before old after new = (ticket : ℕ) × Launches child c ticket (past_look project u c before old) new
@@ -146,8 +148,8 @@ pub record BeginsCalling (b : CallBasis) (index : ℕ) (spawned : Bool) (before 
   pub only : ChangesOnly (is_of (records_folder b.project) unit.key) before after
   pub calls : CallsToBegin b.child b.project unit (b.command index unit) spawned before old after new
 
--- the unit at an index could not begin: it stopped at a call of its comparison; or something differed, and it stopped
--- as its child was launched
+-- the unit at an index could not begin: it stopped at a call of its comparison; or something
+-- differed, and it stopped while it launched its child
 pub record StopsBeginning (b : CallBasis) (index : ℕ) (fault : BuildFault) (w : World) (old : Counts) (after : World) (new : Counts) : Type 0 where
   pub unit : Planned
   pub there : unit_at b.project index ≡ Some unit
@@ -170,8 +172,8 @@ pub record EndsAsReplied (reply : Reply) (u : Planned) (ended : Ended) (left : W
 abbrev pub FliesFor : Command → List ChildInFlight → SpawnedChild → Type 0
 FliesFor c flying launched = (spawned : ChildInFlight) × (child_at launched.ticket flying ≡ Some spawned) × (spawned.command ≡ c)
 
--- the answer of the unit at an index was taken: the end of its child was awaited, if it has one, and then exactly the
--- calls of the answer were made. Contracts state this only for a modelled place
+-- the answer of the unit at an index was taken: if it has a child, the child's end was awaited;
+-- then exactly the calls of the answer were made. Contracts state this only for a modelled place
 pub record AnswersCalling (b : CallBasis) (index : ℕ) (spawned : Bool) (result : Result (Unit {0}) BuildFault) (before : World) (old : Counts) (after : World) (new : Counts) : Type 0 where
   pub unit : Planned
   pub there : unit_at b.project index ≡ Some unit
@@ -196,13 +198,14 @@ CallsOver b [] first at last now = (last ≡ first) × (now ≡ at)
 CallsOver b (Began index spawned ∷ es) first at last now = (before : World) × (old : Counts) × CallsOver b es first at before old × BeginsCalling b index spawned before old last now
 CallsOver b (Gave index answer ∷ es) first at last now = (before : World) × (old : Counts) × CallsOver b es first at before old × AnswersCalling b index (is_started es index) (Ok tt) before old last now
 
--- the calls of the event that ended with a fault: those of an answer, or those of a unit that could not begin; none, if
--- the sink failed or memory ran out
+-- the calls of the event that ended with a fault: the calls of an answer, or of a unit that could
+-- not begin. If the sink failed or memory ran out, there may be none
 abbrev pub StopsLast : CallBasis → BuildFault → Option ℕ → List (Event BadUnit) → List (Event BadUnit) → World → Counts → World → Counts → Type 0
 StopsLast b fault (Some index) es before w old after new = AnswersCalling b index (is_started before index) (Err fault) w old after new
 StopsLast b fault None es before w old after new = (((fault ≡ Sink) ⊎ (fault ≡ OutOfMemory)) × (after ≡ w) × (new ≡ old)) ⊎ ((index : ℕ) × (spawned : Bool) × (es ≡ Began index spawned ∷ before) × StopsBeginning b index fault w old after new)
 
--- exactly these calls were made: first over the events before a fault, and then those of the fault
+-- exactly these calls were made: the calls over the events before a fault, and then the calls of
+-- the fault's event
 abbrev pub CallsCut : CallBasis → BuildFault → Option ℕ → List (Event BadUnit) → List (Event BadUnit) → World → Counts → World → Counts → Type 0
 CallsCut b fault asked es before first at last now = (w : World) × (old : Counts) × CallsOver b before first at w old × StopsLast b fault asked es before w old last now
 
@@ -211,6 +214,6 @@ CallsCut b fault asked es before first at last now = (w : World) × (old : Count
 abbrev pub CallsOnAny : Answers → Setup → Project → List (Option (List Directive)) → List (Event BadUnit) → World → Counts → World → Counts → Type 0
 CallsOnAny child setup project done es first at last now = CallsOver (call_basis_on_any child setup project done) es first at last now
 
--- and the same after a fault
+-- for any records, true or not: exactly these calls were made up to a fault
 abbrev pub CallsCutOnAny : Answers → Setup → Project → List (Option (List Directive)) → BuildFault → Option ℕ → List (Event BadUnit) → List (Event BadUnit) → World → Counts → World → Counts → Type 0
 CallsCutOnAny child setup project done fault asked es before first at last now = CallsCut (call_basis_on_any child setup project done) fault asked es before first at last now

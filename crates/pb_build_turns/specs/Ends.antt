@@ -1,4 +1,5 @@
--- How the units of a project end, what stays true as their children are dropped, and the laws of it.
+-- How the units of a project end, what stays true as their children are dropped, and the laws about
+-- this.
 use Rattle.std.specs.Prelude.{◌≡◌, ℕ, true, false, List, Option, Some, Bool, ◌≢◌, ◌⊎◌, ◌∷◌, [], max, map, length, take, None, IsTrue, IfErr, Result, Ok, Err, slice_get}
 use Rattle.std.specs.FinMap as finite
 use Rattle.std.specs.Io.KnownBytes.{Appends}
@@ -36,7 +37,7 @@ use Rattle.pb_unit.specs.declared.plan.Planned.{Planned}
 -- The units in flight were these before and are those after; all that the events imply about the worlds is still true.
 pub record StaysTold (child : Answers) (project : Project) (first : World) (es : List (Event BadUnit)) (before after : List RunningUnit) (old new : World) (flying : List ChildInFlight) : Type 0 where
   pub changes : Changes project first after es new flying
-  -- those after are among those before
+  -- each unit in flight after was in flight before
   pub beside : (came : List (Event BadUnit)) (asked : Option ℕ) → AllByRecursion (FliesBeside project came asked) before → AllByRecursion (FliesBeside project came asked) after
   -- only folders of units that were dropped have changed
   pub alone : (came : List (Event BadUnit)) (asked : Option ℕ) → AllByRecursion (FliesBeside project came asked) before
@@ -58,13 +59,13 @@ pub record StaysTold (child : Answers) (project : Project) (first : World) (es :
   pub left : (setup : Setup) (done : List (Option (List Directive))) (next : Option ℕ) → IsLawful (needs_of project) es
       → AllLeaveRecords child setup project es done next first old → AllLeaveRecords child setup project es done next first new
 
--- the end of each child with one of these tickets was awaited once, its answer was dropped, and nothing else was
--- called; if each child answers, no counter shows the order
+-- the end of each child with one of these tickets was awaited once, its answer was dropped, and no
+-- other call was made; if each child answers, no counter shows the order
 abbrev pub Dropped : List ℕ → Counts → Counts → Type 0
 Dropped [] old new = new ≡ old
 Dropped (ticket ∷ tickets) old new = (result : Result Ended StartFault) × IfErr result (λ e. e ≢ start.OutOfMemory → (e ≡ start.Died) ⊎ (e ≡ start.Capture)) × Dropped tickets (counted_finish ticket result old) new
 
--- the same for all children in flight
+-- the end of each child in flight was awaited once, and its answer was dropped
 abbrev pub Drained : Counts → Counts → Type 0
 Drained old new = Dropped (map ticket_of_child old.starts.flying) old new
 
@@ -91,8 +92,9 @@ pub record OutcomeHolds (b : BuildContext) (es : List (Event BadUnit)) (new : Wo
   pub lines : due (states_in b.project es) ≡ said_from b.project es 0 (take (count_due (states_in b.project es)) (rows_in b))
   pub first_lines : (n : ℕ) → due_first n (states_in b.project es) ≡ said_from b.project es 0 (take n (take (count_due (states_in b.project es)) (rows_in b)))
 
--- all units have answered, or all up to and including the first bad one, and this is the next run number: the lines of
--- all rows are due, the summary is that of the rows, and each unit began for its first difference
+-- all units have answered, or all up to and including the first bad one, and this is the next run
+-- number: the lines of all rows are due, the summary is the summary of the rows, and each unit
+-- began for its first difference
 pub record StandsWhole (b : BuildContext) (es : List (Event BadUnit)) (reasons : Reasons) (summary : Summary) (next : Option ℕ) (old new : World) : Type 0 where
   pub stands : OutcomeHolds b es new
   pub next_is : stands.next ≡ next
@@ -153,10 +155,11 @@ pub record EndsWhole {S : Type 0} (is_modelled : Bool) (child : Answers) (Turns 
   pub calls : IsTrue is_modelled → Grounding child setup project next old.world (λ b. CallsOver (call_basis b) es old.world old.counts last_world mid)
   pub calls_on_any : IsTrue is_modelled → CallsOnAny child setup project done es old.world old.counts last_world mid
 
--- a fault ended the units. Its cause, and what the sink received, are those of the moment before the children in flight
--- were dropped; after it no unit began, and the turn was not asked again (`HandsBack`, `Flies`).
--- Over a modelled place, the units that have begun and those that have answered satisfy the same as in
--- `EndsWhole`. If a unit could not begin because of a fault of its start, something had differed for it
+-- a fault ended the units. Its cause and what the sink received were fixed before the children in
+-- flight were dropped. After the fault no unit began, and the turn was not asked again
+-- (`HandsBack`, `Flies`). Over a modelled place, the units that have begun and those that have
+-- answered satisfy the same as in `EndsWhole`. If a unit could not begin because of a fault of its
+-- start, something had differed for it
 pub record EndsCut {S : Type 0} (is_modelled : Bool) (child : Answers) (Turns : S → List ℕ → List ℕ → Step → S → Type 0) (setup : Setup) (project : Project) (next : Option ℕ) (from back : S) (fault : BuildFault) (old new : BuildState) : Type 0 where
   pub es : List (Event BadUnit)
   pub last : S
@@ -190,14 +193,14 @@ pub record EndsCut {S : Type 0} (is_modelled : Bool) (child : Answers) (Turns : 
   pub calls : IsTrue is_modelled → Grounding child setup project next old.world (λ b. CallsCut (call_basis b) fault asked es before old.world old.counts mid.world mid.counts)
   pub calls_on_any : IsTrue is_modelled → CallsCutOnAny child setup project done fault asked es before old.world old.counts mid.world mid.counts
 
--- how the units end, by the result
+-- how the units end: with a summary or with a fault
 abbrev pub TurnsEnd : {S : Type 0} → Bool → Answers → (S → List ℕ → List ℕ → Step → S → Type 0) → Setup → Project → Option ℕ → S → S → Result Summary BuildFault → BuildState → BuildState → Type 0
 TurnsEnd is_modelled child Turns setup project next from last (Ok summary) old new = EndsWhole is_modelled child Turns setup project next from last summary old new
 TurnsEnd is_modelled child Turns setup project next from last (Err fault) old new = EndsCut is_modelled child Turns setup project next from last fault old new
 
--- in whatever order units begin and answer: if each that has answered has its outcome of a clean build, the lines that
--- are due are those of the first rows. Once all have answered, up to and including the first bad one, they are those of
--- all rows
+-- if each unit that has answered has its outcome of a clean build, the lines that are due are those
+-- of the first rows. Once all units have answered, up to and including the first bad one, they are
+-- the lines of all rows
 abbrev pub SaysFirstRows : Type 0
 SaysFirstRows = (b : BuildContext) (es : List (Event BadUnit)) (done : List (Option (List Directive))) → ((index : ℕ) (answer : Answer BadUnit) → slice_get (states_in b.project es) index ≡ Some (Answered answer) → HasGiven b es done index answer)
     → (due (states_in b.project es) ≡ said_from b.project es 0 (take (count_due (states_in b.project es)) (rows_in b))) × (is_finished (states_in b.project es) ≡ true → count_due (states_in b.project es) ≡ length (rows_in b))
@@ -216,7 +219,8 @@ LeavesRecords {S} Turns = (child : Answers) (setup : Setup) (project : Project) 
     → summary.success ≡ true → (sources : World) → BuildInvariant (build_context TrustedRecords child setup project sources) (untouched project) (nothing_said project) next old.world
     → EachHasRecord (build_context TrustedRecords child setup project sources) new.world
 
--- and if each unit has its record at first, no child is started, and none is reported as started
+-- if each unit has its record at first, no child is started, and the summary reports no unit as
+-- started
 abbrev pub StartsNoneAgain : {S : Type 0} → (S → List ℕ → List ℕ → Step → S → Type 0) → Type 0
 StartsNoneAgain {S} Turns = (child : Answers) (setup : Setup) (project : Project) (next : Option ℕ) (from last : S) (summary : Summary) (old new : BuildState) → EndsWhole true child Turns setup project next from last summary old new
     → (premise : Premise) (sources : World) → BuildInvariant (build_context premise child setup project sources) (untouched project) (nothing_said project) next old.world

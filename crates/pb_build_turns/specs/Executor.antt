@@ -51,7 +51,8 @@ number_in (Some launched) = launched.number ∷ []
 abbrev pub ticket_of_child : ChildInFlight → ℕ
 ticket_of_child child = child.ticket
 
--- of units in flight: the tickets of their children, then their run numbers, then the units that have a child
+-- the tickets of the children of units in flight (below: their run numbers, and the units that have
+-- a child)
 abbrev pub tickets_of : List RunningUnit → List ℕ
 tickets_of running = flat_map (λ (a : RunningUnit). ticket_in (child_of a.begun)) running
 
@@ -77,8 +78,9 @@ pub record IsOfPlan (project : Project) (a : RunningUnit) : Type 0 where
   pub key : a.begun.unit ≡ unit.key
   pub asks : IsCommandOf project unit a.begun.command
 
--- what is true of a crew at each moment: its project is in order; its store is that of the project's records; and its
--- units in flight are the children in flight, no two with the same index, ticket or run number
+-- what is true of a crew at each moment: its project is in order; its store is the store of the
+-- project's records; the children in flight are those of its units in flight; and no two of these
+-- have the same index, ticket or run number
 pub record IsConsistent (c : UnitExecutor) (counts : Counts) : Type 0 where
   pub order : IsInOrder c.project
   pub folder : c.store.folder ≡ records_folder c.project
@@ -95,7 +97,7 @@ pub record IsConsistent (c : UnitExecutor) (counts : Counts) : Type 0 where
 abbrev pub WritesOwn : Project → List ChildInFlight → RunningUnit → Type 0
 WritesOwn project flying a = (unit : Planned) → unit_at project a.unit ≡ Some unit → WritesTo unit.out (child_of a.begun) flying
 
--- what each call of a crew requires, and what stays true until one fails
+-- what each call of a crew requires, and what stays true until a call fails
 pub record IsAble (is_modelled : Bool) (c : UnitExecutor) (at : At) : Type 0 where
   -- the store has the numbers of its records
   pub numbers : IsTrue is_modelled → HasNumbers (records (records_folder c.project) at.world) c.store.numbers

@@ -57,8 +57,9 @@ abbrev pub upped : ℕ → ℕ → ℕ
 upped zero n = n
 upped (suc k) n = up (upped k n)
 
--- so far no call failed, and no failure was injected; the lines of the first n units were written; one child was
--- started for each unit that began with one; and no more children were in flight at once than the events imply
+-- so far no call failed, and no failure was injected; the lines of the first n units were written;
+-- one child was started for each unit that began with a child; and no more children were in flight
+-- at once than the events imply
 pub record CountersSoFar (project : Project) (first now : BuildState) (started : List ℕ) (running : List RunningUnit) (es : List (Event BadUnit)) (given : ℕ) : Type 0 where
   pub started_are : started ≡ started_by es
   pub launched_are : launched_of running ≡ launched_after es
@@ -108,18 +109,18 @@ StopsBy is_modelled (Device key fault) project first now es = StopsAt is_modelle
 StopsBy is_modelled Sink project first now es = StopsAtSink project first now es
 StopsBy is_modelled OutOfMemory project first now es = ((n : ℕ) × Appends first.heard.taken now.heard.taken (due_first n (states_in project es))) × (now.heard.faults ≡ first.heard.faults)
 
--- the same, with the fault's cause; one child was started for each unit that began with one (for the last of them the
--- spawn may only have been tried); no failure was injected
+-- the build stopped (`StopsBy`) and the fault has its cause; no failure was injected. One child was
+-- started for each unit that began with a child; for the last of these units, the spawn may only
+-- have been tried
 pub record Stops (is_modelled : Bool) (fault : BuildFault) (project : Project) (first now : BuildState) (es : List (Event BadUnit)) : Type 0 where
   pub by : StopsBy is_modelled fault project first now es
   pub cause : HasCause fault first.counts now.counts
   pub starts : now.counts.starts.count ≡ upped (length (started_by es)) first.counts.starts.count
   pub settings : now.counts.starts.settings ≡ first.counts.starts.settings
 
--- the number that a unit takes as it answers:
--- none if a child was started for it, or if it is bad;
--- else the next number if its first record is known to have lacked one, and none if that is known to have had one;
--- at most one number if neither is known
+-- the number that a unit takes as it answers: none if a child was started for it, or if it is bad.
+-- Else the next number if its first record is known to have lacked one, and none if this record is
+-- known to have had one. If neither is known, at most one number
 pub record TakesAsAnswered (Lacks : Bool → Type 0) (started : Bool) (fault : Option BadUnit) (before now : Option ℕ) : Type 0 where
   pub at_most : TakesNumber before now
   pub child : started ≡ true → now ≡ before
@@ -127,8 +128,8 @@ pub record TakesAsAnswered (Lacks : Bool → Type 0) (started : Bool) (fault : O
   pub had : Lacks false → now ≡ before
   pub lacked : started ≡ false → fault ≡ None → Lacks true → TakesNext before now
 
--- the next run number after these events: a unit takes a number as it begins with a child, or as it answers. A number
--- that was taken for a unit that then could not begin is not counted
+-- the next run number after these events: a unit takes a number as it begins with a child, or as it
+-- answers. If a unit took a number and then could not begin, this number is not counted
 abbrev pub NumbersGiven : (ℕ → Bool → Type 0) → List (Event BadUnit) → Option ℕ → Option ℕ → Type 0
 NumbersGiven Lacks [] first now = now ≡ first
 NumbersGiven Lacks (Began unit true ∷ es) first now = (before : Option ℕ) × NumbersGiven Lacks es first before × TakesNext before now
@@ -146,8 +147,8 @@ IsUntold unit lacks = ⊥
 
 -- What is true over a modelled place.
 
--- the unit at an index has its outcome of a clean build: its fault, its lines, which say whether a child was started
--- for it, and its directives, which are noted
+-- the unit at an index has its outcome of a clean build: its fault, its lines and its noted
+-- directives. Its lines say whether a child was started for it
 pub record HasGiven (b : BuildContext) (es : List (Event BadUnit)) (done : List (Option (List Directive))) (index : ℕ) (answer : Answer BadUnit) : Type 0 where
   pub unit : Planned
   pub there : unit_at b.project index ≡ Some unit
@@ -176,7 +177,8 @@ LacksNumber project w index lacks = (u : Planned) → unit_at project index ≡ 
 abbrev pub HasNoRecord : Project → Planned → World → Type 0
 HasNoRecord project u w = records (records_folder project) w u.key ≡ None
 
--- a unit in flight for which a child was started has no record; the unit whose answer was taken is excepted
+-- if a child was started for a unit in flight, the unit has no record; the unit whose answer was
+-- taken is excepted
 abbrev pub KeepsNoneInFlight : Project → List (Event BadUnit) → Option ℕ → World → Type 0
 KeepsNoneInFlight project es asked w = (index : ℕ) (u : Planned) → unit_at project index ≡ Some u → slice_get (states_in project es) index ≡ Some Begun → asked ≢ Some index → is_started es index ≡ true → HasNoRecord project u w
 
@@ -209,18 +211,18 @@ pub record BeganFor (project : Project) (sources : World) (command : ℕ → Pla
   pub kept_stays : difference ≡ None → lacks_number (records (records_folder project) first unit.key) ≡ false → (q : List ℕ) → is_of (records_folder project) unit.key q ≡ true → finite.get now.files q ≡ finite.get first.files q
   pub unstarted : started_by (events_before es index) ≡ [] → ((p : ℕ) → LacksNumber project first p false) → world ≡ first
 
--- each unit that has begun did so for its first difference
+-- each unit that has begun has begun for its first difference (`BeganFor`)
 abbrev pub AllBegan : Project → World → (ℕ → Planned → Command) → List (Event BadUnit) → Reasons → World → World → Type 0
 AllBegan project sources command es reasons first now = (index : ℕ) → HasBegun (states_in project es) index → BeganFor project sources command es reasons first now index
 
--- if a unit could not begin because of its start, or because memory ran out as its child was tried, something had
--- differed for it; that is stated as if its child had been started
+-- if a unit could not begin because of its start, or because memory ran out as its child was tried,
+-- something had differed for it. This is stated as if its child had been started
 abbrev pub HadDiffered : Project → World → (ℕ → Planned → Command) → BuildFault → List (Event BadUnit) → List (Event BadUnit) → World → World → Type 0
 HadDiffered project sources command fault before es first now =
     (index : ℕ) (spawned : Bool) → es ≡ Began index spawned ∷ before → (is_of_start fault ≡ true) ⊎ (spawned ≡ true) → (reasons : Reasons) × BeganFor project sources command (Began index true ∷ before) reasons first now index
 
--- the same over any records, true or not: with the sources of the first world, and with the command of each unit after
--- the directives that are noted
+-- for any records, true or not: each unit began for its first difference, with the sources of the
+-- first world, and with its command after the directives that are noted
 abbrev pub AllBeganOnAny : Setup → Project → List (Option (List Directive)) → List (Event BadUnit) → Reasons → World → World → Type 0
 AllBeganOnAny setup project done es reasons first now = AllBegan project (from_nothing project.workspace.target first) (λ index u. command_of setup project u done) es reasons first now
 
@@ -228,7 +230,8 @@ AllBeganOnAny setup project done es reasons first now = AllBegan project (from_n
 abbrev pub StartedOnAny : Setup → Project → List (Option (List Directive)) → BuildFault → List (Event BadUnit) → List (Event BadUnit) → World → World → Type 0
 StartedOnAny setup project done fault before es first now = HadDiffered project (from_nothing project.workspace.target first) (λ index u. command_of setup project u done) fault before es first now
 
--- the same for a build context: with its sources, and with the command of each unit after the outcomes of a clean build
+-- for a build context: each unit began for its first difference, with the sources of the context,
+-- and with its command after the outcomes of a clean build
 abbrev pub AllBeganFor : BuildContext → List (Event BadUnit) → Reasons → World → World → Type 0
 AllBeganFor b es reasons first now = AllBegan b.project b.sources (command_in b) es reasons first now
 
@@ -259,28 +262,28 @@ pub record ChangesInFlight (project : Project) (es : List (Event BadUnit)) (aske
   pub variables : new.variables ≡ old.variables
   pub files : (q : List ℕ) → ((index : ℕ) (u : Planned) → slice_get (states_in project es) index ≡ Some Begun → asked ≢ Some index → is_started es index ≡ true → unit_at project index ≡ Some u → is_at_or_below u.out q ≡ false) → finite.get new.files q ≡ finite.get old.files q
 
--- whatever a build rests on: the units in flight, and what has changed
+-- the units in flight and what has changed, whatever the build rests on
 pub record Changes (project : Project) (first : World) (running : List RunningUnit) (es : List (Event BadUnit)) (world : World) (flying : List ChildInFlight) : Type 0 where
   pub flies : AllByRecursion (FliesIn project es world flying) running
   pub only : OnlyOf project es first world
   pub unkept : KeepsNoneOfBad project es world
 
--- each unit that answered without a child did so by the record that it had at first
+-- each unit without a child answered by the record that it had at first
 abbrev pub AllAnswerAgain : Setup → Project → List (Event BadUnit) → List (Option (List Directive)) → World → Type 0
 AllAnswerAgain setup project es done first = (index : ℕ) (answer : Answer BadUnit) → slice_get (states_in project es) index ≡ Some (Answered answer) → is_started es index ≡ false
     → AnswersAgain setup project done first index answer
 
--- and those in flight without a child wait to do so
+-- as `AllAnswerAgain`; and each unit in flight without a child waits to answer in this way
 pub record Replays (setup : Setup) (project : Project) (done : List (Option (List Directive))) (running : List RunningUnit) (es : List (Event BadUnit)) (first now : World) : Type 0 where
   pub waits : AllByRecursion (λ (a : RunningUnit). FliesAgain setup project done first now a) running
   pub gave : AllAnswerAgain setup project es done first
 
--- each unit that answered with a child did so by the child's reply to what it sees of this world, whether the records
--- are true or not
+-- each unit with a child answered by the child's reply to what it sees of this world, whether the
+-- records are true or not
 abbrev pub AllAnswerAnew : Answers → Setup → Project → List (Event BadUnit) → List (Option (List Directive)) → World → Type 0
 AllAnswerAnew child setup project es done now = (index : ℕ) (answer : Answer BadUnit) → slice_get (states_in project es) index ≡ Some (Answered answer) → is_started es index ≡ true → AnswersAnew child setup project done now index answer
 
--- and those in flight with a child wait to do so
+-- as `AllAnswerAnew`; and each unit in flight with a child waits to answer in this way
 pub record Replies (child : Answers) (setup : Setup) (project : Project) (done : List (Option (List Directive))) (running : List RunningUnit) (es : List (Event BadUnit)) (now : World) (flying : List ChildInFlight) (still : ℕ → Type 0) : Type 0 where
   pub waits : AllByRecursion (FliesAnew child setup project done now flying still) running
   pub gave : AllAnswerAnew child setup project es done now
@@ -331,13 +334,14 @@ pub record FliesSo (b : BuildContext) (es : List (Event BadUnit)) (next : Option
   pub reaches : (u : Planned) → unit_at b.project a.unit ≡ Some u → are_good (states_in b.project es) u.reaches ≡ true
   pub started : is_started es a.unit ≡ is_some (child_of a.begun)
 
--- what has happened: what `BuildInvariant` requires, the units in flight, and those that have answered
+-- what has happened: `BuildInvariant` is true, each unit in flight has begun, and each unit that
+-- has answered has its outcome
 pub record HistoryHolds (b : BuildContext) (done : List (Option (List Directive))) (running : List RunningUnit) (next : Option ℕ) (es : List (Event BadUnit)) (world : World) (flying : List ChildInFlight) (still : ℕ → Type 0) : Type 0 where
   pub keeps : BuildInvariant b (states_in b.project es) done next world
   pub begun : AllByRecursion (FliesSo b es next world flying still) running
   pub gave : (index : ℕ) (answer : Answer BadUnit) → slice_get (states_in b.project es) index ≡ Some (Answered answer) → HasGiven b es done index answer
 
--- as long as no child is started, the world is the first one, if no record lacked a number then
+-- if no record lacked a number at first, the world is the first one as long as no child is started
 abbrev pub IsQuiet : Project → List (Event BadUnit) → World → World → Type 0
 IsQuiet project es first now = started_by es ≡ [] → ((index : ℕ) → LacksNumber project first index false) → now ≡ first
 
@@ -345,8 +349,8 @@ IsQuiet project es first now = started_by es ≡ [] → ((index : ℕ) → Lacks
 abbrev pub NotesUnbegun : Project → List (Event BadUnit) → Reasons → Reasons → Type 0
 NotesUnbegun project es first now = (index : ℕ) → slice_get (states_in project es) index ≡ Some Untouched → slice_get now index ≡ slice_get first index
 
--- the first difference of each unit that has begun is noted; there is one if and only if a child was started for the
--- unit
+-- for each unit that has begun, its first difference is noted, or that nothing differed; a
+-- difference is noted if and only if a child was started for the unit
 abbrev pub NotesStarted : Project → List (Event BadUnit) → Reasons → Type 0
 NotesStarted project es now = (index : ℕ) (s : State BadUnit) → slice_get (states_in project es) index ≡ Some s → s ≢ Untouched
     → (d : Option Difference) × (slice_get now index ≡ Some (Some d)) × (is_some d ≡ is_started es index)
@@ -396,8 +400,8 @@ CameAfter project (Device key fault) before es = (es ≡ before) ⊎ IsBeginning
 CameAfter project OutOfMemory before es = (es ≡ before) ⊎ ((unit : ℕ) × (spawned : Bool) × (es ≡ Began unit spawned ∷ before))
 CameAfter project fault before es = es ≡ before
 
--- the unit that a fault names: the one whose answer was taken, after all these events; if there is none, the one that
--- could not begin. The sink and out of memory name no unit
+-- the unit that a fault names: the unit whose answer was taken, after all these events; if no
+-- answer was taken, the unit that could not begin. The sink and out of memory name no unit
 abbrev pub NamesUnit : Project → BuildFault → Option ℕ → List (Event BadUnit) → List (Event BadUnit) → Type 0
 NamesUnit project (Child key fault) None before es = IsBeginning project key true before es
 NamesUnit project (Child key fault) (Some unit) before es = (key_at project unit ≡ key ∷ []) × (es ≡ before)
@@ -405,8 +409,8 @@ NamesUnit project (Device key fault) None before es = IsBeginning project key fa
 NamesUnit project (Device key fault) (Some unit) before es = (key_at project unit ≡ key ∷ []) × (es ≡ before)
 NamesUnit project fault asked before es = Unit {0}
 
--- the story after a fault ended it, as the answer of this unit was taken, or of none: the units in flight are in flight
--- by the events before the fault, and this unit is not among them
+-- the story up to a fault: if the answer of a unit was taken, it is this unit's. The units in
+-- flight are in flight by the events before the fault, and this unit is not among them
 pub record StoryEnds (is_modelled : Bool) (child : Answers) (fault : BuildFault) (asked : Option ℕ) (first : UnitExecutor) (at : BuildState) (c : UnitExecutor) (now : BuildState) (still : ℕ → Type 0) (es : List (Event BadUnit)) : Type 0 where
   pub setup : c.setup ≡ first.setup
   pub project : c.project ≡ first.project

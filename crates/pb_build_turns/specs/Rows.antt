@@ -1,4 +1,5 @@
--- The outcomes of the units of a build, one after another in plan order, and what is reported of them.
+-- The outcomes of the units of a build, one after another in plan order, and what a build reports
+-- about them.
 use Rattle.std.specs.Prelude.{ℕ, suc, Bool, true, false, ◌==◌, ◌+◌, List, [], ◌∷◌, ◌++◌, length, take, Option, Some, None, if◌then◌else◌, slice_get, is_none}
 use Rattle.std.specs.List.{flat_map}
 use Rattle.pb_build_result.specs.declared.bad_unit.BadUnit.{BadUnit}
@@ -38,7 +39,7 @@ to_first_bad (u ∷ us) (o ∷ os) = record { unit = u; outcome = o } ∷ (if is
 abbrev pub rows_of : Answers → Setup → Project → World → List Row
 rows_of child setup project sources = to_first_bad project.plan.planned (outcomes child setup project sources)
 
--- What is reported of them.
+-- What a build reports about them.
 
 abbrev pub messages_in : Outcome → List Message
 messages_in Waiting = []
@@ -88,7 +89,7 @@ is_success (Some bad) = false
 abbrev pub started_keys : Project → List (Event BadUnit) → List (List ℕ)
 started_keys project es = flat_map (λ index. key_in (unit_at project index)) (started_by es)
 
--- the key and the fault of a bad unit (below, what its child printed)
+-- the key and the fault of a bad unit (below: what its child printed)
 abbrev pub key_told : Option (List ℕ × BadUnit) → Option (List ℕ × UnitFault)
 key_told None = None
 key_told (Some bad) = Some (bad.0, bad.1.fault)
@@ -97,7 +98,8 @@ abbrev pub said_told : Option (List ℕ × BadUnit) → List ℕ
 said_told None = []
 said_told (Some bad) = bad.1.said
 
--- the first difference of each unit: none for a unit that has not begun; for one that has, a difference or none
+-- the note of the first difference of each unit: a unit that has not begun has no note; the note of
+-- any other unit is a difference, or that nothing differed
 abbrev pub Reasons : Type 0
 Reasons = List (Option (Option Difference))
 
@@ -117,7 +119,7 @@ kept_key key None = []
 kept_key key (Some None) = key ∷ []
 kept_key key (Some (Some difference)) = []
 
--- the keys of the units that have begun and from whose records nothing differed, in plan order
+-- the keys, in plan order, of the units that have begun without a difference from their records
 abbrev pub kept_of : List Planned → Reasons → List (List ℕ)
 kept_of [] reasons = []
 kept_of (u ∷ us) [] = []
@@ -134,7 +136,7 @@ summary_of project es reasons rows = record {
   directives = directives_told rows;
 }
 
--- The same by answers, over a place that does not tell its maps.
+-- The same reports, made from the answers. They also work over a place that is not modelled.
 
 abbrev pub fault_of : State BadUnit → Option BadUnit
 fault_of Untouched = None
@@ -150,23 +152,25 @@ bad_with None s = None
 bad_with (Some u) None = None
 bad_with (Some u) (Some s) = with_key u.key (fault_of s)
 
--- the key and the fault of the unit at an index, by its answer
+-- the key of the unit at an index, and the fault in its answer
 abbrev pub bad_told : List Planned → List (State BadUnit) → Option ℕ → Option (List ℕ × BadUnit)
 bad_told units states None = None
 bad_told units states (Some index) = bad_with (slice_get units index) (slice_get states index)
 
--- the keys of these units with the directives that are noted for them
+-- the keys of these units, each with the directives that are noted for it
 abbrev pub noted_of : List Planned → List (Option (List Directive)) → List (List ℕ × List Directive)
 noted_of [] noted = []
 noted_of (u ∷ us) [] = []
 noted_of (u ∷ us) (d ∷ noted) = keyed u.key d ++ noted_of us noted
 
--- how many units are reported, by the index of the first bad one
+-- the number of reported units: all units, or those up to and including the first bad one, which
+-- has this index
 abbrev pub count_told : ℕ → Option ℕ → ℕ
 count_told units None = units
 count_told units (Some place) = place + 1
 
--- the noted directives of the units that are reported: of all units, or of those up to and including the first bad one
+-- the noted directives of the reported units: all units, or those up to and including the first bad
+-- one
 abbrev pub noted_told : List Planned → List (Option (List Directive)) → Option ℕ → List (List ℕ × List Directive)
 noted_told units noted bad = noted_of (take (count_told (length units) bad) units) (take (count_told (length units) bad) noted)
 

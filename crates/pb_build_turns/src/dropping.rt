@@ -27,7 +27,7 @@ fn drop_first<P: Place>(alloc: Global, crew: &mut UnitExecutor, place: &mut P)
     ensures running { crew.new.running.items ≡ remove crew.old.running.items 0 }
     ensures same { crew.new ≡ record crew.old { running = crew.new.running } }
 
-    // The end of its child, if it has one, was awaited.
+    // If the unit has a child, the child's end was awaited.
     ensures dropped { (new : Counts)
         → Dropped (tickets_of crew.new.running.items) (P.at place.new).counts new
         → Dropped (tickets_of crew.old.running.items) (P.at place.old).counts new }
@@ -51,8 +51,8 @@ fn drop_first<P: Place>(alloc: Global, crew: &mut UnitExecutor, place: &mut P)
     drop_unit(alloc, place, &running.begun);
 }
 
-/// Drops all units in flight, in the order in which they began. Then no child is in flight. It
-/// makes no other call of the place.
+/// Drops all units in flight, in the order in which they began. Afterwards no child is in flight.
+/// It makes no other call of the place.
 pub(crate) fn drain<P: Place>(alloc: Global, crew: &mut UnitExecutor, place: &mut P)
     requires consistent { IsConsistent crew.old (P.at place.old).counts }
 

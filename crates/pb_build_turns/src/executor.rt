@@ -28,7 +28,7 @@ use std::alloc::{AllocError, Global};
 pub struct RunningUnit {
     /// Its index in plan order.
     pub unit: usize,
-    /// How it has begun. Its difference is none here, because the crew's reasons have it.
+    /// How it has begun. Here its difference is none, because the crew's reasons contain it.
     pub begun: Begun,
 }
 
@@ -41,15 +41,15 @@ pub struct UnitExecutor {
     pub project: OrderedProject,
     /// The records of the profile's folder.
     pub store: Store,
-    /// For each unit the directives of its run: none if it has not answered, is bad, or is not a
-    /// run.
+    /// For each unit, the directives of its run. A unit that has not answered, is bad, or is not a
+    /// run has none.
     pub done: Vec<Option<Directives>>,
     /// The units in flight, in the order in which they began.
     pub running: Vec<RunningUnit>,
     /// The units for which a child was started, in order.
     pub started: Vec<usize>,
-    /// For each unit its first difference: none if it has not begun; some difference or none if it
-    /// has.
+    /// For each unit, the note of its first difference: none if it has not begun. The note of any
+    /// other unit is a difference, or that nothing differed.
     pub reasons: Vec<Option<Option<Difference>>>,
 }
 
@@ -102,7 +102,8 @@ fn note_begun(
     reasons[unit] = Some(difference);
 }
 
-/// Begins a unit of the crew's project that is not in flight. After a fault it is not in flight.
+/// Begins a unit of the crew's project that is not in flight. After a fault the unit is not in
+/// flight.
 fn begin_at<P: Place>(
     alloc: Global,
     crew: &mut UnitExecutor,
@@ -186,8 +187,8 @@ fn note_answer(done: &mut Vec<Option<Directives>>, unit: usize, outcome: Outcome
     Answer { fault, lines }
 }
 
-/// Takes the answer of the unit at an index of those in flight. Afterwards it is no longer in
-/// flight, even after a fault.
+/// Takes the answer of a unit in flight. The index is its index among the units in flight.
+/// Afterwards the unit is no longer in flight, even after a fault.
 fn answer_at<P: Place>(
     alloc: Global,
     crew: &mut UnitExecutor,

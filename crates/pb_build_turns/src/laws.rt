@@ -4,10 +4,10 @@ ghost use Rattle.pb_build_turns.specs.Ends.{SaysFirstRows, StartsNothing, Leaves
 
 use pb_run_flight::Turn;
 
-/// In whatever order units begin and answer, and whoever decides: if each unit that has answered
-/// has its outcome of a clean build, the lines that are due are those of the first rows of a clean
-/// build. Once all have answered, up to and including the first bad one, they are those of all
-/// rows.
+/// If each unit that has answered has its outcome of a clean build, the lines that are due are
+/// those of the first rows of a clean build. Once all units have answered, up to and including the
+/// first bad one, they are the lines of all rows. This is true in whatever order the units begin
+/// and answer, and whoever decides the order.
 pub fn answers_say_rows()
     ensures { SaysFirstRows }
 {}
@@ -25,7 +25,8 @@ pub fn success_leaves_records<T: Turn>()
 {}
 
 /// If each unit has its record at first, units that ended without a fault started no child, and
-/// none is reported as started. So it is with the same build right after one that succeeded.
+/// none is reported as started. This is the case for the same build right after a build that
+/// succeeded.
 pub fn same_build_starts_none<T: Turn>()
     ensures { StartsNoneAgain T.turns }
 {}

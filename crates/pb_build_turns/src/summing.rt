@@ -122,7 +122,7 @@ fn differences_at(
     Ok(found)
 }
 
-/// Adds the key of a unit that has begun and from whose record nothing differed.
+/// Adds the key of a unit, if the unit has begun without a difference from its record.
 fn note_kept(
     alloc: Global,
     kept: &mut Items<Text>,
@@ -138,7 +138,7 @@ fn note_kept(
     Ok(())
 }
 
-/// Returns the keys of the units that have begun and from whose records nothing differed.
+/// Returns the keys of the units that have begun without a difference from their records.
 fn kept_of(
     alloc: Global,
     units: &[Planned],
@@ -220,9 +220,9 @@ fn count_told(units: usize, bad: Option<usize>) -> usize
     }
 }
 
-/// Returns the summary of units that have ended. It takes their states, the directives of their
-/// runs, the indices of those that were started, the differences, and the index of the first bad
-/// one.
+/// Returns the summary of units that have ended. It takes the units' states, the directives of
+/// their runs, the indices of the units whose child was started, the differences, and the index of
+/// the first bad unit.
 ///
 /// Errors: only out of memory.
 pub(crate) fn summary_of(

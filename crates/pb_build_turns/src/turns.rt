@@ -64,7 +64,7 @@ fn flight_of(alloc: Global, project: &OrderedProject) -> Result<Flight<BadUnit>,
     Flight::new(alloc, needs)
 }
 
-/// Returns the summary of the units of a crew that have ended, by the flight.
+/// Returns the summary of a crew's units after they have ended, from the flight.
 ///
 /// Errors: only out of memory.
 fn sum_up(
@@ -95,9 +95,9 @@ fn sum_up(
 }
 
 /// Runs the units of a project that is in order, by the steps that a turn decides, until all have
-/// answered, or all up to and including the first bad one. Then the ends of the children in flight
-/// are awaited, in the order in which they began, and their answers dropped. That is done after a
-/// fault too, with no other call of the place.
+/// answered, or all up to and including the first bad one. Then it awaits the ends of the children
+/// in flight, in the order in which they began, and drops their answers. After a fault it also does
+/// this, and makes no other call of the place.
 ///
 /// Errors:
 ///

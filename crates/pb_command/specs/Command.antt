@@ -62,7 +62,8 @@ abbrev pub run_program : List (List ℕ) → List ℕ → List ℕ
 run_program [] script = script
 run_program (program ∷ words) script = program
 
--- the arguments of a run: the runner's other words and the script's path; none without a runner
+-- the arguments of a run: the runner's other words and the script's path; a run without a runner
+-- has none
 abbrev pub run_words : List (List ℕ) → List ℕ → List (List ℕ)
 run_words [] script = []
 run_words (program ∷ words) script = words ++ script ∷ []

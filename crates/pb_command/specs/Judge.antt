@@ -1,5 +1,5 @@
--- Which replies to a command are good. Only the command decides that. So if a unit is in no plan
--- any more, its answer is judged as it was when a plan had the unit.
+-- Which replies to a command are good. Only the command decides this. So if no plan has a unit any
+-- more, the unit's answer is judged as it was when a plan had the unit.
 use Rattle.std.specs.Prelude.{◌≡◌, ℕ, Bool, if◌then◌else◌, codes, List, [], ◌∷◌, ◌++◌, Option, Some, None, Result, Ok, Err, slice_get}
 use Rattle.std.specs.FinMap as finite
 use Rattle.std.specs.Str.{bytes_eq}
@@ -35,7 +35,7 @@ abbrev pub file_at : Option (List ℕ) → Map → Option (List ℕ)
 file_at None files = None
 file_at (Some path) files = finite.get files path
 
--- the output folder is that of a unit that runs a script: its last word is `run`
+-- the output folder belongs to a unit that runs a script: its last word is `run`
 abbrev pub is_of_run : List ℕ → Bool
 is_of_run out = bytes_eq (last_word out) (codes "run")
 
@@ -63,7 +63,7 @@ abbrev pub judge_in : Command → Option (List ℕ) → Reply → Option (List I
 judge_in c None r = None
 judge_in c (Some out) r = inputs_if (answered_in c out (ended_by r) (replied_files out r))
 
--- the names of the inputs that are found in a good reply to a command; none if the reply is bad
+-- the names of the inputs that are found in a good reply to a command; a bad reply has none
 unfoldable pub judge : Command → Reply → Option (List InputName)
 judge c r = judge_in c c.out r
 

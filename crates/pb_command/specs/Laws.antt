@@ -19,8 +19,8 @@ use Rattle.pb_command_environment.specs.Pairs.{composed, pairs_of}
 abbrev pub PairsRise : Type 0
 PairsRise = (setup : Setup) (project : Project) (unit : Planned) (done : List (Option (List Directive))) → IsAscending (names_of (command_of setup project unit done).pairs)
 
--- the last value that a variable is given counts: so a script's value
--- wins over the builder's, and a later line over an earlier one
+-- the last value of a variable counts. So a script's value wins over the builder's value, and a
+-- later line wins over an earlier line
 abbrev pub LastValuesCount : Type 0
 LastValuesCount = (setup : Setup) (project : Project) (unit : Planned) (done : List (Option (List Directive))) (p : Package) (name : List ℕ)
     → value_at name (pairs_of setup project unit done p) ≡ last_value name (composed setup project unit done p)

@@ -209,7 +209,7 @@ fn compile_of(
     Ok(joined(asking, surroundings))
 }
 
-/// Returns the path of the script that a run starts; it is empty if there is none.
+/// Returns the path of the script that a run starts; it is empty if there is no script.
 fn script_path(alloc: Global, project: &Project, unit: &Planned) -> Result<Text, AllocError>
     ensures { IfOk result (λ path. path ≡ script_path project.now unit.now) }
 {
@@ -330,17 +330,18 @@ fn nothing_of(alloc: Global, setup: &Setup, project: &Project) -> Result<Command
     })
 }
 
-/// Returns the command of a unit of the plan. `done` contains the directives
-/// of earlier runs: at the index of a run in the plan, those of the run's
-/// lines; at that of a compile, none. An index past its end counts as none.
+/// Returns the command of a unit of the plan. `done` contains the directives of earlier runs. At
+/// the index of a run in the plan it has the directives of the run's lines; at the index of a
+/// compile it has none. An index past its end counts as none.
 ///
 /// A compile starts the compiler in the workspace's root. Its arguments are, in this order: the
-/// crate's name, edition and source; its types, and where it is written; its settings; the
-/// features that are on, and those that exist; the folders of the libraries that it reaches, and
-/// the libraries under the names that the source uses; what build scripts request; and the user's
+/// crate's name, edition and source; its types, and where it is written; its settings; the features
+/// that are on, and those that exist; the folders of the libraries that it reaches, and the
+/// libraries under the names that the source uses; what build scripts request; and the user's
 /// flags. A run starts the build script in its package's folder, after the runner if there is one.
 /// The variables are those of The Cargo Book, Environment Variables, and those that the package's
-/// script has set, which win. The child may read the folders of all units that its unit reaches.
+/// script has set; the script's variables win. The child may read the folders of all units that its
+/// unit reaches.
 ///
 /// Errors: out of memory.
 pub fn command(

@@ -8,7 +8,7 @@ pub fn pairs_rise()
     ensures { PairsRise }
 {}
 
-/// The last value that a variable is given counts.
+/// The last value of a variable counts.
 pub fn last_values_count()
     ensures { LastValuesCount }
 {}
@@ -19,13 +19,13 @@ pub fn libraries_in_order()
     ensures { LibrariesInOrder }
 {}
 
-/// The paths of a command are normalised and absolute, if those of its project are.
+/// The paths of a command are normalised and absolute, if the paths of its project are.
 pub fn commands_are_absolute()
     ensures { CommandsAreAbsolute }
 {}
 
-/// What is found in a reply to the command of a planned unit depends only on the command: so a
-/// record can be judged whichever plan its unit was in.
+/// The inputs found in a reply to the command of a planned unit depend only on the command and the
+/// reply. So a record can be judged whichever plan its unit was in.
 pub fn judges_as_answered()
     ensures { JudgesAsAnswered }
 {}

@@ -38,15 +38,15 @@ abbrev pub folder_words_in : Option Planned → List (List ℕ)
 folder_words_in None = []
 folder_words_in (Some unit) = if is_library unit.unit.what then folder_words unit.out else []
 
--- the same for the unit at an index, if it is a library
+-- `-L` and the folder of the unit at an index, if the unit is a library
 abbrev pub folder_words_at : Project → ℕ → List (List ℕ)
 folder_words_at project index = folder_words_in (unit_at project index)
 
--- the same for each library that a unit reaches, in plan order
+-- `-L` and the folder of each library that a unit reaches, in plan order
 abbrev pub dependency_words : Project → Planned → List (List ℕ)
 dependency_words project unit = flat_map (folder_words_at project) unit.reaches
 
--- an entry of this kind is for a library that such a unit needs: a normal entry for libraries and binaries, a build
+-- an entry of this kind is for such a unit: a normal entry for libraries and binaries, a build
 -- entry for scripts
 abbrev pub leads : What → DependencyKind → Bool
 leads Lib kind = is_normal kind
@@ -72,7 +72,7 @@ extern_key name path = name ++ 0 ∷ path
 unfoldable pub extern_text : List ℕ → List ℕ → List ℕ
 extern_text name path = name ++ equals ∷ path
 
--- a library by its name and its file; none if the unit needs no such library
+-- the name and the file of a library; none if the unit needs no such library
 abbrev pub extern : List ℕ → Option (List ℕ) → List (List ℕ × List ℕ)
 extern name None = []
 extern name (Some path) = (extern_key name path, extern_text name path) ∷ []

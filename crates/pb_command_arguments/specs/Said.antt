@@ -50,19 +50,19 @@ binary_word name _ = []
 abbrev pub searched_words : List (Option (List Directive)) → ℕ → List (List ℕ)
 searched_words done place = flat_map search_word (said_at done place)
 
--- the same for each run that the unit reaches, in plan order
+-- the search folders for libraries from each run that the unit reaches, in plan order
 abbrev pub search_words : Planned → List (Option (List Directive)) → List (List ℕ)
 search_words unit done = flat_map (searched_words done) unit.reaches
 
--- the conditions that are on, and then those that are expected
+-- the conditions that are on, and then the expected conditions
 abbrev pub condition_words : List Directive → List (List ℕ)
 condition_words said = flat_map condition_word said ++ flat_map check_word said
 
--- the linker flags of a binary: those for all targets, those for all binaries, and those for this one
+-- the linker flags of a binary: the flags for all targets, for all binaries, and for this binary
 abbrev pub argument_words : List ℕ → List Directive → List (List ℕ)
 argument_words name said = flat_map argument_word said ++ flat_map binaries_word said ++ flat_map (binary_word name) said
 
--- the libraries to link are passed to a binary only if the package has no library
+-- the libraries to link; a binary gets them only if its package has no library
 abbrev pub binary_link_words : Option Library → List Directive → List (List ℕ)
 binary_link_words library said = if is_none library then flat_map link_word said else []
 

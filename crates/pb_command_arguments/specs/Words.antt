@@ -48,7 +48,7 @@ crate_words project unit p = name_words (crate_name_of project unit) ++ edition_
 unfoldable pub type_word : CrateType → List (List ℕ)
 type_word t = option (codes "--crate-type") (crate_type_text t)
 
--- the same for each type
+-- `--crate-type` and the type, for each type
 abbrev pub type_words : List CrateType → List (List ℕ)
 type_words types = flat_map type_word types
 
@@ -83,7 +83,8 @@ abbrev pub is_value : Option Setting → Setting → Bool
 is_value None value = false
 is_value (Some other) value = same other value
 
--- whether a key has no option: it has its value without one, or the unit is no binary and the key is one of binaries
+-- whether a key has no option: the compiler has this value without an option, or only binaries have
+-- the key and the unit is no binary
 abbrev pub is_untold : What → ProfileKey → Setting → Bool
 is_untold what k value = ((row k).of_binaries && not (is_binary what)) || is_value (row k).untold value
 

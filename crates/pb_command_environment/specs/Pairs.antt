@@ -81,7 +81,7 @@ abbrev pub run_there : Project → List (Option (List Directive)) → Option ℕ
 run_there project done None = []
 run_there project done (Some index) = run_at project done index
 
--- the same for the run of the unit's own package
+-- the folder of the run of the unit's own package, and the variables that this run has set
 abbrev pub own_run_pairs : Project → Planned → List (Option (List Directive)) → List (List ℕ × List ℕ)
 own_run_pairs project unit done = run_there project done (own_run project unit)
 
@@ -124,7 +124,7 @@ abbrev pub first_host : List (List ℕ) → List ℕ
 first_host [] = []
 first_host (line ∷ lines) = or_else (host_in line) (first_host lines)
 
--- the compiler's host triple: the host in the first line that names one
+-- the compiler's host triple: the host in the first line that names a host
 abbrev pub triple_of : List ℕ → List ℕ
 triple_of toolchain = first_host (lines_of toolchain)
 

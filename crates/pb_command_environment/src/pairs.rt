@@ -267,8 +267,9 @@ fn set_own(
 }
 
 /// Returns the variables of a command (The Cargo Book, Environment Variables): each name once, in
-/// byte order, with the last value that is set; what the script of the unit's package has set wins.
-/// `done` contains the directives of the runs before it, by their index in the plan.
+/// byte order, with the last value that is set. A variable that the script of the unit's package
+/// has set wins. `done` contains the directives of the runs before the unit, by their index in the
+/// plan.
 ///
 /// Errors: only out of memory.
 #[tactic(auto, using(pb_command_types::proofs::NamedTexts::set_laws))]

@@ -34,7 +34,7 @@ fn host_in(line: &[u8]) -> Option<&str>
     }
 }
 
-/// Returns the compiler's host triple, or an empty text if no line names one.
+/// Returns the compiler's host triple, or an empty text if no line names a host.
 pub(crate) fn triple_of(toolchain: &[u8]) -> &str
     ensures { result.now ≡ triple_of toolchain.now }
 {

@@ -38,7 +38,7 @@ is_binary what = is_some (binary_name what)
 
 -- Settings.
 
--- a setting as the compiler spells it, unless it is this one
+-- a value as the compiler spells it, unless it is this one
 abbrev pub unless_is : Setting → List ℕ → Setting → Option (List ℕ)
 unless_is other shown value = if same other value then None else Some (value_text shown value)
 
@@ -61,8 +61,8 @@ settings_table what s =
 
 -- What the lines of scripts say.
 
--- a line of a script as its key and its value;
--- the key of `rustc-link-arg-bin=BIN=FLAG` is `rustc-link-arg-bin=BIN`; a line whose key is used nowhere has both empty
+-- a line of a script as its key and its value; the key of `rustc-link-arg-bin=BIN=FLAG` is
+-- `rustc-link-arg-bin=BIN`; if nothing uses the key of a line, its key and its value are empty
 abbrev pub as_line : Directive → List ℕ × List ℕ
 as_line (LinkSearch folder) = (codes "rustc-link-search", folder)
 as_line (LinkLib name) = (codes "rustc-link-lib", name)
@@ -112,17 +112,20 @@ features_there_are features = codes "cfg(feature, values(" ++ join_by (λ (f : F
 abbrev pub libraries_at : Project → List ℕ → List Planned
 libraries_at project places = filter (λ (u : Planned). is_library u.unit.what) (filter_map (unit_at project) places)
 
--- What the arguments of a compile say. `lines` are those of the script that it hears; `Is` is true of its libraries.
+-- What the arguments of a compile say. `lines` are the lines of the script that the unit hears;
+-- `Is` is true of the unit's libraries.
 pub record CompileSays (project : Project) (unit : Planned) (done : List (Option (List Directive))) (p : Package) (lines : List Directive) (Is : List ℕ → List ℕ → Type 0) (said : List (List ℕ × List ℕ)) : Type 0 where
   pub crate_name : values (codes "--crate-name") said ≡ crate_name_of project unit ∷ []
   pub crate_types : values (codes "--crate-type") said ≡ map crate_type_text (crate_types p.library unit.unit.what)
   pub folder : values (codes "--out-dir") said ≡ unit.out ∷ []
   pub alone : values [] said ≡ (codes "--edition=" ++ edition_text p.edition) ∷ source_by p unit.unit.what ∷ codes "--error-format=json" ∷ codes "--emit=dep-info,link" ∷ []
   pub settings : values (codes "-C") said ≡ map assigned (settings_table unit.unit.what unit.settings) ++ map (λ flag. codes "link-arg=" ++ flag) (linker_flags unit.unit.what lines)
-  -- the features that are on, and the conditions that the script sets; then the features that exist, and those that it expects
+  -- first the features that are on, and the conditions that the script sets; then the features that
+  -- exist, and the conditions that the script expects
   pub conditions : values (codes "--cfg") said ≡ map feature_is_on (features_at project.features unit.unit.owner unit.unit.side) ++ asked (codes "rustc-cfg") lines
   pub expected : values (codes "--check-cfg") said ≡ features_there_are p.features ∷ asked (codes "rustc-check-cfg") lines
-  -- the folder of each library that the unit reaches, and the folders that the runs it reaches have named
+  -- the folder of each library that the unit reaches, and the folders that the reached runs have
+  -- named
   pub searched : values (codes "-L") said ≡ map (λ (library : Planned). codes "dependency=" ++ library.out) (libraries_at project unit.reaches) ++ asked (codes "rustc-link-search") (flat_map (said_at done) unit.reaches)
   -- what the script links: a binary links it only if its package has no library
   pub linked : values (codes "-l") said ≡ (if is_binary unit.unit.what && is_some p.library then [] else asked (codes "rustc-link-lib") lines)
@@ -130,8 +133,8 @@ pub record CompileSays (project : Project) (unit : Planned) (done : List (Option
   pub given : values (codes "--extern") said ≡ map assigned libraries
   pub are : AreLibraries Is libraries
 
--- The law: the arguments of a compile say this, and then what the user's flags say. The
--- package is one of a workspace that was read, and its source has a normalised absolute path
+-- The law: the arguments of a compile say this, and then what the user's flags say. The package
+-- belongs to a workspace that was read, and its source has a normalised absolute path
 abbrev pub CompilesSay : Type 0
 CompilesSay = (setup : Setup) (project : Project) (unit : Planned) (done : List (Option (List Directive))) (p : Package)
     → IsSettled project.workspace → package_of project unit ≡ Some p → is_run unit.unit.what ≡ false → is_path (source_by p unit.unit.what) ≡ true

@@ -33,7 +33,7 @@ IsShort bytes = length bytes ≤ max_stream_bytes
 abbrev pub EndedWell : Ended → Type 0
 EndedWell e = IsShort e.stdout × IsShort e.stderr × (e.status ≡ pos 0)
 
--- the path that a text names from a folder; a text with byte 0 names none
+-- the path that a text names from a folder; a text with byte 0 names no path
 abbrev pub path_said : List ℕ → List ℕ → List (List ℕ)
 path_said folder text = option_to_list (result_ok (joined folder text))
 
@@ -45,7 +45,7 @@ paths_said folder texts = once (flat_map (path_said folder) texts)
 abbrev pub IsInfo : Option (List ℕ) → DepInfo → Type 0
 IsInfo file info = (bytes : List ℕ) × (file ≡ Some bytes) × IsShort bytes × (dep_info_of bytes ≡ Ok info)
 
--- a path of the target folder is in the folder of no reached unit
+-- a path is in the target folder, but not in a folder that the command may read
 abbrev pub is_foreign : Command → List ℕ → Bool
 is_foreign c path = is_at_or_below c.target path && not (list_any (λ folder. is_at_or_below folder path) c.reads)
 
@@ -57,8 +57,9 @@ pub data IsTold (what : What) (c : Command) (folder : List ℕ) (e : Ended) (dep
   run : (is : is_run what ≡ true) (said : List Directive) (read : directives_of e.stdout ≡ Ok said) (fine : asked (codes "error") said ≡ []) → IsTold what c folder e dep_info (Some said)
       (if length (asked (codes "rerun-if-changed") said ++ asked (codes "rerun-if-env-changed") said) == 0 then folder ∷ [] else paths_said folder (asked (codes "rerun-if-changed") said)) (once (asked (codes "rerun-if-env-changed") said))
 
--- the answer of a child: first it is checked how the child ended, then a run's lines or a compile's dep-info;
--- then come the inputs: the paths outside the target folder, and the variables, if no path is foreign
+-- the answer of a child, checked in this order: how the child ended; a run's lines or a compile's
+-- dep-info; the inputs. If no path is foreign, the inputs are the paths outside the target folder,
+-- and the variables
 pub data IsAnswer (what : What) (c : Command) (folder : List ℕ) (e : Ended) (dep_info : Option (List ℕ)) : Result CheckedReply UnitFault → Type 0 where
   too_long : (is : IsShort e.stdout × IsShort e.stderr → ⊥) → IsAnswer what c folder e dep_info (Err unit_fault.OutputTooLong)
   status : (short : IsShort e.stdout × IsShort e.stderr) (is : e.status ≢ pos 0) → IsAnswer what c folder e dep_info (Err (unit_fault.Status e.status))

@@ -27,8 +27,9 @@ pub data IsCalled (project : Project) (entry : Entry) : List ℕ → Type 0 wher
   itself : (is : entry.renamed ≡ false) → IsCalled project entry (crate_at project entry.to)
 
 -- a library of this name and file is passed to the compile:
--- - that of an entry which is enabled on the unit's side and leads to a package whose library the unit
---   needs; the entry is of `[build-dependencies]` for a script, and of `[dependencies]` for any other unit
+-- - the library of an entry, if the entry is enabled on the unit's side and leads to a package
+--   whose library the unit needs; the entry is of `[build-dependencies]` for a script, and of
+--   `[dependencies]` for any other unit
 -- - a binary's own library
 pub data IsLibrary (project : Project) (unit : Planned) (p : Package) : List ℕ → List ℕ → Type 0 where
   by_entry : (n : ℕ) (entry : Entry) (name file : List ℕ) (there : slice_get p.entries n ≡ Some entry) (enabled : is_enabled project.features unit.unit.owner unit.unit.side n ≡ true)
@@ -39,7 +40,7 @@ pub data IsLibrary (project : Project) (unit : Planned) (p : Package) : List ℕ
 abbrev pub by_name : List ℕ × List ℕ → List ℕ × List ℕ → Ordering
 by_name a b = ordering_then (slice_cmp nat_cmp a.0 b.0) (slice_cmp nat_cmp a.1 b.1)
 
--- the libraries are exactly those with a name and a file of which `Is` is true, in this order, each once
+-- the libraries are exactly those for whose name and file `Is` is true, in this order, each once
 pub record AreLibraries (Is : List ℕ → List ℕ → Type 0) (libraries : List (List ℕ × List ℕ)) : Type 0 where
   pub order : IsStrictlySortedBy by_name libraries
   pub same : (library : List ℕ × List ℕ) → Contains libraries library ↔ Is library.0 library.1

@@ -1,5 +1,5 @@
--- The commands of a plan's units, all in one: for a unit that is in the plan of its project
--- (The Cargo Book, cargo build, Build Scripts, Environment Variables, Specifying Dependencies).
+-- All laws of commands in one, for a unit that is in the plan of its project (The Cargo Book, cargo
+-- build, Build Scripts, Environment Variables, Specifying Dependencies).
 use Rattle.std.specs.Prelude.{◌≡◌, ℕ, true, false, ◌&&◌, ◌++◌, codes, is_some, List, [], Option, Some, None}
 use Rattle.pb_command.specs.Command.{command_of}
 use Rattle.pb_command_types.specs.declared.project.Setup.{Setup}
@@ -26,8 +26,8 @@ pub data Hears (project : Project) (u : Planned) (p : Package) (done : List (Opt
   nothing : (is : (hears u.unit.what && is_some p.script) ≡ false) → Hears project u p done [] None
   own_run : (is : (hears u.unit.what && is_some p.script) ≡ true) (index : ℕ) (run : Planned) (there : unit_at project index ≡ Some run) (same : run.unit ≡ unit u.unit.owner u.unit.side Run) → Hears project u p done (said_at done index) (Some run.out)
 
--- a compile: what it starts, what it hears, its variables, whose
--- names ascend so that each occurs once, and what its arguments say
+-- a compile: what it starts, what it hears, its variables, and what its arguments say. The names of
+-- the variables ascend, so each occurs once
 pub record IsCompile (setup : Setup) (project : Project) (u : Planned) (done : List (Option (List Directive))) (p : Package) (command : Command) : Type 0 where
   pub starts : StartsCompiler setup project u command
   pub lines : List Directive
@@ -39,13 +39,14 @@ pub record IsCompile (setup : Setup) (project : Project) (u : Planned) (done : L
   pub words : said_by command.words ≡ said ++ said_by setup.flags
   pub says : CompileSays project u done p lines (IsWanted project u p) said
 
--- a run starts the script of its package on its side; the names of its variables ascend too
+-- a run starts the script of its package on its side; the names of its variables also ascend
 pub record IsRun (setup : Setup) (project : Project) (u : Planned) (done : List (Option (List Directive))) (p : Package) (command : Command) : Type 0 where
   pub starts : StartsScript setup project u p (Some (below (folder_of project (unit u.unit.owner u.unit.side Script)) (codes "build_script_build"))) command
   pub has : HasVariables command (run_table setup project u done p)
   pub order : IsAscending (names_of command.pairs)
 
--- The laws. The package is one of a workspace that was read, and its source has a normalised absolute path.
+-- The laws. The package belongs to a workspace that was read, and its source has a normalised
+-- absolute path.
 
 abbrev pub CompilesOfPlans : Type 0
 CompilesOfPlans = (setup : Setup) (project : Project) (u : Planned) (done : List (Option (List Directive))) (p : Package)

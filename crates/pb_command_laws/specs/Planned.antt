@@ -42,8 +42,9 @@ pub record IsLibraryOf (project : Project) (index : ℕ) (side : Side) (crate fi
   pub file_is : file_in (folder_of project (unit index side Lib)) (codes "lib" ++ crate ++ codes ".rlib") ≡ Some file
 
 -- a library of this name and file is wanted:
--- - that of an entry which is enabled on the unit's side and leads to a package with a library; the library is that of
---   the unit's role; the entry is of `[build-dependencies]` for a script, and of `[dependencies]` for any other unit
+-- - the library of an entry in the unit's role, if the entry is enabled on the unit's side and
+--   leads to a package with a library; the entry is of `[build-dependencies]` for a script, and of
+--   `[dependencies]` for any other unit
 -- - a binary's own library
 pub data IsWanted (project : Project) (u : Planned) (p : Package) : List ℕ → List ℕ → Type 0 where
   by_entry : (n : ℕ) (entry : Entry) (crate file : List ℕ) (there : slice_get p.entries n ≡ Some entry) (enabled : is_enabled project.features u.unit.owner u.unit.side n ≡ true)
@@ -60,7 +61,8 @@ pub record IsRunOf (project : Project) (owner : ℕ) (side : Side) (index : ℕ)
   pub there : unit_at project index ≡ Some run
   pub is : run.unit ≡ unit owner side Run
 
--- A library or a binary hears the run of its package on its side, if the package has a script; otherwise it hears none.
+-- A library or a binary hears the run of its package on its side, if the package has a script;
+-- otherwise it hears no run.
 pub record HearsOwnRun (project : Project) (u : Planned) (p : Package) : Type 0 where
   pub some : is_some p.script ≡ true → (index : ℕ) × (own_run project u ≡ Some index) × IsRunOf project u.unit.owner u.unit.side index
   pub none : is_some p.script ≡ false → own_run project u ≡ None

@@ -10,8 +10,8 @@ use Rattle.pb_command_types.specs.declared.project.Project.{Project}
 use Rattle.pb_command_types.specs.declared.project.Setup.{Setup}
 use Rattle.pb_command.specs.Command.{command_of}
 
--- a unit's command starts in a folder and writes into the unit's folder;
--- in the target folder it may read the folders of all units that its unit reaches, in plan order
+-- a unit's command starts in a folder and writes into the unit's folder; in the target folder it
+-- may read the folders of all units that this unit reaches, in plan order
 pub record IsOfUnit (setup : Setup) (project : Project) (unit : Planned) (folder : List ℕ) (command : Command) : Type 0 where
   pub folder_is : command.folder ≡ folder
   pub out : command.out ≡ Some unit.out

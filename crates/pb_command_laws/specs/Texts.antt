@@ -10,7 +10,8 @@ use Rattle.pb_directive.specs.declared.dep_info.DepInfo.{DepInfo}
 use Rattle.pb_directive.specs.declared.fault.LineFault.{LineFault}
 use Rattle.pb_directive.specs.declared.fault.Problem.{Problem}
 
--- A line without the blanks at both ends is what remains without those at the front and then without those at the end.
+-- A line without the blanks at both ends is what remains after the blanks at the front and then the
+-- blanks at the end are removed.
 abbrev pub LinesAreTrimmed : Type 0
 LinesAreTrimmed = (line : List ℕ) → let rest = drop (prefix_len is_blank line) line in trimmed line ≡ take (length rest - suffix_len is_blank rest) rest
 
@@ -21,7 +22,7 @@ pub data AreRead {T U : Type 0} (read : List ℕ → Result T Problem) (all : Li
   first : (index : ℕ) (line : List ℕ) (problem : Problem) (there : slice_get lines index ≡ Some line) (wrong : read line ≡ Err problem)
       (before : (n : ℕ) (other : List ℕ) → n < index → slice_get lines n ≡ Some other → is_ok (read other) ≡ true) → AreRead read all lines (Err (fault_at (index + 1) problem))
 
--- The directives of an output are those of its lines, one after another.
+-- The directives of an output are the directives of its lines, one after another.
 abbrev pub OutputsAreRead : Type 0
 OutputsAreRead = (bytes : List ℕ) → AreRead line_directives (flat_map (λ said. said)) (lines_of bytes) (directives_of bytes)
 

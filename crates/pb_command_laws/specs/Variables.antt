@@ -39,7 +39,7 @@ HasVariables command table = (name : List ℕ) → value_at name command.pairs �
 abbrev pub parts_of : List ℕ → ℕ × ℕ × ℕ × List ℕ × List ℕ
 parts_of version = result_unwrap_or (version_parts version) (0, 0, 0, [], [])
 
--- the variables for the builder, and for what the unit's package is and says about itself
+-- the variables for the builder, and for the unit's package and its description of itself
 abbrev pub package_table : Setup → Package → List (List ℕ × List ℕ)
 package_table setup p =
     (codes "CARGO", setup.tool) ∷ (codes "CARGO_MANIFEST_DIR", p.folder) ∷ (codes "CARGO_MANIFEST_PATH", p.manifest) ∷ (codes "CARGO_PKG_NAME", p.name)
@@ -56,9 +56,9 @@ abbrev pub variable_set : Directive → List (List ℕ × List ℕ)
 variable_set (Env name value) = (name, value) ∷ []
 variable_set _ = []
 
--- the variables of a compile: those of every unit; the crate; a binary's name; for a library or a binary
--- whose package has a run, the folder of the run's files; and all that this run sets, which wins;
--- `said` are the lines of that run, `ran` is its folder
+-- the variables of a compile: those of every unit; the crate; a binary's name; for a library or a
+-- binary whose package has a run, the folder of the run's files; and all variables that this run
+-- sets, which win. `said` are the lines of this run, `ran` is its folder
 abbrev pub compile_table : Setup → Project → Planned → Package → List Directive → Option (List ℕ) → List (List ℕ × List ℕ)
 compile_table setup project unit p said ran =
     package_table setup p ++ (codes "CARGO_CRATE_NAME", crate_name_of project unit) ∷ row (codes "CARGO_BIN_NAME") (binary_name unit.unit.what) ++ row (codes "OUT_DIR") ran ++ flat_map variable_set said
@@ -88,10 +88,10 @@ links_of_run project u = if is_run u.unit.what then option_and_then (λ (p : Pac
 abbrev pub handed_on : Project → List (Option (List Directive)) → ℕ → List (List ℕ × List ℕ)
 handed_on project done index = option_map_or (λ links. passed links (said_at done index)) (option_and_then (links_of_run project) (unit_at project index)) []
 
--- the variables of a run: those of every unit, what its package links, `1` for each
--- feature that is on, its folder, the platform, the settings of its package, the
--- compiler and its flags, and the metadata of the runs that it needs, in plan order;
--- `PROFILE` is `release` if the profile, or one from which it inherits, is `release`
+-- the variables of a run: those of every unit, what its package links, `1` for each feature that is
+-- on, its folder, the platform, the settings of its package, the compiler and its flags, and the
+-- metadata of the runs that it needs, in plan order; `PROFILE` is `release` if the profile, or a
+-- profile from which it inherits, is `release`
 abbrev pub run_table : Setup → Project → Planned → List (Option (List Directive)) → Package → List (List ℕ × List ℕ)
 run_table setup project unit done p =
     package_table setup p ++ row (codes "CARGO_MANIFEST_LINKS") p.links

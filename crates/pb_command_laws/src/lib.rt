@@ -17,13 +17,13 @@ pub fn compiles_say()
     ensures { CompilesSay }
 {}
 
-/// A law: what arguments say, read in this way, gives back each of them: none is skipped.
+/// A law: what arguments say, read in this way, contains each argument again, so none is skipped.
 pub fn sayings_keep_words()
     ensures { SayingsKeepWords }
 {}
 
-/// A law: a compile has these variables, each with this value unless the run
-/// of its own package has set it, and otherwise only what that run has set.
+/// A law: a compile has these variables, each with this value unless the run of its own package has
+/// set the variable. It has no other variables but those that this run has set.
 pub fn compiles_have()
     ensures { CompilesHave }
 {}
@@ -63,9 +63,9 @@ pub fn answers_say()
     ensures { AnswersSay }
 {}
 
-/// A law: reading a whole text, the output of a script or dep-info, yields what
-/// its lines say, one after another; or what is wrong with the first line that
-/// does not read, with its number. It also says what a line without its blanks is.
+/// A law: reading a whole text, the output of a script or dep-info, yields what its lines say, one
+/// after another; or the problem of the first line that does not read, with its number. The law
+/// also says what a line without its blanks is.
 pub fn texts_are_read()
     ensures outputs { OutputsAreRead }
     ensures infos { InfosAreRead }

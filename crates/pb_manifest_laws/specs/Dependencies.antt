@@ -22,13 +22,14 @@ pub record IsPathSource (ms : Members) (s : PathSource) : Type 0 where
   pub version : HoldsValid (λ text. is_requirement text ≡ true) string (get_member (codes "version") ms) s.version
   pub default_features : HoldsOr true boolean (get_member (codes "default-features") ms) s.default_features
 
--- the keys `path`, `package` and `version` are of their kind (`version` is a requirement) but have no effect
+-- the values of the keys `path`, `package` and `version` have the right kind (`version` is a
+-- requirement), but have no effect
 abbrev pub HasIdleKeys : Members → Type 0
 HasIdleKeys ms = ((path : Option (List ℕ)) × HoldsValid IsPath string (get_member (codes "path") ms) path) × ((name : Option (List ℕ)) × Holds string (get_member (codes "package") ms) name)
     × ((version : Option (List ℕ)) × HoldsValid (λ text. is_requirement text ≡ true) string (get_member (codes "version") ms) version)
 
--- the source of a package's entry:
--- `workspace = true`, with which `default-features = true` requests the feature `default`; or a path
+-- the source of a package's entry is a path, or `workspace = true`; in the latter case,
+-- `default-features = true` requests the feature `default`
 abbrev pub IsSource : Members → Source → Type 0
 IsSource ms (own.Workspace default) = (get_member (codes "workspace") ms ≡ Some (boolean true)) × HoldsOr false boolean (get_member (codes "default-features") ms) default × HasIdleKeys ms
 IsSource ms (own.Path s) = (get_member (codes "workspace") ms ≡ None) × IsPathSource ms s

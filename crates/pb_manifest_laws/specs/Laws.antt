@@ -39,7 +39,7 @@ ReadsBinaries = Reads binary_keys IsBinaryTable
 abbrev pub ReadsFeatures : Type 0
 ReadsFeatures = (name : List ℕ) → Reads (feature_of name) (IsFeatureEntry name)
 
--- this is so for both tables of dependencies
+-- a reading of an entry returns what the entry means, for both tables of dependencies
 abbrev pub ReadsDependencies : Type 0
 ReadsDependencies = (k : Key) (name : List ℕ) → Reads (dependency_of k name) (OfTable (IsDependencyEntry name))
 
@@ -55,7 +55,7 @@ ReadsSharedDependencies = (name : List ℕ) → Reads (shared_dependency_of name
 abbrev pub ReadsWorkspaces : Type 0
 ReadsWorkspaces = Reads workspace_of IsWorkspaceTable
 
--- this is so for the whole document, and for the bytes
+-- a reading returns what it means, for the whole document and for its bytes
 abbrev pub ReadsDocuments : Type 0
 ReadsDocuments = Reads document_of IsDocument
 

@@ -40,12 +40,12 @@ readme_value readme.Standard = boolean true
 readme_value readme.Never = boolean false
 readme_value (readme.At path) = string path
 
--- a written version is one of Semantic Versioning
+-- a written version is a version of Semantic Versioning
 abbrev pub IsVersion : Inherited (List ℕ) → Type 0
 IsVersion (Written text) = is_version text ≡ true
 IsVersion Workspace = Unit {0}
 
--- a resolver, if one is written, is `"2"` or `"3"`
+-- if a resolver is written, it is `"2"` or `"3"`
 abbrev pub IsResolver : Option Data → Type 0
 IsResolver found = Contains (None ∷ Some (string (codes "2")) ∷ Some (string (codes "3")) ∷ []) found
 

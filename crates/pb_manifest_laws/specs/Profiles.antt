@@ -27,7 +27,8 @@ name_of key.Panic = codes "panic"
 name_of key.Rpath = codes "rpath"
 name_of key.Strip = codes "strip"
 
--- the forms in which each value of a key may be written, which repeats the table of keys the other way round: a wrong row of one is no row of the other
+-- the forms in which each value of a key may be written. This repeats the table of keys the other
+-- way round: a wrong row of one table is no row of the other
 abbrev pub forms : ProfileKey → Setting → List Data
 forms key.CodegenUnits (Number n) = if nat_le 1 n && nat_le n 65536 then integer (pos n) ∷ [] else []
 forms key.Debug (Word word.Zero) = boolean false ∷ integer (pos 0) ∷ string (codes "none") ∷ []
@@ -69,7 +70,7 @@ pub record IsOverrideEntry (name : List ℕ) (ms : Members) (o : ProfileOverride
   pub name_is : o.name ≡ name
   pub keys : AreSettings ms o.keys
 
--- a profile; one that is not built in has an allowed name, and `inherits`
+-- a profile; if it is not built in, it has an allowed name, and `inherits`
 pub record IsProfileEntry (name : List ℕ) (ms : Members) (p : Profile) : Type 0 where
   pub name_is : p.name ≡ name
   pub keys : AreSettings ms p.keys

@@ -25,12 +25,12 @@ Holds write found value = found ≡ option_map write value
 abbrev pub HoldsValid : {A : Type 0} → (A → Type 0) → (A → Data) → Option Data → Option A → Type 0
 HoldsValid Valid write found value = Holds write found value × IfSome value Valid
 
--- a key has this value, or is missing and the value is the default
+-- a key has this value; if the key is missing, the value is the default
 abbrev pub HoldsOr : {A : Type 0} → A → (A → Data) → Option Data → A → Type 0
 HoldsOr default write None value = value ≡ default
 HoldsOr default write (Some d) value = d ≡ write value
 
--- a key has this list, or is missing and the list is empty
+-- a key has this list; if the key is missing, the list is empty
 abbrev pub Lists : {A : Type 0} → (A → Data) → Option Data → List A → Type 0
 Lists write = HoldsOr [] (λ xs. array (items_of (map write xs)))
 
@@ -48,16 +48,17 @@ HoldsOrTakes write found (Written x) = found ≡ Some (write x)
 HoldsOrTakes write found Workspace = TakesWorkspace found
 HoldsOrTakes write found Absent = found ≡ None
 
--- a key has its value, has `{ workspace = true }`, or is missing and has the default
+-- a key has its value or `{ workspace = true }`; if the key is missing, the value is the default
 abbrev pub HasOrTakes : {A : Type 0} → A → (A → Data) → Option Data → Inherited A → Type 0
 HasOrTakes default write found (inherited.Written x) = HoldsOr default write found x
 HasOrTakes default write found inherited.Workspace = TakesWorkspace found
 
--- a key has a table with this meaning, or is missing and no value is read
+-- if a key has a value, it is a table with this meaning; if the key is missing, no value is read
 abbrev pub IsTableAt : {A : Type 0} → (Members → A → Type 0) → Option Data → Option A → Type 0
 IsTableAt Is found value = AllZip (OfTable Is) (option_to_list found) (option_to_list value)
 
--- a key has an array of tables, which are read one for one and in order, or is missing and there are none
+-- if a key has a value, it is an array of tables, and each table is read as one item, in order; if
+-- the key is missing, there are no items
 abbrev pub AreTablesAt : {A : Type 0} → (Members → A → Type 0) → Option Data → List A → Type 0
 AreTablesAt Is found xs = (tables : List Data) × HoldsOr [] (λ ds. array (items_of ds)) found tables × AllZip (OfTable Is) tables xs
 

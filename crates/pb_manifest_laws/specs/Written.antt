@@ -104,7 +104,7 @@ dependency_rows (own.Path s) features optional =
 abbrev pub dependency_entry : Dependency → Data
 dependency_entry d = table_with (dependency_rows d.source d.features d.optional)
 
--- an entry without a supported path is written without one
+-- an entry without a supported path is written without a path
 abbrev pub shared_rows : WorkspaceSource → List (List ℕ) → Rows
 shared_rows shared.Unsupported features = (codes "features", list string features) ∷ []
 shared_rows (shared.Path s) features =
@@ -122,12 +122,13 @@ first_form forms value = option_and_then (λ x. slice_get (forms x) 0) value
 abbrev pub key_row : Said → ProfileKey → List ℕ × Option Data
 key_row said k = (name_of k, first_form (forms k) (says said k))
 
--- rows in byte order of their keys, with one more in its place
+-- the rows, in byte order of their keys, with this row added in its place
 abbrev pub with_row : List ℕ × Option Data → Rows → Rows
 with_row row [] = row ∷ []
 with_row row (other ∷ rows) = if is_lt (slice_cmp nat_cmp row.0 other.0) then row ∷ other ∷ rows else other ∷ with_row row rows
 
--- the rows of a profile's settings, with those of its other keys; the rows of an override are the settings only
+-- the rows of a profile: its settings and its other keys; the rows of an override are only its
+-- settings
 abbrev pub profile_rows : Option Data → Option (List ℕ) → Option Data → Said → Rows
 profile_rows override inherits packages said =
     with_row (codes "build-override", override) (with_row (codes "inherits", option_map string inherits) (with_row (codes "package", packages) (map (key_row said) keys)))
@@ -152,7 +153,7 @@ workspace_rows w =
 abbrev pub dependencies : List Dependency → Option Data
 dependencies ds = entries (λ (d : Dependency). d.key) dependency_entry ds
 
--- `[dev-dependencies]` is written with only its keys, since only these are read
+-- only the keys of `[dev-dependencies]` are written, since only its keys are read
 abbrev pub document_rows : Manifest → Rows
 document_rows m =
     (codes "bin", list (λ b. table_with (binary_rows b)) m.binaries) ∷ (codes "build-dependencies", dependencies m.build_dependencies) ∷ (codes "dependencies", dependencies m.dependencies)

@@ -9,28 +9,29 @@ pub fn packages_say()
     ensures { ReadsPackages }
 {}
 
-/// A law: the same for `[lib]`, each `[[bin]]` and each entry of `[features]`.
+/// A law: the readings of `[lib]`, of each `[[bin]]` and of each entry of `[features]` return
+/// exactly what these mean.
 pub fn targets_say()
     ensures libraries { ReadsLibraries }
     ensures binaries { ReadsBinaries }
     ensures features { ReadsFeatures }
 {}
 
-/// A law: the same for each entry of `[dependencies]` and `[build-dependencies]` (The Cargo Book,
-/// Specifying Dependencies).
+/// A law: the reading of each entry of `[dependencies]` and `[build-dependencies]` returns exactly
+/// what the entry means (The Cargo Book, Specifying Dependencies).
 pub fn dependencies_say()
     ensures { ReadsDependencies }
 {}
 
-/// A law: the same for the settings of a profile, and each entry of `[profile]` (The Cargo Book,
-/// Profiles).
+/// A law: the readings of a profile's settings, and of each entry of `[profile]`, return exactly
+/// what these mean (The Cargo Book, Profiles).
 pub fn profiles_say()
     ensures settings { ReadsSettings }
     ensures profiles { ReadsProfiles }
 {}
 
-/// A law: the same for each entry of `[workspace.dependencies]`, and `[workspace]` (The Cargo Book,
-/// Workspaces).
+/// A law: the readings of each entry of `[workspace.dependencies]`, and of `[workspace]`, return
+/// exactly what these mean (The Cargo Book, Workspaces).
 pub fn workspaces_say()
     ensures entries { ReadsSharedDependencies }
     ensures workspaces { ReadsWorkspaces }
@@ -40,7 +41,7 @@ pub fn workspaces_say()
 ///
 /// - A document is read as a manifest if and only if it means that manifest, table by table and key
 /// by key.
-/// - Bytes are read as a manifest if and only if they are those of such a document.
+/// - Bytes are read as a manifest if and only if they are the bytes of such a document.
 /// - A document means at most one manifest.
 /// - The written form of a manifest that was read, each key with its value, is read as the same
 /// manifest. The same is true of a text that prints the written form as `toml` does.

@@ -42,7 +42,8 @@ abbrev pub target_of : Target → Data
 target_of t = of_members ((codes "kind", texts t.kinds) ∷ (codes "crate_types", texts t.crate_types) ∷ (codes "name", string t.name) ∷ (codes "src_path", string t.source)
     ∷ (codes "edition", string (edition_text t.edition)) ∷ required t.required_features)
 
--- the debug information setting: the compiler's own word for it, as a number if it is one
+-- the debug information setting: the compiler's own word for it, as a number if the word is a
+-- number
 abbrev pub debug_info_of : Word → Data
 debug_info_of w = option_map_or (λ n. number (unsigned n)) (position (bytes_eq (spelled w)) (codes "0" ∷ codes "1" ∷ codes "2" ∷ [])) (string (spelled w))
 
@@ -88,7 +89,8 @@ MessagesAreObjects = (s : Subject) (fresh : Bool) (m : Message) → IfSome (obje
 abbrev pub EndsAreObjects : Type 0
 EndsAreObjects = (success : Bool) → finish_line success ≡ compact_text (finished success) ++ line_feed ∷ []
 
--- a diagnostic's line is that of its object, with the compiler's own text copied byte for byte as the message
+-- a diagnostic's line is the line of its object, in which the message is the compiler's own text,
+-- byte for byte
 abbrev pub DiagnosticsAreCopied : Type 0
 DiagnosticsAreCopied = (s : Subject) (fresh : Bool) (text : List ℕ)
     → (front : List ℕ) × (line_of s fresh (CompilerMessage text) ≡ front ++ text ++ codes "}\n") × ((message : Data) → compact_text (diagnostic s message) ≡ front ++ compact_text message ++ codes "}")

@@ -19,7 +19,7 @@ is_line (b ∷ c ∷ bytes) = not (b == line_feed) && is_line (c ∷ bytes)
 abbrev pub IsOfOneLine : List ℕ → Type 0
 IsOfOneLine text = has_byte 10 text ≡ false
 
--- if the message is a diagnostic, the one kind that is copied byte for byte, it has no line feed
+-- if the message is a diagnostic, it has no line feed; only diagnostics are copied byte for byte
 abbrev pub TellsOneLine : Message → Type 0
 TellsOneLine (CompilerMessage text) = IsOfOneLine text
 TellsOneLine _ = Unit {0}

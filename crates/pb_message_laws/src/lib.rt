@@ -1,5 +1,5 @@
-//! Laws on message lines: each is one line and the text of one JSON object with these members, and what a compiler's lines
-//! mean (The Cargo Book, External Tools).
+//! Laws on message lines, and on what a compiler's lines mean. Each message line is one line and
+//! the text of one JSON object with these members (The Cargo Book, External Tools).
 #![tactic(auto)]
 
 ghost use Rattle.pb_message_laws.specs.Objects.{MessagesAreObjects, EndsAreObjects, DiagnosticsAreCopied, LinesFollow};
@@ -8,8 +8,8 @@ ghost use Rattle.pb_message_laws.specs.Streams.{CompilersSay};
 ghost use Rattle.pb_message_laws.specs.Told.{LinesTellMessages};
 
 /// A law: the line of each message has one line feed, its last byte. A compiler's diagnostic is
-/// copied byte for byte, so it must have no line feed itself. Everything else is in JSON strings,
-/// which escape line feeds.
+/// copied byte for byte, so it must have no line feed. Everything else is in JSON strings, which
+/// escape line feeds.
 pub fn messages_are_lines()
     ensures messages { MessagesAreLines }
     ensures end { BuildsEndInLine }

@@ -63,9 +63,8 @@ pub record IsSmall (setup : Setup) : Type 0 where
   pub flags : is_mentioned setup.flags (codes "--extern") ≡ false
   pub runner : RunsAlone setup.runner
 
--- a unit of a project that was read and planned:
--- the project is settled and has its plan; its paths and that of the
--- unit's source are normalised absolute paths; a run has no source
+-- a unit of a project that was read and planned: the project is settled and has its plan; its paths
+-- and the path of the unit's source are normalised absolute paths; a run has no source
 pub record IsOfProject (project : Project) (u : Planned) : Type 0 where
   pub settled : IsSettled project.workspace
   pub paths : HasPaths project

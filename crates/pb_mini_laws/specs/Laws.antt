@@ -29,15 +29,16 @@ abbrev pub SmallBuildsGive : {S : Type 0} → (S → List ℕ → List ℕ → S
 SmallBuildsGive {S} Turns = (from : S) (options : Options) (result : Result Summary BuildFault) (old new : BuildState) → Headline true small_compiler (ByTurns Turns from) options result old new
     → IsSmallBuild options old.world → Sound reading judge small_compiler (records_of options old.world.variables) old.world.files → GivesCleanResult TrustedRecords small_compiler (ByTurns Turns from) options result old new
 
--- The same is true for a build of a session with the small compiler, if the records of its folder were true before the
--- steps: between may be any edits outside of that folder, and any such builds.
+-- A build of a session with the small compiler produces the same, if the records of its folder were
+-- true before some steps. These steps may be any edits outside of this folder, and any such builds.
 abbrev pub SmallSessionsGive : Type 0
 SmallSessionsGive = (options : Options) (pick : PickBy) (steps : List SessionStep) (before mid after : Point)
     → Sound reading judge small_compiler (records_of options mid.moment.world.variables) before.moment.world.files → SmallCourse (records_of options mid.moment.world.variables) steps before mid
     → IsSmallBuild options mid.moment.world → (built : CarriesBuild small_compiler options pick mid after) → GivesCleanResult TrustedRecords small_compiler (ByPicked pick options) options built.answer.result mid.moment built.ended
 
--- The same is true for each build of a session file that begins without files and builds into these target folders. The
--- builds need only satisfy what the file leaves open.
+-- Each build of a session file produces the same, if the session begins without files and builds
+-- into these target folders. The builds need only satisfy what the file does not determine
+-- (`IsToldBuild`).
 abbrev pub SessionFilesGive : Type 0
 SessionFilesGive = (bytes : List ℕ) (targets : List (List ℕ)) (steps : List SessionStep) (before after : Point) → session_of bytes ≡ Ok steps → before.moment.world.files ≡ finite.empty
     → StandApart targets → (course : Course small_compiler steps before after) → AllTold targets steps before after course → AllGive steps before after course

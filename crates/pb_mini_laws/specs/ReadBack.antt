@@ -22,7 +22,8 @@ pub record CanBeTold (name : List ℕ) : Type 0 where
   pub ends : ends_plainly name ≡ true
   pub one_line : has_byte 10 name ≡ false
 
--- a variable can be written in dep-info: its name can, and has no `=`, which would end it
+-- a variable can be written in dep-info: its name can be written there, and has no `=`, which would
+-- end the name
 pub record CanBeAsked (variable : List ℕ × Option (List ℕ)) : Type 0 where
   pub told : CanBeTold variable.0
   pub no_equals : has_byte 61 variable.0 ≡ false
@@ -31,7 +32,7 @@ pub record CanBeAsked (variable : List ℕ × Option (List ℕ)) : Type 0 where
 abbrev pub AreAmong : List (List ℕ) → List (List ℕ) → Type 0
 AreAmong texts others = (text : List ℕ) → is_mentioned texts text ≡ true → is_mentioned others text ≡ true
 
--- What is read names all that was written.
+-- The names that are read include all that were written.
 abbrev pub ReadsBack : List ℕ → Names → DepInfo → Type 0
 ReadsBack output names info = is_absolute output ≡ true → has_byte 10 output ≡ false → AllByRecursion CanBeTold names.paths → AllByRecursion CanBeAsked names.variables
     → dep_info_of (dep_info_text output names) ≡ Ok info → AreAmong names.paths info.words × AreAmong (names_of names.variables) info.variables

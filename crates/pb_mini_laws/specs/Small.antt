@@ -28,14 +28,16 @@ abbrev pub CanTellUnits : Setup → Project → World → Type 0
 CanTellUnits setup project sources = (index : ℕ) (u : Planned) → unit_at project index ≡ Some u
     → CanTell (command_after setup project (take index (outcomes small_compiler setup project sources)) u) (view_of (take index (outcomes small_compiler setup project sources)) sources u)
 
--- the same for whatever project and version of the compiler a build finds in a world
+-- the small compiler can report what it reads, whatever project and version of the compiler a build
+-- finds in a world
 abbrev pub CanTellBuild : Options → World → Type 0
 CanTellBuild options w = (project : Project) (toolchain : List ℕ) → IsProject options (environment_of options w.variables).target w project
     → toolchain_of small_compiler (environment_of options w.variables) project (from_nothing (environment_of options w.variables).target w) ≡ Some toolchain
     → CanTellUnits (setup_of options (environment_of options w.variables) toolchain) project (from_nothing (environment_of options w.variables).target w)
 
--- a build with the small compiler: the manifest and the files of the sources have normalised absolute paths; the user's
--- flags name no libraries; scripts are run by the small compiler; and the compiler can report what it reads
+-- a build with the small compiler: the manifest and the files of the sources have normalised
+-- absolute paths; the user's flags name no libraries; the small compiler runs the scripts; and it
+-- can report what it reads
 pub record IsSmallBuild (options : Options) (w : World) : Type 0 where
   pub manifest : is_path options.manifest ≡ true
   pub files : FilesHavePaths (from_nothing (environment_of options w.variables).target w)
@@ -44,8 +46,9 @@ pub record IsSmallBuild (options : Options) (w : World) : Type 0 where
 
 -- Sessions.
 
--- a step spares the records of a folder: it is an edit that does, a build without units, a build that satisfies
--- `IsSmallBuild` and keeps its records there, or one that keeps its records elsewhere
+-- a step spares the records of a folder: an edit that spares them (`Spares`); a build without
+-- units; a build that satisfies `IsSmallBuild` and keeps its records there; or a build that keeps
+-- its records elsewhere
 abbrev pub SparesBySmall : List ℕ → SessionStep → World → Type 0
 SparesBySmall folder (Build options pick) w = UnitsOf small_compiler options w → (IsSmallBuild options w × (records_of options w.variables ≡ folder)) ⊎ ShareNoPath folder (records_of options w.variables)
 SparesBySmall folder step w = Spares small_compiler folder step w
@@ -61,33 +64,34 @@ SmallCourse folder (step ∷ steps) before after = SparesBySmall folder step bef
 abbrev pub StandApart : List (List ℕ) → Type 0
 StandApart targets = (t u : List ℕ) → Contains targets t → Contains targets u → (t ≡ u) ⊎ ((is_at_or_below t u ≡ false) × (is_at_or_below u t ≡ false))
 
--- what a session file leaves open for a build: its target folder is one of these; its profile is a name; the user's
--- flags name no libraries; and the compiler can report what it reads
+-- what a session file does not determine about a build: its target folder is one of these; its
+-- profile is a name; the user's flags name no libraries; and the compiler can report what it reads
 pub record IsToldBuild (targets : List (List ℕ)) (options : Options) (w : World) : Type 0 where
   pub target : Contains targets (environment_of options w.variables).target
   pub profile : is_name options.profile ≡ true
   pub flags : is_mentioned (environment_of options w.variables).flags (codes "--extern") ≡ false
   pub can_tell : CanTellBuild options w
 
--- the same for a step: an edit is outside of each target folder, or removes that folder whole
+-- what a session file does not determine about a step: for each target folder, an edit stays
+-- outside of the folder or removes the whole folder; a build satisfies `IsToldBuild`
 abbrev pub IsToldStep : List (List ℕ) → SessionStep → World → Type 0
 IsToldStep targets (Write path text) w = (t : List ℕ) → Contains targets t → is_at_or_below t path ≡ false
 IsToldStep targets (Remove path) w = (t : List ℕ) → Contains targets t → (is_at_or_below path t ≡ true) ⊎ ShareNoPath t path
 IsToldStep targets (Build options pick) w = IsToldBuild targets options w
 IsToldStep targets step w = ⊤
 
--- the same for each step that was taken
+-- each step that was taken satisfies `IsToldStep`
 abbrev pub AllTold : (targets : List (List ℕ)) (steps : List SessionStep) (before after : Point) → Course small_compiler steps before after → Type 0
 AllTold targets [] before after course = ⊤
 AllTold targets (step ∷ steps) before after course = IsToldStep targets step before.moment.world × AllTold targets steps course.0 after course.2
 
--- a build among the steps produces what a clean build of the workspace of that time produces, or a fault and the first
--- of its lines
+-- if a step is a build, it produces what a clean build of the workspace at that time produces, or a
+-- fault and the first of its lines
 abbrev pub StepGives : (step : SessionStep) (before after : Point) → Carries small_compiler step before after → Type 0
 StepGives (Build options pick) before after built = GivesCleanResult TrustedRecords small_compiler (ByPicked pick options) options built.answer.result before.moment built.ended
 StepGives step before after taken = ⊤
 
--- the same for each build among the steps
+-- each build among the steps does so (`StepGives`)
 abbrev pub AllGive : (steps : List SessionStep) (before after : Point) → Course small_compiler steps before after → Type 0
 AllGive [] before after course = ⊤
 AllGive (step ∷ steps) before after course = StepGives step before course.0 course.1 × AllGive steps course.0 after course.2

@@ -1,5 +1,5 @@
-//! Laws on the small compiler: it is an honest child on the commands of units, and builds whose child it is have the
-//! headline with no premise on the child.
+//! Laws on the small compiler. It is an honest child on the commands of units, so a build with the
+//! small compiler as its child has the headline with no premise on the child.
 #![tactic(auto)]
 
 ghost use Rattle.pb_directive.specs.declared.dep_info.DepInfo.{DepInfo};
@@ -24,25 +24,25 @@ pub fn names_are_read_back()
 /// that agrees on two things: the values of the inputs that the builder finds
 /// in the reply, and the contents of the folders that the command may read.
 ///
-/// The project is one that was read and planned: it is settled, has its plan,
-/// and has normalised absolute paths. The user's flags name no libraries, and
-/// the small compiler runs the scripts. What is read can be expressed: its
-/// names are not empty, are one line each, and end so that they are read back.
+/// The project was read and planned: it is settled, has its plan, and has normalised absolute
+/// paths. The user's flags name no libraries, and the small compiler runs the scripts. What is read
+/// can be expressed: its names are not empty, are one line each, and end so that they are read
+/// back.
 pub fn small_compiler_is_honest()
     ensures { SmallCompilerIsHonest }
 {}
 
 /// A law: the small compiler is an honest child of each build that satisfies the following. The
 /// manifest and the files of the sources have normalised absolute paths; `RUSTFLAGS` contains no
-/// `--extern`; the runner is `--run` after a name; and the small compiler can report on one line
+/// `--extern`; the runner is `--run` after a name; and the small compiler can report, on one line,
 /// the name of whatever a unit reads.
 pub fn small_builds_are_honest()
     ensures { SmallBuildsAreHonest }
 {}
 
-/// A law: with the small compiler as the child, such a build over true records, by whatever turn,
-/// produces what a clean build of the present workspace produces, however it ends, and leaves true
-/// records.
+/// A law: with the small compiler as the child, such a build over true records, whichever turn it
+/// uses, produces what a clean build of the present workspace produces, however it ends. It leaves
+/// true records.
 pub fn small_builds_give<T: Turn>()
     ensures { SmallBuildsGive T.turns }
 {}
@@ -51,10 +51,10 @@ pub fn small_builds_give<T: Turn>()
 /// session with the small compiler produces what a clean build of the present workspace produces,
 /// or a fault and the first of its lines.
 ///
-/// If the session is one of a file and begins without files, each of its builds does, under fewer
-/// conditions. Of any two target folders, both are the same, or neither is inside the other. Edits
-/// stay out of these folders, or remove one whole. A profile is a name; `RUSTFLAGS` contains no
-/// `--extern`; and the compiler can report what it reads. The file itself ensures the rest.
+/// Each build of a session file that begins without files does so under fewer conditions. Of any
+/// two target folders, both are the same, or neither is inside the other. Edits stay out of these
+/// folders, or remove a whole folder. A profile is a name; `RUSTFLAGS` contains no `--extern`; and
+/// the compiler can report what it reads. The file itself ensures the rest.
 pub fn small_sessions_give()
     ensures records { SmallSessionsGive }
     ensures files { SessionFilesGive }

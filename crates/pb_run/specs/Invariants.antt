@@ -15,7 +15,7 @@ use Rattle.pb_workspace_types.specs.declared.package.Package.{Package}
 use Rattle.pb_command_types.specs.declared.project.Project.{Project}
 use Rattle.pb_command_types.specs.declared.project.Setup.{Setup}
 
--- a command is one of this unit, after some runs
+-- this is a command of the unit, after some runs
 abbrev pub IsCommandOf : Project → Planned → Command → Type 0
 IsCommandOf project u c = (setup : Setup) × (done : List (Option (List Directive))) × (c ≡ command_of setup project u done)
 
@@ -31,8 +31,9 @@ pub record IsReadByNeed (project : Project) (u : Planned) (f : List ℕ) : Type 
   pub there : slice_get project.plan.planned place ≡ Some need
   pub own_or_read : (f ≡ need.out) ⊎ Contains (reads_of project need) f
 
--- what a build requires of a project: its workspace is settled, and its plan is a plan of it. The other fields follow
--- from that for its units: their packages, order, folders and keys, and what they need and read
+-- what a build requires of a project: its workspace is settled, and its plan is a plan of it. These
+-- two fields imply the others, which are about its units: their packages, order, folders and keys,
+-- and what they need and read
 pub record IsInOrder (project : Project) : Type 0 where
   pub settled : IsSettled project.workspace
   pub selection : Selection

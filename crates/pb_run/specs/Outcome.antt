@@ -70,7 +70,7 @@ abbrev pub ran_by : Project → Planned → Ended → Result CheckedReply UnitFa
 ran_by project u e (Ok a) = record { started = true; bad = None; directives = a.directives; messages = good_messages project u e.stderr a.directives }
 ran_by project u e (Err fault) = record { started = true; bad = Some record { fault = fault; said = said_by u.unit.what fault e }; directives = None; messages = bad_messages u.unit.what fault e }
 
--- the inputs found in an answer; none if it is bad
+-- the inputs found in a good answer; a bad answer has none
 abbrev pub names_in : Result CheckedReply UnitFault → List InputName
 names_in (Ok a) = a.inputs
 names_in (Err fault) = []
@@ -87,7 +87,7 @@ abbrev pub outcome_from : Option BadUnit → Map → Option (List Directive) →
 outcome_from None files directives messages = Good files directives messages
 outcome_from (Some bad) files directives messages = Bad bad messages
 
--- the outcome of a unit from what came of it and its files
+-- the outcome of a unit, made from what came of it and from its files
 abbrev pub outcome_by : Map → Ran → Outcome
 outcome_by files ran = outcome_from ran.bad files ran.directives ran.messages
 
@@ -114,8 +114,8 @@ directives_of done = map directives_in done
 abbrev pub command_after : Setup → Project → List Outcome → Planned → Command
 command_after setup project done u = command_of setup project u (directives_of done)
 
--- the outcome of a unit from those before it: it waits if a unit that it needs is not good; else it is the outcome of
--- the child's reply to the unit's command in the unit's view
+-- the outcome of a unit from those before it: `Waiting` if a unit that it needs is not good, else
+-- the outcome of the child's reply to the unit's command in the unit's view
 abbrev pub outcome_of : Answers → Setup → Project → World → List Outcome → Planned → Outcome
 outcome_of child setup project sources done u =
     if list_all (λ index. is_good_at (slice_get done index)) u.needs then judged project u (command_after setup project done u) (child (command_after setup project done u) (view_of done sources u)) else Waiting

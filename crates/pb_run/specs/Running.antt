@@ -64,7 +64,7 @@ pub record IsSpawned (inside : List ℕ → Bool) (child : Answers) (c : Command
 
 -- The calls, one by one.
 
--- the calls of a step: those of a success, and those of each fault
+-- the calls of a step: `Makes` states them for a success, and `Ends` for each fault
 abbrev pub Calls : {T E : Type 0} → (T → Counts → Counts → Type 0) → (E → Counts → Counts → Type 0) → Result T E → Counts → Counts → Type 0
 Calls Makes Ends result old new = MatchResult result (λ x. Makes x old new) (λ e. Ends e old new)
 
@@ -72,14 +72,15 @@ Calls Makes Ends result old new = MatchResult result (λ x. Makes x old new) (λ
 abbrev pub OneCall : {T : Type 0} → T → Counts → Counts → Type 0
 OneCall x old new = new ≡ past_call old
 
--- the one call, which removes this path, failed; out of memory, it may or may not have been made
+-- the one call, which removes this path, failed; if memory ran out, the call may or may not have
+-- been made
 abbrev pub RemovalEnds : List ℕ → StepFault → Counts → Counts → Type 0
 RemovalEnds path (step.Store (store.Place fault)) old new = Fails fault (call.Remove path) old new
 RemovalEnds path (step.Store store.NumbersSpent) old new = ⊥
 RemovalEnds path (step.Store store.OutOfMemory) old new = (new ≡ old) ⊎ (new ≡ past_call old)
 RemovalEnds path (step.Start fault) old new = ⊥
 
--- the same for a removal that needs a run number: if no number is left, no call was made
+-- as `RemovalEnds`, for a removal that needs a run number: if no number is left, no call was made
 abbrev pub DropEnds : List ℕ → StepFault → Counts → Counts → Type 0
 DropEnds path (step.Store store.NumbersSpent) old new = new ≡ old
 DropEnds path e old new = RemovalEnds path e old new
@@ -89,7 +90,8 @@ pub record Spawns (child : Answers) (c : Command) (ticket : ℕ) (old new : Coun
   pub spawned : World
   pub counted : new ≡ counted_spawn (child_spawned (child c) c spawned) (Ok ticket) old
 
--- the spawn failed with this fault and counts as one start; out of memory, the spawn may or may not have been made
+-- the spawn failed with this fault and counts as one start; if memory ran out, the spawn may or may
+-- not have been made
 abbrev pub SpawnStops : StepFault → Counts → Counts → Type 0
 SpawnStops (step.Store (store.Place fault)) old new = ⊥
 SpawnStops (step.Store store.NumbersSpent) old new = ⊥
@@ -107,34 +109,35 @@ SpawnsAnew child c ticket old new = Spawns child c ticket (past_call old) new
 abbrev pub Launches : Answers → Command → ℕ → Counts → Counts → Type 0
 Launches child c ticket old new = SpawnsAnew child c ticket (past_call old) new
 
--- the step failed at the removal of the folder, or after it at the spawn
+-- the step failed when it removed the folder, or after that when it spawned the child
 abbrev pub AnewEnds : List ℕ → StepFault → Counts → Counts → Type 0
 AnewEnds folder e old new = RemovalEnds folder e old new ⊎ SpawnStops e (past_call old) new
 
--- the step failed at the removal of the record at this path, or after it at that of the folder, or after both at the
--- spawn
+-- the step failed when it removed the record at this path, after that when it removed the folder,
+-- or after both when it spawned the child
 abbrev pub LaunchEnds : List ℕ → List ℕ → StepFault → Counts → Counts → Type 0
 LaunchEnds path folder e old new = DropEnds path e old new ⊎ AnewEnds folder e (past_call old) new
 
 -- The records.
 
--- the record is gone, or, after a fault, may be unchanged; the folder of records stays sound, and the next number stays
--- above all others
+-- after a success the record is gone; after a fault it is gone or unchanged. The folder of records
+-- stays sound, and the next number stays above all others
 pub record DropsFor {T : Type 0} (child : Answers) (folder key : List ℕ) (result : Result T StepFault) (before now : Option ℕ) (old new : World) : Type 0 where
   pub sound : (judge : Judge) → Sound reading judge child folder old.files → Sound reading judge child folder new.files
   pub stands : MatchResult result (λ x. records folder new key ≡ None) (λ e. Leaves None (records folder old key) (records folder new key))
   pub ahead : IsAhead (records folder old) before → IsAhead (records folder new) now
 
--- the child of this ticket has ended with this answer: it is no longer in flight, a failure is counted, and only its
--- folder changed. If what it sees has not changed since its spawn, it left what was fixed then
+-- the child of this ticket has ended with this answer: it is no longer in flight, a failure is
+-- counted, and only its folder changed. If what the child sees has not changed since the spawn, it
+-- left exactly what was determined at the spawn
 pub record HasEnded (ticket : ℕ) (answer : Result Ended StartFault) (well stood : Type 0) (before after : World) (old new : Counts) : Type 0 where
   pub counted : new ≡ counted_finish ticket answer old
   pub answered : well → IsOk answer
   pub only : IfSome (child_at ticket old.starts.flying) (λ spawned. ChangesOnlyInSome spawned.command.out before after)
   pub lands : stood → IfOk answer (λ ended. IfSome (child_at ticket old.starts.flying) (λ spawned. LandsAs spawned before ended after))
 
--- the child of a unit has ended in this way, if the unit has one; else nothing was done, and the answer is what its
--- record replays
+-- if the unit has a child, the child has ended in this way; else nothing was done, and the answer
+-- is what the unit's record replays
 abbrev pub EndsBy : Awaited → Result Ended StartFault → Type 0 → (ℕ → Type 0) → World → World → Counts → Counts → Type 0
 EndsBy (awaited.Child launched) answer well still before after old new = HasEnded launched.ticket answer well (still launched.ticket) before after old new
 EndsBy (awaited.Record again) answer well still before after old new = (after ≡ before) × (new ≡ old) × (answer ≡ Ok again.ended)
@@ -160,8 +163,8 @@ abbrev pub record_of : Project → Planned → Command → ℕ → Ended → Wor
 record_of project u c number ended w =
     kept_of (records_folder project) u.key c (map (input_in c.target w) (names_of project u c ended w.files)) number (numbered (records (records_folder project) w) (needed_keys project u)) ended
 
--- the record of a unit after this answer: with a child, the record of that answer; without one, the record that was
--- there, with the next number if it had none
+-- the record of a unit after this answer: with a child, the record of that answer; without a child,
+-- the old record, which gets the next number if it had none
 abbrev pub record_left : Project → Planned → Command → Awaited → Ended → Option ℕ → World → Option Record
 record_left project u c (awaited.Child launched) ended next w = Some (record_of project u c launched.number ended w)
 record_left project u c (awaited.Record again) ended next w =
@@ -179,12 +182,13 @@ abbrev pub dep_info_looked : Option (List ℕ) → List Call
 dep_info_looked None = []
 dep_info_looked (Some path) = call.Read path ∷ []
 
--- if a child was started, its record is kept; else a record without a run number gets one
+-- the calls that keep the record of a child's answer; without a child, the calls that give the old
+-- record a run number, if it has none
 abbrev pub recorded_called : Project → Planned → Command → World → List InputName → Awaited → List Call
 recorded_called project u c w names (awaited.Child launched) = kept_called (records_folder project) u.key c.target w names
 recorded_called project u c w names (awaited.Record again) = if again.numbered then [] else migrated_called (records_folder project) u.key w
 
--- the same calls, but none for a bad unit
+-- the calls for the record of a good unit (`recorded_called`); a bad unit has none
 abbrev pub judged_called : Project → Planned → Command → World → Awaited → Validated → List Call
 judged_called project u c w by j = if is_some j.ran.bad then [] else recorded_called project u c w j.names by
 
@@ -193,8 +197,9 @@ abbrev pub answered_called : Project → Planned → Command → World → Await
 answered_called project u c w by ended =
     dep_info_looked (dep_info_of project u) ++ judged_called project u c w by (judgement_by project u ended (answered_of project u c ended (file_at (dep_info_of project u) w.files)))
 
--- after an answer exactly these calls were made, in this order; only a record that is replayed can lack a number; if
--- the child produced no answer, no call was made, and the fault is the child's
+-- after an answer exactly these calls were made, in this order, or up to a failed one; only a
+-- replayed record can lack a number. If the child produced no answer, no call was made, and the
+-- fault is the child's
 abbrev pub CallsBehind : {T : Type 0} → Awaited → (Ended → List Call) → Result Ended StartFault → Result T StepFault → Counts → Counts → Type 0
 CallsBehind (awaited.Child launched) calls (Ok ended) result old new = StepMakes result (calls ended) old new
 CallsBehind (awaited.Record again) calls (Ok ended) result old new = NumbersInTurn result (calls ended) old new
@@ -204,19 +209,20 @@ CallsBehind by calls (Err fault) result old new = (new ≡ old) × IfErr result 
 abbrev pub Differs : Project → Planned → Command → World → Type 0
 Differs project u c w = (difference : Difference) × FirstDifference (records_folder project) u.key c w (Some difference)
 
--- the calls that compare a unit with its record (below, the counters after them)
+-- the calls that compare a unit with its record (below: the counters after these calls)
 abbrev pub unit_looks : Project → Planned → Command → World → List Call
 unit_looks project u c w = unit_looked (records_folder project) u.key c w
 
 abbrev pub past_look : Project → Planned → Command → World → Counts → Counts
 past_look project u c w old = past_calls (unit_looks project u c w) old
 
--- the unit has begun: with a child if it reports a difference; else with what its record replays
+-- the unit has begun: with a child if the beginning reports a difference, else with what the unit's
+-- record replays
 pub record BeginsUnit (is_modelled : Bool) (child : Answers) (project : Project) (u : Planned) (c : Command) (before now : Store) (old new : At) (begun : Begun) : Type 0 where
-  -- it has the unit's key and its command
+  -- the `Begun` contains the unit's key and its command
   pub unit : begun.unit ≡ u.key
   pub asks : begun.command ≡ c
-  -- over a modelled place the report is the first difference
+  -- over a modelled place, the reported difference is the first one
   pub differs : IsTrue is_modelled → FirstDifference (records_folder project) u.key begun.command old.world begun.difference
   pub spawned : is_some (child_of begun) ≡ is_some begun.difference
   -- the child takes the next run number, is counted as in flight, and writes into the unit's folder; when it was
@@ -238,7 +244,8 @@ StopsToBegin project u c fault w old new = StepStopsAt fault (unit_looks project
 
 pub record FailsToBegin (is_modelled : Bool) (project : Project) (u : Planned) (c : Command) (old new : At) (e : StepFault) : Type 0 where
   pub stops : IsTrue is_modelled → StopsToBegin project u c e old.world old.counts new.counts
-  -- a call of the launch fails, anything changes, or a spawn is tried only if something differs
+  -- something differs if a call of the launch failed, if anything has changed, or if a spawn was
+  -- tried
   pub cause : IsTrue is_modelled → starts e ≡ true → Differs project u c old.world
   pub spared : IsTrue is_modelled → (new.world ≡ old.world) ⊎ Differs project u c old.world
   pub tried : IsTrue is_modelled → (new.counts.starts ≡ old.counts.starts) ⊎ Differs project u c old.world
@@ -251,10 +258,10 @@ pub record BeginsBuild (b : BuildContext) (done : List (Option (List Directive))
   pub others : (states : List (State BadUnit)) (other : ℕ) (its : Begun) → CanBegin b states done index u before old.world
       → BeginsApart b states index None other its before old.world old.counts.starts.flying old.still → IsBegun b other its now new.world new.counts.starts.flying new.still
 
--- Of each step.
+-- What each step does.
 
--- the store keeps its folder; its next number is unchanged or was taken; and if the step ended well, its numbers are
--- those of its records
+-- the store keeps its folder; its next number is unchanged or was taken; after a success, its
+-- numbers are the numbers of its records
 pub record KeepsStore {T : Type 0} (is_modelled : Bool) (result : Result T StepFault) (before now : Store) (new : At) : Type 0 where
   pub folder : now.folder ≡ before.folder
   pub next : TakesNumber before.next now.next
@@ -268,11 +275,11 @@ pub record ChangesUnit {T : Type 0} (folder key : List ℕ) (ended : Option Spaw
   pub stay : (ticket : ℕ) (its : ChildInFlight) → IfSome ended (λ launched. ticket ≢ launched.ticket) → child_at ticket old.counts.starts.flying ≡ Some its → child_at ticket new.counts.starts.flying ≡ Some its
   pub takes : StepTakes Goes May result old.counts new.counts
 
--- what the beginning of a unit does to the starts
+-- how the beginning of a unit changes the starts
 abbrev pub Begins : Begun → Starts → Starts → Type 0
 Begins begun old new = BeginsBy (child_of begun) old new
 
--- what has begun is this unit, with a command of it
+-- this unit has begun, with one of its commands
 pub record IsOf (project : Project) (u : Planned) (begun : Begun) : Type 0 where
   pub unit : begun.unit ≡ u.key
   pub asks : IsCommandOf project u begun.command
@@ -284,8 +291,8 @@ pub record AnswersThen (by : Awaited) (answer : Result Ended StartFault) (well :
   pub ends : EndsBy by answer well old.still old.world world old.counts counts
   pub comes : Then world counts
 
--- what came of a unit is the judgement of its child's answer, or, without a child, of what its record replays; a good
--- unit leaves the record of `record_left`
+-- what came of a unit is the judgement of its child's answer; without a child, it is the judgement
+-- of what its record replays. A good unit has the record `record_left` afterwards
 pub record AnswersUnit (is_modelled : Bool) (project : Project) (u : Planned) (begun : Begun) (before now : Store) (old new : At) (ran : Ran) : Type 0 where
   pub started : ran.started ≡ is_some (child_of begun)
   pub directives : directives_in (outcome_by finite.empty ran) ≡ ran.directives
@@ -298,11 +305,12 @@ pub record AnswersUnit (is_modelled : Bool) (project : Project) (u : Planned) (b
   -- a good unit takes the next number if its record had none
   pub taken : IsTrue is_modelled → awaits_number begun.awaited ≡ true → lacks_number (records (records_folder project) old.world u.key) ≡ true → is_some ran.bad ≡ false → TakesNext before.next now.next
 
--- how the answer ended, well or with a fault: after it only these calls came, and they changed only the unit's record
+-- after the answer, whether the step succeeds or fails, only these calls were made, and they
+-- changed only the unit's record
 pub record EndsUnit {T : Type 0} (is_modelled : Bool) (project : Project) (u : Planned) (begun : Begun) (result : Result T StepFault) (before now : Store) (old new : At) : Type 0 where
   pub lands : IsTrue is_modelled → (answer : Result Ended StartFault) × AnswersThen begun.awaited answer (IsOk result) old (λ w counts.
       ChangesOnly (is_at_or_below (place_of (records_folder project) u.key)) w new.world × CallsBehind begun.awaited (answered_called project u begun.command w begun.awaited) answer result counts new.counts)
-  -- without a child, and with a record that has a number, nothing changes and no number is taken
+  -- nothing changes and no number is taken if the unit has no child and its record has a number
   pub same : IsTrue is_modelled → child_of begun ≡ None → lacks_number (records (records_folder project) old.world u.key) ≡ false → new.world ≡ old.world
   pub untaken : awaits_number begun.awaited ≡ false → now.next ≡ before.next
   pub most : new.most ≡ old.most
@@ -317,7 +325,7 @@ pub record AnswersBuild (b : BuildContext) (index : ℕ) (u : Planned) (begun : 
   pub others : (states : List (State BadUnit)) (done : List (Option (List Directive))) (other : ℕ) (its : Begun) → CanAnswer b states done index u begun before old.world old.counts.starts.flying old.still
       → BeginsApart b states index (child_of begun) other its before old.world old.counts.starts.flying old.still → IsBegun b other its now new.world new.counts.starts.flying new.still
 
--- and as a unit's answer is dropped
+-- what is true of a build over true records, or over none, stays true as a unit's answer is dropped
 pub record DropsBuild (b : BuildContext) (index : ℕ) (u : Planned) (begun : Begun) (next : Option ℕ) (old new : At) : Type 0 where
   pub keeps : (states : List (State BadUnit)) (done : List (Option (List Directive))) → CanAnswer b states done index u begun next old.world old.counts.starts.flying old.still → BuildInvariant b states done next new.world
   pub others : (states : List (State BadUnit)) (done : List (Option (List Directive))) (other : ℕ) (its : Begun) → CanAnswer b states done index u begun next old.world old.counts.starts.flying old.still
@@ -331,7 +339,7 @@ pub record HasBegun (is_modelled : Bool) (child : Answers) (setup : Setup) (proj
   pub store : KeepsStore is_modelled result before now new
   pub changes : ChangesUnit (records_folder project) u.key None Begins (MayBegin before.next) result old new
 
--- and of its answer
+-- all that we promise of the answer of a unit, without the key in its error
 pub record HasAnswered (is_modelled : Bool) (child : Answers) (project : Project) (index : ℕ) (u : Planned) (begun : Begun) (result : Result Ran StepFault) (before now : Store) (old new : At) : Type 0 where
   pub answers : IfOk result (AnswersUnit is_modelled project u begun before now old new)
   pub ends : EndsUnit is_modelled project u begun result before now old new
@@ -348,7 +356,7 @@ abbrev pub TellsAnswer : Project → Planned → Option Difference → Result Ra
 TellsAnswer project u difference (Ok ran) result = MatchResult result (λ outcome. outcome ≡ told_of project u difference ran) (λ e. e ≡ step.Store store.OutOfMemory)
 TellsAnswer project u difference (Err fault) result = result ≡ Err fault
 
--- the unit has answered, and the outcome or the fault is that of its answer
+-- the unit has answered, and the outcome or the fault is that of this answer
 pub record HasTold (is_modelled : Bool) (child : Answers) (project : Project) (index : ℕ) (u : Planned) (begun : Begun) (result : Result Outcome StepFault) (before now : Store) (old new : At) : Type 0 where
   pub answer : Result Ran StepFault
   pub answered : HasAnswered is_modelled child project index u begun answer before now old new

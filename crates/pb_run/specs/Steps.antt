@@ -1,5 +1,5 @@
--- How a step of one unit ends: which call failed, with which fault, after how many starts; with and without the unit's
--- name.
+-- How a step of one unit ends: which call failed, with which fault, and after how many starts. The
+-- faults are stated with and without the unit's name.
 use Rattle.std.specs.Prelude.{◌≡◌, ℕ, List, Result, Ok, Err, ◌≢◌, ◌⊎◌, ◌++◌, ◌∷◌, [], Bool, true, false, Option, Some, None, IfErr, MatchResult, IsSome}
 use Rattle.pb_build_result.specs.declared.fault.BuildFault.{BuildFault}
 use Rattle.pb_build_result.specs.declared.fault.BuildFault.TheVariants.{Child, Device}
@@ -66,14 +66,14 @@ NoStart x old new = new ≡ old
 
 -- The two steps of a unit.
 
--- one more start is counted, and a child with this ticket, which no other child had, is the last in flight
+-- one more start is counted, and a child with this new ticket is the last in flight
 pub record StartsRise (ticket : ℕ) (old new : Starts) : Type 0 where
   pub child : ChildInFlight
   pub its : child.ticket ≡ ticket
   pub free : is_flying ticket old.flying ≡ false
   pub lifted : new ≡ record old { count = up old.count; flying = old.flying ++ child ∷ [] }
 
--- what the beginning of a unit does to the starts (below, what its answer does)
+-- how the beginning of a unit changes the starts (below: how its answer changes them)
 abbrev pub BeginsBy : Option SpawnedChild → Starts → Starts → Type 0
 BeginsBy None old new = new ≡ old
 BeginsBy (Some launched) old new = StartsRise launched.ticket old new
@@ -85,22 +85,22 @@ LandsBy (Some launched) old new = new ≡ record old { flying = without launched
 abbrev pub Lands : {T : Type 0} → Option SpawnedChild → T → Starts → Starts → Type 0
 Lands launched x old new = LandsBy launched old new
 
--- the end of the child was awaited, if there is a child, and its answer dropped
+-- if there is a child, its end was awaited and its answer was dropped
 abbrev pub Drops : Option SpawnedChild → Counts → Counts → Type 0
 Drops None old new = new ≡ old
 Drops (Some launched) old new = (result : Result Ended StartFault) × (new ≡ counted_finish launched.ticket result old) × IfErr result (λ e. e ≢ start.OutOfMemory → (e ≡ start.Died) ⊎ (e ≡ start.Capture))
 
 -- Several calls on files and variables.
 
--- one of these calls failed with this fault: those before it succeeded, and it was the last; out of memory, some first
--- calls of the list were made; no other fault is possible
+-- one of these calls failed with this fault: the calls before it succeeded, and no call came after
+-- it; if memory ran out, some first calls of the list were made; no other fault is possible
 abbrev pub StopsAt : BuildFault → List Call → Counts → Counts → Type 0
 StopsAt (Device unit (device.Place fault)) calls old new = FailsAt fault calls old new
 StopsAt build.OutOfMemory calls old new = MakesSome calls old new
 StopsAt e calls old new = ⊥
 
--- if a step ended well, exactly these calls were made; else it stopped at one of them. They are listed in their order,
--- since each may fail with the fault of its kind
+-- if a step ended well, exactly these calls were made; else it stopped at one of them. The list has
+-- an order, since each call may fail with the fault of its kind
 abbrev pub MakesInTurn : {T : Type 0} → Result T BuildFault → List Call → Counts → Counts → Type 0
 MakesInTurn result calls old new = MatchResult result (λ x. new ≡ past_calls calls old) (λ e. StopsAt e calls old new)
 
@@ -117,8 +117,8 @@ StepCause (step.Start fault) old new = FailedLast (Started fault) old new
 abbrev pub StepTakes : {T : Type 0} → (T → Starts → Starts → Type 0) → (StepFault → Starts → Starts → Type 0) → Result T StepFault → Counts → Counts → Type 0
 StepTakes Goes May result old new = MatchResult result (λ x. (new.failures ≡ old.failures) × Goes x old.starts new.starts) (λ e. May e old.starts new.starts × StepCause e old new)
 
--- the faults with which a unit may fail to begin, and the starts after each: unchanged, or one more if the spawn was
--- tried; no further child is in flight
+-- the faults with which a unit may fail to begin, and the starts after each fault: unchanged, or
+-- one more if the spawn was tried. No further child is in flight
 abbrev pub MayBegin : Option ℕ → StepFault → Starts → Starts → Type 0
 MayBegin next (step.Store (store.Place fault)) old new = (fault ≢ place.Write) × (new ≡ old)
 MayBegin next (step.Store store.NumbersSpent) old new = (next ≡ None) × (new ≡ old)
@@ -132,24 +132,24 @@ MayRemove (step.Store store.NumbersSpent) old new = ⊥
 MayRemove (step.Store store.OutOfMemory) old new = new ≡ old
 MayRemove (step.Start fault) old new = ⊥
 
--- the faults of the calls after the child's end, or without a child: they read and write files, list folders and read
--- variables
+-- the faults of the calls that follow the child's end, or that a unit without a child makes: they
+-- read and write files, list folders and read variables
 abbrev pub MayFollow : StepFault → Starts → Starts → Type 0
 MayFollow (step.Store (store.Place fault)) old new = (fault ≢ place.Remove) × (new ≡ old)
 MayFollow (step.Store store.NumbersSpent) old new = ⊥
 MayFollow (step.Store store.OutOfMemory) old new = new ≡ old
 MayFollow (step.Start fault) old new = ⊥
 
--- the faults of the calls that await the child's end, read the dep-info, and keep or renew the record; a run number is
--- missing only for a record, and only if none is left
+-- the faults of the calls that await the child's end, read the dep-info, and keep or renew the
+-- record; the fault is `NumbersSpent` only if the unit has no child and no number is left
 abbrev pub MayAnswer : Option ℕ → Option SpawnedChild → StepFault → Starts → Starts → Type 0
 MayAnswer next launched (step.Store (store.Place fault)) old new = (fault ≢ place.Remove) × LandsBy launched old new
 MayAnswer next launched (step.Store store.NumbersSpent) old new = (next ≡ None) × (launched ≡ None) × (new ≡ old)
 MayAnswer next launched (step.Store store.OutOfMemory) old new = LandsBy launched old new
 MayAnswer next launched (step.Start fault) old new = IsSome launched × ((fault ≡ start.Died) ⊎ (fault ≡ start.Capture)) × LandsBy launched old new
 
--- the fault comes from a step that is made only if something differs: a run number is taken, the record and the files
--- are removed, the child is spawned
+-- the fault comes from a step that is taken only if something differs: a run number is taken, the
+-- record or the files are removed, or the child is spawned
 abbrev pub starts : StepFault → Bool
 starts (step.Store (store.Place place.Remove)) = true
 starts (step.Store (store.Place fault)) = false
@@ -157,18 +157,18 @@ starts (step.Store store.NumbersSpent) = true
 starts (step.Store store.OutOfMemory) = false
 starts (step.Start fault) = true
 
--- the cause of a build's fault, whatever its name is
+-- the cause of a build's fault, whatever name the fault has
 abbrev pub HasCause : BuildFault → Counts → Counts → Type 0
 HasCause fault old new = StepCause (fault_in fault) old new
 
--- the same for a build's fault
+-- a build's fault comes from such a step (`starts`)
 abbrev pub is_of_start : BuildFault → Bool
 is_of_start fault = starts (fault_in fault)
 
 -- Several calls.
 
--- one of these calls failed with the fault: those before it succeeded, and it was the last; out of memory, some first
--- calls of the list were made
+-- one of these calls failed with the fault: the calls before it succeeded, and no call came after
+-- it; if memory ran out, some first calls of the list were made
 abbrev pub StepStopsAt : StepFault → List Call → Counts → Counts → Type 0
 StepStopsAt (step.Store (store.Place fault)) calls old new = FailsAt fault calls old new
 StepStopsAt (step.Store store.NumbersSpent) calls old new = ⊥
@@ -179,8 +179,8 @@ StepStopsAt (step.Start fault) calls old new = ⊥
 abbrev pub StepMakes : {T : Type 0} → Result T StepFault → List Call → Counts → Counts → Type 0
 StepMakes result calls old new = MatchResult result (λ x. new ≡ past_calls calls old) (λ e. StepStopsAt e calls old new)
 
--- the same for a step that may give a record a run number; if no number is left, it stopped before the record was
--- rewritten
+-- as `StepStopsAt`, for a step that may give a record a run number: if no number is left, it
+-- stopped before it rewrote the record
 abbrev pub NumberingStopsAt : StepFault → List Call → Counts → Counts → Type 0
 NumberingStopsAt (step.Store store.NumbersSpent) calls old new = (before : List Call) × (path : List ℕ) × (calls ≡ before ++ call.Write path ∷ []) × (new ≡ past_calls before old)
 NumberingStopsAt e calls old new = StepStopsAt e calls old new

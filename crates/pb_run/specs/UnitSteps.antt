@@ -35,8 +35,8 @@ use Rattle.pb_store.specs.Folder.{HasNeeds}
 use Rattle.pb_store.specs.Differences.{IsReplayed}
 use Rattle.pb_unit.specs.declared.plan.Planned.{Planned}
 
--- what a build rests on: a sound folder of records and an honest child; or nothing, and then no unit that has not
--- begun has a record
+-- what a build rests on: a sound folder of records and an honest child; or no records, and then
+-- each unit that has a record has begun
 pub data Premise : Type 0 where
   TrustedRecords : Premise
   NoRecords : Premise
@@ -56,7 +56,8 @@ build_context premise child setup project sources = record { premise = premise; 
 abbrev pub outcomes_in : BuildContext → List Outcome
 outcomes_in b = outcomes b.child b.setup b.project b.sources
 
--- the command of the unit at an index, after the outcomes of the units before it (below, its view)
+-- the command of the unit at an index, after the outcomes of the units before it (below: the unit's
+-- view)
 abbrev pub command_in : BuildContext → ℕ → Planned → Command
 command_in b index u = command_after b.setup b.project (take index (outcomes_in b)) u
 
@@ -108,7 +109,8 @@ pub record HoldsRecords (b : BuildContext) (states : List (State BadUnit)) (next
   pub ahead : IsAhead (records_in b w) next
   pub recorded : (index : ℕ) → is_good_at (slice_get states index) ≡ true → HasRecord b w index
 
--- over records, these facts are true; over nothing, no unit that has not begun has a record
+-- over trusted records, these facts are true; over no records, each unit that has a record has
+-- begun
 abbrev pub HoldsBy : Premise → BuildContext → List (State BadUnit) → Option ℕ → World → Type 0
 HoldsBy TrustedRecords b states next w = HoldsRecords b states next w
 HoldsBy NoRecords b states next w = (index : ℕ) (u : Planned) → unit_at b.project index ≡ Some u → slice_get states index ≡ Some Untouched → records_in b w u.key ≡ None
@@ -135,11 +137,11 @@ key_at project index = key_in (unit_at project index)
 abbrev pub needed_keys : Project → Planned → List (List ℕ)
 needed_keys project u = flat_map (key_at project) u.needs
 
--- a unit that has begun, made of its parts, without a difference
+-- the unit with this key has begun with this command, and waits in this way; its difference is none
 abbrev pub begun_with : List ℕ → Command → Awaited → Begun
 begun_with key c by = record { unit = key; command = c; difference = None; awaited = by }
 
--- its child, if it has one
+-- the child that a unit waits for, if it has one
 abbrev pub child_in : Awaited → Option SpawnedChild
 child_in (awaited.Child launched) = Some launched
 child_in (awaited.Record again) = None
@@ -147,7 +149,7 @@ child_in (awaited.Record again) = None
 abbrev pub child_of : Begun → Option SpawnedChild
 child_of begun = child_in begun.awaited
 
--- nothing differs from the unit's record, and that record has no run number
+-- the unit has no child, and the record that it replays has no run number
 abbrev pub awaits_number : Awaited → Bool
 awaits_number (awaited.Child launched) = false
 awaits_number (awaited.Record again) = not again.numbered
@@ -178,7 +180,8 @@ abbrev pub IsUnchanged : Premise → BuildContext → Planned → Command → Wo
 IsUnchanged TrustedRecords b u c w = (r : Record) × IsSame reading (records_folder b.project) u.key c w r
 IsUnchanged NoRecords b u c w = ⊥
 
--- either the unit has a child, or nothing differs from its record and it carries what that record replays
+-- either the unit has a child in flight, or nothing differs from its record and the unit carries
+-- what this record replays
 abbrev pub WaitsBy : BuildContext → Planned → Command → World → Awaited → Option ℕ → World → List ChildInFlight → (ℕ → Type 0) → Type 0
 WaitsBy b u c view (awaited.Child launched) next w flying still = IsInFlight b.child c view launched.ticket flying still × AwaitsBy b.premise b u launched.number next w
 WaitsBy b u c view (awaited.Record again) next w flying still = IsUnchanged b.premise b u c w × IsReplayed (records_in b w u.key) again
@@ -190,13 +193,13 @@ pub record IsBegun (b : BuildContext) (index : ℕ) (begun : Begun) (next : Opti
   pub command : begun.command ≡ command_in b index unit
   pub waits : WaitsBy b unit begun.command (view_in b index unit) begun.awaited next w flying still
 
--- the child of a unit that has begun, if it has one, writes into this folder
+-- if a unit that has begun has a child, the child writes into this folder
 abbrev pub WritesTo : List ℕ → Option SpawnedChild → List ChildInFlight → Type 0
 WritesTo out None flying = Unit {0}
 WritesTo out (Some launched) flying = IfSome (child_at launched.ticket flying) (λ spawned. spawned.command.out ≡ Some out)
 
--- each other ticket that stood still before stands still after, unless a change of these paths touches what the child
--- of that ticket sees
+-- if another child stood still before, it stands still after, unless a change of these paths can
+-- touch what that child sees
 abbrev pub KeepsOthersStill : Option SpawnedChild → (List ℕ → Bool) → List ChildInFlight → (ℕ → Type 0) → (ℕ → Type 0) → Type 0
 KeepsOthersStill launched inside flying before after =
     (ticket : ℕ) → IfSome launched (λ its. ticket ≢ its.ticket) → ((v w : World) → ChangesOnly inside v w → StandsStill ticket flying v w) → before ticket → after ticket

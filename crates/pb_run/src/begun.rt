@@ -22,7 +22,7 @@ pub struct SpawnedChild {
 pub enum Awaited {
     /// The end of its child.
     Child(SpawnedChild),
-    /// Its record, from which nothing differs, and which replays this.
+    /// What its record replays. Nothing differs from this record.
     Record(Replayed),
 }
 

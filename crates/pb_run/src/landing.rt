@@ -44,7 +44,7 @@ fn finish<P: Place>(
 ) -> Result<Ended, StepFault>
     requires flies { is_flying launched.now.ticket (P.at place.old).counts.starts.flying ≡ true }
 
-    // How the child ended, and what it left.
+    // This states how the child ended and what it left.
     ensures ended { IsTrue P.is_modelled → MatchResult result
         (λ ended. HasEnded launched.now.ticket (Ok ended) (IsOk result)
         ((P.at place.old).still launched.now.ticket) (P.at place.old).world (P.at place.new).world
@@ -56,7 +56,7 @@ fn finish<P: Place>(
         (λ spawned. ChangesOnlyInSome spawned.command.out (P.at place.old).world
         (P.at place.new).world) }
 
-    // The other children stay in flight, and stand still.
+    // The other children stay in flight and stand still.
     ensures most { (P.at place.new).most ≡ (P.at place.old).most }
     ensures still { StaysStillBut launched.now.ticket (P.at place.old).counts.starts.flying
         (P.at place.old).world (P.at place.new).world (P.at place.old).still
@@ -229,9 +229,9 @@ fn land<P: Place>(
     }
 }
 
-/// Answers a unit from whose record nothing differs: judges what the record replays, and gives the
-/// record a run number if it has none. A record with a number is not read. Only the unit's record
-/// changes.
+/// Answers a unit without a child, from whose record nothing differs. It judges what the record
+/// replays, and gives the record a run number if it has none. A record with a number is not read.
+/// Only the unit's record changes.
 fn reuse<P: Place>(
     alloc: Global,
     place: &mut P,
@@ -278,7 +278,7 @@ fn reuse<P: Place>(
     if again.numbered {
         return Ok(ran);
     }
-    // If something moved, the unit will be built again, and no record may name this one.
+    // If something moved, the unit will be built again, and no record may name its record.
     if !place.stood_still(command) {
         return Ok(ran);
     }

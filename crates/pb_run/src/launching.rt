@@ -21,7 +21,7 @@ use std::alloc::Global;
 /// Spawns the child of a unit, by one call.
 #[tactic(auto, using(crate::proofs::Spawning::spawn_laws))]
 fn spawn<P: Place>(alloc: Global, place: &mut P, command: &Command) -> Result<u64, StepFault>
-    // The child is in flight, and stands still.
+    // The child is in flight, and nothing that it sees has changed.
     ensures flies { IfOk result (λ ticket. child_at ticket (P.at place.new).counts.starts.flying
         ≡ Some (child_spawned (P.child command.now) command.now (P.at place.old).world ticket)) }
     ensures stands { IfOk result (λ ticket. (P.at place.new).still ticket) }

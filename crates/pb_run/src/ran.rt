@@ -24,7 +24,7 @@ use std::alloc::{AllocError, Global};
 pub struct Ran {
     /// Whether a child process was started for it.
     pub started: bool,
-    /// If it is bad, why, and what its child printed.
+    /// Why the unit is bad, and what its child printed; none if it is good.
     pub bad: Option<BadUnit>,
     /// The directives of a build script's run that ended well.
     pub directives: Option<Directives>,
@@ -37,7 +37,7 @@ pub struct Ran {
 pub struct Validated {
     /// What came of the unit.
     pub ran: Ran,
-    /// The inputs found in its answer; none if it is bad.
+    /// The inputs found in its answer. A bad unit has none.
     pub names: Items<InputName>,
 }
 

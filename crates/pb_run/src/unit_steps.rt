@@ -1,5 +1,5 @@
-//! The two steps of a unit: it begins, with or without a child; it answers, or its answer is
-//! dropped. And both together.
+//! The two steps of a unit: it begins, with or without a child; then it answers, or its answer is
+//! dropped. `run_unit` takes both steps.
 
 ghost use Rattle.std.specs.Prelude.{◌≡◌, ◌≢◌, ◌⊎◌, ℕ, true, List, Option, IsTrue, IfErr, IfOk, IfSome, Some, None, slice_get};
 ghost use Rattle.pb_command.specs.Command.{command_of};
@@ -36,7 +36,7 @@ use std::alloc::{AllocError, Global};
 /// What came of a unit.
 #[derive(Drop)]
 pub struct Outcome {
-    /// If it is bad, why, and what its child printed.
+    /// Why the unit is bad, and what its child printed; none if it is good.
     pub fault: Option<BadUnit>,
     /// The directives of a build script's run that ended well.
     pub directives: Option<Directives>,
@@ -79,12 +79,12 @@ fn command(
 /// - `OutOfMemory`.
 ///
 /// Clauses and fields with the premise `P.is_modelled` are about a place whose files and variables
-/// contracts know. They say nothing about a real machine, and the world that contracts see there is
+/// contracts know. They say nothing about a real machine. The world that contracts see there is
 /// constant, so what `changes` says about files is empty. What the contract says about calls,
 /// starts, children in flight, errors and run numbers is true there too.
 ///
-/// `build` is about a build that satisfies `BuildInvariant`, and a unit of it that satisfies `CanBegin`: it
-/// has not begun, and all that it reaches has answered and is good.
+/// `build` is about a build that satisfies `BuildInvariant` and one of its units that satisfies
+/// `CanBegin`: this unit has not begun, and all that it reaches has answered and is good.
 #[tactic(auto, using(crate::proofs::Naming::naming_laws))]
 pub fn begin_unit<P: Place>(
     alloc: Global,
@@ -101,8 +101,8 @@ pub fn begin_unit<P: Place>(
     requires numbers { IsTrue P.is_modelled →
         HasNumbers (records store.old.folder (P.at place.old).world) store.old.numbers }
 
-    // The unit has a child if it reports a difference, the first one; else it carries what its
-    // record replays.
+    // The unit has a child if `begin_unit` reports a difference, which is the first one. Else it
+    // carries what its record replays.
     ensures begins { IfOk result (BeginsUnit P.is_modelled P.child project.now unit.now
         (command_of setup.now project.now unit.now done.now) store.old store.new
         (P.at place.old) (P.at place.new)) }
@@ -113,8 +113,8 @@ pub fn begin_unit<P: Place>(
     ensures fails { IfErr (bare result) (FailsToBegin P.is_modelled project.now unit.now
         (command_of setup.now project.now unit.now done.now) (P.at place.old) (P.at place.new)) }
 
-    // Over sound records, or over none: the unit has begun if this ends well, and the others wait
-    // as before.
+    // Over sound records, or over none, the unit has begun after a success, and the others wait as
+    // before.
     ensures build { (premise : Premise) (sources : World) → IsTrue P.is_modelled →
         BeginsBuild (build_context premise P.child setup.now project.now sources) done.now index
         unit.now
@@ -198,9 +198,9 @@ fn told(
 /// and gives a record of format 1 a run number. A record names the needed units by the numbers that
 /// the store has.
 ///
-/// Whatever it returns, the unit's child is no longer in flight, and the other children still are.
-/// The child's end changes only files inside the unit's folder, and the calls after it change only
-/// the unit's record. A bad unit is not an error; its record stays as it is.
+/// Whatever it returns, the unit's child is no longer in flight, and the other children stay in
+/// flight. The child's end changes only files inside the unit's folder, and the calls after it
+/// change only the unit's record. A bad unit is not an error; its record stays as it is.
 ///
 /// Errors: each but `OutOfMemory` has the unit's key. If a call of the place failed, it was the
 /// last, and the store may lack the numbers of its records.
@@ -230,7 +230,7 @@ pub fn answer_unit<P: Place>(
     requires numbers { IsTrue P.is_modelled →
         HasNumbers (records store.old.folder (P.at place.old).world) store.old.numbers }
 
-    // The unit has an answer, and the outcome or the error is that of the answer.
+    // The unit has an answer, and the outcome or the error is that of this answer.
     ensures told { HasTold P.is_modelled P.child project.now index unit.now begun (bare result)
         store.old store.new (P.at place.old) (P.at place.new) }
     ensures named { IfErr result (IsOfUnit unit.now.key) }
@@ -263,8 +263,8 @@ pub fn answer_unit<P: Place>(
 
 /// Waits for the end of the child of a unit that has begun, if it has one, and drops the answer.
 ///
-/// Whatever the place answers, the child is no longer in flight, and the other children still are.
-/// Only the folder into which the child writes changes. A call that fails is counted.
+/// Whatever the place answers, the child is no longer in flight, and the other children stay in
+/// flight. Only the folder into which the child writes changes. A call that fails is counted.
 pub fn drop_unit<P: Place>(alloc: Global, place: &mut P, begun: &Begun)
     requires flies { IfSome (child_of begun.now)
         (λ launched. is_flying launched.ticket (P.at place.old).counts.starts.flying ≡ true) }

@@ -61,7 +61,8 @@ MayRemove (Place fault) = fault ≡ place.Remove
 MayRemove NumbersSpent = ⊥
 MayRemove OutOfMemory = Unit {0}
 
--- the faults of a call that takes a run number first: it reports that none is left if and only if none is
+-- the faults of a call that takes a run number first: the fault is `NumbersSpent` if and only if no
+-- number is left
 abbrev pub MayDrop : Option ℕ → StoreFault → Type 0
 MayDrop None NumbersSpent = Unit {0}
 MayDrop None (Place fault) = ⊥
@@ -80,8 +81,8 @@ MayKeep (Place fault) = (fault ≡ place.Write) ⊎ MayLook (Place fault)
 MayKeep NumbersSpent = ⊥
 MayKeep OutOfMemory = Unit {0}
 
--- the faults of a call that reads, takes a run number, and writes a record: it reports that none is left only if none
--- is
+-- the faults of a call that reads, takes a run number, and writes a record: the fault is
+-- `NumbersSpent` only if no number is left
 abbrev pub MayMigrate : Option ℕ → StoreFault → Type 0
 MayMigrate next (Place fault) = (fault ≡ place.Write) ⊎ (fault ≡ place.Read)
 MayMigrate next NumbersSpent = next ≡ None
@@ -144,7 +145,7 @@ pub record OnlyLooks {T : Type 0} (May : StoreFault → Type 0) (result : Result
   pub still : KeepsStill old.still new.still
   pub takes : CountsAs May result old.counts new.counts
 
--- the same for opening
+-- opening only looks: nothing changes but the counters, and an error has its cause
 pub record OnlyOpens {T : Type 0} (result : Result T OpenFault) (old new : At) : Type 0 where
   pub world : new.world ≡ old.world
   pub most : new.most ≡ old.most

@@ -23,7 +23,8 @@ use Rattle.pb_store.specs.declared.replaying.Compared.{Compared}
 use Rattle.pb_store.specs.declared.replaying.Compared.TheVariants.{Differs, Same}
 use Rattle.pb_store.specs.declared.replaying.Replayed.{Replayed}
 
--- the first item of a row for which this is false, as it is reported: for all items before it this is true
+-- this is the report on the first item of a row for which the condition is false; for all items
+-- before it the condition is true
 pub record IsFirst {A B : Type 0} (Holds : A → Type 0) (told : A → B) (row : List A) (b : B) : Type 0 where
   pub before : List A
   pub here : A
@@ -42,7 +43,8 @@ FirstOrAll Holds row (Some b) = IsFirst Holds (λ x. x.0) row b
 abbrev pub IsPresent : List ℕ → World → inputs.Input → Type 0
 IsPresent target w i = input_in target w (name_of i) ≡ i
 
--- the report on a row of inputs: none if each has its present value, else the name of the first that has not
+-- the report on a row of inputs: the name of the first input that does not have its present value,
+-- or none if each has it
 abbrev pub FirstInput : List ℕ → List inputs.Input → World → Option InputName → Type 0
 FirstInput target row w None = Agrees target row w
 FirstInput target row w (Some name) = IsFirst (IsPresent target w) name_of row name
@@ -51,11 +53,12 @@ FirstInput target row w (Some name) = IsFirst (IsPresent target w) name_of row n
 abbrev pub HasNumber : RecordMap → (List ℕ × ℕ) → Type 0
 HasNumber at need = number_if (at need.0) ≡ Some need.1
 
--- the folder of a needed unit contains the named files; a text that is no relative path names no unit
+-- the needed unit is named by a relative path, and its folder contains exactly the named files
 abbrev pub HasFiles : List ℕ → Map → (List ℕ × List (List ℕ × List ℕ)) → Type 0
 HasFiles folder files need = (is_relative need.0 ≡ true) × (contents (out_of folder need.0) files ≡ need.1)
 
--- the needed units are as the record names them, by its format (below, the first that is not, in the record's order)
+-- the needed units are as the record names them, by its format (below: the name of the first unit
+-- that is not, in the record's order)
 abbrev pub AreNeeded : List ℕ → RecordMap → Map → Needed → Type 0
 AreNeeded folder at files (Copies copies) = AllByRecursion (HasFiles folder files) copies
 AreNeeded folder at files (Numbers number needs) = AllByRecursion (HasNumber at) needs
@@ -84,7 +87,7 @@ abbrev pub FirstFrom : List ℕ → RecordMap → commands.Command → World →
 FirstFrom folder at c w r None = IsAsRecorded folder at c w r
 FirstFrom folder at c w r (Some d) = DiffersFrom folder at c w r d
 
--- the report on a unit: that it has no record that counts, or the report on its record
+-- the report on a unit: `NoRecord` if no record counts for it, else the report on its record
 abbrev pub FirstOf : List ℕ → RecordMap → commands.Command → World → Option Record → Option Difference → Type 0
 FirstOf folder at c w None found = found ≡ Some NoRecord
 FirstOf folder at c w (Some r) found = FirstFrom folder at c w r found
@@ -118,7 +121,8 @@ same_files [] (y ∷ ys) = false
 same_files (x ∷ xs) [] = false
 same_files (x ∷ xs) (y ∷ ys) = (bytes_eq x.0 y.0 && bytes_eq x.1 y.1) && same_files xs ys
 
--- the child ended well, with the recorded streams; and whether the record has a number
+-- what a record replays: a child that ended well with the recorded streams, and whether the record
+-- has a number
 abbrev pub replayed : Record → Replayed
 replayed r = record { ended = record { status = pos 0; stdout = r.stdout; stderr = r.stderr }; numbered = is_some (number_of r) }
 

@@ -38,13 +38,13 @@ number_in table key = option_and_then (λ (number : Option ℕ). number) (value_
 abbrev pub HasNumbers : RecordMap → List (List ℕ × Option ℕ) → Type 0
 HasNumbers at table = (key : List ℕ) → number_in table key ≡ number_if (at key)
 
--- a folder of one of these units, or one that the record of such a unit reads
+-- this folder is the output folder of one of these units, or the record of such a unit reads it
 pub data ReadBy (at : RecordMap) (folder : List ℕ) (needs : List (List ℕ)) (f : List ℕ) : Type 0 where
   itself : (need : List ℕ) → Contains needs need → f ≡ out_of folder need → ReadBy at folder needs f
   further : (need : List ℕ) (s : Record) → Contains needs need → at need ≡ Some s → Contains s.asked.reads f → ReadBy at folder needs f
 
--- each needed unit has a record of format 2 with a number below this one; the command reads the folders of these units
--- and what their records read
+-- each needed unit has a record of format 2 with a number below this one; the command reads exactly
+-- the folders of these units and the folders that their records read
 pub record HasNeeds (at : RecordMap) (folder : List ℕ) (reads : List (List ℕ)) (needs : List (List ℕ)) (number : ℕ) : Type 0 where
   pub stand : (need : List ℕ) → Contains needs need → (s : Record) × (at need ≡ Some s) × ((n : ℕ) × (number_of s ≡ Some n) × (n < number))
   pub reads_are : (f : List ℕ) → Contains reads f ↔ ReadBy at folder needs f
@@ -71,7 +71,8 @@ pub record IsEarned (judge : Judge) (child : Answers) (folder key : List ℕ) (c
 abbrev pub kept_of : List ℕ → List ℕ → Command → List Input → ℕ → List (List ℕ × ℕ) → Ended → Record
 kept_of folder key c inputs number pairs ended = record { key = key; asked = of_parts c (out_of folder key); inputs = inputs; needed = Numbers number pairs; stdout = ended.stdout; stderr = ended.stderr }
 
--- the record of a unit after a call that may have put one there: none that counts, the one before, or the new one
+-- the record of a unit after a call that may have put one there: no record that counts, the old
+-- record, or the new one
 abbrev pub Leaves : Option Record → Option Record → Option Record → Type 0
 Leaves put old new = (new ≡ None) ⊎ ((new ≡ old) ⊎ (new ≡ put))
 
@@ -104,7 +105,8 @@ abbrev pub lacks_number : Option Record → Bool
 lacks_number None = false
 lacks_number (Some r) = not (is_some (number_of r))
 
--- the record after a migration: one with a number stays as it is, and one without is rewritten with the next number
+-- the record after a migration: a record with a number stays as it is; a record without one is
+-- rewritten with the next number
 abbrev pub migrated_by : Option ℕ → Option ℕ → List (List ℕ × ℕ) → Record → Option Record
 migrated_by (Some own) next pairs r = Some r
 migrated_by None (Some number) pairs r = Some (numbered_record r number pairs)
@@ -153,7 +155,8 @@ greatest_at m path = if ends_as_record path then greatest_if (read_text reading 
 abbrev pub greatest_of : Map → List (List ℕ) → ℕ
 greatest_of m paths = fold (λ g path. max g (greatest_at m path)) 0 paths
 
--- the next run number: one above the greatest, so 1 if no record has or names any; none if the greatest is the last
+-- the next run number: one above the greatest that a record has or names, so 1 if there is none; no
+-- number if the greatest is the last
 abbrev pub next_in : List ℕ → World → Option ℕ
 next_in folder w = after (greatest_of w.files (listed_directly folder w))
 
@@ -163,7 +166,8 @@ pub record OpensStore (folder : List ℕ) (w : World) (store : Store) : Type 0 w
   pub ahead : IsAhead (records folder w) store.next
   pub numbers : HasNumbers (records folder w) store.numbers
 
--- the first difference of a unit, or none and what its record replays
+-- a comparison of a unit: it contains the first difference; if nothing differs, it contains what
+-- the unit's record replays
 pub record Compares (folder key : List ℕ) (c : Command) (w : World) (compared : Compared) : Type 0 where
   pub first : FirstDifference folder key c w (difference_in compared)
   pub carries : CarriesReplayed (records folder w key) compared
@@ -172,8 +176,8 @@ pub record Compares (folder key : List ℕ) (c : Command) (w : World) (compared 
 abbrev pub IsGiven : ℕ → Option ℕ → Option ℕ → Type 0
 IsGiven number old new = (old ≡ Some number) × (new ≡ after number)
 
--- the record of a unit after a call that was to leave this one: this one; after a fault none, the one before, or this
--- one
+-- the record of a unit after a call that puts this one there: it is this one; after a fault it is
+-- none, the old record, or this one
 abbrev pub Stands : {T : Type 0} → Result T StoreFault → Option Record → Option Record → Option Record → Type 0
 Stands result put old new = MatchResult result (λ x. new ≡ put) (λ e. Leaves put old new)
 
@@ -183,8 +187,8 @@ pub record RemovesRecord (child : Answers) (folder key : List ℕ) (result : Res
   pub stands : Stands result None (records folder old key) (records folder new key)
   pub ahead : (next : Option ℕ) → IsAhead (records folder old) next → IsAhead (records folder new) next
 
--- a record is dropped: the folder stays sound, and the next number stays above all others; if it went well, the numbers
--- are those of the records
+-- a record is dropped: the folder stays sound, and the next number stays above all others; after a
+-- success the store has the numbers of the records
 pub record DropsRecord (child : Answers) (key : List ℕ) (result : Result ℕ StoreFault) (old new : Store) (before now : World) : Type 0 where
   pub sound : (judge : Judge) → Sound reading judge child old.folder before.files → Sound reading judge child old.folder now.files
   pub stands : Stands result None (records old.folder before key) (records old.folder now key)
@@ -198,7 +202,8 @@ pub record PutsRecord (child : Answers) (folder key : List ℕ) (r : Record) (re
   pub stands : Stands result (Some r) (records folder old key) (records folder new key)
   pub ahead : (next : Option ℕ) → NamesBefore next r → IsAhead (records folder old) next → IsAhead (records folder new) next
 
--- a record is kept: the same, if its answer is earned and its number was taken
+-- a record is kept: the folder stays sound if the answer is earned (`IsKept`), and the next number
+-- stays above all others if this number was taken
 pub record KeepsRecord (child : Answers) (key : List ℕ) (c : Command) (needs : List (List ℕ)) (names : List InputName) (ended : Ended) (number : ℕ) (result : Result Unit StoreFault) (old new : Store) (before now : World) : Type 0 where
   pub sound : (judge : Judge) → IsKept judge child old.folder key c needs names ended number before → Sound reading judge child old.folder before.files → Sound reading judge child old.folder now.files
   pub stands : Stands result (Some (kept_of old.folder key c (map (input_in c.target before) names) number (numbered (records old.folder before) needs) ended)) (records old.folder before key) (records old.folder now key)
@@ -206,8 +211,8 @@ pub record KeepsRecord (child : Answers) (key : List ℕ) (c : Command) (needs :
   pub numbers : OnOk result (HasNumbers (records old.folder now) new.numbers)
   pub looked : IfErr result (λ e. looked e ≡ true → now ≡ before)
 
--- a record without a number gets the next one, and any other stays; the folder stays sound under the conditions of
--- `IsMigrated`
+-- a record without a number gets the next number, and any other record stays; the folder stays
+-- sound under the conditions of `IsMigrated`
 pub record MigratesRecord (child : Answers) (key : List ℕ) (needs : List (List ℕ)) (result : Result Unit StoreFault) (old new : Store) (before now : World) : Type 0 where
   pub sound : (judge : Judge) (c : Command) (r : Record) → ((number : ℕ) → old.next ≡ Some number → IsMigrated judge child old.folder key c needs number before r) → Sound reading judge child old.folder before.files → Sound reading judge child old.folder now.files
   pub stands : Stands result (migrated old.next (numbered (records old.folder before) needs) (records old.folder before key)) (records old.folder before key) (records old.folder now key)

@@ -30,19 +30,20 @@ use Rattle.pb_store.specs.declared.fault.OpenFault.TheVariants as open_fault
 use Rattle.pb_store.specs.declared.fault.StoreFault.{StoreFault}
 use Rattle.pb_store.specs.declared.fault.StoreFault.TheVariants.{Place, NumbersSpent, OutOfMemory}
 
--- if a call failed, it was one of these; out of memory, some first calls of the list were made; no other fault is
--- possible
+-- if a call failed, it was one of these; if memory ran out, some first calls of the list were made;
+-- no other fault is possible
 abbrev pub StopsAt : StoreFault → List Call → Counts → Counts → Type 0
 StopsAt (Place fault) calls old new = FailsAt fault calls old new
 StopsAt NumbersSpent calls old new = ⊥
 StopsAt OutOfMemory calls old new = MakesSome calls old new
 
--- if it ended well, these calls were made, and no more; else it stopped at one of them. Every call is counted, and the
--- one that failed is kept, so the list has an order
+-- after a success exactly these calls were made; else the calls stopped at one of them. Every call
+-- is counted, and the failed call is kept, so the list has an order
 abbrev pub Looks : {T : Type 0} → Result T StoreFault → List Call → Counts → Counts → Type 0
 Looks result calls old new = MatchResult result (λ x. new ≡ past_calls calls old) (λ e. StopsAt e calls old new)
 
--- the same for opening
+-- if a call of opening failed, it was one of these; if memory ran out, some first calls of the list
+-- were made (below, as `Looks`)
 abbrev pub OpeningStopsAt : OpenFault → List Call → Counts → Counts → Type 0
 OpeningStopsAt (open_fault.Place path fault) calls old new = FailsAt fault calls old new
 OpeningStopsAt open_fault.OutOfMemory calls old new = MakesSome calls old new
@@ -97,7 +98,8 @@ is_present target w i = same_input (input_in target w (name_of i)) i
 abbrev pub inputs_looked : List ℕ → World → List Input → List Call
 inputs_looked target w inputs = looked_up_to (is_present target w) (λ i. name_looked target w (name_of i)) inputs
 
--- the folder of a unit is listed, and then each file there is read; a text that is no relative path names no unit
+-- if the unit is named by a relative path, its folder is listed, and then each file there is read;
+-- else no call is made
 abbrev pub out_looked : List ℕ → World → List ℕ → List Call
 out_looked folder w key = if is_relative key then call.List (out_of folder key) ∷ map call.Read (listed (out_of folder key) w) else []
 
@@ -114,7 +116,8 @@ abbrev pub needed_looked : List ℕ → World → Needed → List Call
 needed_looked folder w (Copies copies) = copies_looked folder w copies
 needed_looked folder w (Numbers number needs) = []
 
--- the calls for the inputs of a record, and then, if each has its present value, for the units that it names
+-- the calls for the inputs of a record; if each has its present value, then come the calls for the
+-- units that the record names
 unfoldable pub around_looked : List ℕ → List ℕ → World → Record → List Call
 around_looked folder target w r = inputs_looked target w r.inputs ++ (if list_all (is_present target w) r.inputs then needed_looked folder w r.needed else [])
 

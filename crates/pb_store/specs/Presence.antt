@@ -42,7 +42,8 @@ IsHeld numbers need = number_in numbers need.0 ≡ Some need.1
 abbrev pub numbered_by : List (List ℕ × Option ℕ) → List (List ℕ) → List (List ℕ × ℕ)
 numbered_by numbers needs = map (λ (need : List ℕ). (need, or_zero (number_in numbers need))) needs
 
--- the greatest run number that a record has or names; 0 if there is no record, or if it has no number
+-- the greatest run number that a record has or names; 0 if there is no record, or if the record has
+-- no number
 abbrev pub greatest_said : Option (ℕ × List (List ℕ × ℕ)) → ℕ
 greatest_said None = 0
 greatest_said (Some (own, needs)) = max own (fold (λ g (pair : List ℕ × ℕ). max g pair.1) 0 needs)
@@ -56,16 +57,19 @@ abbrev pub own_said : Option (ℕ × List (List ℕ × ℕ)) → Option ℕ
 own_said None = None
 own_said (Some (own, needs)) = Some own
 
--- the table with the number of a record that was read at a path, from its parsed numbers
+-- the table after a record with these parsed numbers was read at a path: it contains the record's
+-- number if the path belongs to the record's key
 abbrev pub noted_told : List ℕ → List ℕ → Option Numbers → List (List ℕ × Option ℕ) → List (List ℕ × Option ℕ)
 noted_told folder path None numbers = numbers
 noted_told folder path (Some said) numbers = if is_key said.key && bytes_eq (place_of folder said.key) path then with_entry numbers said.key (own_said said.numbered) else numbers
 
--- the table with the number of a record that was read at a path, if that is the path of its key
+-- the table after this record was read at a path: it contains the record's number if the path
+-- belongs to the record's key
 abbrev pub noted : List ℕ → List ℕ → Option Record → List (List ℕ × Option ℕ) → List (List ℕ × Option ℕ)
 noted folder path None numbers = numbers
 noted folder path (Some r) numbers = if is_key r.key && bytes_eq (place_of folder r.key) path then with_entry numbers r.key (number_of r) else numbers
 
--- the same, if the path has the name of a record
+-- the table after the file at a path was read, if the path has the name of a record; any other path
+-- changes nothing
 abbrev pub noted_at : List ℕ → Map → List (List ℕ × Option ℕ) → List ℕ → List (List ℕ × Option ℕ)
 noted_at folder m numbers path = if ends_as_record path then noted folder path (read_text reading (finite.get m path)) numbers else numbers

@@ -39,7 +39,7 @@ struct Matching<'a> {
     left: &'a [(RelativePath, Bytes)],
 }
 
-/// Returns the comparison after one more file.
+/// Returns the state of the comparison after one more file.
 fn with_file<'a>(matching: Matching<'a>, file: &(RelativePath, Bytes)) -> Matching<'a>
     ensures { (more : Files) → matched result more ≡ matched matching.entry (file.now ∷ more) }
 {
@@ -55,7 +55,7 @@ fn with_file<'a>(matching: Matching<'a>, file: &(RelativePath, Bytes)) -> Matchi
     }
 }
 
-/// Returns the result of a comparison that has no file left.
+/// Returns the result of a comparison after its last file.
 fn outcome(matching: &Matching<'_>) -> bool
     ensures { result ≡ matched matching.now [] }
 {

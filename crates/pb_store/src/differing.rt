@@ -217,9 +217,9 @@ fn first_from<P: Place>(
 
 impl Store {
     /// Returns the first difference between a unit and its record, for a command that would build
-    /// it again, or the recorded answer if nothing differs. It reads and compares each input in
-    /// turn, up to the first that differs. It does not read the records of needed units, because
-    /// the store has their run numbers. When a unit is built again is our own rule.
+    /// it again. If nothing differs, it returns the recorded answer. It reads and compares each
+    /// input in turn, up to the first that differs. It does not read the records of needed units,
+    /// because the store has their run numbers. When a unit is built again is our own rule.
     ///
     /// Errors: `Place` if a file or a variable cannot be read, or a folder cannot be listed;
     /// `OutOfMemory`.
@@ -246,7 +246,7 @@ impl Store {
             Ok(None) => return Ok(Compared::Differs(Difference::NoRecord)),
             Err(fault) => return Err(fault),
         };
-        // The record is borrowed first and consumed then: its streams are passed on and not read
+        // The record is first borrowed and then consumed, so its streams are passed on and not read
         // again.
         match first_from(alloc, place, &self.folder, &self.numbers, command, &kept) {
             Ok(Some(difference)) => {
@@ -309,8 +309,7 @@ impl Store {
         ensures ended { IsTrue P.is_modelled →
             IfOk result (IsAnswered (records self.now.folder (P.at place.old).world key.now)) }
 
-        // It only reads the record. Over a place that does not tell its maps the record may be
-        // gone.
+        // It only reads the record. Over a place that is not modelled the record may be gone.
         ensures quiet { IsTrue P.is_modelled →
             OnlyLooks MayRead result (P.at place.old) (P.at place.new) }
         ensures looks { IsTrue P.is_modelled →

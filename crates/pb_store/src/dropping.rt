@@ -73,8 +73,8 @@ fn remove_record<P: Place>(
 
 impl Store {
     /// Removes the record of a unit, and returns the run number of its next record. If no number is
-    /// left, it removes nothing. After an error no number is taken, the record exists or not, and
-    /// the contract promises nothing about the run numbers in the store.
+    /// left, it removes nothing. After an error no number is taken, and the record may still exist.
+    /// The contract then promises nothing about the run numbers in the store.
     ///
     /// Errors: `NumbersSpent` if and only if no number is left; `Place` if the record cannot be
     /// removed; `OutOfMemory`.

@@ -45,8 +45,8 @@ pub(crate) fn source_at<P: Place>(
     }
 }
 
-/// Returns the file at a path, with its path relative to a folder, or none if the path is not below
-/// the folder or there is no file.
+/// Returns the file at a path, with its path relative to a folder. It returns none if the path is
+/// not below the folder, or if there is no file.
 pub(crate) fn file_at<P: Place>(
     alloc: Global,
     place: &mut P,

@@ -89,8 +89,8 @@ pub(crate) fn put_record<P: Place>(
     }
 }
 
-/// Returns the request of a command that writes into the unit's folder and whose variables are
-/// sorted.
+/// Returns the request of a command. It requires that the command writes into the unit's folder and
+/// that its variables are sorted.
 #[tactic(auto, using(crate::proofs::Earned::asked_laws))]
 fn asked_of(
     alloc: Global,
@@ -216,8 +216,8 @@ fn watch<P: Place>(
     }
 }
 
-/// Returns whether nothing that the child of a command read has moved since it was spawned: these
-/// inputs, and what units wrote into the folders that it reads.
+/// Returns whether all that the child of a command read stood still since the spawn: these inputs,
+/// and what units wrote into the folders that the command reads.
 fn stood_still<P: Place>(
     alloc: Global,
     place: &mut P,
@@ -233,8 +233,8 @@ fn stood_still<P: Place>(
     Ok(place.stood_still(command))
 }
 
-/// Writes the record of its unit, if nothing that the child of its command read has moved. It asks
-/// after the record was made: what changes later differs from the recorded values.
+/// Writes a record, unless something that the child of its command read has moved. It looks for
+/// this after it has made the record: what changes later differs from the recorded values.
 fn put_still<P: Place>(
     alloc: Global,
     place: &mut P,
@@ -268,7 +268,7 @@ impl Store {
     ///
     /// `needs` are the keys of the units that the unit needs, in plan order. `names` are the inputs
     /// found in its answer: their present values are read and recorded. After an error the unit has
-    /// no record, its old one, or the new one, and the contract promises nothing about the run
+    /// no record, its old one, or the new one. The contract then promises nothing about the run
     /// numbers in the store.
     ///
     /// Errors: `Place` if an input cannot be read or the record cannot be written; `OutOfMemory`.
@@ -295,7 +295,7 @@ impl Store {
         requires numbers { IsTrue P.is_modelled →
             HasNumbers (records self.old.folder (P.at place.old).world) self.old.numbers }
 
-        // The unit has the new record. After an error it has that, its old one, or none.
+        // The unit has the new record. After an error it has the new record, its old one, or none.
         ensures record { IsTrue P.is_modelled →
             KeepsRecord P.child key.now command.now needs.now names.now ended.now number result
             self.old self.new (P.at place.old).world (P.at place.new).world }

@@ -1,4 +1,4 @@
-//! A record of format 1 becomes one of format 2.
+//! A record of format 1 is rewritten in format 2.
 
 ghost use Rattle.std.specs.Prelude.{◌≡◌, ◌∷◌, [], Some, false, is_some, IsTrue};
 ghost use Rattle.pb_place_types.specs.declared.call.Call.TheVariants as call;
@@ -84,7 +84,7 @@ impl Store {
                 return Err(fault);
             }
         }
-        // The number is taken before the write: a torn write may have used it, and the record
+        // The number is taken before the write: a torn write may have used it, whether the record
         // exists or not.
         self.next = number_after(number);
         match put_record(alloc, place, &self.folder, key, kept) {
@@ -94,11 +94,11 @@ impl Store {
     }
 
     /// Gives a unit's record of format 1 the next run number, names the needed units by their
-    /// numbers, and rewrites the record in format 2. If the record is of format 2, or none counts,
-    /// it changes nothing. `needs` are the keys of the units that the unit needs, in plan order.
-    /// After an error the unit has its old record, none, or the new one. If the write failed, the
-    /// number is taken; else it may be. The contract then promises nothing about the run numbers in
-    /// the store.
+    /// numbers, and rewrites the record in format 2. If the record is of format 2, or no record
+    /// counts, it changes nothing. `needs` are the keys of the units that the unit needs, in plan
+    /// order. After an error the unit has its old record, none, or the new one. If the write
+    /// failed, the number is taken; after any other error it may be taken. The contract then
+    /// promises nothing about the run numbers in the store.
     ///
     /// Errors: `NumbersSpent` only if the record is of format 1 and no number is left, and then
     /// nothing changes; `Place` if the record cannot be read or written; `OutOfMemory`.
@@ -112,8 +112,8 @@ impl Store {
         requires numbers { IsTrue P.is_modelled →
             HasNumbers (records self.old.folder (P.at place.old).world) self.old.numbers }
 
-        // A record without a number gets the next one. After an error it has got it, is unchanged,
-        // or is gone.
+        // A record without a number gets the next one. After an error the record has the number, is
+        // unchanged, or is gone.
         ensures record { IsTrue P.is_modelled →
             MigratesRecord P.child key.now needs.now result self.old self.new
             (P.at place.old).world (P.at place.new).world }

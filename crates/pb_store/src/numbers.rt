@@ -123,7 +123,7 @@ pub(crate) fn note(
     }
 }
 
-/// Returns whether a path is that of a unit's record.
+/// Returns whether a path is the path of a unit's record.
 fn is_place(
     alloc: Global,
     folder: &PathText,
@@ -151,7 +151,7 @@ fn own_number(said: &Numbers) -> Option<u64>
     }
 }
 
-/// Notes the number of a record that was read at a path, if that is the path of its key.
+/// Notes the number of a record that was read at a path, if the path belongs to the record's key.
 ///
 /// Errors: only `OutOfMemory`.
 pub(crate) fn note_read(

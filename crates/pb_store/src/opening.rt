@@ -40,8 +40,8 @@ fn greatest_among(needs: &[(Text, u64)]) -> u64
     greatest
 }
 
-/// Returns the greatest of a record's own number and those by which it names units, or 0 if it has
-/// none.
+/// Returns the greatest of a record's own number and the numbers by which it names units, or 0 if
+/// it has no number.
 fn greatest_said(numbered: &Option<(u64, Items<(Text, u64)>)>) -> u64
     ensures { result ≡ greatest_said numbered.now }
 {
@@ -54,8 +54,8 @@ fn greatest_said(numbered: &Option<(u64, Items<(Text, u64)>)>) -> u64
     }
 }
 
-/// Returns the greatest number that a record has or names, or 0 if there is no record, or if it has
-/// none.
+/// Returns the greatest number that a record has or names, or 0 if there is no record, or if the
+/// record has no number.
 fn greatest_told(found: &Option<Numbers>) -> u64
     ensures { result ≡ greatest_told found.now }
 {
@@ -65,7 +65,7 @@ fn greatest_told(found: &Option<Numbers>) -> u64
     }
 }
 
-/// Returns the numbers of the record of a text, or none if the text is not that of a record.
+/// Returns the numbers of the record that a text contains, or none if the text is no record.
 fn numbers_in(alloc: Global, text: &Option<Bytes>) -> Result<Option<Numbers>, AllocError>
     ensures { IfOk result (λ found. found ≡ option_map numbers_of (read_text reading text.now)) }
 {
@@ -78,8 +78,8 @@ fn numbers_in(alloc: Global, text: &Option<Bytes>) -> Result<Option<Numbers>, Al
     }
 }
 
-/// Returns the greatest number that the record at a path has or names. If the record counts, its
-/// number is noted.
+/// Returns the greatest number that the record at a path has or names. If the record counts, it
+/// notes the record's number.
 #[tactic(auto, using(crate::proofs::Numbered::number_laws))]
 fn read_greatest<P: Place>(
     alloc: Global,
@@ -121,8 +121,8 @@ fn read_greatest<P: Place>(
     }
 }
 
-/// Returns the greatest number of a file: if it has the name of a record, the greatest that the
-/// record has or names. If the record counts, its number is noted.
+/// If a file has the name of a record, returns the greatest number that the record has or names;
+/// else 0. If the record counts, it notes the record's number.
 fn greatest_at<P: Place>(
     alloc: Global,
     place: &mut P,
@@ -147,8 +147,8 @@ fn greatest_at<P: Place>(
     read_greatest(alloc, place, folder, numbers, path)
 }
 
-/// Returns the greatest number that the records among these files have or name. The numbers of
-/// those that count are noted.
+/// Returns the greatest number that the records among these files have or name. It notes the
+/// numbers of the records that count.
 fn greatest_of<P: Place>(
     alloc: Global,
     place: &mut P,
@@ -177,9 +177,9 @@ fn greatest_of<P: Place>(
 
 impl Store {
     /// Returns the store of a profile folder. It reads each record directly in the folder once. A
-    /// text that is not that of a record counts as none. The next run number is one above the
-    /// greatest that a record contains, even a record at the path of another key. It is 1 if no
-    /// record contains one.
+    /// text that is no record does not count. The next run number is one above the greatest number
+    /// that a record contains, even a record at the path of another key. If no record contains a
+    /// number, it is 1.
     ///
     /// Errors: `Place` with the path, if the folder cannot be listed or a record cannot be read;
     /// `OutOfMemory`.

@@ -11,7 +11,7 @@ use pb_record::Record;
 /// What a unit's record replays: how its child ended, and whether the record has a run number.
 #[derive(Debug, Drop)]
 pub struct Replayed {
-    /// Status 0, which each kept answer has, and the two streams.
+    /// The status 0, which each kept answer has, and the two streams.
     pub ended: Ended,
     /// Whether the record has a run number. A record of format 1 has none, and `migrate` gives it
     /// one.

@@ -14,14 +14,14 @@ use pb_place_types::{PathText, Place, RelativePath};
 use pb_record::{Record, read_record};
 use std::alloc::{AllocError, Global};
 
-/// The run numbers of the records of a profile folder, and those that are left. It contains no
-/// record.
+/// The run numbers of the records of a profile folder, and the next number. It contains no record.
 #[derive(Debug, Drop)]
 pub struct Store {
     /// The profile folder.
     pub folder: PathText,
-    /// The next run number. It is above each number that a record of the folder names, and above
-    /// each that was taken since the store was opened. None if no number is left.
+    /// The next run number. It is above each number that a record of the folder has or names, and
+    /// above each number that was taken since the store was opened. It is none if no number is
+    /// left.
     pub next: Option<u64>,
     /// The run numbers of the records that count in the folder, by the units' keys. After a failed
     /// removal or write of a record, contracts promise nothing about them.
@@ -84,7 +84,7 @@ fn text_at<P: Place>(
     text_of(alloc, place, &path)
 }
 
-/// Returns the record of a text, or none if the text is not that of a record.
+/// Returns the record that a text contains, or none if the text is no record.
 fn read_text(alloc: Global, text: &Option<Bytes>) -> Result<Option<Record>, AllocError>
     ensures { IfOk result (λ found. found ≡ read_text reading text.now) }
 {

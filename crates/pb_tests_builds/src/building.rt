@@ -19,7 +19,7 @@ fn runner(alloc: Global) -> Result<Items<Text>, AllocError> {
     Ok(runner)
 }
 
-/// A build of the workspace at `/w` with so many jobs.
+/// A build of the workspace at `/w` with this number of jobs.
 pub fn options(alloc: Global, jobs: u64) -> Result<Options, Fail> {
     let runner = runner(alloc)?;
     let options = no_options(alloc)?;
@@ -61,7 +61,7 @@ fn said_by<P: Place>(alloc: Global, place: &mut P, options: &Options) -> Result<
     joined(alloc, out.as_slice(), line.as_str())
 }
 
-/// What a build with so many jobs writes, and then its result line.
+/// What a build with this number of jobs writes, and then its result line.
 pub fn built<P: Place>(alloc: Global, place: &mut P, jobs: u64) -> Result<String, Fail>
     requires none { (P.at place.old).counts.starts.flying ≡ [] }
     ensures landed { (P.at place.new).counts.starts.flying ≡ [] }
@@ -88,7 +88,7 @@ pub fn lines_but_last(said: &str) -> &str {
     }
 }
 
-/// What a build said, as if no unit had been fresh.
+/// The lines of a build, as if no unit had been fresh.
 pub fn afresh(alloc: Global, said: &str) -> Result<String, AllocError> {
     said.replace(alloc, r#""fresh":true"#, r#""fresh":false"#)
 }

@@ -1,4 +1,4 @@
-//! Builds of which one call of the place fails, each call in turn, and the builds after them.
+//! Builds in which one call of the place fails, each call in turn, and the builds after them.
 
 ghost use Rattle.std.specs.Prelude.{◌≡◌, []};
 ghost use Rattle.pb_place.specs.Memory.{counts_in};
@@ -19,23 +19,24 @@ const LIBRARY: &str = "@ /w/Cargo.toml\npackage.name = 'a'\n@ /w/src/lib.rs\nwar
 const SIDES: &str =
     "@ /w/Cargo.toml\npackage.name = 'r'\ndependencies.x.path = 'x'\nbuild-dependencies.x.path = 'x'\n@ /w/src/lib.rs\nuse x\n@ /w/build.rs\nput a b\n@ /w/x/Cargo.toml\npackage.name = 'x'\n@ /w/x/src/lib.rs\ninclude $OUT_DIR/f\n@ /w/x/build.rs\nput f g\nput h i\n";
 
-/// Two libraries, of which one needs the other.
+/// Two libraries; one needs the other.
 const PAIR: &str =
     "@ /w/Cargo.toml\nworkspace.members = ['a', 'b']\n@ /w/a/Cargo.toml\n[package]\nname = 'a'\nversion = '0.1.0'\nedition = '2021'\n@ /w/a/src/lib.rs\n@ /w/b/Cargo.toml\n[package]\nname = 'b'\nversion = '0.1.0'\nedition = '2021'\n[dependencies]\na = { path = '../a' }\n@ /w/b/src/lib.rs\nuse a\n";
 
 /// An edit of the library of `/w`.
 const EDIT: &str = "@ /w/src/lib.rs\nprint edited\n";
 
-/// Edits of the library a of the two: of what is made of it, and of its source alone.
+/// Edits of the first of two libraries, a: one changes what is made from it, one changes only its
+/// source.
 const EDIT_OF_A: &str = "@ /w/a/src/lib.rs\nprint edited\n";
 
 const REMARK_IN_A: &str = "@ /w/a/src/lib.rs\n# c\n";
 
-/// What is built with each call failing in turn.
+/// A build in which each call fails in turn.
 struct Trial {
     /// The files.
     files: &'static str,
-    /// What stands in the target folder before.
+    /// What exists in the target folder before the build.
     target: &'static str,
     /// Whether they are built once before they are edited.
     is_built: bool,
@@ -43,11 +44,11 @@ struct Trial {
     edit: &'static str,
     /// How many units are in flight at one time.
     jobs: u64,
-    /// The last faults, behind those that all trials begin with.
+    /// The last faults, after those with which all trials begin.
     last: &'static str,
 }
 
-/// Puts the files of a trial, builds them once where that is asked for, and edits them.
+/// Puts the files of a trial, builds them once if the trial requests it, and edits them.
 fn prepare(alloc: Global, place: &mut Memory<Mini>, trial: &Trial) -> Result<(), Fail>
     requires none { (counts_in place.old).starts.flying ≡ [] }
     ensures landed { (counts_in place.new).starts.flying ≡ [] }
@@ -61,7 +62,7 @@ fn prepare(alloc: Global, place: &mut Memory<Mini>, trial: &Trial) -> Result<(),
     Ok(())
 }
 
-/// What stands before the line in which something first stands, or nothing where it stands nowhere.
+/// The text before the line that first contains this part, or an empty text if no line contains it.
 fn lines_before<'a>(lines: &'a str, part: &str) -> &'a str {
     match lines.split_once(part) {
         Some((front, _)) => match front.rsplit_once('\n') {
@@ -82,9 +83,9 @@ fn folder_named(alloc: Global, fault: &str) -> Result<String, AllocError> {
     Ok(folder)
 }
 
-/// Whether these are the lines of a build that a fault ends: those of units, as a whole build has them, and the failing
-/// finish line. Where units are begun one after another they are those of all units before the one that the fault
-/// names; else of the first so many of them.
+/// Whether these are the lines of a build that a fault ends: the lines of units, as a whole build
+/// has them, and the failing finish line. If units begin one after another, they are the lines of
+/// all units before the unit that the fault names; else the lines of the first n units, for some n.
 fn is_stopped(lines: &str, before: &str, jobs: u64) -> bool {
     if lines == FINISH {
         return before.is_empty() || jobs > 1;
@@ -106,7 +107,8 @@ fn is_front(front: &str, lines: &str) -> bool {
     }
 }
 
-/// Whether a build in which a call failed says what it has to, with no call after the one that failed.
+/// Whether a build in which a call failed reports what it must report, and makes no call after the
+/// failed call.
 fn is_said(
     alloc: Global,
     place: &Memory<Mini>,
@@ -136,7 +138,8 @@ fn tell(
     Ok(())
 }
 
-/// Builds with this call failing, and tells how. Whether a call failed at all.
+/// Builds while this call fails, and reports how the build ended. Returns whether a call failed at
+/// all.
 fn fail_at(
     alloc: Global,
     place: &mut Memory<Mini>,
@@ -158,14 +161,14 @@ fn fail_at(
     Ok(is_failed)
 }
 
-/// Whether a build went well and had the lines of a build from nothing, but for what is fresh.
+/// Whether a build went well and had the lines of a clean build, except for `fresh`.
 fn is_whole(alloc: Global, whole: &str, said: &str) -> Result<bool, AllocError> {
     let lines = afresh(alloc, lines_but_last(said))?;
     Ok(lines.as_str() == lines_but_last(whole) && last_line(said).starts_with("ok started="))
 }
 
-/// Builds once more, and tells where this does not give what a build from nothing gives; and then again, and tells
-/// where this starts something.
+/// Builds once more, and reports a difference from a clean build. Then builds again, and reports if
+/// this build starts something.
 fn build_again(
     alloc: Global,
     place: &mut Memory<Mini>,
@@ -187,7 +190,8 @@ fn build_again(
     Ok(())
 }
 
-/// Tries a trial in a place without files with this call failing, and then once more. Whether a call failed at all.
+/// Tries a trial in a place without files while this call fails, and then once more. Returns
+/// whether a call failed at all.
 fn try_at(
     alloc: Global,
     place: &mut Memory<Mini>,
@@ -205,7 +209,7 @@ fn try_at(
     Ok(is_failed)
 }
 
-/// What a build from nothing says of the edited files of a trial, in a place without files.
+/// What a clean build reports about the edited files of a trial, in a place without files.
 fn whole_in(alloc: Global, place: &mut Memory<Mini>, trial: &Trial) -> Result<String, Fail>
     requires none { (counts_in place.old).starts.flying ≡ [] }
 {
@@ -214,12 +218,13 @@ fn whole_in(alloc: Global, place: &mut Memory<Mini>, trial: &Trial) -> Result<St
     built(alloc, place, 1)
 }
 
-/// The same in a fresh place.
+/// The same report, in a fresh place.
 fn whole_of(alloc: Global, trial: &Trial) -> Result<String, Fail> {
     whole_in(alloc, &mut Memory::new(alloc, Mini), trial)
 }
 
-/// Tries a trial in a fresh place with this call failing, and then once more. Whether a call failed at all.
+/// Tries a trial in a fresh place while this call fails, and then once more. Returns whether a call
+/// failed at all.
 fn try_afresh(
     alloc: Global,
     trial: &Trial,
@@ -237,9 +242,9 @@ fn try_afresh(
     )
 }
 
-/// Lets each call fail in turn, until none does. The faults, and what was wrong: the build has to say what it has to,
-/// with no call after the one that failed; the same build after it gives what a build from nothing gives, and once
-/// more it starts nothing.
+/// Lets each call fail in turn, until none does. Returns the faults, and what was wrong. The build
+/// must report what it must report, and make no call after the failed call. The same build after it
+/// must produce what a clean build produces, and the next build must start nothing.
 fn each_fails(alloc: Global, trial: &Trial) -> Result<String, Fail> {
     let mut told = Shown::new(alloc);
     let whole = whole_of(alloc, trial)?;
@@ -252,25 +257,26 @@ fn each_fails(alloc: Global, trial: &Trial) -> Result<String, Fail> {
     Ok(told.whole()?)
 }
 
-/// The faults that all trials begin with.
+/// The faults with which all trials begin.
 const FIRST: &str =
     "fault RUSTC Device, fault RUSTFLAGS Device, fault CARGO_TARGET_DIR Device, fault /w/Cargo.toml Device, ";
 
-/// The last faults of a library: a start that fails at its spawn, and at the end of its child; a dep-info that cannot be
-/// read; an input that cannot; and a record that cannot be written.
+/// The last faults of a library: a start that fails at its spawn, and at the end of its child; a
+/// dep-info that cannot be read; an input that cannot be read; and a record that cannot be written.
 const LAST_OF_LIBRARY: &str =
     "fault a.target.lib CannotStart, fault a.target.lib Died, fault a.target.lib Device, fault a.target.lib Device, fault a.target.lib Device, ";
 
-/// Those of a package on both sides: the dep-info, what it names, and the record.
+/// The last faults of a package on both sides: the dep-info, what it names, and the record.
 const LAST_OF_SIDES: &str =
     "fault r.target.lib CannotStart, fault r.target.lib Died, fault r.target.lib Device, fault r.target.lib Device, fault r.target.lib Device, ";
 
-/// Those of two libraries, the second of which is made: its dep-info, what it names, and the record.
+/// The last faults of two libraries, if the second is made: its dep-info, what it names, and the
+/// record.
 const LAST_OF_PAIR: &str =
     "fault b.target.lib CannotStart, fault b.target.lib Died, fault b.target.lib Device, fault b.target.lib Device, fault b.target.lib Device, ";
 
-/// Those of two libraries of an earlier version, the first of which is made. Of the second, what its record holds is
-/// looked at, and the record written anew.
+/// The last faults of two libraries of an earlier version, if the first is made. For the second,
+/// the build looks at what its record contains, and writes the record again.
 const LAST_OF_OLD: &str =
     "fault a.target.lib CannotStart, fault a.target.lib Died, fault a.target.lib Device, fault a.target.lib Device, fault a.target.lib Device, fault b.target.lib Device, fault b.target.lib Device, fault b.target.lib Device, fault b.target.lib Device, fault b.target.lib Device, fault b.target.lib Device, fault b.target.lib Device, fault b.target.lib Device, ";
 

@@ -1,5 +1,5 @@
-//! Tests of what data cannot say: builds over a place whose calls fail, and runs of units by themselves. All else of
-//! builds and programs is tested by the examples.
+//! Tests that cannot be written as data: builds over a place whose calls fail, and runs of single
+//! units. The examples test all else about builds and programs.
 #![tactic(auto)]
 
 #[cfg(test)]

@@ -1,4 +1,5 @@
-//! Builds by turns of the tests' own, whose steps no number of jobs gives: the unit that was begun last is answered first.
+//! Builds by turns that the tests define. No number of jobs leads to their steps: the unit that
+//! began last answers first.
 
 ghost use Rattle.std.specs.Prelude.{◌≡◌, []};
 ghost use Rattle.pb_place.specs.Memory.{counts_in};
@@ -15,10 +16,11 @@ use pb_workspace_types::Options;
 use std::alloc::{AllocError, Global};
 use std::test::Fail;
 
-/// Begins each unit that may begin, the last in plan order first. If none may, it answers one in flight.
+/// Begins each unit that may begin, the last in plan order first. If none may begin, a unit in
+/// flight answers.
 #[derive(Drop)]
 struct LastBegins {
-    /// Whether the one that was begun last is answered first.
+    /// Whether the unit that began last answers first.
     is_last_answered: bool,
 }
 
@@ -83,7 +85,7 @@ fn built_in_turn(
     Ok(said?)
 }
 
-/// Two libraries, of which neither needs the other.
+/// Two libraries; neither needs the other.
 const GOOD: &str =
     "@ /w/Cargo.toml\nworkspace.members = ['a', 'b']\n@ /w/a/Cargo.toml\npackage.name = 'a'\n@ /w/a/src/lib.rs\nwarn one\n@ /w/b/Cargo.toml\npackage.name = 'b'\n@ /w/b/src/lib.rs\nwarn two\n";
 
@@ -91,7 +93,7 @@ const GOOD: &str =
 const BAD: &str =
     "@ /w/Cargo.toml\nworkspace.members = ['a', 'b']\n@ /w/a/Cargo.toml\npackage.name = 'a'\n@ /w/a/src/lib.rs\nfail one\n@ /w/b/Cargo.toml\npackage.name = 'b'\n@ /w/b/src/lib.rs\nfail two\n";
 
-/// The files of a build that goes well, and of one that does not.
+/// The files of a build that succeeds, and of a build that fails.
 static BOTH: &[&str] = &[GOOD, BAD];
 
 /// What a build of these files, one unit after another, says in a place without files.
@@ -150,8 +152,9 @@ fn the_first_that_began_is_answered_first(rt: HostRuntime) -> Result<(), Fail> {
     Ok(())
 }
 
-/// Builds by turns with this call failing, in a place without files, and then again. What was wrong, in words, or none if
-/// no call failed. The build must end at the call that failed, and the next must say what a build from nothing says.
+/// Builds by turns while this call fails, in a place without files, and then builds again. Returns
+/// what was wrong, in words, or none if no call failed. The build must end at the failed call, and
+/// the next build must report what a clean build reports.
 fn fail_at(
     alloc: Global,
     place: &mut Memory<Mini>,

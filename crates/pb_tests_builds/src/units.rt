@@ -1,5 +1,5 @@
-//! Tests of one unit's run, over files in memory with the small compiler: it begins, it answers, it is dropped. Steps in
-//! words, and what they tell.
+//! Tests of one unit's run, over files in memory with the small compiler: the unit begins, answers,
+//! or is dropped. Steps are in words, and each reports in words.
 
 mod failing;
 mod ready;

@@ -1,4 +1,4 @@
-//! Answers to what a test asks. Where memory is refused, each is no.
+//! Answers to the questions of a test. If memory was refused, each answer is no.
 
 use pb_data::Text;
 
@@ -15,7 +15,7 @@ pub fn is_said<E: Drop>(made: Result<String, E>, wanted: &str) -> bool {
     }
 }
 
-/// The same of a text that is kept as such.
+/// Whether a `Text` was made, and is this.
 pub fn is_text<E: Drop>(made: Result<Text, E>, wanted: &str) -> bool {
     match made {
         Ok(text) => text.as_str() == wanted,

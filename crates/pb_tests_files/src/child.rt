@@ -1,10 +1,10 @@
-//! A child that says nothing, for a place on which none is started.
+//! A child that prints nothing, for a place on which no child is started.
 
 use pb_data::{Bytes, Items};
 use pb_place_types::{Child, Command, Reply, View, ViewFault};
 use std::alloc::Global;
 
-/// A child that says and leaves nothing.
+/// A child that prints and leaves nothing.
 #[derive(Clone, Copy, Debug)]
 pub struct Silent;
 

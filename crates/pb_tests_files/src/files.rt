@@ -1,4 +1,4 @@
-//! Files in memory, and the workspace of them.
+//! Files in memory, and the workspace that they contain.
 
 ghost use Rattle.std.specs.Prelude.{◌≡◌};
 
@@ -8,7 +8,7 @@ use pb_workspace::load;
 use pb_workspace_types::{LoadFault, SettledWorkspace};
 use std::alloc::Global;
 
-/// Puts the files of a text, each behind a line `@ PATH`.
+/// Puts the files of a text, each after a line `@ PATH`.
 pub fn put_files<C: Child>(
     alloc: Global,
     memory: &mut Memory<C>,

@@ -1,6 +1,6 @@
-//! What tests of workspaces share: a child that says nothing, files that are told by one text, the options of a build for
-//! which nothing is asked, tables of cases, texts that are put together, answers, and a place whose files no contract
-//! follows. It holds no test.
+//! What tests of workspaces share: a child that prints nothing, files that one text describes, the
+//! options of a build that requests nothing, tables of cases, texts that are made from parts,
+//! answers, and a place whose files contracts do not know. It contains no test.
 #![tactic(auto)]
 
 mod answers;

@@ -1,11 +1,11 @@
-//! Texts that are put together.
+//! Texts that are made from parts.
 
 use pb_data::Text;
 use pb_profile_keys::{ProfileKey, Setting, Word};
 use std::alloc::{AllocError, Global};
 use std::fmt::{Debug, Display, Write};
 
-/// A text that is put together. Where memory is refused, the end of it tells so.
+/// A text that is made from parts. If memory was refused, its end says so.
 #[derive(Drop)]
 pub struct Shown {
     /// What stands there.
@@ -23,7 +23,7 @@ impl Shown {
         }
     }
 
-    /// Whether nothing stands there.
+    /// Whether the text is empty.
     pub fn is_empty(&self) -> bool {
         self.text.is_empty()
     }

@@ -1,4 +1,4 @@
-//! A place in memory of which contracts say nothing about its files.
+//! A place in memory; contracts say nothing about its files.
 
 use pb_data::{Bytes, Items, Text};
 use pb_place::Memory;

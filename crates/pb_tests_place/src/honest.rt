@@ -266,7 +266,7 @@ fn hold_and_leave(alloc: Global, memory: &mut Memory<Echo>) -> Result<bool, Fail
     Ok(hold && is_left && memory.starts() == 2)
 }
 
-/// The same at a place of its own.
+/// Does the same at a new place.
 fn all_hold(alloc: Global) -> Result<bool, Fail> {
     let mut memory = Memory::new(alloc, Echo);
     let hold = hold_and_leave(alloc, &mut memory);

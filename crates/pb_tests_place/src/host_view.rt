@@ -1,4 +1,4 @@
-//! A view of real files and variables: what is there, what stands nowhere, and what is no file.
+//! A view of real files and variables: what exists, what does not exist, and what is no file.
 
 use pb_place_host::HostView;
 use pb_place_types::{PathText, View};

@@ -79,7 +79,7 @@ fn begin<P: Place>(alloc: Global, place: &mut P, step: &Step) -> Result<String, 
     text
 }
 
-/// Edits a place, and tells that it is done.
+/// Edits a place, and reports that it is done.
 fn edited(
     alloc: Global,
     memory: &mut Memory<Echo>,
@@ -154,7 +154,7 @@ fn try_parts(
     Ok(())
 }
 
-/// Carries a script out at a place of its own.
+/// Carries a script out at a new place.
 fn try_script(alloc: Global, parts: &[&str]) -> Result<(), Fail> {
     let root = PathText::parse(alloc, "/")?;
     let mut place = Seen::new(Memory::new(alloc, Echo));

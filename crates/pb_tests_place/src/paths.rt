@@ -52,7 +52,7 @@ const PARSES: &str = "/ -> /\n\
      /\0 -> BadByte\n\
      /w\0/.. -> BadByte";
 
-/// Whether a text in a folder gives this.
+/// Whether a text in a folder means this.
 fn joins_to(alloc: Global, folder: &str, text: &str, wanted: &str) -> Result<bool, PathFault> {
     let folder = PathText::parse(alloc, folder)?;
     let answer = folder.join(alloc, text);
@@ -160,7 +160,7 @@ const RELATIVE_PATHS: &str = "/w|a -> /w/a\n\
      /w|a//b -> none\n\
      /w|a\0 -> none";
 
-/// Whether what a path is inside a folder is this; `none` where it is not below it.
+/// Whether this is the path relative to a folder; `none` if the path is not below the folder.
 fn has_part(alloc: Global, folder: &PathText, path: &PathText, wanted: &str) -> bool {
     match path.inside(alloc, folder) {
         Ok(Some(relative)) => relative.as_str() == wanted,
@@ -218,7 +218,7 @@ const TEXTS_THAT_ARE_PATHS: &str = "/ -> path\n\
      /w/../a -> none\n\
      /w\0 -> none";
 
-/// What is asked of two texts.
+/// A question about two texts.
 #[derive(Clone, Copy)]
 enum Asked {
     Parse,
@@ -231,7 +231,7 @@ enum Asked {
     IsPath,
 }
 
-/// All that is asked.
+/// All questions.
 static ALL_ASKED: &[Asked] = &[
     Asked::Parse,
     Asked::Join,
@@ -293,7 +293,7 @@ fn is_known(alloc: Global) -> Result<bool, AllocError> {
     Ok(path.as_str() == "a.rlib")
 }
 
-/// Whether a path stands before another.
+/// Whether a path comes before another.
 fn stands_before(alloc: Global, low: &str, high: &str) -> Result<bool, PathFault> {
     let paths = paths_of(alloc, low, high)?;
     let stands_before = paths.0 < paths.1;

@@ -14,7 +14,7 @@ pub struct Step<'a> {
     pub wanted: &'a str,
 }
 
-/// The step of a line `CALL NAME TEXT -> ANSWER`, where the name and the text may be missing.
+/// The step of a line `CALL NAME TEXT -> ANSWER`, in which the name and the text may be missing.
 pub fn step_of(line: &str) -> Step {
     let (asked, wanted) = line.split_once(" -> ").unwrap_or((line, "no answer"));
     let (call, names) = asked.split_once(' ').unwrap_or((asked, ""));
@@ -38,7 +38,7 @@ fn fault_text(alloc: Global, fault: PlaceFault) -> Result<String, AllocError> {
     format!(in alloc; "{fault:?}")
 }
 
-/// The text of a file, `none`, `wrong` where it is no text, or the fault.
+/// The text of a file, `none`, `wrong` if it is no text, or the fault.
 pub fn file_text(
     alloc: Global,
     answer: Result<Option<Bytes>, PlaceFault>,
@@ -179,7 +179,7 @@ pub fn answer<P: Place>(
     Ok(said?)
 }
 
-/// Compares what a step answered, where memory was not refused, with what is wanted.
+/// Compares the answer of a step with the wanted answer, if memory was not refused.
 pub fn compare(step: &Step, said: Result<String, Fail>) -> Result<(), Fail> {
     let said = said?;
     let said = said.as_str();
@@ -189,7 +189,7 @@ pub fn compare(step: &Step, said: Result<String, Fail>) -> Result<(), Fail> {
     Ok(())
 }
 
-/// Tries that what was said, where memory was not refused, is this.
+/// Tries that a text is this, if memory was not refused.
 pub fn try_said(said: Result<String, Fail>, wanted: &str) -> Result<(), Fail> {
     let said = said?;
     let said = said.as_str();

@@ -1,4 +1,4 @@
-//! Workspaces of tests, and what is asked of them.
+//! Workspaces of tests, and what the tests request of them.
 
 use pb_data::Text;
 use pb_place::Memory;
@@ -7,7 +7,7 @@ use pb_workspace_types::{Options, SettledWorkspace};
 use std::alloc::{AllocError, Global};
 use std::test::Fail;
 
-/// The workspace of files that are put at a place, behind those of a first text.
+/// The workspace of files that are put at a place, after the files of a first text.
 fn workspace_at(
     alloc: Global,
     memory: &mut Memory<Silent>,
@@ -20,7 +20,7 @@ fn workspace_at(
     Ok(workspace)
 }
 
-/// The workspace of these files, behind those of a first text.
+/// The workspace of these files, after the files of a first text.
 pub fn workspace_of(alloc: Global, first: &str, files: &str) -> Result<SettledWorkspace, Fail> {
     let mut memory = Memory::new(alloc, Silent);
     let workspace = workspace_at(alloc, &mut memory, first, files);

@@ -1,4 +1,4 @@
-//! Features, by a table of manifests with what is asked for and what is on.
+//! Features: a table of manifests, each with what is requested and which features are on.
 
 use crate::asking::{options_of, workspace_of};
 use crate::enabled::put_enabled;

@@ -21,7 +21,7 @@ use Rattle.pb_tool_arguments.specs.declared.here.Here.{Here}
 use Rattle.pb_tool_arguments.specs.declared.invocation.ArgumentsError.{ArgumentsError}
 use Rattle.pb_tool_arguments.specs.declared.invocation.ArgumentsError.TheVariants.{Help, Wrong, OutOfMemory}
 
--- an option without a value was given, or was not
+-- whether an option without a value was given
 pub record IsFlag (name : Text) (rows : List Row) (given : Bool) : Type 0 where
   pub absent : one_of name rows ≡ None → given ≡ false
   pub on : one_of name rows ≡ Some (codes "true") → given ≡ true
@@ -39,7 +39,7 @@ profile_of release rows = if release then codes "release" else unwrap_or (first_
 abbrev pub HasTwoProfiles : List Row → Type 0
 HasTwoProfiles rows = IsFlag (codes "release") rows true × ((profile : Text) × (first_of (codes "profile") rows ≡ Some profile))
 
--- the profile is the one that was given, in only one way
+-- the profile was given in at most one way, and it is this one
 abbrev pub IsProfile : List Row → Text → Type 0
 IsProfile rows profile =
     (release : Bool) × IsFlag (codes "release") rows release × (release ≡ true → first_of (codes "profile") rows ≡ None) × (profile ≡ profile_of release rows)
@@ -97,8 +97,8 @@ ShowsProgress here rows progress =
 abbrev pub ShowsCounts : Here → List Row → Bool → Type 0
 ShowsCounts here rows counts = (quiet : Bool) × IsFlag (codes "quiet") rows quiet × (counts ≡ (here.is_terminal && not quiet))
 
--- whether levels have colours, by the value of an option: always, never, or as they have them
--- without the option
+-- whether levels have colours, by the value of an option: always, never, or else as without the
+-- option
 abbrev pub IsColored : Bool → Option Text → Bool → Type 0
 IsColored shows None colors = colors ≡ shows
 IsColored shows (Some text) colors =
@@ -114,7 +114,7 @@ pub record IsShown (here : Here) (rows : List Row) (shown : Shown) : Type 0 wher
   pub counts : ShowsCounts here rows shown.counts
   pub colors : IsColored here.shows_colors (first_of (codes "color") rows) shown.colors
 
--- the form in which a plan is printed: as JSON or for Graphviz if that was given, else in lines
+-- the form in which a plan is printed: JSON or Graphviz if that form was given, else lines
 abbrev pub IsForm : List Row → PlanForm → Type 0
 IsForm rows Lines = IsFlag (codes "json") rows false × IsFlag (codes "dot") rows false
 IsForm rows Json = IsFlag (codes "json") rows true × IsFlag (codes "dot") rows false
@@ -152,8 +152,8 @@ Asks words here asked = (choices : Choices) × AreChoices choices × IsTaken cho
 
 -- Why the words request nothing.
 
--- the texts that are reported: for a path with byte 0, for two profiles, for jobs that
--- are no number, and for a command that is neither a build, a session nor an explanation
+-- the texts that are reported: for a path with byte 0; for two profiles; for jobs that are no
+-- number; and for a command that is no build, no session and no explanation
 abbrev pub path_told : Text
 path_told = codes "error: a path has byte 0\n"
 
@@ -192,7 +192,7 @@ pub data AsksWrongly (folder : Text) (given : Option (Text × List Row)) (text :
   no_command : (no_build : option_map (λ p. p.0) given ≢ Some (codes "build")) (no_plan : option_map (λ p. p.0) given ≢ Some (codes "plan")) (no_clean : option_map (λ p. p.0) given ≢ Some (codes "clean"))
       (no_session : option_map (λ p. p.0) given ≢ Some (codes "session")) (no_explain : option_map (λ p. p.0) given ≢ Some (codes "explain")) (told : text ≡ command_told) → AsksWrongly folder given text
 
--- what `clap` found is no fault: help or the version is requested, or there are no words
+-- `clap` found no fault: help or the version is requested, or there are no words
 abbrev pub is_help : ErrorKind → Bool
 is_help kind.DisplayHelp = true
 is_help kind.DisplayVersion = true
@@ -207,8 +207,9 @@ AsksForHelp choices words = (found : ErrorKind) × (is_help found ≡ true) × I
 abbrev pub IsRefused : Choices → List Text → Type 0
 IsRefused choices words = (found : ErrorKind) × (is_help found ≡ false) × IsAmong found (fault_of (program choices) words)
 
--- why the words request nothing, and the text that is reported; nothing is said about the texts of `clap`;
--- wrong values are reported only for words that `clap` accepts, so never if help is requested
+-- why the words request nothing, and the text that is reported; we promise nothing about the texts
+-- of `clap`. Wrong values are reported only for words that `clap` accepts, so never if help is
+-- requested
 abbrev pub Unasks : List Text → Text → ArgumentsError → Type 0
 Unasks words folder (Help text) = (choices : Choices) × AreChoices choices × AsksForHelp choices words
 Unasks words folder (Wrong text) = (choices : Choices) × AreChoices choices × (IsRefused choices words ⊎ IsTaken choices words × AsksWrongly folder (subcommand_of (program choices) words) text)

@@ -46,7 +46,7 @@ telling colors =
 abbrev pub places : List Rule
 places = option (codes "manifest-path") ∷ option (codes "target-dir") ∷ []
 
--- the options for the form of messages, for the runner, and for the tool that children are told
+-- the options for the form of messages, for the runner, and for the tool that children see
 abbrev pub children : ValueParser → List Rule
 children formats = record (option (codes "message-format")) { parser = Some formats } ∷ option (codes "runner") ∷ option (codes "tool") ∷ []
 
@@ -92,8 +92,7 @@ forms = flag (codes "json") ∷ flag (codes "dot") ∷ []
 abbrev pub plan : App
 plan = with_rules forms (with_rules places (choosing (new_app (codes "plan"))))
 
--- the options that choose what is removed from a target folder: of which packages, under which
--- profile
+-- the options that choose what is removed from a target folder: they name packages and a profile
 abbrev pub removal : List Rule
 removal =
     record (options (codes "package")) { short = Some 112 }

@@ -1,4 +1,5 @@
--- What private functions of the command line promise to one another. Nothing here is needed to read what words request.
+-- What private functions of the command line promise to one another. A reader who wants to know
+-- what words request does not need this file.
 use Rattle.std.specs.Prelude.{◌≡◌, ◌≢◌, true, false, List}
 use Rattle.clap.specs.Walk.{Text}
 use Rattle.clap.specs.declared.error.kind.ErrorKind.{ErrorKind}

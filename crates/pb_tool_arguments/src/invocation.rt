@@ -28,9 +28,9 @@ pub enum Invocation {
     Explain(Text),
     /// The plan of a build of these options, in a form. Nothing is built.
     Plan { options: Options, form: PlanForm },
-    /// The removal of what builds with these options made. It is of their packages, or of all
-    /// packages if they name none. It is under their profile if one is named, else under all
-    /// profiles.
+    /// The removal of what builds with these options made. It removes their packages, or all
+    /// packages if the options name none. It does so under their profile if the options name one,
+    /// else under all profiles.
     Clean { options: Options, one_profile: bool },
 }
 
@@ -131,7 +131,7 @@ pub(crate) fn bad_path(alloc: Global, fault: PathFault) -> ArgumentsError
     wrong(alloc, "error: a path has byte 0\n")
 }
 
-/// Returns the error that neither a build, a session nor an explanation is requested.
+/// Returns the error for words that request no build, no session and no explanation.
 pub(crate) fn no_command(alloc: Global) -> ArgumentsError
     ensures { ToldWrong (λ told. told ≡ command_told) result }
 {

@@ -12,7 +12,7 @@ pub(crate) struct Described {
     pub(crate) action: Option<ArgAction>,
     /// What help calls its value; empty if it takes no value.
     pub(crate) value: &'static [&'static str],
-    /// What its value may be, if not any text is allowed.
+    /// The values that it may have, if only some texts are allowed.
     pub(crate) among: Option<&'static [&'static str]>,
     /// What it is for.
     pub(crate) help: &'static str,

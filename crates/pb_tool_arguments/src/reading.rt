@@ -107,8 +107,8 @@ fn named_of(alloc: Global, matches: &ArgMatches<'_>) -> Result<Named, AllocError
     })
 }
 
-/// Returns the value that children see as `CARGO`: the text of `--tool`, else the builder as it was
-/// called.
+/// Returns the value that children see as `CARGO`: the text of `--tool`, else the word with which
+/// the builder was called.
 fn told_tool(alloc: Global, tool: &str, matches: &ArgMatches<'_>) -> Result<Text, AllocError>
     ensures { IfOk result (λ told. told
         ≡ unwrap_or (first_of (codes "tool") (rows_of (found_of matches.now))) tool.now) }
@@ -232,8 +232,8 @@ fn counts_of(here: &Here, matches: &ArgMatches<'_>) -> bool
     here.is_terminal && !quiet
 }
 
-/// Returns whether levels have colours on standard error. `--color` decides that; without it,
-/// `here` does.
+/// Returns whether levels have colours on standard error. `--color` decides this; without
+/// `--color`, `here` decides it.
 fn colors_of(here: &Here, matches: &ArgMatches<'_>) -> bool
     ensures { IsColored here.now.shows_colors
         (first_of (codes "color") (rows_of (found_of matches.now))) result }
@@ -413,8 +413,8 @@ fn tool_of<S: AsStr>(words: &[S]) -> &str
     }
 }
 
-/// Returns what a command line requests. The words are those of
-/// the whole command line, with the program's own name first.
+/// Returns what a command line requests. The words are the words of the whole command line, with
+/// the program's own name first.
 ///
 /// Errors: `Help`, if help or the version is requested, or there are no words;
 /// `Wrong`, with its text, if the words are not a command line, two profiles

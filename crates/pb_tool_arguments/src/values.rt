@@ -146,7 +146,7 @@ pub(crate) fn parted(alloc: Global, text: &str) -> Result<Items<Text>, AllocErro
     Ok(words)
 }
 
-/// Returns the path that a text of the command line means. A relative one starts at the folder.
+/// Returns the path that a text of the command line means. A relative path starts at the folder.
 pub(crate) fn path_of(
     alloc: Global,
     folder: &PathText,

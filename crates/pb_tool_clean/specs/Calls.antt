@@ -37,14 +37,15 @@ NamesCall old new OutOfMemory = NoneFailed old new
 NamesCall old new (Nothing wanted folder) = ⊥
 NamesCall old new NoSuchProfile = ⊥
 
--- only the counters of calls and of failures have changed: no file and no variable has, and no
--- child was started
+-- only the counters of calls and of failures have changed: no file and no variable has changed, and
+-- no child was started
 pub record Looked (old new : Moment) : Type 0 where
   pub world : new.world ≡ old.world
   pub starts : new.counts.starts ≡ old.counts.starts
   pub most : new.most ≡ old.most
 
--- nothing has changed but these counters; after success no call has failed, and a fault names the call that failed
+-- only these counters have changed; after success no call has failed, and a fault names the failed
+-- call
 pub record Looks {T : Type 0} (result : Result T CleanFault) (old new : Moment) : Type 0 where
   pub looked : Looked old new
   pub ok : OnOk result (NoneFailed old.counts new.counts)
@@ -56,17 +57,18 @@ pub record Changed (may : List ℕ → Bool) (old new : Moment) : Type 0 where
   pub starts : new.counts.starts ≡ old.counts.starts
   pub most : new.most ≡ old.most
 
--- only files of these paths have changed; after success no call has failed, and a fault names the call that failed
+-- only files of these paths have changed; after success no call has failed, and a fault names the
+-- failed call
 pub record Removes {T : Type 0} (may : List ℕ → Bool) (result : Result T CleanFault) (old new : Moment) : Type 0 where
   pub changed : Changed may old new
   pub ok : OnOk result (NoneFailed old.counts new.counts)
   pub fault : IfErr result (NamesCall old.counts new.counts)
 
--- the path of the tag in a folder; no folder is there
+-- the path of the tag in a folder; no folder has this path
 abbrev pub tag_in : List ℕ → List ℕ
 tag_in folder = below folder (codes "CACHEDIR.TAG")
 
--- the files directly in some folders, and the folders directly in them
+-- the files directly in some folders, and the folders directly in these folders
 abbrev pub files_of : List (List ℕ) → World → List (List ℕ)
 files_of [] w = []
 files_of (folder ∷ folders) w = listed_directly folder w ++ files_of folders w
@@ -75,7 +77,7 @@ abbrev pub folders_of : List (List ℕ) → World → List (List ℕ)
 folders_of [] w = []
 folders_of (folder ∷ folders) w = listed_folders folder (removed (tag_in folder) w) ++ folders_of folders w
 
--- the folders of profiles: those directly in a target folder
+-- the folders of profiles: the folders directly in a target folder
 abbrev pub profiles_of : List ℕ → World → List (List ℕ)
 profiles_of target w = listed_folders target (removed (tag_in target) w)
 
@@ -84,7 +86,8 @@ abbrev pub removed_each : List (List ℕ) → World → World
 removed_each [] w = w
 removed_each (path ∷ paths) w = removed_each paths (removed path w)
 
--- a removal that failed: nothing is changed, or each file at the path or below it is unchanged or gone
+-- a removal failed: each file at the path or below it is unchanged or gone, and nothing else has
+-- changed
 abbrev pub Cut : List ℕ → World → World → Type 0
 Cut path w new = (new ≡ w) ⊎ PartlyRemoved path w new
 

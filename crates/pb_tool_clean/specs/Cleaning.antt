@@ -29,13 +29,14 @@ abbrev pub path_or : List ℕ → Result (List ℕ) PathFault → List ℕ
 path_or other (Ok path) = path
 path_or other (Err fault) = other
 
--- the path that a text means, from the root if it is relative; another path if there is no text, or one with byte 0
+-- the path that a text means, from the root if it is relative; the other path if there is no text,
+-- or if the text has byte 0
 abbrev pub told_or : List ℕ → List ℕ → Option (List ℕ) → List ℕ
 told_or root other None = other
 told_or root other (Some text) = path_or other (joined root text)
 
--- the folder of `--target-dir`, else that of `CARGO_TARGET_DIR`, else `target` in the folder of the
--- manifest
+-- the folder of `--target-dir`, else the folder of `CARGO_TARGET_DIR`, else `target` in the folder
+-- of the manifest
 abbrev pub target_of : Options → Map → List ℕ
 target_of options variables =
     let root = folder_of options.manifest in
@@ -52,7 +53,8 @@ listed_in target w = record { files = files_of (profiles_of target w) w; folders
 abbrev pub chosen_of : Choice → Listed → List (List ℕ)
 chosen_of choice listed = records_among choice listed.files ++ folders_among choice listed.folders
 
--- what is at these paths is removed, and nothing else; a failure ends it at one of them
+-- all that is at these paths is removed, and nothing else; a failure ends the removal at one of
+-- them
 pub record RemovesEach (is_modelled : Bool) (paths : List (List ℕ)) (result : Result (Unit {0}) CleanFault) (old new : Moment) : Type 0 where
   pub removes : Removes (is_among paths) result old new
   pub gone : IsTrue is_modelled → OnOk result (new.world ≡ removed_each paths old.world)
@@ -72,14 +74,13 @@ is_bare listed = are_none listed.files listed.folders
     are_none [] [] = true
     are_none files folders = false
 
--- Nothing but its tag is left in a target folder: nothing is in the folders of its profiles, and
--- there is no other file. On a machine, a folder without files, or another target folder, is only
--- in the first list.
+-- Only its tag is left in a target folder: nothing is in the folders of its profiles, and there is
+-- no other file. On a machine, a folder without files, or another target folder, is only in the
+-- first list.
 abbrev pub is_emptied : List ℕ → World → Bool
 is_emptied target w = is_bare (listed_in target w) && is_tag_alone (tag_in target) (listed target w)
 
--- if nothing but its tag is left in a target folder, the folder is removed whole; else nothing is
--- removed
+-- if only its tag is left in a target folder, the whole folder is removed; else nothing is removed
 pub record RemovesRest (is_modelled : Bool) (target : List ℕ) (result : Result (Unit {0}) CleanFault) (old new : Moment) : Type 0 where
   pub removes : Removes (is_at_or_below target) result old new
   pub kept : IsTrue is_modelled → is_emptied target old.world ≡ false → new.world ≡ old.world
@@ -93,7 +94,8 @@ is_whole choice = whole_of choice.packages choice.profile
     whole_of [] None = true
     whole_of packages profile = false
 
--- what follows when what was chosen is removed: a fault ends it; else the rest is removed if all was chosen
+-- what follows after the chosen part was removed: a fault ends the removal; else the rest is
+-- removed if all was chosen
 abbrev pub GoesOn : Bool → Bool → List ℕ → Result (Unit {0}) CleanFault → Result (Unit {0}) CleanFault → Moment → Moment → Type 0
 GoesOn is_modelled true target (Ok done) result old new = RemovesRest is_modelled target result old new
 GoesOn is_modelled false target (Ok done) result old new = (result ≡ Ok done) × (new ≡ old)
@@ -111,7 +113,8 @@ abbrev pub CleansListed : Bool → Choice → Result Listed CleanFault → Resul
 CleansListed is_modelled choice (Ok listed) result old new = Cleans is_modelled choice listed result old new
 CleansListed is_modelled choice (Err fault) result old new = (result ≡ Err fault) × (new ≡ old)
 
--- what is in the folders of the profiles was listed, and what is chosen of that is removed
+-- the contents of the folders of the profiles were listed, and the chosen part of the list is
+-- removed
 pub record CleansNow (is_modelled : Bool) (choice : Choice) (result : Result (Unit {0}) CleanFault) (old new : Moment) : Type 0 where
   pub listed : Result Listed CleanFault
   pub mid : Moment
@@ -129,13 +132,13 @@ all_of target = record { target = target; packages = []; profile = None }
 abbrev pub of_all_packages : Choice → Choice
 of_all_packages choice = record choice { packages = [] }
 
--- the folder in which a choice looks: the profile's if one is named, else the target folder
+-- the folder in which a choice looks: the folder of the profile, if a profile is named, else the
+-- target folder
 abbrev pub looked_in : Choice → List ℕ
 looked_in choice = unwrap_or choice.profile choice.target
 
--- What a choice needs and what was not listed: any record or unit's folder at all; if there is one,
--- one under the profile; if there is one of these, one of the packages. Nothing is missing if
--- something that is chosen was listed.
+-- The first of these that was not listed: any record or unit's folder; one under the profile; one
+-- of the packages. If something that is chosen was listed, nothing is missing.
 abbrev pub IsMissing : Choice → Listed → Option Wanted → Type 0
 IsMissing choice listed (Some wanted.All) = chosen_of (all_of choice.target) listed ≡ []
 IsMissing choice listed (Some wanted.OfProfile) =
@@ -149,7 +152,7 @@ abbrev pub folder_for : Wanted → Choice → List ℕ
 folder_for wanted.All choice = choice.target
 folder_for some choice = looked_in choice
 
--- a choice stays as it is if something of it was listed; else it is refused
+-- if something of a choice was listed, the choice stays as it is; else it is refused
 abbrev pub Judges : Choice → Listed → Result Choice CleanFault → Type 0
 Judges choice listed (Ok judged) = (judged ≡ choice) × IsMissing choice listed None
 Judges choice listed (Err (Nothing some folder)) = IsMissing choice listed (Some some) × (folder ≡ folder_for some choice)
@@ -178,7 +181,8 @@ pub record Chooses (is_modelled : Bool) (options : Options) (one_profile : Bool)
   pub profile : IsProfile choice.target options.profile one_profile choice.profile
   pub target : IsTrue is_modelled → choice.target ≡ target_of options w.variables
 
--- why nothing is removed: nothing that is wanted is there; the folder of the profile has no name; or a call failed
+-- why nothing is removed: nothing that the options choose exists; the folder of the profile has no
+-- name; or a call failed
 abbrev pub Refuses : Bool → Options → Bool → World → Counts → Counts → CleanFault → Type 0
 Refuses is_modelled options one_profile w old new (Nothing some folder) =
     (choice : Choice) × Chooses is_modelled options one_profile w choice × (folder ≡ folder_for some choice)
@@ -186,7 +190,8 @@ Refuses is_modelled options one_profile w old new (Nothing some folder) =
 Refuses is_modelled options one_profile w old new NoSuchProfile = HasNoFolder options one_profile × NoneFailed old new
 Refuses is_modelled options one_profile w old new fault = NamesCall old new fault
 
--- what the options choose was found, and something of it exists; or it is refused. Nothing has changed.
+-- the choice of the options was found, and something of it exists; or the choice is refused.
+-- Nothing has changed.
 pub record Finds (is_modelled : Bool) (options : Options) (one_profile : Bool) (result : Result Choice CleanFault) (old new : Moment) : Type 0 where
   pub looked : Looked old new
   pub chooses : IfOk result (Chooses is_modelled options one_profile old.world)

@@ -11,6 +11,6 @@ pub record IsMade (target path : List ℕ) : Type 0 where
   pub inside : is_below target path ≡ true
   pub name : (is_record (words_in (last_part path)) ≡ true) ⊎ (is_unit (words_in (last_part path)) ≡ true)
 
--- whatever a place lists, all that is chosen of it is such a path
+-- whatever a place lists, each chosen path is such a path
 abbrev pub ChosenAreMade : Type 0
 ChosenAreMade = (choice : Choice) (listed : Listed) → All (IsMade choice.target) (chosen_of choice listed)

@@ -30,7 +30,7 @@ abbrev pub is_record : List (List ℕ) → Bool
 is_record (first ∷ side ∷ what ∷ ending ∷ []) = is_side side && (is_what what && bytes_eq ending (codes "record"))
 is_record words = false
 
--- no packages are named, or one of the names is this
+-- no packages are named, or this is one of the names
 abbrev pub is_named : List (List ℕ) → List ℕ → Bool
 is_named [] word = true
 is_named (name ∷ names) word = list_any (bytes_eq word) (name ∷ names)
@@ -45,7 +45,8 @@ abbrev pub is_within : Option (List ℕ) → List ℕ → Bool
 is_within None path = true
 is_within (Some folder) path = is_below folder path
 
--- a path whose last part has these words is below the target folder, of a named package, and below the profile's folder
+-- a path whose last part has these words is below the target folder, belongs to a named package,
+-- and is below the profile's folder
 abbrev pub is_chosen : Choice → List (List ℕ) → List ℕ → Bool
 is_chosen choice words path = is_below choice.target path && (is_named choice.packages (package_in words) && is_within choice.profile path)
 
@@ -56,7 +57,7 @@ is_chosen_record choice path = is_record (words_in (last_part path)) && is_chose
 abbrev pub is_chosen_folder : Choice → List ℕ → Bool
 is_chosen_folder choice path = is_unit (words_in (last_part path)) && is_chosen choice (words_in (last_part path)) path
 
--- the chosen ones of some paths, in order
+-- the chosen paths among some paths, in order
 abbrev pub records_among : Choice → List (List ℕ) → List (List ℕ)
 records_among choice [] = []
 records_among choice (path ∷ paths) = if is_chosen_record choice path then path ∷ records_among choice paths else records_among choice paths

@@ -40,7 +40,7 @@ fn is_chosen(choice: &Choice, words: &[&str], path: &PathText) -> bool
         && is_within(&choice.profile, path)
 }
 
-/// Returns whether a path is that of a chosen record.
+/// Returns whether a path is the path of a chosen record.
 fn is_chosen_record(alloc: Global, choice: &Choice, path: &PathText) -> Result<bool, AllocError>
     ensures { IfOk result (λ is. is ≡ is_chosen_record choice.now path.now) }
 {
@@ -48,7 +48,7 @@ fn is_chosen_record(alloc: Global, choice: &Choice, path: &PathText) -> Result<b
     Ok(is_record(words.as_slice()) && is_chosen(choice, words.as_slice(), path))
 }
 
-/// Returns whether a path is that of a chosen unit's folder.
+/// Returns whether a path is the path of a chosen unit's folder.
 fn is_chosen_folder(alloc: Global, choice: &Choice, path: &PathText) -> Result<bool, AllocError>
     ensures { IfOk result (λ is. is ≡ is_chosen_folder choice.now path.now) }
 {

@@ -8,8 +8,8 @@ use pb_data::Text;
 use pb_place_types::{PathText, PlaceFault};
 use std::alloc::AllocError;
 
-/// What a removal looks for in a target folder: a record or a unit's folder, of any kind or of a
-/// kind that the options name.
+/// What a removal looks for in a target folder: any record or unit's folder, or one that the
+/// options name.
 #[derive(Clone, Copy, PartialEq, Eq)]
 pub enum Wanted {
     /// Any.
@@ -23,7 +23,7 @@ pub enum Wanted {
 /// Why nothing, or not all, was removed.
 #[derive(Drop)]
 pub enum CleanFault {
-    /// Nothing that is wanted is in this folder.
+    /// Nothing that the options choose is in this folder.
     Nothing(Wanted, PathText),
     /// The folder of the profile has no name.
     NoSuchProfile,

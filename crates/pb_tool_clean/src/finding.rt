@@ -39,8 +39,8 @@ fn of_all_packages(alloc: Global, choice: &Choice) -> Result<Choice, AllocError>
     })
 }
 
-/// Returns the folder in which a choice looks: the profile's if one is named, else the target
-/// folder.
+/// Returns the folder in which a choice looks: the folder of the profile, if a profile is named,
+/// else the target folder.
 fn looked_in(choice: Choice) -> PathText
     ensures { result ≡ looked_in choice }
 {
@@ -66,7 +66,7 @@ fn has_nothing(alloc: Global, choice: &Choice, listed: &Listed) -> Result<bool, 
     Ok(chosen(alloc, choice, listed)?.is_empty())
 }
 
-/// Returns what a choice needs and what was not listed, if there is something.
+/// Returns what a choice needs but was not listed, if there is something.
 fn missing_in(alloc: Global, choice: &Choice, listed: &Listed) -> Result<Option<Wanted>, AllocError>
     ensures { IfOk result (IsMissing choice.now listed.now) }
 {
@@ -84,7 +84,7 @@ fn missing_in(alloc: Global, choice: &Choice, listed: &Listed) -> Result<Option<
 
 /// Returns a choice, if something of it was listed.
 ///
-/// Errors: `Nothing`, with the folder in which it was looked for; `OutOfMemory`.
+/// Errors: `Nothing`, with the folder in which the choice looks; `OutOfMemory`.
 fn judged(alloc: Global, choice: Choice, listed: &Listed) -> Result<Choice, CleanFault>
     ensures { Judges choice listed.now result }
 {
@@ -165,7 +165,8 @@ fn choice_in(
 }
 
 /// Returns what the options of a removal choose: the target folder; the packages that are named, or
-/// all; the folder of the profile, if one is named. Something of it exists. Nothing is changed.
+/// all; the folder of the profile, if a profile is named. Something of this choice exists. Nothing
+/// is changed.
 ///
 /// Errors:
 ///

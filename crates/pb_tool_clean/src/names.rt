@@ -37,7 +37,7 @@ fn is_what(word: &str) -> bool
     word == "lib" || word == "script" || word == "run" || is_binary(word)
 }
 
-/// Returns whether words are those of a unit's key.
+/// Returns whether words are the words of a unit's key.
 pub(crate) fn is_unit(words: &[&str]) -> bool
     ensures { result ≡ is_unit (map (λ word. word.now) words.now) }
 {
@@ -47,7 +47,7 @@ pub(crate) fn is_unit(words: &[&str]) -> bool
     }
 }
 
-/// Returns whether words are those of the name of a unit's record.
+/// Returns whether words are the words of the name of a unit's record.
 pub(crate) fn is_record(words: &[&str]) -> bool
     ensures { result ≡ is_record (map (λ word. word.now) words.now) }
 {
@@ -67,7 +67,7 @@ pub(crate) fn package_in<'a>(words: &[&'a str]) -> &'a str
     }
 }
 
-/// Returns whether no packages are named, or one of the names is this.
+/// Returns whether no packages are named, or this is one of the names.
 pub(crate) fn is_named(packages: &[Text], word: &str) -> bool
     ensures { result ≡ is_named packages.now word.now }
 {

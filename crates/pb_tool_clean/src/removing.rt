@@ -120,7 +120,7 @@ fn has_bare_profiles<P: Place>(
     }
 }
 
-/// Returns whether nothing is left of a target folder but its tag.
+/// Returns whether only its tag is left of a target folder.
 fn is_emptied<P: Place>(alloc: Global, place: &mut P, target: &PathText) -> Result<bool, CleanFault>
     ensures ok { IsTrue P.is_modelled → IfOk result
         (λ emptied. emptied ≡ is_emptied target.now (P.at place.old).world) }
@@ -133,7 +133,7 @@ fn is_emptied<P: Place>(alloc: Global, place: &mut P, target: &PathText) -> Resu
     }
 }
 
-/// Removes a target folder if nothing but its tag is left in it.
+/// Removes a target folder if only its tag is left in it.
 fn remove_rest<P: Place>(alloc: Global, place: &mut P, target: &PathText) -> Result<(), CleanFault>
     ensures { RemovesRest P.is_modelled target.now result
         (moment_of (P.at place.old)) (moment_of (P.at place.new)) }
@@ -145,7 +145,7 @@ fn remove_rest<P: Place>(alloc: Global, place: &mut P, target: &PathText) -> Res
     }
 }
 
-/// Removes what is chosen among what was listed.
+/// Removes the chosen part of what was listed.
 #[tactic(auto, using(crate::proofs::Cuts::none_cut))]
 fn remove_chosen<P: Place>(
     alloc: Global,
@@ -162,7 +162,7 @@ fn remove_chosen<P: Place>(
     }
 }
 
-/// Removes the rest, if what was chosen is removed and all was chosen. A fault ends it.
+/// Removes the rest, if the chosen part was removed and all was chosen. A fault ends the removal.
 fn go_on<P: Place>(
     alloc: Global,
     place: &mut P,
@@ -185,8 +185,8 @@ fn go_on<P: Place>(
 }
 
 /// Removes the chosen part of what was listed, and nothing else: records first, then the folders of
-/// units. If all is chosen and nothing is left of the target folder but its tag, it is removed
-/// whole.
+/// units. If all is chosen and only its tag is left of the target folder, the whole folder is
+/// removed.
 ///
 /// Errors: those of `clean`.
 fn remove<P: Place>(
@@ -202,12 +202,12 @@ fn remove<P: Place>(
     go_on(alloc, place, choice, first)
 }
 
-/// Removes what is chosen of what is in the folders of the profiles of a target folder now, and
-/// nothing else: records first, then the folders of units. If all is chosen and nothing is left of
-/// the target folder but its tag, it is removed whole.
+/// Lists the folders of the profiles of a target folder now, and removes the chosen part of the
+/// list, and nothing else: records first, then the folders of units. If all is chosen and only its
+/// tag is left of the target folder, the whole folder is removed.
 ///
-/// Errors: `Call`, with the path of the call that failed; `OutOfMemory`. What was removed before
-/// stays removed.
+/// Errors: `Call`, with the path of the call that failed; `OutOfMemory`. What it removed before the
+/// error stays removed.
 pub fn clean<P: Place>(alloc: Global, place: &mut P, choice: &Choice) -> Result<(), CleanFault>
     ensures { CleansNow P.is_modelled choice.now result
         (moment_of (P.at place.old)) (moment_of (P.at place.new)) }

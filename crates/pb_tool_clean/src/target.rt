@@ -47,8 +47,8 @@ fn variable<P: Place>(alloc: Global, place: &mut P) -> Result<Option<Text>, Clea
     }
 }
 
-/// Returns the path that a text means, from the root if it is relative; another path if there is no
-/// text, or one with byte 0.
+/// Returns the path that a text means, from the root if it is relative; the other path if there is
+/// no text, or if the text has byte 0.
 fn told_or(
     alloc: Global,
     root: &PathText,

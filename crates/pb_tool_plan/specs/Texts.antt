@@ -44,7 +44,7 @@ abbrev pub strings_rest : List Planned → List ℕ → List ℕ
 strings_rest units [] = []
 strings_rest units (need ∷ needs) = codes "," ++ json_string (key_at units need) ++ strings_rest units needs
 
--- the same with commas between them
+-- the keys of the units at some indexes, as JSON strings, with commas between them
 abbrev pub strings : List Planned → List ℕ → List ℕ
 strings units [] = []
 strings units (need ∷ needs) = json_string (key_at units need) ++ strings_rest units needs
@@ -71,7 +71,7 @@ plan_json plan = codes "[\n" ++ objects plan.planned plan.planned ++ codes "\n]\
 abbrev pub quoted : List ℕ → List ℕ
 quoted key = codes "\"" ++ key ++ codes "\""
 
--- an arrow from a unit to each of those that it needs
+-- an arrow from a unit to each unit that it needs
 abbrev pub arrows : List Planned → List ℕ → List ℕ → List ℕ
 arrows units key [] = []
 arrows units key (need ∷ needs) = codes "  " ++ quoted key ++ codes " -> " ++ quoted (key_at units need) ++ codes ";\n" ++ arrows units key needs

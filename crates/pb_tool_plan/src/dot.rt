@@ -17,7 +17,7 @@ fn push_quoted(text: &mut String, key: &str) -> Result<(), AllocError>
     Ok(())
 }
 
-/// Adds an arrow from a unit to each of those that it needs.
+/// Adds an arrow from a unit to each unit that it needs.
 fn push_arrows(
     text: &mut String,
     units: &[Planned],

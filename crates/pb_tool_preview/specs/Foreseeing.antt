@@ -60,7 +60,7 @@ waits_for fates index = if ends_badly (slice_get fates index) then Unreached ind
 
 -- Units that can be compared.
 
--- the result of a unit decides whether the unit is kept or bad, and has these directives
+-- this result of a unit determines its fate, kept or bad, and its directives
 abbrev pub Judges : Ran → Fate → Option (List Directive) → Type 0
 Judges ran fate said = (fate ≡ (if is_some ran.bad then Bad else Kept)) × (said ≡ ran.directives)
 
@@ -72,8 +72,8 @@ pub record IsReplay (project : Project) (w : World) (u : Planned) (c : Command) 
   pub replays : IsReplayed (records (records_folder project) w u.key) again
   pub judged : Judges (ran_of project u c again.ended w.files) fate said
 
--- the comparison of a unit with its record, for this command: if the child would be started, this is the first
--- difference; else its record would be replayed
+-- the comparison of a unit with its record, for this command: if a build would start the child,
+-- this is the first difference; else it would replay the record
 abbrev pub IsCompared : Project → World → Planned → Command → Fate → Option (List Directive) → Type 0
 IsCompared project w u c (Starts difference) said = FirstDifference (records_folder project) u.key c w (Some difference) × (said ≡ None)
 IsCompared project w u c Kept said = IsReplay project w u c Kept said
@@ -83,22 +83,22 @@ IsCompared project w u c (Unreached index) said = ⊥
 
 -- The units of a plan.
 
--- the fate of a unit by the fates and the directives of the units before it: if all that it reaches is kept, it is
--- compared with its record for the command that a build would give it
+-- the fate of a unit, from the fates and the directives of the units before it: if all that the
+-- unit reaches is kept, it is compared with its record, for the command that a build would give it
 abbrev pub IsFate : Setup → Project → World → List Fate → List (Option (List Directive)) → Planned → Fate → Option (List Directive) → Type 0
 IsFate setup project w fates done u fate said =
     MatchOption (first_unkept fates u.reaches) (IsCompared project w u (command_of setup project u done) fate said) (λ index. (fate ≡ waits_for fates index) × (said ≡ None))
 
--- the fates of some first units of a plan, each by those before it
+-- the fates of some first units of a plan, each from the fates before it
 pub data Foresees (setup : Setup) (project : Project) (w : World) : List Planned → List Fate → List (Option (List Directive)) → Type 0 where
   nothing : Foresees setup project w [] [] []
   more : (units : List Planned) (fates : List Fate) (done : List (Option (List Directive))) (u : Planned) (fate : Fate) (said : Option (List Directive))
       (before : Foresees setup project w units fates done) (is : IsFate setup project w fates done u fate said)
       → Foresees setup project w (units ++ u ∷ []) (fates ++ fate ∷ []) (done ++ said ∷ [])
 
--- What it does to the place.
+-- What a look does to the place.
 
--- it only looks: nothing changes but counters, no child is started, and a call that failed is the last one
+-- it only looks: only counters change, no child is started, and a failed call is the last one
 pub record Looks {T : Type 0} (result : Result T BuildFault) (old new : At) : Type 0 where
   pub world : new.world ≡ old.world
   pub most : new.most ≡ old.most
@@ -111,6 +111,6 @@ LooksAt key (Device unit (device.Place fault)) = unit ≡ key
 LooksAt key OutOfMemory = Unit {0}
 LooksAt key fault = ⊥
 
--- the same for one of the units of a project
+-- a look at one of the units of a project failed
 abbrev pub LooksAtSome : Project → BuildFault → Type 0
 LooksAtSome project fault = (index : ℕ) × (u : Planned) × (unit_at project index ≡ Some u) × LooksAt u.key fault

@@ -36,7 +36,7 @@ key_in (Some unit) = unit.key
 abbrev pub key_at : List Planned → ℕ → List ℕ
 key_at units index = key_in (slice_get units index)
 
--- what is said of a unit of this fate; nothing of one that is kept
+-- the text about a unit of this fate; there is none for a kept unit
 abbrev pub said_of : List Planned → Fate → Option (List ℕ)
 said_of units (Starts difference) = Some (codes "would be started, since " ++ reason difference ++ codes "")
 said_of units Kept = None
@@ -52,7 +52,7 @@ abbrev pub row_at : List Planned → List ℕ → Option Fate → List Row
 row_at units key None = []
 row_at units key (Some fate) = row_of key (said_of units fate)
 
--- a row for each of these units about which something is said
+-- a row for each of these units for which there is a text
 abbrev pub rows_of : List Planned → List Planned → List Fate → List Row
 rows_of units [] fates = []
 rows_of units (u ∷ us) fates = row_at units u.key (slice_get fates 0) ++ rows_of units us (drop 1 fates)

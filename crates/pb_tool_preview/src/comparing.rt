@@ -41,7 +41,7 @@ fn named(unit: Text, fault: StoreFault) -> BuildFault
     }
 }
 
-/// Returns the fate of a unit by its record, and its directives, if the record replays some.
+/// Returns the fate of a unit, from its record, and its directives, if the record replays some.
 fn seen<P: Place>(
     alloc: Global,
     place: &mut P,

@@ -11,8 +11,8 @@ pub enum Fate {
     Kept,
     /// Nothing differs from its record, and what the record replays is bad.
     Bad,
-    /// It reaches the unit at this index, whose child would be started first. Only after that can
-    /// this unit be compared.
+    /// It reaches the unit at this index, whose child a build would start first. Only after that
+    /// can the build compare this unit.
     Waits(usize),
     /// It reaches the unit at this index, which would be bad.
     Unreached(usize),

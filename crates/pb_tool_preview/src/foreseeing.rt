@@ -20,8 +20,8 @@ use pb_store::Store;
 use pb_unit::Planned;
 use std::alloc::{AllocError, Global};
 
-/// Returns the fate of the unit at an index of the plan, by the fates and the directives of the
-/// units before it, and its own directives.
+/// Returns the fate of the unit at an index of the plan, and the unit's directives. They follow
+/// from the fates and the directives of the units before it.
 fn fate_of<P: Place>(
     alloc: Global,
     place: &mut P,
@@ -72,9 +72,9 @@ fn append(
 
 /// Returns what a build would do with each unit of a prepared build, in plan order.
 ///
-/// It compares each unit with its record, as a build does when the unit begins, if all that the
-/// unit reaches is kept. It reads what the comparison reads, and the unit's dep-info if nothing
-/// differs. It starts no child and changes nothing.
+/// If all that a unit reaches is kept, it compares the unit with its record, as a build does when
+/// the unit begins. It reads what the comparison reads and, if nothing differs, the unit's
+/// dep-info. It starts no child and changes nothing.
 ///
 /// Errors: `Device` with a unit's key, if a file, a folder or a variable cannot be read;
 /// `OutOfMemory`.
@@ -90,7 +90,7 @@ pub fn foresee<P: Place>(
         HasNumbers (records (records_folder project.now) (P.at place.old).world)
         store.now.numbers }
 
-    // Each fate is that of the definition, by the records of this world.
+    // Each fate is as defined, by the records of this world.
     ensures fates { IsTrue P.is_modelled → IfOk result (λ fates.
         (done : List (Option (List Directive))) × Foresees setup.now project.now
         (P.at place.old).world project.now.plan.planned fates done) }

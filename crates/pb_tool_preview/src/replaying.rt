@@ -49,7 +49,7 @@ fn read_at<P: Place>(
     }
 }
 
-/// Returns the fate of a unit, by its result, and its directives, if nothing differs from its
+/// Returns the fate and the directives of a unit, from its result, if nothing differs from its
 /// record.
 fn fate_of(ran: Ran) -> (Fate, Option<Directives>)
     ensures { Judges ran result.0 result.1 }

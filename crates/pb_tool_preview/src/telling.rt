@@ -19,21 +19,21 @@ fn is_started(fate: &Fate) -> bool
     matches!(fate, Fate::Starts(_))
 }
 
-/// Returns whether a unit waits for one that would be started.
+/// Returns whether a unit waits for a unit that a build would start.
 fn is_waiting(fate: &Fate) -> bool
     ensures { result ≡ is_waiting fate.now }
 {
     matches!(fate, Fate::Waits(_))
 }
 
-/// Returns whether a unit would not be reached.
+/// Returns whether a build would not reach a unit.
 fn is_unreached(fate: &Fate) -> bool
     ensures { result ≡ is_unreached fate.now }
 {
     matches!(fate, Fate::Unreached(_))
 }
 
-/// Returns the key of the unit at an index; it is empty if there is none.
+/// Returns the key of the unit at an index; it is empty if there is no such unit.
 fn key_at(units: &[Planned], index: usize) -> &str
     ensures { result.now ≡ key_at units.now index }
 {
@@ -110,7 +110,7 @@ fn push_row(
     }
 }
 
-/// Returns the rows of all units about which something is said.
+/// Returns the rows of all units for which there is a text.
 fn rows_of(alloc: Global, units: &[Planned], fates: &[Fate]) -> Result<Items<Row>, AllocError>
     ensures { IfOk result (λ rows. rows ≡ rows_of units.now units.now fates.now) }
 {
@@ -212,10 +212,10 @@ fn counts_line(alloc: Global, fates: &[Fate]) -> Result<String, AllocError>
     counts_text(alloc, started, kept, waiting, unreached)
 }
 
-/// Returns what a build would do with units of these fates: in plan order, for each unit that is
-/// not kept, its key and the reason, or one line for five or more units with the same text; then
-/// how many would be started, kept, and so on. Each line ends with a line feed. The words are our
-/// own choice.
+/// Returns what a build would do with units of these fates: in plan order, a line for each unit
+/// that is not kept, with its key and the reason. Five or more units with the same text have one
+/// line together. Then come the numbers of units that would be started, kept, and so on. Each line
+/// ends with a line feed. The words are our own choice.
 ///
 /// Errors: out of memory.
 pub fn preview_lines(alloc: Global, units: &[Planned], fates: &[Fate]) -> Result<String, AllocError>

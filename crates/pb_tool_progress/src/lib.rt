@@ -1,4 +1,4 @@
-//! A build that shows how far it is: a turn that shows which unit begins.
+//! A build that shows its progress: its turn shows which unit begins.
 #![tactic(auto)]
 
 mod building;

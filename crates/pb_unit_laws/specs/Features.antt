@@ -1,4 +1,4 @@
--- The definition of resolved features determines all that is on.
+-- The definition of resolved features determines all features that are on.
 use Rattle.std.specs.Prelude.{◌≡◌, ℕ}
 use Rattle.pb_feature.specs.Resolved.{IsResolved}
 use Rattle.pb_feature_types.specs.Features.{features_at, is_active, is_enabled}

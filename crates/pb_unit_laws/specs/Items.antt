@@ -12,8 +12,9 @@ use Rattle.pb_workspace_types.specs.Workspace.{has_feature_named}
 use Rattle.pb_workspace_types.specs.declared.package.Entry.{Entry}
 use Rattle.pb_workspace_types.specs.declared.package.Package.{Package}
 
--- what is wrong with a name that must be that of an entry, or of an optional entry: only other entries have it; or no
--- entry has it, and it is no name of `[dev-dependencies]`
+-- the fault of a name that must be the name of an entry, or of an optional entry: `NotOptional` if
+-- only entries that are not optional have this name, `NoSuchDependency` if neither an entry nor a
+-- key of `[dev-dependencies]` has it
 abbrev pub name_fault : Package → Bool → List ℕ → Option FeatureFault
 name_fault p optional name =
     if list_any (λ (e : Entry). bytes_eq name e.key && (e.optional || not optional)) p.entries then None

@@ -16,7 +16,7 @@ use Rattle.pb_unit.specs.declared.unit.What.TheVariants.{Lib, Script, Run}
 abbrev pub KindsAreThese : Type 0
 KindsAreThese = (what : What) → ((is_library what ≡ true) ↔ (what ≡ Lib)) × ((is_script what ≡ true) ↔ (what ≡ Script)) × ((is_run what ≡ true) ↔ (what ≡ Run))
 
--- The role of a script is that of the host, and the role of any other unit is that of its side.
+-- The role of a script is the host, and the role of any other unit is its side.
 abbrev pub RolesAreThese : Type 0
 RolesAreThese = (u : OfPlan) → role_of u ≡ (if is_script u.what then Host else u.side)
 
@@ -24,6 +24,7 @@ RolesAreThese = (u : OfPlan) → role_of u ≡ (if is_script u.what then Host el
 abbrev pub FoldersArePackages : Type 0
 FoldersArePackages = (project : Project) (u : Planned) → folder_of project u ≡ option_map_or (λ (p : Package). p.folder) (package_of project u) project.workspace.root
 
--- The directives at an index are those of the run there; none if no run has ended there.
+-- The directives at an index are the directives of the run there. If no run has ended there, there
+-- are none.
 abbrev pub RunsSay : Type 0
 RunsSay = (done : List (Option (List Directive))) (index : ℕ) → said_at done index ≡ unwrap_or (option_flatten (slice_get done index)) []

@@ -7,12 +7,14 @@ use Rattle.pb_unit.specs.Plan.{above, level_at}
 use Rattle.pb_unit.specs.Units.{has_library, name_at}
 use Rattle.pb_unit.specs.declared.plan.Planned.{Planned}
 
--- The level above the units at some indices is one more than the greatest of theirs, and 0 if there are none.
+-- The level above the units at some indices is one more than the greatest level of these units;
+-- without units it is 0.
 abbrev pub LevelsAreThese : Type 0
 LevelsAreThese = (units : List Planned) (places : List ℕ)
     → above (map (level_at units) places) ≡ fold max 0 (map (λ index. option_map_or (λ (p : Planned). p.level + 1) (slice_get units index) 1) places)
 
--- The name of the package at an index, and whether it has a library; no name and no library if there is no package.
+-- The name of the package at an index, and whether it has a library. If there is no package, there
+-- is no name and no library.
 abbrev pub PackagesHaveNames : Type 0
 PackagesHaveNames = (ws : Workspace) (index : ℕ)
     → (name_at ws index ≡ option_map_or (λ (p : Package). p.name) (slice_get ws.packages index) [])

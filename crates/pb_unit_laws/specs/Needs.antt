@@ -14,7 +14,7 @@ use Rattle.pb_unit.specs.declared.unit.Unit.{Unit}
 use Rattle.pb_unit.specs.declared.unit.What.{What}
 use Rattle.pb_unit.specs.declared.unit.What.TheVariants.{Lib, Bin, Script, Run}
 
--- what is compiled with the `[dependencies]` of its package
+-- a unit that is compiled with the `[dependencies]` of its package
 pub data IsLinked : What → Type 0 where
   a_library : IsLinked Lib
   a_binary : (name : List ℕ) → IsLinked (Bin name)

@@ -1,4 +1,5 @@
--- The line of a profile: the profile, the one that it inherits from, and so on (The Cargo Book, Profiles).
+-- The line of a profile: the profile, the profile from which it inherits, and so on (The Cargo
+-- Book, Profiles).
 use Rattle.std.specs.Prelude.{◌≡◌, ◌↔◌, ℕ, Bool, true, false, is_none, ◌&&◌, ◌||◌, ◌++◌, if◌then◌else◌, codes, List, [], ◌∷◌, map, Some, Result, Ok, Err}
 use Rattle.std.specs.List.{filter_map, flat_map, list_all}
 use Rattle.std.specs.Option.{option_to_list}
@@ -11,20 +12,20 @@ use Rattle.pb_profile.specs.Line.{Seen, checked_line, is_either, line_of, named,
 use Rattle.pb_profile.specs.declared.fault.ProfileFault.{ProfileFault}
 use Rattle.pb_profile.specs.declared.fault.ProfileFault.TheVariants.{NoSuchProfile, InheritsCycle, NotInOverride}
 
--- a profile inherits from another: `test` from `dev`, `bench` from `release`, a custom one from the profile named in
--- its table; `dev` and `release` from none
+-- a profile inherits from another: `test` from `dev`, `bench` from `release`, and a custom profile
+-- from the profile that its table names. `dev` and `release` inherit from none
 pub data Inherits (profiles : List Profile) : List ℕ → List ℕ → Type 0 where
   test : Inherits profiles (codes "test") (codes "dev")
   bench : Inherits profiles (codes "bench") (codes "release")
   custom : (name parent : List ℕ) (p : Profile) (other : is_either (codes "dev") (codes "release") name || is_either (codes "test") (codes "bench") name ≡ false) (there : named profiles name ≡ Some p) (written : p.inherits ≡ Some parent) → Inherits profiles name parent
 
--- the profile itself, or one that it inherits from in one or more steps
+-- the profile itself, or a profile from which it inherits in one or more steps
 pub data IsAncestor (profiles : List Profile) : List ℕ → List ℕ → Type 0 where
   itself : (name : List ℕ) → IsAncestor profiles name name
   higher : (name parent ancestor : List ℕ) (inherits : Inherits profiles name parent) (more : IsAncestor profiles parent ancestor) → IsAncestor profiles name ancestor
 
--- the line of a profile, which ends at `dev` or `release`; or that it has none, because a profile of it inherits from
--- nothing, or from itself in some steps
+-- the line of a profile, which ends at `dev` or `release`; or a fault, because one of its ancestors
+-- inherits from nothing or, after some steps, from itself
 pub data IsLine (profiles : List Profile) : List ℕ → Result (List Seen) ProfileFault → Type 0 where
   last : (name : List ℕ) (built_in : is_either (codes "dev") (codes "release") name ≡ true) → IsLine profiles name (Ok (seen_at profiles name ∷ []))
   further : (name parent : List ℕ) (line : List Seen) (inherits : Inherits profiles name parent) (rest : IsLine profiles parent (Ok line)) → IsLine profiles name (Ok (seen_at profiles name ∷ line))

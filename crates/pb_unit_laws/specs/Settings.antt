@@ -1,4 +1,5 @@
--- The settings of a package: what counts for it, in order, and the first value of each key (The Cargo Book, Profiles).
+-- The settings of a package: the sets that count for it, in order, and the first value of each key
+-- (The Cargo Book, Profiles).
 use Rattle.std.specs.Prelude.{◌≡◌, ◌∷◌, ◌++◌, [], ℕ, if◌then◌else◌, codes, List, map, Option, Some, None, option_and_then, option_map, slice_get, unwrap_or}
 use Rattle.std.specs.List.{filter_map, find, flat_map}
 use Rattle.std.specs.Str.{bytes_eq}
@@ -31,9 +32,9 @@ abbrev pub set_for_role : Side → List (Seen → Option Set)
 set_for_role Target = []
 set_for_role Host = (λ (s : Seen). option_map says (option_and_then (λ (p : Profile). p.build_override) s.table)) ∷ (λ (s : Seen). Some (λ k. (defaults k).beside_override)) ∷ []
 
--- what counts for a package in a role, the strongest first: `package.NAME`, then `package."*"` for packages
--- that are not members, then the sets of the role, of the profile, and the built-in ones; each from the profiles of the
--- line in turn
+-- the sets that count for a package in a role, the strongest first: `package.NAME`; then
+-- `package."*"`, if the package is not a member; then the sets of the role, of the profile, and the
+-- built-in sets. Each of these comes from the profiles of the line in turn
 abbrev pub sets_for : Package → Side → List Seen → List Set
 sets_for p role line = flat_map (λ index. filter_map index line) (set_for p.name ∷ (if p.is_member then [] else set_for (codes "*") ∷ []) ++ set_for_role role ++ (λ (s : Seen). option_map says (option_map (λ (p : Profile). p.keys) s.table)) ∷ built_in_set ∷ [])
 
@@ -41,7 +42,7 @@ sets_for p role line = flat_map (λ index. filter_map index line) (set_for p.nam
 abbrev pub first_value : ProfileKey → List Set → Setting → Setting
 first_value k sets default = unwrap_or (slice_get (filter_map (λ (set : Set). set k) sets) 0) default
 
--- The settings of a package in a role are these, along the keys. Each line ends in a profile with built-in values, so
--- the default here is never used.
+-- The settings of a package in a role are these, one for each key. Each line ends in a profile with
+-- built-in values, so the default here is never used.
 abbrev pub SettingsAreThese : Type 0
 SettingsAreThese = (p : Package) (role : Side) (line : List Seen) → settings_along p role line ≡ map (λ k. fixed role k (first_value k (sets_for p role line) (defaults k).dev)) keys

@@ -19,8 +19,8 @@ use Rattle.pb_unit.specs.declared.unit.Unit.{Unit as OfPlan}
 use Rattle.pb_unit.specs.declared.unit.What.{What}
 use Rattle.pb_unit.specs.declared.unit.What.TheVariants.{Lib, Bin, Script, Run}
 
--- a target of a package: the name of its crate, its crate types, its source, and the name of the file that it is
--- compiled to
+-- a target of a package: the name of its crate, its crate types, its source, and the name of the
+-- compiled file
 pub data IsTarget (p : Package) : What → List ℕ → List CrateType → List ℕ → List ℕ → Type 0 where
   library : (l : Library) (has : p.library ≡ Some l) → IsTarget p Lib l.name l.crate_types l.source (codes "lib" ++ l.name ++ codes ".rlib")
   binary : (b : Binary) (has : Contains p.binaries b) → IsTarget p (Bin b.name) (underscored b.name) (crate_type.Bin ∷ []) b.source (underscored b.name)
@@ -34,21 +34,21 @@ pub record Makes (project : Project) (u : Planned) (p : Package) (crate : List �
   pub file_is : made_file_of project u ≡ file_in u.out file
   pub told : dep_info_of project u ≡ file_in u.out (crate ++ codes ".d")
 
--- each unit of a package compiles its target, if the package's binaries are sorted by name, as those of a workspace
--- that was read
+-- each unit of a package compiles its target, if the package's binaries are sorted by name; in a
+-- workspace that was read they are
 abbrev pub UnitsMakeTargets : Type 0
 UnitsMakeTargets = (project : Project) (u : Planned) (p : Package) (crate : List ℕ) (types : List CrateType) (source file : List ℕ) → package_of project u ≡ Some p → IsAscending (map (λ (b : Binary). b.name) p.binaries)
     → IsTarget p u.unit.what crate types source file → Makes project u p crate types source file
 
--- and a run produces no file
+-- a run produces no file and no dep-info
 abbrev pub RunsMakeNone : Type 0
 RunsMakeNone = (project : Project) (u : Planned) → u.unit.what ≡ Run → (made_file_of project u ≡ None) × (dep_info_of project u ≡ None)
 
--- a unit whose package has its target; for a run, its script
+-- the package of a unit has the unit's target; the package of a run has the script
 pub data HasTarget (ws : Workspace) : OfPlan → Type 0 where
   compile : (p : ℕ) (s : Side) (what : What) (owner : Package) (there : slice_get ws.packages p ≡ Some owner) (crate : List ℕ) (types : List CrateType) (source file : List ℕ) (is : IsTarget owner what crate types source file) → HasTarget ws (unit p s what)
   run : (p : ℕ) (s : Side) (owner : Package) (there : slice_get ws.packages p ≡ Some owner) (source : List ℕ) (has : owner.script ≡ Some source) → HasTarget ws (unit p s Run)
 
--- each unit of a plan is such a unit
+-- each unit of a plan satisfies `HasTarget`
 abbrev pub PlansHaveTargets : Type 0
 PlansHaveTargets = (ws : Workspace) (features : Features) (selection : Selection) (u : OfPlan) → IsPlanned ws features selection u → HasTarget ws u

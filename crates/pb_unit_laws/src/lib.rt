@@ -1,6 +1,6 @@
-//! Laws of plans: what is on, what is wrong with a feature, what a unit needs and produces, what a
-//! profile inherits and sets (The Cargo Book, Features, Specifying Dependencies, Build Scripts,
-//! Cargo Targets, Profiles).
+//! Laws of plans: which features are on, which fault a feature has, what a unit needs and produces,
+//! and what a profile inherits and sets (The Cargo Book, Features, Specifying Dependencies, Build
+//! Scripts, Cargo Targets, Profiles).
 #![tactic(auto)]
 
 ghost use Rattle.pb_unit_laws.specs.Features.{FeaturesAreOne};
@@ -12,8 +12,8 @@ ghost use Rattle.pb_unit_laws.specs.Profiles.{LinesAreChecked, LinesAreThese};
 ghost use Rattle.pb_unit_laws.specs.Settings.{SettingsAreThese};
 ghost use Rattle.pb_unit_laws.specs.Targets.{PlansHaveTargets, RunsMakeNone, UnitsMakeTargets};
 
-/// A law: the definition of resolved features determines all that is on: each question about them
-/// has one answer.
+/// A law: the definition of resolved features determines all features that are on: each question
+/// about them has one answer.
 pub fn features_are_one()
     ensures { FeaturesAreOne }
 {}
@@ -23,16 +23,18 @@ pub fn needs_are_these()
     ensures { NeedsAreThese }
 {}
 
-/// A law: the line of a profile goes on to `dev` or `release` by what each inherits from. There is
-/// none if and only if a profile of it inherits from nothing, or from itself in some steps. It is
-/// good if its overrides set only what they may.
+/// A law: the line of a profile leads from each profile to the one from which it inherits, up to
+/// `dev` or `release`. A profile has no line if and only if one of its ancestors inherits from
+/// nothing or, after some steps, from itself. A line is good if its overrides set only what they
+/// may.
 pub fn lines_are_these()
     ensures lines { LinesAreThese }
     ensures checked { LinesAreChecked }
 {}
 
-/// A law: what a unit compiles and produces, a line for each kind of target; a run produces no
-/// file. Each unit of a plan has its target, and each run its script.
+/// A law: what a unit compiles and produces, for each kind of target. A run produces no file. The
+/// package of each unit of a plan has the unit's target, and the package of each run has its
+/// script.
 pub fn units_make_targets()
     ensures targets { UnitsMakeTargets }
     ensures runs { RunsMakeNone }
@@ -57,7 +59,8 @@ pub fn settings_are_these()
     ensures { SettingsAreThese }
 {}
 
-/// A law: the level above units; the name of the package at an index, and whether it has a library.
+/// A law: the level above some units; the name of the package at an index; and whether this package
+/// has a library.
 pub fn levels_are_these()
     ensures levels { LevelsAreThese }
     ensures packages { PackagesHaveNames }

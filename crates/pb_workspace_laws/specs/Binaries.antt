@@ -19,7 +19,8 @@ use Rattle.pb_workspace_laws.specs.Files.{first_file}
 abbrev pub in_bin : List ℕ → List (List ℕ)
 in_bin name = (codes "src/bin/" ++ (name ++ codes ".rs")) ∷ (codes "src/bin/" ++ (name ++ codes "/main.rs")) ∷ []
 
--- where the source of a binary is looked for, in order: `src/main.rs` if it has its package's name, then these two
+-- the names under which the builder looks for the source of a binary, in order: `src/main.rs`, if
+-- the binary has its package's name; then these two
 abbrev pub places : List ℕ → List ℕ → List (List ℕ)
 places package_name name = if bytes_eq name package_name then codes "src/main.rs" ∷ in_bin name else in_bin name
 

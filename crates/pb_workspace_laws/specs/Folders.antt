@@ -29,7 +29,7 @@ pub record LeadsTo (sources : World) (f : WorkspaceRoot) (from to : List ℕ) : 
   pub features : List (List ℕ)
   pub asks : Asks f.root from f.given.dependencies d to s default features
 
--- the least set that contains the folder of the root package, the members' folders,
--- and the folder of each path dependency of a package in the set
+-- the least set that contains the folder of the root package, the folders of the members, and the
+-- folder of each path dependency of a package in the set
 abbrev pub IsPackageFolder : World → WorkspaceRoot → Manifest → List ℕ → Type 0
 IsPackageFolder sources f r = Reached (IsFirst sources f r) (LeadsTo sources f)

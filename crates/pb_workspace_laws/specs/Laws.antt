@@ -19,8 +19,8 @@ use Rattle.pb_workspace_laws.specs.Folders.{IsPackageFolder}
 use Rattle.pb_workspace_laws.specs.Members.{IsMember}
 use Rattle.pb_workspace_laws.specs.Packages.{IsPackageOf}
 
--- A package is that of its folder: the one that the manifest and the files there describe.
--- A member inherits from its workspace; `f` is what the root manifest contains about it.
+-- A package belongs to its folder: the manifest and the files there describe it. A member inherits
+-- from its workspace; `f` is what the root manifest contains about it.
 pub record IsOfItsFolder (sources : World) (f : WorkspaceRoot) (ws : Workspace) (p : Package) : Type 0 where
   pub manifest : p.manifest ≡ below p.folder (codes "Cargo.toml")
   pub own : Manifest
@@ -35,7 +35,8 @@ pub record IsOfItsFolder (sources : World) (f : WorkspaceRoot) (ws : Workspace) 
 abbrev pub frame_in : List ℕ → Manifest → WorkspaceRoot
 frame_in manifest r = frame_of (folder_of manifest) manifest r.workspace
 
--- The workspace of the root manifest `r` at this path. Its root package is the one in the root's folder.
+-- The workspace of the root manifest `r` at this path. Its root package is the package in the
+-- root's folder.
 pub record IsWorkspaceOf (sources : World) (manifest : List ℕ) (r : Manifest) (ws : Workspace) : Type 0 where
   pub read : IsManifestAt sources manifest r
   pub root : ws.root ≡ folder_of manifest

@@ -31,6 +31,7 @@ pub data IsMeant (sources : World) (f : WorkspaceRoot) (text folder : List ℕ) 
 abbrev pub TextsMeanFolders : Type 0
 TextsMeanFolders = (sources : World) (f : WorkspaceRoot) (text folder : List ℕ) → FilesHavePaths sources → Contains (folders_meant sources f text) folder ↔ IsMeant sources f text folder
 
--- Parts match names if and only if they match them one by one.
+-- Parts match names if and only if each part matches the name at its place, and there are as many
+-- parts as names.
 abbrev pub PartsMatchNames : Type 0
 PartsMatchNames = (parts : List Part) (names : List (List ℕ)) → (parts_match parts names ≡ true) ↔ AllZip (λ part name. part_matches part name ≡ true) parts names

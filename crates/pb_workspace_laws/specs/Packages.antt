@@ -48,7 +48,8 @@ abbrev pub IsOwnOrTaken : {A : Type 0} → Inherited A → Option A → A → Ty
 IsOwnOrTaken (key.Written x) given value = value ≡ x
 IsOwnOrTaken key.Workspace given value = given ≡ Some value
 
--- the text made from the package's own value, from the workspace's value, or from none
+-- the text made from the package's own value or from the workspace's value, or the text for no
+-- value
 abbrev pub IsText : {A : Type 0} → (A → List ℕ) → (A → List ℕ) → List ℕ → Inheritable A → Option A → List ℕ → Type 0
 IsText {A} own taken none (text.Written x) given value = value ≡ own x
 IsText {A} own taken none text.Workspace given value = (x : A) × (given ≡ Some x) × (value ≡ taken x)
@@ -61,11 +62,12 @@ IsPlainText = IsText (λ x. x) (λ x. x) []
 abbrev pub with_colons : List (List ℕ) → List ℕ
 with_colons authors = join_by (λ author. author) (codes ":") authors
 
--- a text that is a path from the root, as a path from the member's folder; it stays as written if it is no path
+-- a text that is a path from the root, rewritten as a path from the member's folder; a text that is
+-- no path stays as written
 abbrev pub from_member : List ℕ → List ℕ → List ℕ → List ℕ
 from_member root folder text = option_map_or (text_between folder) (result_ok (joined root text)) text
 
--- the path of the README: `true` means `README.md`, `false` none
+-- the path of the README: `true` means `README.md`, `false` means no file
 abbrev pub readme_path : Readme → Option (List ℕ)
 readme_path readme.Standard = Some (codes "README.md")
 readme_path readme.Never = None
@@ -102,10 +104,9 @@ pub data IsFeature (m : Manifest) (f : Feature) : Type 0 where
 
 -- Entries.
 
--- What a dependency requests: the package at its path, from the folder of its own package.
--- If it inherits the workspace's entry with its key, the path is from the root's folder,
--- and it requests the features of both.
--- It then requests `default` if one of the two does.
+-- What a dependency requests: the package at its path, from the folder of its own package. If it
+-- inherits the workspace's entry with its key, the path is from the root's folder, and it requests
+-- the features of both. It then requests `default` if one of the two entries does.
 pub data Asks (root folder : List ℕ) (entries : List WorkspaceDependency) (d : Dependency) : List ℕ → PathSource → Bool → List (List ℕ) → Type 0 where
   path : (s : PathSource) (is : d.source ≡ source.Path s) → Asks root folder entries d (resolved folder s.path) s s.default_features d.features
   workspace : (default : Bool) (is : d.source ≡ source.Workspace default) (w : WorkspaceDependency) (there : Contains entries w) (same : w.key ≡ d.key) (s : PathSource) (has_path : w.source ≡ shared.Path s)

@@ -6,7 +6,7 @@ use Rattle.pb_data.specs.Ascii.{slash}
 use Rattle.pb_place_types.specs.Paths.{path_of}
 use Rattle.pb_workspace_package.specs.Between.{names_in, text_between}
 
--- The relative path from a folder to a path goes up to the folder in which the two part, and then down.
+-- The relative path from a folder to a path goes up to their last common folder, and then down.
 abbrev pub TextsLeadBetween : Type 0
 TextsLeadBetween = (folder path : List ℕ) → let same = common_prefix_len bytes_eq (names_in folder) (names_in path) in
     text_between folder path ≡ join_by (λ name. name) (codes "/") (replicate (length (names_in folder) - same) (codes "..") ++ drop same (names_in path))

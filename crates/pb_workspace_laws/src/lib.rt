@@ -8,11 +8,11 @@ ghost use Rattle.pb_workspace_laws.specs.Ways.{PathsAreSpelled, TextsLeadBetween
 
 /// A law: a workspace that was read is determined by its manifests and their folders.
 ///
-/// - Its packages are in the least set of folders that contains the root package's, the members',
-///   and that of each path dependency of a package in the set. They are in byte order of these
-///   folders.
-/// - Each package is the one that the manifest of its folder and the files there describe, key by
-///   key, with what a member inherits from the workspace.
+/// - The folders of its packages are the least set that contains the root package's folder, the
+///   members' folders, and the folder of each path dependency of a package in the set. The packages
+///   are in byte order of these folders.
+/// - The manifest of its folder and the files there describe each package, key by key, with what a
+///   member inherits from the workspace.
 /// - This includes its binaries, if the files of the sources have normalised absolute paths.
 pub fn workspaces_are_read()
     ensures { WorkspacesAreRead }

@@ -14,7 +14,7 @@ use pb_tests_files::{Case, Shown, Trial, Untold, put_files, try_cases};
 use std::alloc::Global;
 use std::test::Fail;
 
-/// What is told of calls that came after the one that failed.
+/// The report on calls that came after the failed call.
 fn late_told(place: &Untold<Mini>) -> &'static str {
     if place.late() > 0 {
         return " (wrong: a call came after it)";
@@ -22,8 +22,9 @@ fn late_told(place: &Untold<Mini>) -> &'static str {
     ""
 }
 
-/// Makes a call, in words, with the call of the place of this number failing, and tells its fault, and what the same
-/// call tells then, with a store that is opened again; nothing if no call failed.
+/// Makes a call, in words, while the call of the place with this number fails. Reports the fault,
+/// and what the same call reports afterwards with a store that is opened again. Reports nothing if
+/// no call failed.
 fn fail_at(
     alloc: Global,
     place: &mut Untold<Mini>,
@@ -63,7 +64,7 @@ fn fail_after(
     fail_at(alloc, place, project, &mut bench, last, number)
 }
 
-/// The same where the project was refused or not.
+/// Does the same, if the project was not refused.
 fn fail_if(
     alloc: Global,
     place: &mut Untold<Mini>,
@@ -109,8 +110,8 @@ fn each_fails(alloc: Global, steps: &str) -> Result<String, Fail> {
     Ok(told.whole()?)
 }
 
-/// Trials: a line `=== [RULE] NAME` and steps, a line each, of which the last is the call that fails. After a line `---`
-/// come its faults, and what the same call tells after each.
+/// Trials: a line `=== [RULE] NAME` and steps, a line each; the last step is the call that fails.
+/// After a line `---` come its faults, and what the same call reports after each fault.
 const TRIALS: &str = r#"=== [build.faults] each call for a unit that was never built
 run 0
 ---
@@ -167,7 +168,8 @@ fault b.target.run Device: nothing is kept of it
 fault b.target.run Device: nothing is kept of it
 "#;
 
-/// Cases of steps whose last one fails at each call in turn, and what is told after each.
+/// Cases of steps whose last step fails at each call in turn, and what it reports after each
+/// failure.
 struct FailingCases {}
 
 impl Trial for FailingCases {

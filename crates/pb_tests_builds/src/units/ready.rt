@@ -1,4 +1,4 @@
-//! What units are run with: the project of files in memory, and the store of its records.
+//! What the tests run units with: the project of files in memory, and the store of its records.
 
 ghost use Rattle.std.specs.Prelude.{◌≡◌, IfOk};
 ghost use Rattle.pb_run.specs.Invariants.{records_folder};
@@ -20,9 +20,9 @@ use std::test::Fail;
 /// What the units of a project have told.
 #[derive(Drop)]
 pub struct Told {
-    /// What the runs among them have said, by place.
+    /// The directives of the runs among them, by index.
     pub done: Vec<Option<Directives>>,
-    /// The message lines of the one that answered last.
+    /// The message lines of the unit that answered last.
     pub lines: Text,
 }
 
@@ -37,7 +37,7 @@ pub struct Bench {
     pub told: Told,
 }
 
-/// The project at `/w`, whose target folder is `/w/target`, or none where it is refused.
+/// The project at `/w`, whose target folder is `/w/target`, or none if it is refused.
 pub fn project_in(alloc: Global, place: &mut Memory<Mini>) -> Result<Option<OrderedProject>, Fail> {
     let options = no_options(alloc)?;
     match plan_build(alloc, place, &options) {
@@ -90,7 +90,7 @@ pub fn store_of(
     }
 }
 
-/// What the units of a project have told at first: nothing.
+/// What the units of a project have reported at first: nothing.
 fn nothing_told(alloc: Global, project: &OrderedProject) -> Result<Told, AllocError> {
     let mut done = Vec::new(alloc);
     for _ in project.units() {

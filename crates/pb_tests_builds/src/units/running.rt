@@ -1,4 +1,4 @@
-//! The run of a unit, the beginning of one that is dropped, and what they tell in words.
+//! The run of a unit, the beginning of a unit that is then dropped, and what they report in words.
 
 ghost use Rattle.std.specs.Prelude.{◌≡◌, IfSome, Some, true, slice_get};
 ghost use Rattle.pb_place_types.specs.Children.{is_flying};
@@ -30,7 +30,7 @@ fn tell_difference(alloc: Global, difference: &Option<Difference>) -> Result<Str
     }
 }
 
-/// What came of a unit, in words: what differed, and why it is bad, if it is.
+/// What came of a unit, in words: what differed, and why a bad unit is bad.
 fn tell_outcome(alloc: Global, outcome: &Outcome) -> Result<String, AllocError> {
     let mut said = tell_difference(alloc, &outcome.difference)?;
     if outcome.started != outcome.difference.is_some() {
@@ -89,7 +89,7 @@ pub fn run(
     }
 }
 
-/// Whether the child of a unit that has begun is in flight, where it has one.
+/// Whether the child of a unit that has begun is in flight, if the unit has a child.
 fn is_aloft(place: &Untold<Mini>, begun: &Begun) -> bool
     ensures { result ≡ true → IfSome (child_of begun.now) (λ launched. is_flying launched.ticket (counts_in place.now.inside).starts.flying ≡ true) }
 {

@@ -16,7 +16,7 @@ use pb_tests_files::Untold;
 use std::alloc::Global;
 use std::test::Fail;
 
-/// The words of a step: its verb, the next, and all behind that.
+/// The words of a step: its verb, the next word, and all after it.
 pub fn words_of(line: &str) -> (&str, &str, &str) {
     let (verb, words) = line.split_once(' ').unwrap_or((line, ""));
     let (first, rest) = words.split_once(' ').unwrap_or((words, ""));
@@ -46,7 +46,7 @@ fn fuse(place: &mut Memory<Mini>, word: &str) -> Result<(), Fail> {
     }
 }
 
-/// Takes the files at and below a path away.
+/// Removes the files at and below a path.
 fn take_away(alloc: Global, place: &mut Memory<Mini>, path: &str) -> Result<(), Fail> {
     let path = PathText::parse(alloc, path)?;
     Ok(place.remove(alloc, &path)?)
@@ -118,7 +118,7 @@ fn tell_file(alloc: Global, place: &Memory<Mini>, path: &str) -> Result<String, 
     Ok(String::from_str(alloc, said)?)
 }
 
-/// What is seen of the place and of what units told, in words; nothing for another step.
+/// What the test sees of the place and of what units reported, in words; nothing for another step.
 fn look(
     alloc: Global,
     place: &Memory<Mini>,
@@ -135,8 +135,8 @@ fn look(
     }
 }
 
-/// Opens the store again: it contains the run numbers of the records, and they are not those of a world that was edited, or
-/// behind a call that failed.
+/// Opens the store again. A store contains the run numbers of the records; after an edit or a
+/// failed call they may be wrong.
 pub fn reopen(
     alloc: Global,
     place: &mut Untold<Mini>,
@@ -150,7 +150,7 @@ pub fn reopen(
     Ok(())
 }
 
-/// Adds what was told, if anything was, and a line feed.
+/// Adds the report, if there is one, and a line feed.
 fn add(told: &mut String, said: &str) -> Result<(), Fail> {
     if !said.is_empty() {
         told.push_str(said)?;
@@ -192,7 +192,7 @@ fn step(
     add(told, seen.as_str())
 }
 
-/// Makes steps, one a line, with a line feed after what each tells.
+/// Makes steps, one a line, with a line feed after the report of each.
 pub fn make_steps(
     alloc: Global,
     place: &mut Untold<Mini>,

@@ -1,4 +1,4 @@
-//! Trials: steps on a project, and what they tell.
+//! Trials: steps on a project, and what they report.
 
 use crate::units::ready::{bench_of, project_in};
 use crate::units::steps::make_steps;
@@ -9,8 +9,8 @@ use pb_tests_files::{Case, Shown, Trial, Untold, put_files, try_cases};
 use std::alloc::Global;
 use std::test::Fail;
 
-/// A library, which warns, reads a file and a variable; a script, and a library that it is run for. The units: a's
-/// library, b's script, its run and its library.
+/// A library, which warns, reads a file and a variable; a script, and the library for which the
+/// script runs. The units: a's library, b's script, its run and its library.
 pub const FILES: &str =
     "@ /w/Cargo.toml\nworkspace.members = ['a', 'b']\n@ /w/a/Cargo.toml\npackage.name = 'a'\n@ /w/a/src/lib.rs\nwarn w\ninclude n\nenv V\n@ /w/a/src/n\none\n@ /w/b/Cargo.toml\npackage.name = 'b'\ndependencies.a.path = '../a'\n@ /w/b/src/lib.rs\nuse a\n@ /w/b/build.rs\nput f g\n";
 
@@ -25,7 +25,7 @@ fn told_by(
     make_steps(alloc, place, project, &mut bench, steps)
 }
 
-/// The same where the project was refused or not.
+/// The same report, if the project was not refused.
 fn told_if(
     alloc: Global,
     place: &mut Untold<Mini>,
@@ -45,7 +45,7 @@ fn told_in(alloc: Global, place: &mut Untold<Mini>, steps: &str) -> Result<Strin
     told_if(alloc, place, &project, steps)
 }
 
-/// The same in a fresh place.
+/// The same report, in a fresh place.
 fn tried(alloc: Global, steps: &str) -> Result<String, Fail> {
     let inside = Memory::new(alloc, Mini);
     told_in(alloc, &mut Untold { inside }, steps)

@@ -42,7 +42,7 @@ fn ends(rt: &HostRuntime, root: &PathText, asked: &Asked, wanted: &str) -> Resul
     Ok(())
 }
 
-/// The child that is asked for by a text.
+/// The child that a text requests.
 fn asked_of(text: &str) -> Asked {
     let (program, rest) = text.split_once('|').unwrap_or((text, ""));
     let (told, folders) = rest.split_once('|').unwrap_or((rest, ""));
@@ -61,7 +61,7 @@ fn all_end(rt: &HostRuntime, root: &PathText) -> Result<(), Fail> {
     carry_out_here(rt, root, LEFT)
 }
 
-/// The value of a variable at a place of its own.
+/// The value of a variable at a new place.
 fn variable(rt: &HostRuntime, name: &str) -> Result<Option<Text>, PlaceFault> {
     let mut place = HostPlace::new(rt.alloc(), rt);
     let value = place.variable(rt.alloc(), name);
@@ -69,7 +69,7 @@ fn variable(rt: &HostRuntime, name: &str) -> Result<Option<Text>, PlaceFault> {
     value
 }
 
-/// Tries that a child inherits `PATH`, where that is set.
+/// Tries that a child inherits `PATH`, if it is set.
 fn inherits(rt: &HostRuntime, root: &PathText) -> Result<(), Fail> {
     match variable(rt, "PATH")? {
         Some(path) => {

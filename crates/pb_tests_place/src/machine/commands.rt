@@ -11,7 +11,7 @@ use std::test::Fail;
 /// output folder (none where that is empty), and its pairs.
 pub(crate) type Asked<'a> = (&'a str, &'a str, &'a str, &'a str, &'a [(&'a str, &'a str)]);
 
-/// The shell in a test's folder, told this.
+/// The shell in a test's folder, with this script.
 pub(crate) fn shell(told: &str) -> Asked {
     ("/bin/sh", told, "", "", &[])
 }
@@ -22,7 +22,7 @@ fn add_word(alloc: Global, words: &mut Items<Text>, word: &str) -> Result<(), Al
     words.push(word)
 }
 
-/// Adds the words of the shell that is told this.
+/// Adds the arguments of the shell for this script.
 fn add_words(alloc: Global, words: &mut Items<Text>, told: &str) -> Result<(), AllocError> {
     if told.is_empty() {
         return Ok(());
@@ -106,7 +106,7 @@ pub(crate) fn command(alloc: Global, root: &PathText, asked: &Asked) -> Result<C
     }
 }
 
-/// How the child of a command ended at a place of its own on the machine.
+/// How the child of a command ended at a new place on the machine.
 fn said_of(rt: &HostRuntime, command: &Command) -> Result<String, Fail> {
     let mut place = HostPlace::new(rt.alloc(), rt);
     let said = said(rt.alloc(), &mut place, command);
@@ -114,7 +114,7 @@ fn said_of(rt: &HostRuntime, command: &Command) -> Result<String, Fail> {
     said
 }
 
-/// How a child ended at a place of its own on the machine.
+/// How a child ended at a new place on the machine.
 pub(crate) fn said_here(rt: &HostRuntime, root: &PathText, asked: &Asked) -> Result<String, Fail> {
     let command = command(rt.alloc(), root, asked)?;
     let said = said_of(rt, &command);

@@ -75,7 +75,7 @@ fn try_all<P: Place>(alloc: Global, place: &P, root: &PathText) -> Result<(), Fa
     Ok(())
 }
 
-/// Makes what stands, and tries all meanings.
+/// Makes the files and links, and tries all meanings.
 fn try_here<P: Place>(alloc: Global, place: &mut P, root: &PathText) -> Result<(), Fail> {
     let command = command(alloc, root, &shell(BEFORE))?;
     let ended = place.start(alloc, &command);

@@ -50,7 +50,7 @@ const CHILDREN: &str = "/bin/sh|exit 3|.|out/a -> ~\
      /bin/sh|exit 0|.|out/a/f -> cannot make the folder /out/a/f: File exists;~\
      /bin/sh|exit 0|.|out/a/f/g -> cannot make the folder /out/a/f/g: Not a directory;";
 
-/// The child that is asked for by a text.
+/// The child that a text requests.
 fn asked_of(text: &str) -> Asked {
     let (program, rest) = text.split_once('|').unwrap_or((text, ""));
     let (told, folders) = rest.split_once('|').unwrap_or((rest, ""));
@@ -196,7 +196,7 @@ fn links_out_of_the_target_folder(rt: HostRuntime) -> Result<(), Fail> {
     Ok(())
 }
 
-/// Steps of which the last fails, and what is reported of it.
+/// Steps of which the last fails, and the report on it.
 const CALLS: &[(&str, &str)] = &[
     ("write f x -> done\nread f -> x", ""),
     ("write f/g x -> Write", "cannot write /f/g: File exists;"),

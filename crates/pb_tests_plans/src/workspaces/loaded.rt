@@ -104,7 +104,7 @@ fn put_member(alloc: Global, memory: &mut Memory<Silent>, number: usize) -> Resu
     Ok(())
 }
 
-/// Puts a root manifest, and so many members.
+/// Puts a root manifest, and this number of members.
 fn put_many(alloc: Global, memory: &mut Memory<Silent>, count: usize) -> Result<(), Fail> {
     put_files(
         alloc,

@@ -15,7 +15,7 @@ use std::alloc::Global;
 use std::mem;
 use std::test::Fail;
 
-/// Nothing that is told to people alone.
+/// No description for people.
 fn nothing_to_people(alloc: Global) -> About {
     About {
         authors: nothing(alloc),
