@@ -37,7 +37,7 @@ error: refused BadKind
 
 ```
 note: in /w/Cargo.toml
-note: in /w/Cargo.toml, line 2, key package.name: "my app" may have ASCII letters, digits, - and _, and at least one
+note: in /w/Cargo.toml, line 2, key package.name: "my app" may have only ASCII letters, digits, - and _, and at least one of these
 error: refused BadName
 ```
 
@@ -129,7 +129,7 @@ error: refused LinksWithoutScript
         text: r#"A dependency leads to a package of another name.
 
 ```
-note: in /w/Cargo.toml, line 4, key dependencies.utils: it leads to /w/util/Cargo.toml, whose name is util (package = "util" says so)
+note: in /w/Cargo.toml, line 4, key dependencies.utils: it leads to /w/util/Cargo.toml, whose name is util (package = "util" would keep the key)
 error: refused NameMismatch
 ```
 

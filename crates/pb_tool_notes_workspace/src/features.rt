@@ -279,7 +279,7 @@ fn tell_asked(
     for page in pages.pages.as_slice() {
         if has_feature(alloc, page, feature)? {
             let text = format!(in alloc;
-                "--features {feature}: {} has it; is it selected?",
+                "--features {feature}: the package {} has it; is that package selected?",
                 page.package_text("name")
             )?;
             return notes.say(alloc, text.as_str());
@@ -303,7 +303,9 @@ fn tell_asked_of(
         Some(page) => {
             let lacks = lacks(alloc, page, feature)?;
             let text = if lacks.is_empty() {
-                format!(in alloc; "--features {name}/{feature}: {name} has it; is it selected?")?
+                format!(in alloc;
+                    "--features {name}/{feature}: the package {name} has it; is that package selected?"
+                )?
             } else {
                 format!(in alloc; "--features {name}/{feature}: {}", lacks.as_str())?
             };

@@ -92,7 +92,7 @@ pub fn tell_names(alloc: Global, notes: &mut Notes, pages: &Pages) -> Result<(),
             let name = page.package_text("name");
             if ask.role == Role::Entry && name != ask.name.as_str() {
                 let text = format!(in alloc;
-                    "it leads to {}, whose name is {name} (package = \"{name}\" says so)",
+                    "it leads to {}, whose name is {name} (package = \"{name}\" would keep the key)",
                     page.path.as_str()
                 )?;
                 tell_entry(alloc, notes, pages, ask, text.as_str())?;

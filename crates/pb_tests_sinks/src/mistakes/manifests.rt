@@ -113,7 +113,7 @@ error: refused BadProfile
 name = "my app"
 ---
 note: in /w/Cargo.toml
-note: in /w/Cargo.toml, line 2, key package.name: "my app" may have ASCII letters, digits, - and _, and at least one
+note: in /w/Cargo.toml, line 2, key package.name: "my app" may have only ASCII letters, digits, - and _, and at least one of these
 error: refused BadName
 === [features.item] a feature with a blank
 @ /w/Cargo.toml
@@ -153,7 +153,7 @@ name = "m"
 serde = { workspace = true }
 ---
 note: in /w/m/Cargo.toml
-note: in /w/m/Cargo.toml, line 4, key dependencies.serde: it takes workspace.dependencies.serde of /w/Cargo.toml, which is no entry with a path alone
+note: in /w/m/Cargo.toml, line 4, key dependencies.serde: it takes workspace.dependencies.serde of /w/Cargo.toml, whose source is not a path alone
 error: refused UnsupportedSource
 === [manifest.order] a table for a target
 @ /w/Cargo.toml

@@ -69,7 +69,7 @@ utils = { path = "util" }
 [package]
 name = "util"
 ---
-note: in /w/Cargo.toml, line 4, key dependencies.utils: it leads to /w/util/Cargo.toml, whose name is util (package = "util" says so)
+note: in /w/Cargo.toml, line 4, key dependencies.utils: it leads to /w/util/Cargo.toml, whose name is util (package = "util" would keep the key)
 error: refused NameMismatch
 === [load.checks] two packages of one name
 @ /w/Cargo.toml
@@ -140,7 +140,7 @@ version.workspace = true
 ---
 note: /w/m/Cargo.toml has no [workspace]: call from the workspace's root, or give --manifest-path
 note: in /w/m/Cargo.toml, line 3, key package.version: /w/m/Cargo.toml has no workspace.package.version
-note: in /w/Cargo.toml, line 2, key workspace.members: it lists /w/m: call from its folder, or give --manifest-path /w/Cargo.toml
+note: in /w/Cargo.toml, line 2, key workspace.members: it lists /w/m: call from the folder of that manifest, or give --manifest-path /w/Cargo.toml
 error: refused NoInherited
 === [load.checks] two binaries of one name
 @ /w/Cargo.toml
