@@ -23,7 +23,7 @@ pub record IsOfUnit (setup : Setup) (project : Project) (unit : Planned) (folder
 abbrev pub StartsCompiler : Setup → Project → Planned → Command → Type 0
 StartsCompiler setup project unit command = (command.program ≡ setup.rustc) × IsOfUnit setup project unit project.workspace.root command
 
--- a run starts its script, if there is one, in its package's folder, after the runner's words if there is a runner
+-- the command of a run: the words of the runner, if there is one, and then the script, if there is one; in the package's folder
 abbrev pub StartsScript : Setup → Project → Planned → Package → Option (List ℕ) → Command → Type 0
 StartsScript setup project unit p file command = ((script : List ℕ) → file ≡ Some script → command.program ∷ command.words ≡ setup.runner ++ script ∷ []) × IsOfUnit setup project unit p.folder command
 

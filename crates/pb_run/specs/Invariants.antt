@@ -31,9 +31,9 @@ pub record IsReadByNeed (project : Project) (u : Planned) (f : List ℕ) : Type 
   pub there : slice_get project.plan.planned place ≡ Some need
   pub own_or_read : (f ≡ need.out) ⊎ Contains (reads_of project need) f
 
--- what a build requires of a project: its workspace is settled, and its plan is a plan of it. These
--- two fields imply the others, which are about its units: their packages, order, folders and keys,
--- and what they need and read
+-- what a build requires of a project: its workspace is settled, and its plan is a plan of that
+-- workspace. These two fields imply the others, which are about its units: their packages, order,
+-- folders and keys, and what they need and read
 pub record IsInOrder (project : Project) : Type 0 where
   pub settled : IsSettled project.workspace
   pub selection : Selection

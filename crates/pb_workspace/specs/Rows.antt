@@ -20,17 +20,17 @@ abbrev pub plain_cells : List ℕ → List Cell
 plain_cells [] = []
 plain_cells (b ∷ before) = record { byte = b; matched = false } ∷ plain_cells before
 
--- the cells of the pattern with `*` in front
+-- the cells of the pattern that is a `*` and then the pattern of these cells
 abbrev pub star_cells : Bool → List Cell → List Cell
 star_cells shorter [] = []
 star_cells shorter (x ∷ xs) = record { byte = x.byte; matched = x.matched || shorter } ∷ star_cells (x.matched || shorter) xs
 
--- the cells of the pattern with `?` in front
+-- the cells of the pattern that is a `?` and then the pattern of these cells
 abbrev pub one_cells : Bool → List Cell → List Cell
 one_cells past [] = []
 one_cells past (x ∷ xs) = record { byte = x.byte; matched = past } ∷ one_cells (if goes_on x.byte then past else x.matched) xs
 
--- the cells of the pattern with another byte in front
+-- the cells of the pattern that is another byte and then the pattern of these cells
 abbrev pub byte_cells : ℕ → Bool → List Cell → List Cell
 byte_cells c shorter [] = []
 byte_cells c shorter (x ∷ xs) = record { byte = x.byte; matched = (x.byte == c) && shorter } ∷ byte_cells c x.matched xs
