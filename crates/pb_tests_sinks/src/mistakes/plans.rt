@@ -9,7 +9,7 @@ name = "a"
 fast = []
 @ /w/src/lib.rs
 ---
-note: --features fsat: no package has it
+note: --features fsat: no package has it (near: fast)
 error: refused NoSuchFeature
 === [resolve.requested] no such feature of a package: --features a/fastt
 @ /w/Cargo.toml
