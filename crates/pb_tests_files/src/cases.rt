@@ -2,7 +2,6 @@
 
 use crate::shown::Shown;
 use std::alloc::Global;
-use std::process::Abort;
 use std::test::Fail;
 
 /// A case of a table: a line `=== NAME`, what it is given, a line `---`, and what is wanted.
@@ -39,50 +38,51 @@ fn case_of(text: &str) -> Option<Case<'_>> {
     })
 }
 
-/// Asserts that a case results in what is wanted.
+/// The result of trying a table.
+#[derive(Drop)]
+pub struct Tried {
+    /// How many cases the table has.
+    pub count: usize,
+    /// What is wrong: for each such case its name, what is wanted and what came.
+    pub wrong: Shown,
+}
+
+/// Tries a case, and notes it if it does not result in what is wanted.
 fn try_case<T: Trial>(
-    rt: &impl Abort,
     alloc: Global,
     case: &Case<'_>,
     trial: &T,
+    wrong: &mut Shown,
 ) -> Result<(), Fail> {
     let mut came = Shown::new(alloc);
-    let result = trial.put_result(alloc, case, &mut came);
-    assert!(rt;
-        result.is_ok(),
-        "{}: it ends after\n{}",
-        case.name,
-        came.as_str()
-    );
-    assert!(rt;
-        came.says(case.wanted),
-        "{}: wanted\n{}came\n{}",
-        case.name,
-        case.wanted,
-        came.as_str()
-    );
-    result
+    trial.put_result(alloc, case, &mut came)?;
+    if !came.says(case.wanted) {
+        let came = came.as_str();
+        wrong.put(&[case.name, ": wanted\n", case.wanted, "came\n", came]);
+    }
+    Ok(())
 }
 
-/// Asserts each case of a table, and that each is a case. Returns how many there are.
-pub fn try_cases<T: Trial>(
-    rt: &impl Abort,
-    alloc: Global,
-    table: &str,
-    trial: &T,
-) -> Result<usize, Fail> {
-    let mut count = 0usize;
+/// Tries each case of a table. A text without the three parts of a case is wrong, too.
+///
+/// Errors: what a trial fails with.
+pub fn try_cases<T: Trial>(alloc: Global, table: &str, trial: &T) -> Result<Tried, Fail> {
+    let mut tried = Tried {
+        count: 0,
+        wrong: Shown::new(alloc),
+    };
     for text in table.split("=== ") {
         if text.is_empty() {
             continue;
         }
         let Some(case) = case_of(text) else {
-            return Err(Fail::from("a case without its three parts"));
+            tried.wrong.put(&["no case: ", text]);
+            continue;
         };
-        try_case(rt, alloc, &case, trial)?;
-        count = count.saturating_add(1);
+        try_case(alloc, &case, trial, &mut tried.wrong)?;
+        tried.count = tried.count.saturating_add(1);
     }
-    Ok(count)
+    Ok(tried)
 }
 
 /// Writes a line `QUESTION = ANSWER` for each question of what is wanted, a line each, with the answer that comes.

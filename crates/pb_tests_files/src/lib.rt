@@ -12,7 +12,7 @@ mod shown;
 mod untold;
 
 pub use answers::{holds, is_said, is_text};
-pub use cases::{Answers, Case, Trial, put_answers, try_cases};
+pub use cases::{Answers, Case, Trial, Tried, put_answers, try_cases};
 pub use child::Silent;
 pub use files::{put_files, workspace_in};
 pub use options::no_options;

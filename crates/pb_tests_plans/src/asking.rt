@@ -2,9 +2,10 @@
 
 use pb_data::Text;
 use pb_place::Memory;
-use pb_tests_files::{Silent, no_options, put_files, workspace_in};
+use pb_tests_files::{Silent, Trial, no_options, put_files, try_cases, workspace_in};
 use pb_workspace_types::{Options, SettledWorkspace};
 use std::alloc::{AllocError, Global};
+use std::process::Abort;
 use std::test::Fail;
 
 /// The workspace of files that are put at a place, after the files of a first text.
@@ -81,4 +82,19 @@ pub fn options_of(alloc: Global, words: &str, between: &str) -> Result<Options, 
             Err(Fail::from(fault))
         }
     }
+}
+
+/// Asserts each case of a table, and how many there are.
+pub fn assert_cases<T: Trial>(
+    rt: &impl Abort,
+    alloc: Global,
+    table: &str,
+    trial: &T,
+    count: usize,
+) -> Result<(), Fail> {
+    let tried = try_cases(alloc, table, trial)?;
+    assert!(rt; tried.wrong.says(""), "{}", tried.wrong.as_str());
+    assert_eq!(rt; tried.count, count);
+    drop(tried);
+    Ok(())
 }

@@ -1,11 +1,11 @@
 //! Features: a table of manifests, each with what is requested and which features are on.
 
-use crate::asking::{options_of, workspace_of};
+use crate::asking::{assert_cases, options_of, workspace_of};
 use crate::enabled::put_enabled;
 use crate::refused_features::REFUSED;
 use crate::resolutions::RESOLUTIONS;
 use pb_feature::resolve;
-use pb_tests_files::{Answers, Case, Shown, Trial, put_answers, try_cases};
+use pb_tests_files::{Answers, Case, Shown, Trial, put_answers};
 use pb_workspace::selected;
 use pb_workspace_types::{Options, SelectedWorkspace, SettledWorkspace, Workspace};
 use std::alloc::Global;
@@ -72,10 +72,7 @@ impl Trial for FeatureCases {
 /// Rules: `resolve.selected`.
 #[test]
 fn features(rt: HostRuntime) -> Result<(), Fail> {
-    assert_eq!(rt;
-        try_cases(&rt, rt.alloc(), RESOLUTIONS, &FeatureCases {})?,
-        26
-    );
-    assert_eq!(rt; try_cases(&rt, rt.alloc(), REFUSED, &FeatureCases {})?, 15);
+    assert_cases(&rt, rt.alloc(), RESOLUTIONS, &FeatureCases {}, 26)?;
+    assert_cases(&rt, rt.alloc(), REFUSED, &FeatureCases {}, 15)?;
     Ok(())
 }

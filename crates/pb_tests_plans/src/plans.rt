@@ -1,12 +1,12 @@
 //! Plans, against a table of plans written by hand.
 
-use crate::asking::{options_of, workspace_of};
+use crate::asking::{assert_cases, options_of, workspace_of};
 use crate::cases::CASES;
 use crate::script_cases::SCRIPT_CASES;
 use crate::show::{put_fault, put_plan, put_texts};
 use pb_data::Text;
 use pb_feature::resolve;
-use pb_tests_files::{Answers, Case, Shown, Trial, put_answers, try_cases};
+use pb_tests_files::{Answers, Case, Shown, Trial, put_answers};
 use pb_unit::{Plan, PlanFault, Unit, What};
 use pb_workspace::selected;
 use pb_workspace_types::{Options, SelectedWorkspace, SettledWorkspace, Side, Workspace};
@@ -284,11 +284,8 @@ fn are_both_right(alloc: Global) -> Result<bool, Fail> {
 /// Rules: `plan.key`, `plan.settings`, `plan.refused`.
 #[test]
 fn plans(rt: HostRuntime) -> Result<(), Fail> {
-    assert_eq!(rt; try_cases(&rt, rt.alloc(), CASES, &PlanCases {})?, 20);
-    assert_eq!(rt;
-        try_cases(&rt, rt.alloc(), SCRIPT_CASES, &PlanCases {})?,
-        15
-    );
+    assert_cases(&rt, rt.alloc(), CASES, &PlanCases {}, 20)?;
+    assert_cases(&rt, rt.alloc(), SCRIPT_CASES, &PlanCases {}, 15)?;
     assert!(rt; binaries_give(rt.alloc(), 4096, Some(4096))?);
     assert!(rt; binaries_give(rt.alloc(), 4097, None)?);
     assert!(rt; are_circles_found(rt.alloc(), 4096)?);

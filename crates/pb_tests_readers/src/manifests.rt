@@ -58,19 +58,28 @@ fn blank_says(alloc: Global, length: usize, wanted: &str) -> Result<bool, AllocE
 /// Bytes that are no TOML.
 static NO_TOML: &[&[u8]] = &[b"name = \"\xff\"", b"\x00", b"\xef\xbb"];
 
-/// Tries the cases of each table. Returns how many there are.
-fn try_tables(rt: &impl Abort, alloc: Global) -> Result<usize, Fail> {
-    let mut count = 0usize;
-    for table in CASES {
-        count = count.saturating_add(try_cases(rt, alloc, *table, &ManifestCases {})?);
-    }
-    Ok(count)
+/// Asserts each case of a table, and how many there are.
+fn assert_cases<T: Trial>(
+    rt: &impl Abort,
+    alloc: Global,
+    table: &str,
+    trial: &T,
+    count: usize,
+) -> Result<(), Fail> {
+    let tried = try_cases(alloc, table, trial)?;
+    assert!(rt; tried.wrong.says(""), "{}", tried.wrong.as_str());
+    assert_eq!(rt; tried.count, count);
+    drop(tried);
+    Ok(())
 }
 
 /// Rules: `manifest.order`.
 #[test]
 fn manifests(rt: HostRuntime) -> Result<(), Fail> {
-    assert_eq!(rt; try_tables(&rt, rt.alloc())?, 308);
+    for table in CASES {
+        let (cases, count) = *table;
+        assert_cases(&rt, rt.alloc(), cases, &ManifestCases {}, count)?;
+    }
     assert!(rt; blank_says(rt.alloc(), 1_048_576, "BadKind(Package)")?);
     assert!(rt; blank_says(rt.alloc(), 1_048_577, "TooLarge")?);
     for bytes in NO_TOML {

@@ -13,6 +13,7 @@ use pb_place_types::{Out, Over, PathText, Place};
 use pb_tests_files::{Case, Shown, Trial, put_files, try_cases};
 use pb_tool_program::{Colored, Guard, Here, Rendered, Spoken, StatusLine, page_of_errors, run};
 use std::alloc::{AllocError, Global};
+use std::process::Abort;
 use std::test::Fail;
 
 /// A guard that holds no folder.
@@ -111,43 +112,46 @@ impl Trial for MistakeCases {
     }
 }
 
+/// Asserts each case of a table, and how many there are.
+fn assert_cases<T: Trial>(
+    rt: &impl Abort,
+    alloc: Global,
+    table: &str,
+    trial: &T,
+    count: usize,
+) -> Result<(), Fail> {
+    let tried = try_cases(alloc, table, trial)?;
+    assert!(rt; tried.wrong.says(""), "{}", tried.wrong.as_str());
+    assert_eq!(rt; tried.count, count);
+    drop(tried);
+    Ok(())
+}
+
 /// Rules: `tool.notes`.
 #[test]
 fn mistakes_in_a_manifest(rt: HostRuntime) -> Result<(), Fail> {
-    assert_eq!(rt;
-        try_cases(&rt, rt.alloc(), manifests::CASES, &MistakeCases {})?,
-        18
-    );
+    assert_cases(&rt, rt.alloc(), manifests::CASES, &MistakeCases {}, 18)?;
     Ok(())
 }
 
 /// Rules: `tool.notes`.
 #[test]
 fn mistakes_in_a_workspace(rt: HostRuntime) -> Result<(), Fail> {
-    assert_eq!(rt;
-        try_cases(&rt, rt.alloc(), workspaces::CASES, &MistakeCases {})?,
-        14
-    );
+    assert_cases(&rt, rt.alloc(), workspaces::CASES, &MistakeCases {}, 14)?;
     Ok(())
 }
 
 /// Rules: `tool.notes`.
 #[test]
 fn mistakes_in_a_plan(rt: HostRuntime) -> Result<(), Fail> {
-    assert_eq!(rt;
-        try_cases(&rt, rt.alloc(), plans::CASES, &MistakeCases {})?,
-        15
-    );
+    assert_cases(&rt, rt.alloc(), plans::CASES, &MistakeCases {}, 15)?;
     Ok(())
 }
 
 /// Rules: `tool.notes`, `manifest.ignored`.
 #[test]
 fn keys_that_nothing_reads(rt: HostRuntime) -> Result<(), Fail> {
-    assert_eq!(rt;
-        try_cases(&rt, rt.alloc(), unused::CASES, &MistakeCases {})?,
-        5
-    );
+    assert_cases(&rt, rt.alloc(), unused::CASES, &MistakeCases {}, 5)?;
     Ok(())
 }
 

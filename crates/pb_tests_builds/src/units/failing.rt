@@ -4,13 +4,13 @@ ghost use Rattle.std.specs.Prelude.{◌≡◌};
 ghost use Rattle.pb_run.specs.Invariants.{records_folder};
 
 use crate::units::ready::{Bench, bench_of, project_in};
-use crate::units::steps::{call, make_steps, reopen, words_of};
+use crate::units::steps::{assert_cases, call, make_steps, reopen, words_of};
 use crate::units::trials::FILES;
 use pb_mini::Mini;
 use pb_place::Memory;
 use pb_place_types::Place;
 use pb_run::OrderedProject;
-use pb_tests_files::{Case, Shown, Trial, Untold, put_files, try_cases};
+use pb_tests_files::{Case, Shown, Trial, Untold, put_files};
 use std::alloc::Global;
 use std::test::Fail;
 
@@ -184,6 +184,6 @@ impl Trial for FailingCases {
 /// Rules: `build.units`, `build.faults`.
 #[test]
 fn calls_of_units_fail(rt: HostRuntime) -> Result<(), Fail> {
-    assert_eq!(rt; try_cases(&rt, rt.alloc(), TRIALS, &FailingCases {})?, 4);
+    assert_cases(&rt, rt.alloc(), TRIALS, &FailingCases {}, 4)?;
     Ok(())
 }

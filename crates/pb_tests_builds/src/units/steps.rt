@@ -12,8 +12,9 @@ use pb_mini::Mini;
 use pb_place::Memory;
 use pb_place_types::{PathText, Place, StartFault};
 use pb_run::OrderedProject;
-use pb_tests_files::Untold;
+use pb_tests_files::{Trial, Untold, try_cases};
 use std::alloc::Global;
+use std::process::Abort;
 use std::test::Fail;
 
 /// The words of a step: its verb, the next word, and all after it.
@@ -208,4 +209,19 @@ pub fn make_steps(
         step(alloc, place, project, bench, line, &mut told)?;
     }
     Ok(told)
+}
+
+/// Asserts each case of a table, and how many there are.
+pub fn assert_cases<T: Trial>(
+    rt: &impl Abort,
+    alloc: Global,
+    table: &str,
+    trial: &T,
+    count: usize,
+) -> Result<(), Fail> {
+    let tried = try_cases(alloc, table, trial)?;
+    assert!(rt; tried.wrong.says(""), "{}", tried.wrong.as_str());
+    assert_eq!(rt; tried.count, count);
+    drop(tried);
+    Ok(())
 }

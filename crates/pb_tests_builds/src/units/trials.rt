@@ -1,11 +1,11 @@
 //! Trials: steps on a project, and what they report.
 
 use crate::units::ready::{bench_of, project_in};
-use crate::units::steps::make_steps;
+use crate::units::steps::{assert_cases, make_steps};
 use pb_mini::Mini;
 use pb_place::Memory;
 use pb_run::OrderedProject;
-use pb_tests_files::{Case, Shown, Trial, Untold, put_files, try_cases};
+use pb_tests_files::{Case, Shown, Trial, Untold, put_files};
 use std::alloc::Global;
 use std::test::Fail;
 
@@ -355,6 +355,6 @@ impl Trial for StepCases {
 /// Rules: `build.units`, `records.differs`.
 #[test]
 fn units_tell(rt: HostRuntime) -> Result<(), Fail> {
-    assert_eq!(rt; try_cases(&rt, rt.alloc(), TRIALS, &StepCases {})?, 24);
+    assert_cases(&rt, rt.alloc(), TRIALS, &StepCases {}, 24)?;
     Ok(())
 }

@@ -1,11 +1,12 @@
 //! Commands, by a table of files with what is asked and answered.
 
+use crate::asking::assert_cases;
 use crate::commands::asking::{ProjectCase, put_asked, setup_of};
 use crate::commands::cases::CASES;
 use crate::commands::making::{done_of, options_of, project_of};
 use pb_command_types::Project;
 use pb_place::Memory;
-use pb_tests_files::{Answers, Case, Shown, Silent, Trial, put_answers, put_files, try_cases};
+use pb_tests_files::{Answers, Case, Shown, Silent, Trial, put_answers, put_files};
 use pb_unit::Planned;
 use std::alloc::Global;
 use std::test::Fail;
@@ -94,6 +95,6 @@ impl Trial for CommandCases {
 /// Rules: `commands.compile`.
 #[test]
 fn commands(rt: HostRuntime) -> Result<(), Fail> {
-    assert_eq!(rt; try_cases(&rt, rt.alloc(), CASES, &CommandCases {})?, 16);
+    assert_cases(&rt, rt.alloc(), CASES, &CommandCases {}, 16)?;
     Ok(())
 }

@@ -16,5 +16,12 @@ use loaded::LOADED;
 use members::MEMBERS;
 use selected::SELECTED;
 
-/// The tables of cases, by subject.
-pub static CASES: &[&str] = &[FOUND, MEMBERS, LOADED, INHERITED, CHECKED, SELECTED];
+/// The tables of cases by subject, and how many each has.
+pub static CASES: &[(&str, usize)] = &[
+    (FOUND, 21),
+    (MEMBERS, 22),
+    (LOADED, 18),
+    (INHERITED, 12),
+    (CHECKED, 14),
+    (SELECTED, 8),
+];

@@ -1,11 +1,11 @@
 //! Workspaces, by a table of files with the packages that are loaded or the refusal.
 
-use crate::asking::options_of;
+use crate::asking::{assert_cases, options_of};
 use crate::workspaces::cases::CASES;
 use crate::workspaces::show::{put_answer, put_places};
 use pb_place::Memory;
 use pb_place_types::{PathFault, PathText, Place};
-use pb_tests_files::{Case, Shown, Silent, Trial, put_files, try_cases, workspace_in};
+use pb_tests_files::{Case, Shown, Silent, Trial, put_files, workspace_in};
 use pb_workspace::{load, selected};
 use pb_workspace_types::{LoadFault, SelectedWorkspace, SettledWorkspace};
 use std::alloc::Global;
@@ -199,11 +199,10 @@ fn count_own_roots(alloc: Global) -> Result<usize, PathFault> {
 /// Rules: `load.end`, `load.root`.
 #[test]
 fn workspaces(rt: HostRuntime) -> Result<(), Fail> {
-    let mut count = 0usize;
     for table in CASES {
-        count = count.saturating_add(try_cases(&rt, rt.alloc(), *table, &WorkspaceCases {})?);
+        let (cases, count) = *table;
+        assert_cases(&rt, rt.alloc(), cases, &WorkspaceCases {}, count)?;
     }
-    assert_eq!(rt; count, 95);
     assert!(rt; count_loaded(rt.alloc(), 256)? == (256, 0, 0));
     assert!(rt; count_loaded(rt.alloc(), 257)? == (0, 0, 0));
     assert_eq!(rt; count_own_roots(rt.alloc())?, 5);

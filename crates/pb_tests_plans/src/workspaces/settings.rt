@@ -1,5 +1,6 @@
 //! Settings of packages under profiles, by a table of manifests with questions and answers.
 
+use crate::asking::assert_cases;
 use crate::workspaces::places::PLACES;
 use crate::workspaces::profiles::PROFILES;
 use pb_data::{Items, Text};
@@ -7,7 +8,7 @@ use pb_manifest::read_manifest;
 use pb_manifest_types::{Edition, ManifestFault, Profile, ProfileKey, Version};
 use pb_place_types::PathText;
 use pb_profile::{Settings, folder_of, lines_follow_inherits, values_are_found};
-use pb_tests_files::{Answers, Case, Shown, Trial, put_answers, try_cases};
+use pb_tests_files::{Answers, Case, Shown, Trial, put_answers};
 use pb_workspace_types::{
     About, BinariesByName, DefaultMembers, EntriesByKey, FeaturesByName, Package, Side, Workspace,
 };
@@ -188,8 +189,8 @@ static FOLDERS: &[(&str, &str)] = &[
 /// Rules: `settings.folder`, `settings.line`.
 #[test]
 fn settings_and_folders(rt: HostRuntime) -> Result<(), Fail> {
-    assert_eq!(rt; try_cases(&rt, rt.alloc(), PROFILES, &SettingCases {})?, 14);
-    assert_eq!(rt; try_cases(&rt, rt.alloc(), PLACES, &SettingCases {})?, 8);
+    assert_cases(&rt, rt.alloc(), PROFILES, &SettingCases {}, 14)?;
+    assert_cases(&rt, rt.alloc(), PLACES, &SettingCases {}, 8)?;
     for case in FOLDERS {
         let (profile, wanted) = *case;
         assert!(rt; folder_of(profile) == wanted, "of {profile}");

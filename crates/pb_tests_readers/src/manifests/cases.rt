@@ -16,13 +16,13 @@ use profiles::PROFILES;
 use targets::TARGETS;
 use workspace::WORKSPACE;
 
-/// The cases.
-pub static CASES: &[&str] = &[
-    PACKAGE,
-    ORDERS,
-    TARGETS,
-    DEPENDENCIES,
-    FEATURES,
-    PROFILES,
-    WORKSPACE,
+/// Each table of cases, and how many it has.
+pub static CASES: &[(&str, usize)] = &[
+    (PACKAGE, 70),
+    (ORDERS, 24),
+    (TARGETS, 29),
+    (DEPENDENCIES, 47),
+    (FEATURES, 33),
+    (PROFILES, 59),
+    (WORKSPACE, 46),
 ];
