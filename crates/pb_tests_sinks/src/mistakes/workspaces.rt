@@ -16,7 +16,7 @@ util = { path = "../utli" }
 name = "util"
 ---
 note: no manifest at /w/utli/Cargo.toml
-note: in /w/app/Cargo.toml, line 5, key dependencies.util: it leads to /w/utli/Cargo.toml
+note: in /w/app/Cargo.toml, line 5, key dependencies.util: it leads to /w/utli/Cargo.toml (near: util)
 error: refused NoManifest
 === [members.folder] a missing member
 @ /w/Cargo.toml
